@@ -1,0 +1,11 @@
+pub mod Splits
+pub mod Words
+pub mod Tokens
+pub mod Fronts
+pub mod Spelling
+pub mod Canonical
+pub mod Stands
+pub mod Finishes
+pub mod Lengthens
+pub mod Digits
+pub mod Feeds

@@ -1,0 +1,321 @@
+//! Reads events from the text of a capture.
+//!
+//! A [`Lexer`] keeps where it is within a word and how many bytes it has used, and nothing else of
+//! the text. `feed` is a loop over `step`, which takes one byte: a byte ends the word under way, or
+//! it is one more byte of a word. What each `Place` says of the text is `IsPlace` of the specs: a
+//! new place needs its line there, and its arm in `Place::end` and `Place::lengthened`.
+
+ghost use Rattle.std.specs.Prelude.{◌≡◌, ◌+◌, ◌-◌, ◌^◌, ◌<◌, ◌≤◌, ℕ, length, min, true, false, List, [], Err};
+ghost use Rattle.hex.specs.Hex.{hex_digit_value};
+ghost use Rattle.pmb_bus.specs.declared.event.Event.{Event as BusEvent};
+ghost use Rattle.pmb_bus.specs.Event.{letter_event, byte_event};
+ghost use Rattle.pmb_bus.specs.Text.{ends_word, starts_token, ends_in_comment};
+ghost use Rattle.pmb_bus.specs.Lexer.{StandsAt, IsFaulted, Feeds, Finishes, Steps, IsPlace, capped, OpenWordComesTo, Lengthens, option_event, place_behind};
+
+use crate::event::Event;
+use hex::FromHex;
+
+/// A word that is no token.
+#[derive(Clone, Copy, Debug, PartialEq, Eq)]
+pub enum LexFault {
+    /// `at` is the offset of the word's first byte, counted from the lexer's start. It stays at the
+    /// greatest `u64`.
+    BadToken { at: u64 },
+}
+
+/// What a piece of text came to.
+#[derive(Clone, Copy, Debug, PartialEq, Eq)]
+pub enum Step {
+    /// All of the piece is used. A word may be under way.
+    Need,
+    /// A word has ended: the last byte used is the separator or the `#` behind it.
+    Event(Event),
+    /// The next byte is not used: no text of events goes on with it.
+    Fault(LexFault),
+}
+
+/// How many bytes of a piece were used, and what they came to.
+#[derive(Clone, Copy, Debug, PartialEq, Eq)]
+pub struct Lexed {
+    /// How many bytes of the piece were used.
+    pub used: usize,
+    /// What they came to.
+    pub step: Step,
+}
+
+/// Where a lexer is.
+#[derive(Clone, Copy, Debug, PartialEq, Eq)]
+enum Place {
+    /// Between words.
+    Between,
+    /// In a comment, behind its `#`.
+    Comment,
+    /// Behind the first byte of a word, which lies at `at`.
+    One { at: u64, first: u8 },
+    /// Behind the two digits of `byte`, the first of which lies at `at`.
+    Two { at: u64, byte: u8 },
+    /// A word was no token.
+    Faulted(LexFault),
+}
+
+// Whether a byte outside comments ends a word.
+#[inline]
+fn ends_word(byte: u8) -> bool
+    ensures { result ≡ ends_word byte }
+{
+    matches!(byte, b' ' | b'\t' | b'\r' | b'\n' | b'#')
+}
+
+#[inline]
+fn letter(byte: u8) -> Option<Event>
+    ensures { result ≡ letter_event byte }
+{
+    match byte {
+        b'S' => Some(Event::Start),
+        b'P' => Some(Event::Stop),
+        b'A' => Some(Event::Ack),
+        b'N' => Some(Event::Nack),
+        _ => None,
+    }
+}
+
+#[inline]
+fn starts_token(byte: u8) -> bool
+    ensures { result ≡ starts_token byte }
+{
+    letter(byte).is_some() || byte.is_ascii_hexdigit()
+}
+
+// The byte of two digits.
+#[inline]
+fn digits(first: u8, second: u8) -> Option<u8>
+    ensures { option_event result ≡ byte_event (hex_digit_value first) (hex_digit_value second) }
+{
+    match <[u8; 1]>::from_hex([first, second]) {
+        Ok(bytes) => Some(bytes[0]),
+        Err(_) => None,
+    }
+}
+
+impl Place {
+    // The place behind a byte that ends a word.
+    #[inline]
+    fn behind(byte: u8) -> Place
+        ensures { result ≡ place_behind byte }
+    {
+        if byte == b'#' {
+            Place::Comment
+        } else {
+            Place::Between
+        }
+    }
+
+    // What the word under way comes to where it ends: its event, or `None` where there is none.
+    #[inline]
+    fn end(self) -> Result<Option<Event>, LexFault>
+        ensures ends { (n : ℕ) (text : List ℕ) → IsPlace self n text → OpenWordComesTo n text result }
+        ensures faulted { (fault : LexFault) → self ≡ Place.Faulted fault → result ≡ Err fault }
+    {
+        match self {
+            Place::Between | Place::Comment => Ok(None),
+            Place::One { at, first } => match letter(first) {
+                Some(event) => Ok(Some(event)),
+                None => Err(LexFault::BadToken { at }),
+            },
+            Place::Two { byte, .. } => Ok(Some(Event::Byte(byte))),
+            Place::Faulted(fault) => Err(fault),
+        }
+    }
+
+    // The place behind one more byte of a word, the byte at offset `used`.
+    #[inline]
+    fn lengthened(self, byte: u8, used: u64) -> Result<Place, LexFault>
+        ensures lengthens { (n : ℕ) (text : List ℕ) → used ≡ capped n → IsPlace self n text
+            → ends_in_comment text ≡ false → ends_word byte ≡ false → Lengthens n text byte result }
+        ensures faulted { (fault : LexFault) → self ≡ Place.Faulted fault → result ≡ Err fault }
+    {
+        match self {
+            Place::Between | Place::Comment => {
+                if starts_token(byte) {
+                    Ok(Place::One {
+                        at: used,
+                        first: byte,
+                    })
+                } else {
+                    Err(LexFault::BadToken { at: used })
+                }
+            }
+            Place::One { at, first } => match digits(first, byte) {
+                Some(byte) => Ok(Place::Two { at, byte }),
+                None => Err(LexFault::BadToken { at }),
+            },
+            Place::Two { at, .. } => Err(LexFault::BadToken { at }),
+            Place::Faulted(fault) => Err(fault),
+        }
+    }
+}
+
+/// Reads the text of a capture, in pieces of any size.
+///
+/// The tokens are `S`, `P`, `A` and `N` in upper case and two hexadecimal digits of either case.
+/// Space, tab, CR and LF separate them. `#` ends a token too, and begins a comment up to the LF.
+#[derive(Clone, Copy, Debug, PartialEq, Eq)]
+pub struct Lexer {
+    place: Place,
+    /// How many bytes were used since `new`; stays at the greatest `u64`.
+    used: u64,
+}
+
+impl Lexer {
+    /// A lexer at the start of a text.
+    pub fn new() -> Lexer
+        ensures { StandsAt result 0 [] [] }
+    {
+        Lexer {
+            place: Place::Between,
+            used: 0,
+        }
+    }
+
+    /// Takes the next piece of the text.
+    ///
+    /// A piece is used up to the end of its first word, or whole: the bytes behind `used` are to be
+    /// given again. After a fault every call answers that fault and uses nothing.
+    pub fn feed(&mut self, bytes: &[u8]) -> Lexed
+        ensures stands { (n : ℕ) (text : List ℕ) (events : List BusEvent) → StandsAt self.old n text events
+            → Feeds n text events bytes.now result.used result.step self.new }
+        ensures faulted { (fault : LexFault) → IsFaulted self.old fault
+            → (result ≡ record { used = 0; step = Step.Fault fault }) × (self.new ≡ self.old) }
+        // What a caller's loop stands on, wherever the lexer stands.
+        ensures within { result.used ≤ length bytes.now }
+        ensures progress { (event : BusEvent) → result.step ≡ Step.Event event → 0 < result.used }
+    {
+        if let Place::Faulted(fault) = self.place {
+            return Lexed {
+                used: 0,
+                step: Step::Fault(fault),
+            };
+        }
+        for (i, byte) in bytes.iter().enumerate() {
+            match self.step(*byte) {
+                Step::Need => {}
+                Step::Event(event) => {
+                    return Lexed {
+                        used: i + 1,
+                        step: Step::Event(event),
+                    };
+                }
+                Step::Fault(fault) => {
+                    return Lexed {
+                        used: i,
+                        step: Step::Fault(fault),
+                    };
+                }
+            }
+        }
+        Lexed {
+            used: bytes.len(),
+            step: Step::Need,
+        }
+    }
+
+    /// The end of the input: it ends a word as a separator of no bytes would.
+    ///
+    /// Answers the event of the word under way, or `None` between words and in a comment.
+    pub fn finish(&mut self) -> Result<Option<Event>, LexFault>
+        ensures stands { (n : ℕ) (text : List ℕ) (events : List BusEvent) → StandsAt self.old n text events
+            → Finishes n text events result self.new }
+        ensures faulted { (fault : LexFault) → IsFaulted self.old fault → (result ≡ Err fault) × (self.new ≡ self.old) }
+    {
+        match self.place.end() {
+            Ok(None) => Ok(None),
+            Ok(Some(event)) => {
+                self.place = Place::Between;
+                Ok(Some(event))
+            }
+            Err(fault) => {
+                self.place = Place::Faulted(fault);
+                Err(fault)
+            }
+        }
+    }
+
+    // Takes one byte. Where it is refused it is not used.
+    #[inline]
+    fn step(&mut self, byte: u8) -> Step
+        ensures stands { (n : ℕ) (text : List ℕ) (events : List BusEvent) → StandsAt self.old n text events
+            → Steps n text events byte result self.new }
+        ensures faulted { (fault : LexFault) → IsFaulted self.old fault
+            → (result ≡ Step.Fault fault) × (self.new ≡ self.old) }
+    {
+        if let Place::Comment = self.place {
+            if byte == b'\n' {
+                self.advance(Place::Between);
+            } else {
+                self.advance(Place::Comment);
+            }
+            return Step::Need;
+        }
+        if ends_word(byte) {
+            self.step_end(byte)
+        } else {
+            self.step_word(byte)
+        }
+    }
+
+    // Takes a byte that ends the word under way, if there is one.
+    #[inline]
+    fn step_end(&mut self, byte: u8) -> Step
+        ensures stands { (n : ℕ) (text : List ℕ) (events : List BusEvent) → StandsAt self.old n text events
+            → ends_in_comment text ≡ false → ends_word byte ≡ true → Steps n text events byte result self.new }
+        ensures faulted { (fault : LexFault) → IsFaulted self.old fault
+            → (result ≡ Step.Fault fault) × (self.new ≡ self.old) }
+    {
+        match self.place.end() {
+            Ok(None) => {
+                self.advance(Place::behind(byte));
+                Step::Need
+            }
+            Ok(Some(event)) => {
+                self.advance(Place::behind(byte));
+                Step::Event(event)
+            }
+            Err(fault) => self.fail(fault),
+        }
+    }
+
+    // Takes one more byte of a word.
+    #[inline]
+    fn step_word(&mut self, byte: u8) -> Step
+        ensures stands { (n : ℕ) (text : List ℕ) (events : List BusEvent) → StandsAt self.old n text events
+            → ends_in_comment text ≡ false → ends_word byte ≡ false → Steps n text events byte result self.new }
+        ensures faulted { (fault : LexFault) → IsFaulted self.old fault
+            → (result ≡ Step.Fault fault) × (self.new ≡ self.old) }
+    {
+        match self.place.lengthened(byte, self.used) {
+            Ok(place) => {
+                self.advance(place);
+                Step::Need
+            }
+            Err(fault) => self.fail(fault),
+        }
+    }
+
+    // Counts a byte that was used, and goes on at `place`.
+    #[inline]
+    fn advance(&mut self, place: Place)
+        ensures { self.new ≡ record { place = place; used = min (self.old.used + 1) (2 ^ 64 - 1) } }
+    {
+        self.place = place;
+        self.used = self.used.saturating_add(1);
+    }
+
+    #[inline]
+    fn fail(&mut self, fault: LexFault) -> Step
+        ensures answer { result ≡ Step.Fault fault }
+        ensures faulted { self.new ≡ record self.old { place = Place.Faulted fault } }
+    {
+        self.place = Place::Faulted(fault);
+        Step::Fault(fault)
+    }
+}

@@ -1,0 +1,10 @@
+pub mod Packets
+pub mod Feeding
+pub mod Readings
+pub mod Reporting
+pub mod Writing
+pub mod Outcomes
+pub mod Endings
+pub mod Taking
+pub mod Running
+mod WordsExamples

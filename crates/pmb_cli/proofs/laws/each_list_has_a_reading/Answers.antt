@@ -1,0 +1,5 @@
+use Rattle.pmb_cli.proofs.Readings.{reads_from_exists}
+use Rattle.pmb_cli.proofs.laws.each_list_has_a_reading.Goals as goal
+
+pub returns : goal.returns
+returns c = reads_from_exists 0

@@ -1,0 +1,5 @@
+use Rattle.pmb_cli.proofs.Readings.{one_reading_from}
+use Rattle.pmb_cli.proofs.laws.one_reading.Goals as goal
+
+pub returns : goal.returns
+returns c = one_reading_from 0

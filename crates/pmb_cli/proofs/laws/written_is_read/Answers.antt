@@ -1,0 +1,5 @@
+use Rattle.pmb_cli.proofs.Readings.{written_is_read_from}
+use Rattle.pmb_cli.proofs.laws.written_is_read.Goals as goal
+
+pub returns : goal.returns
+returns c = written_is_read_from 0

@@ -1,0 +1,11 @@
+-- What `finish` answers is what the end of the events reads as.
+use Rattle.std.proofs.Common.{sym, ap, ◌∙◌, subst}
+use Rattle.std.specs.Result.{result_err}
+use Rattle.pmb_cli.specs.Reported.{Ends}
+use Rattle.pmb_cli.proofs.Reporting.{ends}
+use Rattle.pmb_cli.proofs.reported.report_end.Goals as goal
+
+pub returns : goal.returns
+returns c place stands reading =
+    let answer = c.err.ensures.value ∙ ap result_err (c.finish.ensures place stands) in
+    subst (Ends place) (sym answer) (ends c.args.reader.now place stands reading)

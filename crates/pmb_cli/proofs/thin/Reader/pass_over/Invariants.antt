@@ -1,0 +1,9 @@
+use Rattle.std.proofs.Common.{◌≡◌, take}
+use Rattle.pmb_cli.specs.Thin.{HasNoStop}
+use Rattle.pmb_cli.proofs.thin.Reader.pass_over.Given as goal
+
+abbrev pub invariant-loop-i : goal.invariant-loop-i
+invariant-loop-i l = record {
+  none_counted : l.self.used ≡ l.fn.self.used;
+  no_stop : HasNoStop (take l.i l.events);
+}

@@ -1,0 +1,13 @@
+pub mod Failing
+pub mod Io
+pub mod Lines
+pub mod Outgoing
+pub mod Packet
+pub mod Reading
+pub mod Reported
+pub mod Show
+pub mod Showing
+pub mod Status
+pub mod Tally
+pub mod Thin
+pub mod Words

@@ -1,0 +1,15 @@
+-- The lines that `show` writes.
+use Rattle.std.specs.Prelude.{ℕ, List, [], ◌∷◌, ◌++◌, codes, decimal}
+use Rattle.hex.specs.Hex.{encode_lower}
+
+-- a Write Word of VOUT_COMMAND to the device 58h: address, command code, then the bytes on the bus in their order
+abbrev pub packet_line : ℕ → ℕ → List ℕ
+packet_line lo hi = codes "write 58 21 " ++ encode_lower (lo ∷ []) ++ codes " " ++ encode_lower (hi ∷ []) ++ codes "\n"
+
+-- the place is the event's, counted from 0
+abbrev pub refusal_line : ℕ → List ℕ
+refusal_line at = codes "# refusal at " ++ decimal at ++ codes "\n"
+
+-- the place is that of the word's first byte, counted from 0
+abbrev pub bad_token_line : ℕ → List ℕ
+bad_token_line at = codes "# bad token at byte " ++ decimal at ++ codes "\n"

@@ -1,0 +1,18 @@
+use thiserror::Error;
+
+/// Why a run ended early. The text is what goes to standard error, behind `pmb: `.
+#[derive(Clone, Copy, Debug, PartialEq, Eq, Error)]
+pub enum ToolFault {
+    /// The reader failed. What was written before it stays.
+    #[error("read failed")]
+    Read,
+    /// The writer failed. It is not said how much of the text went out.
+    #[error("write failed")]
+    Write,
+    /// The reader gave bytes in 2^32 reads and had not ended.
+    #[error("too many reads")]
+    TooManyReads,
+    /// There was no memory.
+    #[error("no memory")]
+    Memory,
+}

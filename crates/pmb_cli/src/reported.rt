@@ -1,0 +1,40 @@
+//! What each event completes, for a caller that hands over one event at a time.
+//!
+//! After a refusal the reader is made to pass over events at once, the refused event first, so no
+//! refusal is ever held between two calls.
+
+ghost use Rattle.pmb_cli.specs.Thin.{Place, StandsAt};
+ghost use Rattle.pmb_cli.specs.Reported.{IsReading, Leads, Ends};
+
+use crate::thin::{Outcome, Reader, Refusal, WriteWord};
+use pmb_bus::Event;
+
+/// What an event completes: a packet, or a refusal.
+#[derive(Clone, Copy, Debug, PartialEq, Eq)]
+pub enum Reported {
+    Packet(WriteWord),
+    Refusal(Refusal),
+}
+
+/// Hands one event to a reader, and after a refusal has it pass over events, the refused one first.
+pub fn report(reader: &mut Reader, event: Event) -> Option<Reported>
+    ensures { (place : Place) → StandsAt reader.old place → IsReading place
+        → (after : Place) × StandsAt reader.new after × IsReading after × Leads place event result after }
+{
+    match reader.feed(&[event]).outcome {
+        Outcome::More => None,
+        Outcome::Packet(word) => Some(Reported::Packet(word)),
+        Outcome::Refused(refusal) => {
+            reader.resync();
+            reader.feed(&[event]);
+            Some(Reported::Refusal(refusal))
+        }
+    }
+}
+
+/// What the end of the events is reported as: a refusal where they end inside a packet.
+pub fn report_end(reader: &Reader) -> Option<Refusal>
+    ensures { (place : Place) → StandsAt reader.now place → IsReading place → Ends place result }
+{
+    reader.finish().err()
+}
