@@ -15,8 +15,8 @@ use Rattle.pmb_cli.specs.Lines.{bad_token_line}
 use Rattle.pmb_cli.specs.Outgoing.{Writes}
 use Rattle.pmb_cli.specs.Reading.{Outcome, capped}
 use Rattle.pmb_cli.specs.Reported.{Ends, end_outcomes}
-use Rattle.pmb_cli.specs.Show.{line_of, lines_of, is_truncation, but_truncation, packets_in, refusals_in, ShowsUpToBadWord}
-use Rattle.pmb_cli.specs.Showing.{Reads, EndsEvents, EndsText}
+use Rattle.pmb_cli.specs.Show.{line_of, lines_of, is_truncation, but_truncation, packets_in, refusals_in, ShowsUpToBadWord, ShowsSoFar}
+use Rattle.pmb_cli.specs.Showing.{Reads, Stands, EndsEvents, EndsText}
 use Rattle.pmb_cli.specs.Thin.{finish_of}
 use Rattle.pmb_cli.specs.Tally.{with_refusal, counted_up}
 use Rattle.pmb_cli.proofs.Outcomes.{reads_end, counted_up-capped}
@@ -42,6 +42,19 @@ tail_left_out : (outcomes : List Outcome) (report : Option HeldRefusal) → but_
 tail_left_out outcomes None whole = ap but_truncation (append-nil outcomes) ∙ whole
 tail_left_out outcomes (Some refusal) whole =
     filter-append (λ o. not (is_truncation o)) outcomes (end_outcomes (Some refusal)) ∙ (append-nil (but_truncation outcomes) ∙ whole)
+
+-- what is shown of the words that have ended
+pub shows_so_far : (showing : Showing) (bytes : List ℕ) (outcomes : List Outcome) → Stands showing bytes outcomes → ShowsSoFar bytes (lines_of outcomes)
+shows_so_far showing bytes outcomes stands =
+    let reads = stands.reads in
+    let tail = reads_tail showing stands.events outcomes reads in record {
+      events = stands.events;
+      outcomes = outcomes ++ end_outcomes tail.0;
+      begins = stands.lexer.begins;
+      spells = stands.lexer.ended;
+      reads = reads_end showing stands.events outcomes tail.0 reads tail.1;
+      lines = ap lines_of (sym (tail_left_out outcomes tail.0 reads.whole));
+    }
 
 -- two places from which the same word goes to the end are one
 same_place : (a b word whole : ℕ) → a + word ≡ whole → b + word ≡ whole → a ≡ b

@@ -7,4 +7,5 @@ pub mod Outcomes
 pub mod Endings
 pub mod Taking
 pub mod Running
+pub mod Shown
 mod WordsExamples

@@ -2,7 +2,7 @@
 use Rattle.std.proofs.Common.{◌≡◌, ℕ, ◌+◌, ◌<◌, ◌≤◌, ◌⊎◌, not, Bool, true, Option, List, [], ◌∷◌, ◌++◌, length, inl, inr, sym, ◌∙◌, ap, subst, refl, append_assoc, append-nil, length-append, arith}
 use Rattle.std.proofs.lemmas.List.Elements.{filter-append}
 use Rattle.std.proofs.lemmas.Grind.{flat_map-append}
-use Rattle.std.specs.Io.KnownBytes.{Consumes, Appends}
+use Rattle.std.specs.Io.KnownBytes.{Consumes, Appends, IsAtEnd}
 use Rattle.pmb_bus.specs.declared.event.Event.{Event}
 use Rattle.pmb_bus.specs.Text.{Spells, EndedWordsSpell, FirstBadWord}
 use Rattle.pmb_cli.specs.declared.showing.Showing.{Showing}
@@ -12,6 +12,7 @@ use Rattle.pmb_cli.specs.Outgoing.{Writes}
 use Rattle.pmb_cli.specs.Reading.{Outcome, capped}
 use Rattle.pmb_cli.specs.Show.{line_of, lines_of, is_truncation, but_truncation, packets_in, refusals_in, Shows, ShowsUpToBadWord, ShowedAll, ShowedFront}
 use Rattle.pmb_cli.specs.Showing.{Stands, TakesPiece, StopsInPiece, EndsText}
+use Rattle.pmb_cli.proofs.Endings.{shows_so_far}
 use Rattle.pmb_cli.proofs.Reporting.{reads_from_place_exists}
 use Rattle.pmb_cli.proofs.Writing.{appends_then, consumes_then, consumes_nothing, writes_all}
 
@@ -62,17 +63,18 @@ reads_on before after first piece left0 left1 left2 held0 held1 held2 reads so_f
 
 -- the reader ends
 pub ends_so : (before after : Showing) (first : List ℕ) (left0 left1 left2 held0 held1 held2 : Option (List ℕ)) (reads : ℕ) (ended : Bool)
-    → (so_far : ReadSoFar first left0 left1 held0 held1 before reads) → Consumes left1 left2 [] → ended ≡ true
+    → (so_far : ReadSoFar first left0 left1 held0 held1 before reads) → Consumes left1 left2 [] → ended ≡ true → IsAtEnd left2
     → EndsText (first ++ so_far.read) so_far.outcomes held1 before.waiting.items held2 after
     → ShowedAll first left0 left2 held0 held2 ended after.tally
-ends_so before after first left0 left1 left2 held0 held1 held2 reads ended so_far consumed is_ended ends = record {
+ends_so before after first left0 left1 left2 held0 held1 held2 reads ended so_far consumed is_ended at_end ends = record {
   read = so_far.read;
   text = lines_of so_far.outcomes ++ ends.text;
   consumed = subst (λ (t : List ℕ). Consumes left0 left2 t) (append-nil so_far.read) (consumes_then left0 left1 left2 so_far.read [] so_far.consumed consumed);
   appended = appends_then held0 held1 held2 (lines_of so_far.outcomes) ends.text so_far.appended
       (appended_all held1 held2 before.waiting.items ends.text so_far.sent ends.writes);
   shows = ends.shows;
-  done = inl is_ended;
+  stops = inr (so_far.read, [], sym (append-nil so_far.read), omega arith, so_far.stands.lexer.begins);
+  done = inl (is_ended, at_end);
 }
 
 -- a word of `first` is no token
@@ -85,15 +87,16 @@ stops_at_once fresh after first left held0 held1 ended empty stops =
       consumed = consumes_nothing left;
       appended = appended_all held0 held1 fresh.waiting.items stops.text empty stops.writes;
       shows = inr shows;
+      stops = inl refl;
       done = inr (shows.events, shows.place, shows.bad);
     }
 
 -- a word of a piece is no token
 pub stops_so : (before after : Showing) (first piece : List ℕ) (left0 left1 left2 held0 held1 held2 : Option (List ℕ)) (reads : ℕ) (ended : Bool)
-    → (so_far : ReadSoFar first left0 left1 held0 held1 before reads) → Consumes left1 left2 piece
+    → (so_far : ReadSoFar first left0 left1 held0 held1 before reads) → Consumes left1 left2 piece → length piece ≤ 65536
     → StopsInPiece (first ++ so_far.read) so_far.outcomes piece held1 before.waiting.items held2 after
     → ShowedAll first left0 left2 held0 held2 ended after.tally
-stops_so before after first piece left0 left1 left2 held0 held1 held2 reads ended so_far consumed stops =
+stops_so before after first piece left0 left1 left2 held0 held1 held2 reads ended so_far consumed small stops =
     let bytes_are : ((first ++ so_far.read) ++ piece) ++ [] ≡ first ++ (so_far.read ++ piece) = append-nil ((first ++ so_far.read) ++ piece) ∙ append_assoc first so_far.read piece in
     let shows = subst (λ (b : List ℕ). ShowsUpToBadWord b (lines_of so_far.outcomes ++ stops.text) after.tally) bytes_are (stops.shows []) in record {
       read = so_far.read ++ piece;
@@ -102,6 +105,7 @@ stops_so before after first piece left0 left1 left2 held0 held1 held2 reads ende
       appended = appends_then held0 held1 held2 (lines_of so_far.outcomes) stops.text so_far.appended
           (appended_all held1 held2 before.waiting.items stops.text so_far.sent stops.writes);
       shows = inr shows;
+      stops = inr (so_far.read, piece, refl, small, so_far.stands.lexer.begins);
       done = inr (shows.events, shows.place, shows.bad);
     }
 
@@ -178,6 +182,7 @@ shown_front showing first left0 left1 left2 held0 held1 reads most lead_on so_fa
       tally = all.1;
       consumed = subst (λ (t : List ℕ). Consumes left0 left2 t) (append-nil so_far.read) (consumes_then left0 left1 left2 so_far.read [] so_far.consumed consumed);
       appended = so_far.appended;
+      so_far = shows_so_far showing (first ++ so_far.read) so_far.outcomes stands;
       shows = all.2;
       many = omega (arith, so_far.many);
     }

@@ -1,5 +1,5 @@
 -- What a `Failing` is made of.
-use Rattle.std.specs.Prelude.{ℕ, Option}
+use Rattle.std.specs.Prelude.{ℕ, ◌-◌, Option, None, Some}
 use Rattle.pmb_cli.specs.declared.failing.Failing.{Failing}
 
 -- the reader or writer inside
@@ -17,3 +17,8 @@ failing_most it = it.most
 -- how many calls failed
 abbrev pub failing_failures : {T : Type 0} → Failing T → ℕ
 failing_failures it = it.failures
+
+-- A call more was made: one fewer goes through, and at none it stays.
+abbrev pub one_call_fewer : Option ℕ → Option ℕ
+one_call_fewer None = None
+one_call_fewer (Some calls) = Some (calls - 1)

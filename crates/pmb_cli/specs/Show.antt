@@ -1,9 +1,9 @@
 -- What `show` writes for the bytes of a capture.
-use Rattle.std.specs.Prelude.{◌≡◌, ℕ, ◌+◌, ◌≤◌, ◌⊎◌, Bool, true, false, not, Option, List, ◌++◌, length, filter, count_by}
+use Rattle.std.specs.Prelude.{◌≡◌, ℕ, ◌+◌, ◌≤◌, ◌⊎◌, Bool, true, false, not, Option, List, [], ◌++◌, length, filter, count_by}
 use Rattle.std.specs.List.{flat_map}
-use Rattle.std.specs.Io.KnownBytes.{Consumes, Appends}
+use Rattle.std.specs.Io.KnownBytes.{Consumes, Appends, IsAtEnd}
 use Rattle.pmb_bus.specs.declared.event.Event.{Event}
-use Rattle.pmb_bus.specs.Text.{Spells, FirstBadWord}
+use Rattle.pmb_bus.specs.Text.{Spells, EndedWordsSpell, BeginsText, FirstBadWord}
 use Rattle.pmb_cli.specs.declared.tally.Tally.{Tally}
 use Rattle.pmb_cli.specs.Reading.{Outcome, Accepted, Refusal, Truncated, Reading, capped}
 use Rattle.pmb_cli.specs.Lines.{packet_line, refusal_line, bad_token_line}
@@ -67,6 +67,22 @@ Shows bytes text tally = ShowsAll bytes text tally ⊎ ShowsUpToBadWord bytes te
 abbrev pub HasBadWord : List ℕ → Type 0
 HasBadWord bytes = (events : List Event) × (place : ℕ) × FirstBadWord bytes events place
 
+-- What is shown of bytes that more may follow, and that begin some text that spells events: a line for each packet and
+-- each refusal of the words that have ended.
+pub record ShowsSoFar (bytes : List ℕ) (text : List ℕ) : Type 0 where
+  pub events : List Event
+  pub outcomes : List Outcome
+  pub begins : BeginsText bytes
+  pub spells : EndedWordsSpell bytes events
+  pub reads : Reading events outcomes
+  pub lines : text ≡ lines_of (but_truncation outcomes)
+
+-- Reading stops at a word that is no token: up to the last read, of a piece at most, some text that spells events
+-- began with what was read.
+abbrev pub StopsReading : List ℕ → List ℕ → Type 0
+StopsReading first read =
+    (read ≡ []) ⊎ ((before : List ℕ) × (piece : List ℕ) × (read ≡ before ++ piece) × (length piece ≤ 65536) × BeginsText (first ++ before))
+
 -- `Ok`: with what was read, the reader ended or a word was no token, and what was written is the text of `first` and
 -- the bytes read.
 pub record ShowedAll (first : List ℕ) (left_old left_new held_old held_new : Option (List ℕ)) (ended : Bool) (tally : Tally) : Type 0 where
@@ -75,9 +91,11 @@ pub record ShowedAll (first : List ℕ) (left_old left_new held_old held_new : O
   pub consumed : Consumes left_old left_new read
   pub appended : Appends held_old held_new text
   pub shows : Shows (first ++ read) text tally
-  pub done : (ended ≡ true) ⊎ HasBadWord (first ++ read)
+  pub stops : StopsReading first read
+  pub done : ((ended ≡ true) × IsAtEnd left_new) ⊎ HasBadWord (first ++ read)
 
--- After a failed read, or after too many: what was written is a front of the text of `first` and the bytes read.
+-- After a failed read, or after too many: what was written is what is shown of `first` and the bytes read as far as they
+-- go, and a front of their text.
 pub record ShowedFront (first : List ℕ) (left_old left_new held_old held_new : Option (List ℕ)) (most : ℕ) : Type 0 where
   pub read : List ℕ
   pub text : List ℕ
@@ -85,5 +103,6 @@ pub record ShowedFront (first : List ℕ) (left_old left_new held_old held_new :
   pub tally : Tally
   pub consumed : Consumes left_old left_new read
   pub appended : Appends held_old held_new text
+  pub so_far : ShowsSoFar (first ++ read) text
   pub shows : Shows (first ++ read) (text ++ rest) tally
   pub many : most ≤ length read

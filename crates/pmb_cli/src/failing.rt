@@ -20,7 +20,7 @@ impl<T> Failing<T> {
     ghost use Rattle.std.specs.Prelude.{◌≡◌, ◌-◌, ◌^◌, ◌<◌, ◌↔◌, None, Some, IsTrue};
     ghost use Rattle.std.specs.Bool.{OnTrue, OnFalse};
     ghost use Rattle.pmb_cli.specs.Io.{one_more};
-    ghost use Rattle.pmb_cli.specs.Failing.{failing_inner, failing_left, failing_most, failing_failures};
+    ghost use Rattle.pmb_cli.specs.Failing.{failing_inner, failing_left, failing_most, failing_failures, one_call_fewer};
 
     /// No call fails of itself, and a read gives as many bytes as there are.
     pub fn new(inner: T) -> Failing<T>
@@ -69,6 +69,7 @@ impl<T> Failing<T> {
     fn fails(&mut self) -> bool
         ensures when { IsTrue result ↔ (failing_left self.old ≡ Some 0) }
         ensures inner { failing_inner self.new ≡ failing_inner self.old }
+        ensures left { failing_left self.new ≡ one_call_fewer (failing_left self.old) }
         ensures most { failing_most self.new ≡ failing_most self.old }
         ensures counted { OnTrue result (failing_failures self.new ≡ one_more (failing_failures self.old)) }
         ensures uncounted { OnFalse result (failing_failures self.new ≡ failing_failures self.old) }
@@ -88,13 +89,31 @@ impl<T> Failing<T> {
 }
 
 impl<T: Source> Source for Failing<T> {
+    ghost use Rattle.std.specs.Prelude.{◌≡◌, ◌≢◌, ◌≤◌, Some, length, IfOk, IsErr};
+    ghost use Rattle.std.specs.Io.KnownBytes.{ReadConsumes};
+    ghost use Rattle.pmb_cli.specs.Io.{CountsFailure, TellsEnd};
+    ghost use Rattle.pmb_cli.specs.Failing.{failing_inner, failing_left, failing_most, failing_failures, one_call_fewer};
+
     ghost remaining = { λ it. T.remaining it.inner };
 
     ghost failures = { λ it. it.failures };
 
     ghost has_ended = { λ it. T.has_ended it.inner };
 
-    fn read(&mut self, buffer: &mut [u8]) -> Result<usize, IoFault> {
+    fn read(&mut self, buffer: &mut [u8]) -> Result<usize, IoFault>
+        ensures within { IfOk result (λ n. n ≤ length buffer.new) }
+        ensures bytes { ReadConsumes (T.remaining (failing_inner self.old)) (T.remaining (failing_inner self.new)) result buffer.new }
+        ensures failed { CountsFailure (failing_failures self.old) (failing_failures self.new) result }
+        ensures ended { TellsEnd (T.has_ended (failing_inner self.old)) (T.has_ended (failing_inner self.new)) result buffer.new }
+        ensures at_most { IfOk result (λ n. n ≤ failing_most self.old) }
+
+        // The call whose turn it is fails and reaches nothing; another fails only where the reader inside does.
+        ensures turn { failing_left self.old ≡ Some 0 → IsErr result × (failing_inner self.new ≡ failing_inner self.old) }
+        ensures inside { failing_left self.old ≢ Some 0
+            → CountsFailure (T.failures (failing_inner self.old)) (T.failures (failing_inner self.new)) result }
+        ensures left { failing_left self.new ≡ one_call_fewer (failing_left self.old) }
+        ensures most { failing_most self.new ≡ failing_most self.old }
+    {
         if self.fails() {
             return Err(IoFault);
         }
@@ -111,11 +130,26 @@ impl<T: Source> Source for Failing<T> {
 }
 
 impl<T: Sink> Sink for Failing<T> {
+    ghost use Rattle.std.specs.Prelude.{◌≡◌, ◌≢◌, Some, OnOk, IsErr};
+    ghost use Rattle.std.specs.Io.KnownBytes.{Appends};
+    ghost use Rattle.pmb_cli.specs.Io.{CountsFailure};
+    ghost use Rattle.pmb_cli.specs.Failing.{failing_inner, failing_left, failing_most, failing_failures, one_call_fewer};
+
     ghost contents = { λ it. T.contents it.inner };
 
     ghost failures = { λ it. it.failures };
 
-    fn write_all(&mut self, bytes: &[u8]) -> Result<(), IoFault> {
+    fn write_all(&mut self, bytes: &[u8]) -> Result<(), IoFault>
+        ensures written { OnOk result (Appends (T.contents (failing_inner self.old)) (T.contents (failing_inner self.new)) bytes.now) }
+        ensures failed { CountsFailure (failing_failures self.old) (failing_failures self.new) result }
+
+        // The call whose turn it is fails and reaches nothing; another fails only where the writer inside does.
+        ensures turn { failing_left self.old ≡ Some 0 → IsErr result × (failing_inner self.new ≡ failing_inner self.old) }
+        ensures inside { failing_left self.old ≢ Some 0
+            → CountsFailure (T.failures (failing_inner self.old)) (T.failures (failing_inner self.new)) result }
+        ensures left { failing_left self.new ≡ one_call_fewer (failing_left self.old) }
+        ensures most { failing_most self.new ≡ failing_most self.old }
+    {
         if self.fails() {
             return Err(IoFault);
         }

@@ -1,11 +1,15 @@
 //! Laws over the definitions alone.
 
-ghost use Rattle.std.specs.Prelude.{◌≡◌, List, [], ◌++◌, map};
+ghost use Rattle.std.specs.Prelude.{◌≡◌, ℕ, List, [], ◌++◌, map};
 ghost use Rattle.std.specs.List.{flat_map};
 ghost use Rattle.pmb_bus.specs.declared.event.Event.{Event};
 ghost use Rattle.pmb_cli.specs.declared.thin.WriteWord.{WriteWord};
 ghost use Rattle.pmb_cli.specs.Packet.{word_events, Packet};
+ghost use Rattle.pmb_cli.specs.declared.tally.Tally.{Tally};
+ghost use Rattle.pmb_cli.specs.Show.{Shows};
 ghost use Rattle.pmb_cli.specs.Reading.{Outcome, Accepted, Reading};
+
+use pmb_bus::laws::{one_bad_word, one_spelling, spelled_has_no_bad_word};
 
 /// Events are the packet of at most one transaction.
 pub fn one_packet()
@@ -31,3 +35,12 @@ pub fn one_reading()
 pub fn written_is_read()
     ensures { (ts : List WriteWord) → Reading (flat_map (λ t. word_events t.lo t.hi) ts) (map Accepted ts) }
 {}
+
+/// What is shown for bytes, and its tally, is a function of the bytes.
+pub fn one_showing()
+    ensures { (bytes a b : List ℕ) (s t : Tally) → Shows bytes a s → Shows bytes b t → (a ≡ b) × (s ≡ t) }
+{
+    one_spelling();
+    one_bad_word();
+    spelled_has_no_bad_word();
+}

@@ -4,7 +4,8 @@ ghost use Rattle.std.specs.Prelude.{◌≡◌, ◌≢◌, ◌≤◌, ◌⊎◌, 
 ghost use Rattle.clap.specs.Words.{FailsBy, app_of, kind_of};
 ghost use Rattle.clap.specs.declared.builder.command.Command.TheViews.{out-Command as fields_of};
 ghost use Rattle.std.specs.declared.io.ErrorKind.TheVariants.{OutOfMemory};
-ghost use Rattle.pmb_cli.specs.Status.{status_of};
+ghost use Rattle.pmb_cli.specs.Io.{one_more};
+ghost use Rattle.pmb_cli.specs.Status.{ReadOften, status_of};
 ghost use Rattle.pmb_cli.specs.Words.{AreRefused, AskForHelp, MayBeRefused, faults_of, pmb_app, show_app};
 
 use crate::fault::ToolFault;
@@ -52,11 +53,18 @@ pub fn tool<S: AsStr, R: Source, W: Sink, E: Sink>(
     err: &mut E,
 ) -> u8
     ensures within { result ≤ 4 }
+
+    // The words are looked at first.
     ensures refused { AreRefused (map S.text words.now) → (result ≡ 2) ⊎ (result ≡ 4) }
     ensures told { result ≡ 2 → MayBeRefused (map S.text words.now) }
     ensures helped { AskForHelp (map S.text words.now) → (result ≡ 0) ⊎ (result ≡ 3) ⊎ (result ≡ 4) }
     ensures unread { faults_of (map S.text words.now) ≢ [] → reader.new ≡ reader.old }
     ensures unwritten { AreRefused (map S.text words.now) → out.new ≡ out.old }
+
+    // No read and no write on `out` failed where it answers 0 or 1, and one did, or there were too many reads, where 3.
+    ensures done { result ≤ 1 → (R.failures reader.new ≡ R.failures reader.old) × (W.failures out.new ≡ W.failures out.old) }
+    ensures io_failed { result ≡ 3 → (R.failures reader.new ≡ one_more (R.failures reader.old))
+        ⊎ ((W.failures out.new ≡ one_more (W.failures out.old)) ⊎ ReadOften (R.remaining reader.old) (R.remaining reader.new)) }
 {
     if let Err(error) = parse(alloc, words) {
         return tell_words(alloc, &error, out, err);
@@ -117,6 +125,8 @@ fn show_command<'a>(alloc: Global) -> Result<Command<'a>, AllocError>
 // Tells what `clap` says of the words: help on `out`, a fault on `err`.
 fn tell_words<W: Sink, E: Sink>(alloc: Global, error: &Error, out: &mut W, err: &mut E) -> u8
     ensures within { result ≤ 4 }
+    ensures done { result ≤ 1 → W.failures out.new ≡ W.failures out.old }
+    ensures io_failed { result ≡ 3 → W.failures out.new ≡ one_more (W.failures out.old) }
     ensures refused { kind_of error.now ≢ ErrorKind.DisplayHelp → (result ≡ 2) ⊎ (result ≡ 4) }
     ensures helped { kind_of error.now ≡ ErrorKind.DisplayHelp → (result ≡ 0) ⊎ (result ≡ 3) ⊎ (result ≡ 4) }
     ensures memory { kind_of error.now ≡ ErrorKind.OutOfMemory → result ≡ 4 }

@@ -172,15 +172,15 @@ pub fn show<R: Source, W: Sink>(
     // What was written is the text of `first` and the bytes read, however the reader cut them.
     ensures ok { IfOk result (ShowedAll first.now (R.remaining reader.old) (R.remaining reader.new)
         (W.contents writer.old) (W.contents writer.new) (R.has_ended reader.new)) }
-    ensures ok_reader { OnOk result (R.failures reader.new ≡ R.failures reader.old) }
-    ensures ok_writer { OnOk result (W.failures writer.new ≡ W.failures writer.old) }
 
-    // A fault comes only where the reader or the writer failed in this call, or was read so often.
+    // The reader failed in this call exactly where it answers `Read`, the writer where it answers `Write`.
     ensures read { result ≡ Err ToolFault.Read → R.failures reader.new ≡ one_more (R.failures reader.old) }
+    ensures no_read { result ≢ Err ToolFault.Read → R.failures reader.new ≡ R.failures reader.old }
     ensures write { result ≡ Err ToolFault.Write → W.failures writer.new ≡ one_more (W.failures writer.old) }
+    ensures no_write { result ≢ Err ToolFault.Write → W.failures writer.new ≡ W.failures writer.old }
     ensures memory { result ≢ Err ToolFault.Memory }
 
-    // What was written before a fault of reading is a front of the text of what was read.
+    // What was written before a fault of reading is the lines of what was read, a front of its text.
     ensures before_read { result ≡ Err ToolFault.Read → ShowedFront first.now (R.remaining reader.old) (R.remaining reader.new)
         (W.contents writer.old) (W.contents writer.new) 0 }
     ensures too_many { result ≡ Err ToolFault.TooManyReads → ShowedFront first.now (R.remaining reader.old) (R.remaining reader.new)

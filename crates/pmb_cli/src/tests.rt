@@ -11,7 +11,7 @@ use std::test::Fail;
 const SHOW: [&str; 3] = ["pmb", "show", "--sample"];
 
 // A capture, and what `pmb show --sample` prints of it. The exit status is 0 where no line has a `#`.
-const ROWS: [(&str, &str); 28] = [
+const ROWS: [(&str, &str); 27] = [
     ("", ""),
     ("# nothing", ""),
     (" \t\r\n", ""),
@@ -62,11 +62,6 @@ const ROWS: [(&str, &str); 28] = [
     ("S b4 q", "# refusal at 1\n# bad token at byte 5\n"),
     ("S b0 A 21 A 5", "# bad token at byte 12\n"),
     ("S b0 A 21 A 000 A", "# bad token at byte 12\n"),
-    // The captures of `examples/captures/bench_session.txt`, without its comments.
-    (
-        "S b0 A 21 A 00 A 18 A P\nS b0 A 21 A 00 N P\nS b4 A 21 A 00 A 18 A P\nS B0 A 21 A\n00 A 0A A P\nS b0 A 21\n",
-        "write 58 21 00 18\n# refusal at 16\n# refusal at 19\nwrite 58 21 00 0a\n# refusal at 42\n",
-    ),
 ];
 
 // What a run of the program came to.
@@ -380,4 +375,5 @@ fn reads_a_word_and_holds_a_refusal(rt: HostRuntime) {
     laws::each_list_has_a_reading();
     laws::one_reading();
     laws::written_is_read();
+    laws::one_showing();
 }

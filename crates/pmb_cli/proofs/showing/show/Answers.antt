@@ -30,7 +30,7 @@ returns-then-count-eq0-clause-ok g c =
     let none : c.in-Ok.count ≡ 0 = c.if-count-eq0.true in
     let consumed = subst (λ n. Consumes (g.R.Source.remaining c.reads.reader) (g.R.Source.remaining c.read.new.self) (take n c.read.new.buffer)) none c.in-Ok.ensures.bytes.0 in
     ends_so c.reads.showing c.end.new.self c.args.first.now _ _ _ _ _ _ c.reads.counter (g.R.Source.has_ended c.read.new.self) so_far consumed
-    (told_end _ _ c.in-Ok.count c.read.new.buffer c.in-Ok.ensures.ended none (omega arith))
+    (told_end _ _ c.in-Ok.count c.read.new.buffer c.in-Ok.ensures.ended none (omega arith)) (c.in-Ok.ensures.bytes.1 none (omega arith))
     (c.in_ok-end.ensures.ends (c.args.first.now ++ so_far.read) so_far.outcomes so_far.stands)
 
 pub returns-in-BadToken-2-clause-ok : goal.returns-in-BadToken-2-clause-ok
@@ -38,7 +38,7 @@ returns-in-BadToken-2-clause-ok g c =
     let so_far = c.reads.invariant.so_far in
     let taken = subst (λ flow. Takes (c.args.first.now ++ so_far.read) so_far.outcomes (take c.in-Ok.count c.read.new.buffer) (g.W.Sink.contents c.reads.writer) c.reads.showing.waiting.items (g.W.Sink.contents c.take-in-reads.new.writer) c.take-in-reads.new.self flow) c.in-BadToken-2.is
     (c.in_ok-take-2.ensures.takes (c.args.first.now ++ so_far.read) so_far.outcomes so_far.stands) in
-    stops_so c.reads.showing c.take-in-reads.new.self c.args.first.now (take c.in-Ok.count c.read.new.buffer) _ _ _ _ _ _ c.reads.counter (g.R.Source.has_ended c.read.new.self) so_far c.in-Ok.ensures.bytes.0 taken
+    stops_so c.reads.showing c.take-in-reads.new.self c.args.first.now (take c.in-Ok.count c.read.new.buffer) _ _ _ _ _ _ c.reads.counter (g.R.Source.has_ended c.read.new.self) so_far c.in-Ok.ensures.bytes.0 (rw (length-take-le c.in-Ok.count c.read.new.buffer c.in-Ok.ensures.within) (omega (arith, c.in-Ok.ensures.within))) taken
 
 pub reads-preserved : goal.reads-preserved
 reads-preserved g c =

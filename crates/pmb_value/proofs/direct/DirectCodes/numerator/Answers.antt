@@ -1,0 +1,33 @@
+use Rattle.std.proofs.Common.{◌≡◌, ◌^◌, ◌*◌, SFits, ◌*ℤ◌, ◌-ℤ◌, pos, neg_ℤ, sym, ap, ◌∙◌, arith, rules}
+use Rattle.std.specs.Int.{w8, w16, w32, w64}
+use Rattle.std.proofs.lemmas.Int.{ints, to_z-of_z, fits_signed_from_abs}
+use Rattle.std.proofs.Math.IntN.{+ℤ_idl}
+use Rattle.pmb_value.specs.Direct.{Coefficients, positive_part, sign_of}
+use Rattle.pmb_value.specs.Linear.{twos_complement}
+use Rattle.pmb_value.proofs.DirectLemmas.{numerator_is}
+use Rattle.pmb_value.proofs.direct.DirectCodes.numerator.Goals as goal
+
+pub with_sign_of-requires-clause-number_is_small :
+    goal.with_sign_of-requires-clause-number_is_small
+with_sign_of-requires-clause-number_is_small c = omega (arith, ints, c.times-word.ensures.small, c.times-offset.ensures.small)
+
+pub returns-clause-value : goal.returns-clause-value
+returns-clause-value c =
+    let word_fits : SFits w64 c.times-word.result = search rules in
+    let offset_fits : SFits w64 c.times-offset.result = search rules in
+    let result_fits : SFits w64 c.with_sign_of.result = search rules in
+    let difference_fits : SFits w64 (c.times-word.result -ℤ c.times-offset.result) = omega (arith, ints, c.times-word.ensures.small, c.times-offset.ensures.small) in
+    let m_fits : SFits w16 c.self.inside.m = search rules in
+    let b_fits : SFits w16 c.self.inside.b = search rules in
+    let r_fits : SFits w8 c.self.inside.r = search rules in
+    let minus_r_fits : SFits w8 (neg_ℤ c.self.inside.r) = omega (arith, ints, c.self.invariant.1, c.self.invariant.2) in
+    let complement_fits : SFits w32 c.twos_complement.result = search rules in
+    let from_fits : SFits w32 c.from.result = search rules in
+    let inside : Coefficients = record { m = c.self.inside.m; b = c.self.inside.b; r = c.self.inside.r } in
+    let value = simp to_z-of_z at c.with_sign_of.ensures.value in
+    let word = simp to_z-of_z at c.times-word.ensures.value in
+    let offset = simp to_z-of_z at c.times-offset.ensures.value in
+    let down = simp (to_z-of_z, +ℤ_idl) at c.ten_to.ensures.value in
+    let up = simp to_z-of_z at c.ten_to-2.ensures.value in
+    let from = simp to_z-of_z at c.from.ensures in
+    rw to_z-of_z (numerator_is c.args.code c.args.self.now inside c.twos_complement.result c.times-word.result c.from.result c.times-offset.result c.with_sign_of.result c.ten_to.result c.ten_to-2.result c.self.view_is c.twos_complement.ensures.value down word from up offset value)

@@ -1,0 +1,7 @@
+use Rattle.pmb_value.specs.Linear.{slinear16}
+use Rattle.pmb_value.proofs.Words.{IsSpaced-slinear16}
+use Rattle.pmb_value.proofs.LawLemmas.{keeps_values}
+use Rattle.pmb_value.proofs.laws.slinear16_keeps_values.Goals as goal
+
+pub returns : goal.returns
+returns c = λ e. keeps_values (slinear16 e) (IsSpaced-slinear16 e)

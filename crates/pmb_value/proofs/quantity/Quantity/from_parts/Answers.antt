@@ -1,0 +1,32 @@
+use Rattle.std.proofs.Common.{SFits, sym, arith, rules}
+use Rattle.std.specs.Int.{w64}
+use Rattle.std.proofs.lemmas.Int.{to_z-of_z}
+use Rattle.pmb_value.proofs.FractionLemmas.{gcd_positive, IsQuantity-quotients, lowest_terms-signed}
+use Rattle.pmb_value.proofs.Fitted.{lowest-fits, lowest-numerator, lowest-denominator}
+use Rattle.pmb_value.proofs.quantity.Quantity.from_parts.Goals as goal
+
+pub nonzero_div-numerator : goal.nonzero_div-numerator
+nonzero_div-numerator c = rw c.gcd-divisor.ensures (gcd_positive c.args.numerator c.args.denominator c.requires)
+
+pub nonzero_div-denominator : goal.nonzero_div-denominator
+nonzero_div-denominator c = rw c.gcd-divisor.ensures (gcd_positive c.args.numerator c.args.denominator c.requires)
+
+pub invariant_of-result : goal.invariant_of-result
+invariant_of-result c =
+    let s = c.args.sign in
+    let n = c.args.numerator in
+    let d = c.args.denominator in
+    let fits : SFits w64 c.signed.result = search rules in
+    let n_fits = rw c.gcd-divisor.ensures at c.if-numerator-ge-LIMIT.false in
+    let d_fits = rw c.gcd-divisor.ensures at c.if-denominator-ge-LIMIT.false in
+    rw (to_z-of_z, c.signed.ensures, c.gcd-divisor.ensures) (IsQuantity-quotients s n d c.requires n_fits d_fits)
+
+pub returns : goal.returns
+returns c =
+    let s = c.args.sign in
+    let n = c.args.numerator in
+    let d = c.args.denominator in
+    let fits : SFits w64 c.signed.result = search rules in
+    let n_fits = rw c.gcd-divisor.ensures at c.if-numerator-ge-LIMIT.false in
+    let d_fits = rw c.gcd-divisor.ensures at c.if-denominator-ge-LIMIT.false in
+    rw (to_z-of_z, c.signed.ensures, c.gcd-divisor.ensures) (sym (lowest-fits s n d n_fits d_fits))

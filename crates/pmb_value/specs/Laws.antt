@@ -1,0 +1,13 @@
+-- Laws over the definitions alone.
+use Rattle.std.specs.Prelude.{◌≡◌, ℕ, ℤ, pos, ◌*ℤ◌, unsigned_abs}
+use Rattle.pmb_value.specs.Fraction.{gcd, lowest_terms}
+use Rattle.pmb_value.specs.Coding.{Coding, IsCode, IsNearest, value_of}
+
+-- a code nearest to the value of a code has that value
+abbrev pub KeepsValues : Coding → Type 0
+KeepsValues f = (code nearest : ℕ) → IsCode code → IsNearest f (value_of f code) nearest → f.numerator nearest ≡ f.numerator code
+
+-- lowest terms are the same fraction, and no number but 1 divides both
+pub record AreLowestTerms (n : ℤ) (d : ℕ) : Type 0 where
+  pub same_value : (lowest_terms n d).numerator *ℤ pos d ≡ pos (lowest_terms n d).denominator *ℤ n
+  pub no_common_divisor : gcd (unsigned_abs (lowest_terms n d).numerator) (lowest_terms n d).denominator ≡ 1

@@ -1,0 +1,12 @@
+pub mod Fraction
+pub mod Quantity
+pub mod Coding
+pub mod Linear
+pub mod Direct
+pub mod Candidate
+pub mod Sign
+pub mod Vout
+pub mod Laws
+pub mod QuantityText
+pub mod Reading
+pub mod Numeral

@@ -1,0 +1,55 @@
+-- LINEAR11 (PMBus Part II revision 1.3, section 7) and the linear formats of VOUT (section 8).
+use Rattle.std.specs.Prelude.{◌≡◌, ◌≢◌, ℕ, ◌/◌, ◌-◌, ◌%◌, ◌^◌, ◌<◌, ◌⊎◌, ℤ, pos, negsuc, ◌<ℤ◌, ◌+ℤ◌, ◌-ℤ◌, ◌*ℤ◌, ◌≤ℤ◌, unsigned_abs, nat_lt, if◌then◌else◌}
+use Rattle.pmb_value.specs.Coding.{Coding, IsCode}
+
+-- a field of so many bits, read as a two's complement number
+unfoldable pub twos_complement : ℕ → ℕ → ℤ
+twos_complement bits field = if nat_lt field (2 ^ (bits - 1)) then pos field else pos field -ℤ pos (2 ^ bits)
+
+-- 2^exponent, over 2^16: no exponent is below -16
+abbrev pub power : ℤ → ℕ
+power exponent = 2 ^ unsigned_abs (exponent +ℤ pos 16)
+
+-- bits 15:11 of a LINEAR11 word
+abbrev pub exponent : ℕ → ℤ
+exponent code = twos_complement 5 (code / 2 ^ 11)
+
+-- bits 10:0 of a LINEAR11 word
+abbrev pub mantissa : ℕ → ℤ
+mantissa code = twos_complement 11 (code % 2 ^ 11)
+
+-- mantissa * 2^exponent, over 2^16
+abbrev pub linear11_numerator : ℕ → ℤ
+linear11_numerator code = mantissa code *ℤ pos (power (exponent code))
+
+-- Zero is written as 0000h. No code of the same value has a smaller exponent than a canonical one.
+pub record IsCanonicalLinear11 (code : ℕ) : Type 0 where
+  pub zero : linear11_numerator code ≡ pos 0 → code ≡ 0
+  pub least_exponent : linear11_numerator code ≢ pos 0 → (k : ℕ) → IsCode k → linear11_numerator k ≡ linear11_numerator code → exponent code ≤ℤ exponent k
+
+abbrev pub linear11 : Coding
+linear11 = record { numerator = linear11_numerator; denominator = 2 ^ 16; IsCanonical = IsCanonicalLinear11 }
+
+-- every code is canonical
+abbrev pub IsAnyCode : ℕ → Type 0
+IsAnyCode _ = Unit {0}
+
+-- ULINEAR16: word * 2^exponent, over 2^16
+abbrev pub ulinear16 : ℤ → Coding
+ulinear16 exponent = record {
+  numerator = λ code. pos code *ℤ pos (power exponent);
+  denominator = 2 ^ 16;
+  IsCanonical = IsAnyCode;
+}
+
+-- SLINEAR16: the same with a signed word
+abbrev pub slinear16 : ℤ → Coding
+slinear16 exponent = record {
+  numerator = λ code. twos_complement 16 code *ℤ pos (power exponent);
+  denominator = 2 ^ 16;
+  IsCanonical = IsAnyCode;
+}
+
+-- No smaller exponent holds the value of this mantissa: there is none, or the doubled mantissa has no room.
+abbrev pub IsLeastExponent : ℤ → ℤ → Type 0
+IsLeastExponent exponent mantissa = (exponent ≡ negsuc 15) ⊎ ((mantissa <ℤ negsuc 511) ⊎ (pos 511 <ℤ mantissa))

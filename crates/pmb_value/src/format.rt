@@ -1,0 +1,35 @@
+//! What a number format is.
+ghost use Rattle.std.specs.Prelude.{◌≡◌, ◌↔◌, IfOk, IsOk};
+ghost use Rattle.pmb_value.specs.Coding.{Coding, value_of, IsNearest, IsInRange, IsBelow, IsAbove};
+
+use crate::quantity::Quantity;
+use crate::steps::Steps;
+
+/// On which side of a format's range a quantity lies.
+#[derive(Clone, Copy, Debug, PartialEq, Eq)]
+pub enum RangeFault {
+    /// Under the least value.
+    Below,
+    /// Over the greatest value.
+    Above,
+}
+
+/// A format of two bytes for a quantity.
+pub trait Format {
+    ghost use Rattle.pmb_value.specs.declared.format.RangeFault.TheVariants.{Below, Above};
+
+    /// The values of its codes, and which code is written for each.
+    ghost coding: { Self → Coding };
+
+    /// The exact value of a code.
+    fn decode(&self, code: u16) -> Quantity
+        ensures { result ≡ value_of (coding self.now) code };
+
+    /// The code nearest to a quantity, the even one at a tie. A quantity outside the range is refused, however
+    /// little it is outside.
+    fn encode(&self, quantity: &Quantity, steps: &mut Steps) -> Result<u16, RangeFault>
+        ensures nearest { IfOk result (IsNearest (coding self.now) quantity.now) }
+        ensures in_range { IsOk result ↔ IsInRange (coding self.now) quantity.now }
+        ensures below { (result ≡ Err Below) ↔ IsBelow (coding self.now) quantity.now }
+        ensures above { (result ≡ Err Above) ↔ IsAbove (coding self.now) quantity.now };
+}
