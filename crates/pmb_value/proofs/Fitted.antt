@@ -1,7 +1,6 @@
 -- When a fraction is a quantity.
-use Rattle.std.proofs.Common.{◌≡◌, ℕ, ◌/◌, ◌^◌, ◌<◌, ◌≤◌, ℤ, pos, unsigned_abs, Ok, Err, Result, sym, ◌∙◌, ap, arith}
+use Rattle.std.proofs.Common.{◌≡◌, ℕ, ◌/◌, ◌^◌, ◌<◌, ◌≤◌, unsigned_abs, Ok, Err, ◌∙◌, ap, arith}
 use Rattle.std.proofs.lemmas.Bool.Decides.{nat_tests}
-use Rattle.pmb_value.specs.declared.quantity.QuantityFault.{QuantityFault}
 use Rattle.pmb_value.specs.declared.quantity.QuantityFault.TheVariants.{TooLarge}
 use Rattle.pmb_value.specs.declared.sign.Sign.{Sign}
 use Rattle.pmb_value.specs.Sign.{signed}

@@ -1,10 +1,10 @@
 -- The greatest common divisor and lowest terms.
-use Rattle.std.proofs.Common.{◌≡◌, ℕ, zero, suc, inl, inr, ◌+◌, ◌*◌, ◌/◌, ◌%◌, ◌^◌, ◌<◌, ◌≤◌, ℤ, pos, negsuc, neg_ℤ, unsigned_abs, int_div, refl, sym, ap, ◌∙◌, subst, arith}
+use Rattle.std.proofs.Common.{◌≡◌, ℕ, zero, suc, inl, inr, ◌+◌, ◌*◌, ◌/◌, ◌%◌, ◌^◌, ◌<◌, pos, unsigned_abs, int_div, refl, sym, ap, ◌∙◌, subst, arith}
 use Rattle.std.specs.Int.{IsGcd, ◌∣◌}
 use Rattle.std.proofs.lemmas.Bool.{cases_eq}
 use Rattle.std.proofs.lemmas.Nat.{mod_below, div-add-mod', mod-mul-add}
-use Rattle.std.proofs.Math.Nat.{zero-mul, zero-div, mul-lt-mul_of_pos_right, div-mul_cancel, mul-div_cancel, eq-zero_of_zero-dvd, div-le_self}
-use Rattle.std.proofs.lemmas.Nat.Gcd.{IsGcd-from_zero, IsGcd-from_mod, le_of_dvd, mod-eq-zero_of_dvd}
+use Rattle.std.proofs.Math.Nat.{zero-mul, zero-div, mul-lt-mul_of_pos_right, div-mul_cancel, mul-div_cancel, eq-zero_of_zero-dvd}
+use Rattle.std.proofs.lemmas.Nat.Gcd.{IsGcd-from_zero, IsGcd-from_mod}
 use Rattle.pmb_value.specs.declared.sign.Sign.{Sign}
 use Rattle.pmb_value.specs.declared.sign.Sign.TheVariants.{Plus, Minus}
 use Rattle.pmb_value.specs.Sign.{signed}

@@ -1,13 +1,13 @@
 -- The laws.
-use Rattle.std.proofs.Common.{◌≡◌, ◌≢◌, ℕ, zero, suc, ◌+◌, ◌*◌, ◌/◌, ◌<◌, ◌≤◌, ℤ, pos, negsuc, neg_ℤ, ◌-ℤ◌, ◌*ℤ◌, unsigned_abs, int_div, refl, sym, ap, ◌∙◌, subst, arith}
+use Rattle.std.proofs.Common.{◌≡◌, ℕ, suc, ◌*◌, ◌/◌, ◌<◌, ◌≤◌, ℤ, pos, negsuc, neg_ℤ, ◌*ℤ◌, unsigned_abs, int_div, refl, sym, ap, ◌∙◌, arith}
 use Rattle.std.proofs.lemmas.Int.{ints}
 use Rattle.std.proofs.Math.Nat.{div-mul_cancel, mul_assoc, mul_comm}
 use Rattle.std.proofs.Math.IntN.{*ℤ_comm}
-use Rattle.std.specs.Int.{IsGcd, ◌∣◌}
-use Rattle.pmb_value.specs.Fraction.{Fraction, gcd, lowest_terms}
-use Rattle.pmb_value.specs.Coding.{Coding, IsCode, IsSpaced, IsNearest, value_of, scaled, scaled_code, distance}
+use Rattle.std.specs.Int.{◌∣◌}
+use Rattle.pmb_value.specs.Fraction.{gcd, lowest_terms}
+use Rattle.pmb_value.specs.Coding.{Coding, IsSpaced, value_of, scaled, scaled_code, distance}
 use Rattle.pmb_value.specs.Laws.{KeepsValues, AreLowestTerms}
-use Rattle.pmb_value.proofs.FractionLemmas.{IsGcd-gcd, gcd_positive, gcd-quotients, quotient_positive, unsigned_abs-signed}
+use Rattle.pmb_value.proofs.FractionLemmas.{IsGcd-gcd, gcd-quotients, quotient_positive, unsigned_abs-signed}
 use Rattle.pmb_value.specs.declared.sign.Sign.TheVariants.{Minus}
 use Rattle.pmb_value.proofs.Scaling.{neg-scale, unscale_eq}
 

@@ -10,3 +10,4 @@ pub mod LawLemmas
 pub mod TextLemmas
 pub mod DigitLemmas
 pub mod ReadingLemmas
+pub mod RoundTrip

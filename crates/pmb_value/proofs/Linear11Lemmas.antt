@@ -1,12 +1,12 @@
 -- The codes of LINEAR11: canonical ones, and what lies between two odd ones.
-use Rattle.std.proofs.Common.{◌≡◌, ◌≢◌, ℕ, zero, suc, ◌+◌, ◌-◌, ◌*◌, ◌/◌, ◌%◌, ◌^◌, ◌<◌, ◌≤◌, ◌⊎◌, inl, inr, ℤ, pos, negsuc, neg_ℤ, ◌+ℤ◌, ◌-ℤ◌, ◌*ℤ◌, ◌<ℤ◌, ◌≤ℤ◌, unsigned_abs, refl, sym, ap, ◌∙◌, subst, arith}
+use Rattle.std.proofs.Common.{◌≡◌, ◌≢◌, ℕ, zero, suc, ◌+◌, ◌-◌, ◌*◌, ◌/◌, ◌%◌, ◌^◌, ◌<◌, ◌≤◌, ◌⊎◌, inl, inr, ℤ, pos, negsuc, ◌+ℤ◌, ◌-ℤ◌, ◌*ℤ◌, ◌<ℤ◌, ◌≤ℤ◌, unsigned_abs, refl, sym, ap, ◌∙◌, subst, arith}
 use Rattle.std.proofs.lemmas.Int.{ints, by_lt_z}
 use Rattle.std.proofs.lemmas.Bool.{cases_lt, cases_eq}
 use Rattle.std.proofs.lemmas.Nat.{pow_pos, div-mul-add, mod-mul-add}
 use Rattle.std.proofs.Math.IntN.{zero-*ℤ, -ℤ-+ℤ_cancel}
 use Rattle.pmb_value.specs.Coding.{IsCode, IsSpaced}
 use Rattle.pmb_value.specs.Linear.{twos_complement, power, exponent, mantissa, linear11_numerator, IsCanonicalLinear11, IsLeastExponent, linear11}
-use Rattle.pmb_value.proofs.Scaling.{scale_lt, unscale_lt, unscale_eq, ordered, scale-scale, power_splits, two_or_more, grows_up, grows_down}
+use Rattle.pmb_value.proofs.Scaling.{scale_lt, unscale_lt, unscale_eq, power_splits, two_or_more, grows_up, grows_down}
 use Rattle.pmb_value.proofs.Words.{complement_low, complement_high}
 
 -- the exponent over -16

@@ -1,9 +1,9 @@
 -- Numbers in texts, and the fractions that they make.
-use Rattle.std.proofs.Common.{◌≡◌, ◌≢◌, ℕ, zero, suc, ◌+◌, ◌-◌, ◌*◌, ◌/◌, ◌%◌, ◌^◌, ◌<◌, ◌≤◌, Bool, true, false, cond, ◌==◌, eq-eqb, List, [], ◌∷◌, ◌++◌, length, take, drop, get_or, ◌⊎◌, Option, Some, None, Result, Ok, Err, refl, sym, ap, ◌∙◌, subst, inl, inr, arith, take-append-drop, length-append}
+use Rattle.std.proofs.Common.{◌≡◌, ◌≢◌, ℕ, zero, suc, ◌+◌, ◌-◌, ◌*◌, ◌/◌, ◌^◌, ◌<◌, ◌≤◌, cond, eq-eqb, List, [], ◌∷◌, ◌++◌, length, take, drop, get_or, ◌⊎◌, Some, None, Result, Err, refl, sym, ap, ◌∙◌, inl, inr, arith, take-append-drop}
 use Rattle.std.specs.Char.{digit_value}
 use Rattle.std.specs.Str.Parse.{AllDigits, digits_value, digits_value_after}
-use Rattle.std.specs.Int.{IsGcd, ◌∣◌}
-use Rattle.std.proofs.lemmas.Bool.{cases_lt, cases_eq, ne_eqb, cond_below, cond_above}
+use Rattle.std.specs.Int.{◌∣◌}
+use Rattle.std.proofs.lemmas.Bool.{cases_lt, ne_eqb, cond_below, cond_above}
 use Rattle.std.proofs.lemmas.Bool.Decides.{nat_tests}
 use Rattle.std.proofs.lemmas.Int.Digits.{digits_value_more}
 use Rattle.std.proofs.lemmas.Str.Parse.{digit_at}
@@ -67,7 +67,7 @@ below-none limit n large = grind (arith, nat_tests)
 pub below-some : (limit n : ℕ) → n < limit → below limit n ≡ Some n
 below-some limit n small = grind (arith, nat_tests)
 
-none_some : {x : ℕ} → None ≡ Some x → ⊥
+pub none_some : {x : ℕ} → None ≡ Some x → ⊥
 none_some same = cc
 
 pub none_below : (limit n : ℕ) → None ≡ below limit n → limit ≤ n

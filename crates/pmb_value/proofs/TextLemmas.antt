@@ -1,8 +1,8 @@
 -- Texts of numbers.
-use Rattle.std.proofs.Common.{◌≡◌, ℕ, zero, suc, ◌+◌, ◌-◌, ◌*◌, ◌/◌, ◌%◌, ◌^◌, ◌<◌, ◌≤◌, Bool, true, false, cond, ◌==◌, Option, Some, None, List, [], ◌∷◌, ◌++◌, length, length-append, ℤ, pos, negsuc, ◌<ℤ◌, ◌≤ℤ◌, refl, sym, ap, ◌∙◌, arith}
+use Rattle.std.proofs.Common.{◌≡◌, ℕ, zero, suc, ◌+◌, ◌-◌, ◌/◌, ◌%◌, ◌^◌, ◌<◌, ◌≤◌, Bool, true, false, cond, ◌==◌, Some, None, [], ◌∷◌, length, length-append, ℤ, pos, negsuc, ◌<ℤ◌, ◌≤ℤ◌, refl, ap, ◌∙◌, arith}
 use Rattle.std.proofs.lemmas.Int.{ints}
 use Rattle.std.specs.Fmt.{decimal}
-use Rattle.std.proofs.lemmas.Fmt.{decimal_step, decimal_digit, length-decimal-le}
+use Rattle.std.proofs.lemmas.Fmt.{decimal_step, length-decimal-le}
 use Rattle.std.proofs.Math.Nat.{pow-le-pow_right, one-le-pow}
 use Rattle.pmb_value.specs.QuantityText.{first_of, places_of, padded, minus}
 

@@ -1,9 +1,9 @@
 -- Two's complement words, and formats whose values are evenly spaced.
-use Rattle.std.proofs.Common.{◌≡◌, ℕ, suc, ◌+◌, ◌-◌, ◌*◌, ◌%◌, ◌^◌, ◌<◌, ◌≤◌, ◌⊎◌, inl, inr, ℤ, pos, negsuc, ◌+ℤ◌, ◌-ℤ◌, ◌*ℤ◌, ◌<ℤ◌, refl, sym, ap, ◌∙◌, arith}
+use Rattle.std.proofs.Common.{◌≡◌, ℕ, ◌+◌, ◌-◌, ◌%◌, ◌^◌, ◌<◌, ◌≤◌, ◌⊎◌, inl, inr, ℤ, pos, ◌+ℤ◌, ◌-ℤ◌, ◌*ℤ◌, ◌<ℤ◌, refl, sym, arith}
 use Rattle.std.proofs.lemmas.Int.{ints}
 use Rattle.std.proofs.lemmas.Bool.{cases_lt, cases_eq, cond_below, cond_above}
 use Rattle.std.proofs.lemmas.Nat.{pow_pos}
-use Rattle.pmb_value.specs.Coding.{Coding, IsCode, IsSpaced}
+use Rattle.pmb_value.specs.Coding.{IsCode, IsSpaced}
 use Rattle.pmb_value.specs.Linear.{twos_complement, power, IsAnyCode, ulinear16, slinear16}
 use Rattle.pmb_value.proofs.Scaling.{scale_lt, unscale_lt, ordered}
 

@@ -1,5 +1,5 @@
 -- Which quantity two numbers make.
-use Rattle.std.specs.Prelude.{ℕ, zero, suc, ◌^◌, ◌&&◌, ℤ, pos, negsuc, neg_ℤ, unsigned_abs, nat_lt, if◌then◌else◌, Result, Ok, Err}
+use Rattle.std.specs.Prelude.{zero, suc, ◌^◌, ◌&&◌, ℤ, pos, negsuc, neg_ℤ, unsigned_abs, nat_lt, if◌then◌else◌, Result, Ok, Err}
 use Rattle.pmb_value.specs.Fraction.{Fraction, lowest_terms}
 use Rattle.pmb_value.specs.declared.quantity.QuantityFault.{QuantityFault}
 use Rattle.pmb_value.specs.declared.quantity.QuantityFault.TheVariants.{ZeroDenominator, TooLarge}

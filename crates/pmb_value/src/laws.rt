@@ -1,12 +1,18 @@
 //! Laws over the definitions that the contracts cite: each is the contract of a function that does nothing.
 ghost use Rattle.std.specs.Prelude.{◌≡◌, ◌≢◌, ℕ, ℤ, ◌<◌, pos};
 ghost use Rattle.pmb_value.specs.Direct.{Coefficients, direct};
-ghost use Rattle.pmb_value.specs.Laws.{AreLowestTerms, KeepsValues};
+ghost use Rattle.pmb_value.specs.Fraction.{Fraction, IsQuantity};
+ghost use Rattle.pmb_value.specs.Laws.{AreLowestTerms, KeepsValues, ReadsBack};
 ghost use Rattle.pmb_value.specs.Linear.{linear11, ulinear16, slinear16};
 
 /// Lowest terms are the same fraction, and have no common divisor but 1.
 pub fn lowest_terms()
     ensures { (n : ℤ) (d : ℕ) → 0 < d → AreLowestTerms n d }
+{}
+
+/// The text of each quantity reads back as exactly that quantity.
+pub fn text_reads_back()
+    ensures { (q : Fraction) → IsQuantity q → ReadsBack q }
 {}
 
 /// LINEAR11: a code nearest to the value of a code has that value.

@@ -1,4 +1,19 @@
 //! Quantities as exact fractions, and the number formats of PMBus.
+//!
+//! A [`Format`] of two bytes (LINEAR11, ULINEAR16, SLINEAR16 or DIRECT) says which [`Quantity`] a code
+//! is worth, exactly, and which code is nearest to a quantity: the even one at a tie, and none for a
+//! quantity outside the range. [`vout_format`] answers the format that a VOUT_MODE names.
+//! [`Quantity::parse`] reads a quantity and [`Quantity::text`] writes it, with nothing lost: its text
+//! reads back as exactly that quantity.
+//!
+//! ```rust
+//! let format = vout_format(0x17, false, None)?;
+//! let wanted = Quantity::parse(b"3.3")?;
+//! let code = format.encode(&wanted, &mut Steps::new())?;
+//! assert_eq!(rt; code, 0x069a);
+//! let set = format.decode(code).text();
+//! assert_eq!(rt; set.as_str(), "3.30078125");
+//! ```
 #![tactic(auto)]
 
 mod codes;

@@ -1,4 +1,4 @@
-use Rattle.std.proofs.Common.{◌≡◌, ◌≢◌, Bool, true, false, length, List, ℕ, ◌∙◌, sym, arith, rules}
+use Rattle.std.proofs.Common.{◌≡◌, ◌≢◌, Bool, true, false, length, List, ℕ, ◌∙◌, sym}
 use Rattle.std.specs.Bool.{OnTrue}
 use Rattle.std.specs.Char.{is_ascii_digit}
 use Rattle.std.specs.List.{list_all}

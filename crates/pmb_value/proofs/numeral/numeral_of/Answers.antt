@@ -1,4 +1,4 @@
-use Rattle.std.proofs.Common.{◌≡◌, ◌≢◌, Bool, true, false, cond, None, length, get_or, drop, sym, ap, ◌∙◌, arith}
+use Rattle.std.proofs.Common.{◌≡◌, true, false, cond, None, length, get_or, drop, sym, ap, ◌∙◌}
 use Rattle.pmb_value.specs.Reading.{are_digits, marked}
 use Rattle.pmb_value.proofs.DigitLemmas.{parts-no_front, parts-no_rest, parts-marked, numeral_of-parts, empty_test, empty_test_passes, rest_of, AllDigits-front, AllDigits-none}
 use Rattle.pmb_value.proofs.numeral.numeral_of.Goals as goal

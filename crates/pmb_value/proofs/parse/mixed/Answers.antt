@@ -1,4 +1,4 @@
-use Rattle.std.proofs.Common.{◌≡◌, ◌<◌, sym, ap, ◌∙◌, arith}
+use Rattle.std.proofs.Common.{sym, ap, ◌∙◌, arith}
 use Rattle.pmb_value.specs.Quantity.{fitted}
 use Rattle.pmb_value.proofs.FractionLemmas.{gcd_positive, quotient_positive, IsGcd-gcd}
 use Rattle.pmb_value.proofs.ReadingLemmas.{mixed-reduced, mixed-large_denominator}

@@ -1,4 +1,4 @@
-use Rattle.std.proofs.Common.{◌≡◌, ◌+◌, ◌≤◌, take, sym, arith}
+use Rattle.std.proofs.Common.{◌+◌, sym, arith}
 use Rattle.std.specs.Str.Parse.{digits_value}
 use Rattle.pmb_value.proofs.ReadingLemmas.{is_digit_at, digit_more, front_at_most, below-none}
 use Rattle.pmb_value.proofs.parse.number.Goals as goal

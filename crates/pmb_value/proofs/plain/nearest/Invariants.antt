@@ -1,4 +1,4 @@
-use Rattle.std.proofs.Common.{◌≤◌, MatchOption}
+use Rattle.std.proofs.Common.{MatchOption}
 use Rattle.pmb_value.proofs.Best.{IsBestBelow, NoneBelow}
 use Rattle.pmb_value.proofs.plain.nearest.Given as goal
 

@@ -1,5 +1,4 @@
 use Rattle.std.proofs.Common.{◌-◌, ◌/◌, ap, length, length-append, arith}
-use Rattle.pmb_value.specs.QuantityText.{padded}
 use Rattle.pmb_value.proofs.TextLemmas.{length-padded}
 use Rattle.pmb_value.proofs.text.+push_padded.Goals as goal
 

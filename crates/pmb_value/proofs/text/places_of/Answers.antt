@@ -1,4 +1,4 @@
-use Rattle.std.proofs.Common.{◌≡◌, ◌≢◌, ◌+◌, ◌-◌, ◌%◌, ◌^◌, Bool, true, false, eq-eqb, sym, ◌∙◌, ap, arith}
+use Rattle.std.proofs.Common.{◌≡◌, ◌≢◌, ◌+◌, ◌-◌, ◌%◌, ◌^◌, true, false, eq-eqb, sym, ◌∙◌, ap, arith}
 use Rattle.std.proofs.lemmas.Bool.{ne_eqb}
 use Rattle.pmb_value.specs.QuantityText.{first_of}
 use Rattle.pmb_value.proofs.TextLemmas.{fits_places, places_of-is, first_of-passes, first_of-fails, first_of-none}

@@ -1,9 +1,8 @@
-use Rattle.std.proofs.Common.{◌≡◌, ◌^◌, ◌*◌, SFits, ◌*ℤ◌, ◌-ℤ◌, pos, neg_ℤ, sym, ap, ◌∙◌, arith, rules}
+use Rattle.std.proofs.Common.{SFits, ◌-ℤ◌, neg_ℤ, arith, rules}
 use Rattle.std.specs.Int.{w8, w16, w32, w64}
-use Rattle.std.proofs.lemmas.Int.{ints, to_z-of_z, fits_signed_from_abs}
+use Rattle.std.proofs.lemmas.Int.{ints, to_z-of_z}
 use Rattle.std.proofs.Math.IntN.{+ℤ_idl}
-use Rattle.pmb_value.specs.Direct.{Coefficients, positive_part, sign_of}
-use Rattle.pmb_value.specs.Linear.{twos_complement}
+use Rattle.pmb_value.specs.Direct.{Coefficients}
 use Rattle.pmb_value.proofs.DirectLemmas.{numerator_is}
 use Rattle.pmb_value.proofs.direct.DirectCodes.numerator.Goals as goal
 

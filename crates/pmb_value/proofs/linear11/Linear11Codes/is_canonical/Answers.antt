@@ -1,7 +1,7 @@
-use Rattle.std.proofs.Common.{◌≡◌, ◌≢◌, ℕ, ℤ, pos, SFits, of_z, to_z, sym, ap, ◌∙◌, subst, refl, arith, rules}
+use Rattle.std.proofs.Common.{◌≡◌, ◌≢◌, pos, SFits, of_z, to_z, sym, ap, ◌∙◌, subst, arith, rules}
 use Rattle.std.specs.Int.{w8, w32}
 use Rattle.std.proofs.lemmas.Int.{to_z-of_z}
-use Rattle.pmb_value.specs.Linear.{exponent, mantissa, IsCanonicalLinear11, IsLeastExponent}
+use Rattle.pmb_value.specs.Linear.{mantissa, IsCanonicalLinear11}
 use Rattle.pmb_value.proofs.Linear11Lemmas.{zero_is_canonical, canonical_by_test, test_of_canonical}
 use Rattle.pmb_value.proofs.linear11.Linear11Codes.is_canonical.Goals as goal
 

@@ -1,8 +1,8 @@
-use Rattle.std.proofs.Common.{SFits, sym, arith, rules}
+use Rattle.std.proofs.Common.{SFits, sym, rules}
 use Rattle.std.specs.Int.{w64}
 use Rattle.std.proofs.lemmas.Int.{to_z-of_z}
-use Rattle.pmb_value.proofs.FractionLemmas.{gcd_positive, IsQuantity-quotients, lowest_terms-signed}
-use Rattle.pmb_value.proofs.Fitted.{lowest-fits, lowest-numerator, lowest-denominator}
+use Rattle.pmb_value.proofs.FractionLemmas.{gcd_positive, IsQuantity-quotients}
+use Rattle.pmb_value.proofs.Fitted.{lowest-fits}
 use Rattle.pmb_value.proofs.quantity.Quantity.from_parts.Goals as goal
 
 pub nonzero_div-numerator : goal.nonzero_div-numerator
