@@ -1,0 +1,10 @@
+pub mod Finding
+pub mod RowLemmas
+pub mod StandardLemmas
+pub mod StandardList
+pub mod AddressRules
+pub mod Binds
+pub mod CommandMaps
+pub mod CommandSteps
+pub mod DeviceSteps
+pub mod TakenCodes

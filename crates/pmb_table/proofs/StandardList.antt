@@ -1,0 +1,71 @@
+-- The list of the standard commands, code by code.
+use Rattle.std.proofs.Common.{◌≡◌, ℕ, zero, suc, ◌+◌, ◌<◌, List, [], ◌∷◌, ◌++◌, map, filter_map, Option, None, Some, refl, sym, ap, subst, ◌∙◌, arith, add-one, add-zero, zero-add}
+use Rattle.std.specs.List.{AllByRecursion, range_with_len, cons_option}
+use Rattle.std.proofs.lemmas.Bool.{ne_eqb}
+use Rattle.std.proofs.lemmas.List.{map-append, append-nil}
+use Rattle.std.proofs.lemmas.List.Elements.{filter_map-append}
+use Rattle.pmb_table.specs.Commands.{standard_entry}
+use Rattle.pmb_table.specs.Entry.{EntryParts}
+use Rattle.pmb_table.specs.Parts.{CommandParts}
+use Rattle.pmb_table.specs.Profile.{put, standard_commands}
+use Rattle.pmb_table.proofs.StandardLemmas.{standard_code}
+
+-- a command of which the profile says nothing
+abbrev pub bare : EntryParts → CommandParts
+bare e = record { entry = e; initial = None }
+
+-- the standard commands with n codes from a on
+abbrev pub standard_from : ℕ → ℕ → List CommandParts
+standard_from a n = map bare (filter_map standard_entry (range_with_len a n))
+
+-- those of all codes
+pub standard_from-all : (n : ℕ) → n ≡ 256 → standard_from 0 n ≡ standard_commands
+unfolding standard_commands
+standard_from-all n all = ap (standard_from 0) all
+
+-- one more number at the end
+range_more : (a n : ℕ) → range_with_len a (suc n) ≡ range_with_len a n ++ (a + n) ∷ []
+range_more a zero = rw add-zero
+range_more a (suc n) =
+    let same : (a + 1) + n ≡ a + suc n = omega arith in
+    ap (λ xs. a ∷ xs) (range_more (a + 1) n ∙ ap (λ k. range_with_len (a + 1) n ++ k ∷ []) same)
+
+range_from_zero : (n : ℕ) → range_with_len 0 (n + 1) ≡ range_with_len 0 n ++ n ∷ []
+range_from_zero n = rw add-one (range_more 0 n ∙ ap (λ k. range_with_len 0 n ++ k ∷ []) (zero-add n))
+
+-- one more code, which has an entry or has none
+standard_from-more : (n : ℕ) (o : Option EntryParts) → standard_entry n ≡ o → standard_from 0 (n + 1) ≡ standard_from 0 n ++ map bare (cons_option o [])
+standard_from-more n o is =
+    ap (λ xs. map bare (filter_map standard_entry xs)) (range_from_zero n)
+    ∙ ap (map bare) (filter_map-append standard_entry (range_with_len 0 n) (n ∷ []))
+    ∙ map-append bare (filter_map standard_entry (range_with_len 0 n)) (cons_option (standard_entry n) [])
+    ∙ ap (λ v. standard_from 0 n ++ map bare (cons_option v [])) is
+
+pub standard_from-none : (n : ℕ) → standard_entry n ≡ None → standard_from 0 n ≡ standard_from 0 (n + 1)
+standard_from-none n none = sym (standard_from-more n None none ∙ append-nil (standard_from 0 n))
+
+-- each has a code in the range
+below : (a n : ℕ) → AllByRecursion (λ x. x.entry.code < a + n) (standard_from a n)
+below a zero = tt
+below a (suc n) =
+    let same : (a + 1) + n ≡ a + suc n = omega arith in
+    by (standard_entry a) refl (subst (λ k. AllByRecursion (λ x. x.entry.code < k) (standard_from (a + 1) n)) same (below (a + 1) n))
+  where
+    by : (o : Option EntryParts) → standard_entry a ≡ o → AllByRecursion (λ x. x.entry.code < a + suc n) (standard_from (a + 1) n)
+        → AllByRecursion (λ x. x.entry.code < a + suc n) (map bare (cons_option o (filter_map standard_entry (range_with_len (a + 1) n))))
+    by None is rest = rest
+    by (Some e) is rest = (omega (arith, standard_code a e is), rest)
+
+-- a command with a code above all others goes last
+put-above : (c : CommandParts) (cs : List CommandParts) → AllByRecursion (λ x. x.entry.code < c.entry.code) cs → put c cs ≡ cs ++ c ∷ []
+put-above c [] above = refl
+put-above c (x ∷ xs) above =
+    let first : x.entry.code < c.entry.code = above.0 in
+    rw (ne_eqb c.entry.code x.entry.code (λ same. omega arith)) (ap (λ ys. x ∷ ys) (put-above c xs above.1))
+
+-- so the next standard command goes last
+pub put-standard : (n : ℕ) (e : EntryParts) → standard_entry n ≡ Some e → put (bare e) (standard_from 0 n) ≡ standard_from 0 (n + 1)
+put-standard n e has =
+    let same : 0 + n ≡ e.code = omega (arith, standard_code n e has) in
+    put-above (bare e) (standard_from 0 n) (subst (λ k. AllByRecursion (λ x. x.entry.code < k) (standard_from 0 n)) same (below 0 n))
+    ∙ sym (standard_from-more n (Some e) has)

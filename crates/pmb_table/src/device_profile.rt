@@ -1,0 +1,142 @@
+//! A device of a bus, as a profile describes it.
+
+ghost use Rattle.std.specs.Prelude.{◌≡◌, ◌<◌, length, option_map, slice_get};
+ghost use Rattle.std.specs.Option.{option_and_then};
+ghost use Rattle.pmb_table.specs.Entry.{entry_parts};
+ghost use Rattle.pmb_table.specs.Parts.{command_with};
+ghost use Rattle.pmb_table.specs.CommandMap.{HaveOwnCodes, device_parts};
+ghost use Rattle.pmb_table.specs.DeviceKeysView.{keys_parts};
+
+use crate::command_map::CommandMap;
+use crate::device_keys::DeviceKeys;
+use crate::entry::Entry;
+use crate::pec_mode::PecMode;
+use pmb_value::Direct;
+use std::marker::Model;
+
+/// A device of a bus: its address, how it speaks, and its commands, no two of which have one code.
+#[derive(Debug, Drop)]
+pub struct DeviceProfile {
+    /// The address, in its lower 7 bits.
+    address: u8,
+    pec: PecMode,
+    pages: u8,
+    vout_mode: u8,
+    vout_direct: Option<Direct>,
+    commands: CommandMap,
+}
+
+impl Model for DeviceProfile {
+    ghost use Rattle.std.specs.Prelude.{◌<◌};
+    ghost use Rattle.pmb_table.specs.Parts.{DeviceParts};
+    ghost use Rattle.pmb_table.specs.CommandMap.{HaveOwnCodes};
+
+    ghost Value = { DeviceParts };
+
+    ghost view = { λ d. record {
+      address = d.address;
+      pec = d.pec;
+      pages = d.pages;
+      vout_mode = d.vout_mode;
+      vout_direct = d.vout_direct;
+      commands = d.commands;
+    } };
+
+    ghost invariant = { λ d. (d.address < 128) × HaveOwnCodes d.commands };
+}
+
+impl DeviceProfile {
+    /// The device of these keys and commands.
+    pub(crate) fn new(keys: &DeviceKeys, commands: CommandMap) -> Self
+        requires address { keys.now.address < 128 }
+        requires own_codes { HaveOwnCodes commands }
+        ensures { result ≡ device_parts (keys_parts keys.now) commands }
+    {
+        DeviceProfile {
+            address: keys.address,
+            pec: keys.pec,
+            pages: keys.pages,
+            vout_mode: keys.vout_mode,
+            vout_direct: keys.vout_direct,
+            commands,
+        }
+    }
+
+    /// The address, of 7 bits.
+    pub fn address(&self) -> u8
+        ensures address { result ≡ self.now.address }
+        ensures seven_bits { self.now.address < 128 }
+    {
+        self.address
+    }
+
+    /// Whether packets carry a packet error code.
+    pub fn pec(&self) -> PecMode
+        ensures { result ≡ self.now.pec }
+    {
+        self.pec
+    }
+
+    /// The number of pages.
+    pub fn pages(&self) -> u8
+        ensures { result ≡ self.now.pages }
+    {
+        self.pages
+    }
+
+    /// The value of VOUT_MODE at first, on each page.
+    pub fn vout_mode(&self) -> u8
+        ensures { result ≡ self.now.vout_mode }
+    {
+        self.vout_mode
+    }
+
+    /// The coefficients of the output voltage under the DIRECT format of VOUT_MODE, where there are any.
+    pub fn vout_direct(&self) -> Option<Direct>
+        ensures { result ≡ self.now.vout_direct }
+    {
+        self.vout_direct
+    }
+
+    /// How many commands there are.
+    pub fn len(&self) -> usize
+        ensures len { result ≡ length self.now.commands }
+        ensures own_codes { HaveOwnCodes self.now.commands }
+    {
+        self.commands.len()
+    }
+
+    /// The command with a code.
+    pub fn entry(&self, code: u8) -> Option<&Entry>
+        ensures { option_map (λ e. entry_parts e.now) result ≡ option_map (λ c. c.entry) (command_with code self.now.commands) }
+    {
+        match self.commands.get(code) {
+            Some(command) => Some(&command.entry),
+            None => None,
+        }
+    }
+
+    /// The command at an index: the standard ones in the order of their codes, where the device has them, then those that
+    /// the profile adds, in its order.
+    pub fn entry_at(&self, index: usize) -> Option<&Entry>
+        ensures { option_map (λ e. entry_parts e.now) result ≡ option_map (λ c. c.entry) (slice_get self.now.commands index) }
+    {
+        match self.commands.at(index) {
+            Some(command) => Some(&command.entry),
+            None => None,
+        }
+    }
+
+    /// The bytes that the register of a code begins with, where the profile says.
+    pub fn initial(&self, code: u8) -> Option<&[u8]>
+        ensures { option_map (λ bytes. bytes.now) result ≡ option_and_then (λ c. c.initial) (command_with code self.now.commands) }
+    {
+        match self.commands.get(code) {
+            Some(command) => match &command.initial {
+                Some(bytes) => Some(bytes.as_slice()),
+                None => None,
+            },
+            None => None,
+        }
+    }
+}

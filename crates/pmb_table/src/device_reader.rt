@@ -1,0 +1,81 @@
+//! The devices of a profile, as its tables tell of them.
+
+ghost use Rattle.std.specs.Prelude.{◌≡◌, ◌⊎◌, ◌<◌, ◌≤◌, [], map, length, Ok, Err, IfOk};
+ghost use Rattle.std.specs.List.{AllByRecursion};
+ghost use Rattle.toml.specs.View.{view, items_view};
+ghost use Rattle.pmb_table.specs.CommandMap.{HaveOwnAddresses, IsDevice, IsNewAddress};
+ghost use Rattle.pmb_table.specs.Profile.{at_top, device_of, devices_after};
+ghost use Rattle.pmb_table.specs.Rules.{bind};
+
+use crate::device_commands::{first_commands, read_commands};
+use crate::device_keys::read_device_keys;
+use crate::device_profile::DeviceProfile;
+use crate::fault::{FaultKind, ProfileFault};
+use crate::place;
+use arrayvec::ArrayVec;
+use std::alloc::Global;
+use toml::Value;
+
+/// The addresses of devices, in their order.
+fn addresses_of(devices: &[DeviceProfile]) -> ArrayVec<u8, 64>
+    requires { length devices.now ≤ 64 }
+    ensures { result.items ≡ map (λ d. d.address) devices.now }
+{
+    let mut addresses = ArrayVec::new();
+    for device in devices {
+        addresses.push(device.address());
+    }
+    addresses
+}
+
+/// Reads the device of a value that comes after other devices.
+fn read_device(
+    alloc: Global,
+    before: &[DeviceProfile],
+    value: &Value,
+) -> Result<DeviceProfile, ProfileFault>
+    requires { length before.now ≤ 64 }
+    ensures read { (result ≡ Err (at_top FaultKind.OutOfMemory)) ⊎ (result ≡ device_of before.now (view value.now)) }
+    ensures device { IfOk result IsDevice }
+    ensures own_address { IfOk result (λ d. IsNewAddress before.now d.address) }
+{
+    let addresses = addresses_of(before);
+    let number = before.len() as u8;
+    let keys = match read_device_keys(value, addresses.as_slice()) {
+        Ok(keys) => keys,
+        Err(what) => return Err(place::in_device(number, what)),
+    };
+    let first = match first_commands(alloc, keys.standard) {
+        Ok(first) => first,
+        Err(_) => return Err(place::outside(FaultKind::OutOfMemory)),
+    };
+    match read_commands(alloc, number, first, keys.commands) {
+        Ok(commands) => Ok(DeviceProfile::new(&keys, commands)),
+        Err(fault) => Err(fault),
+    }
+}
+
+/// Reads the devices of an array's values.
+pub(crate) fn read_devices(
+    alloc: Global,
+    values: &[Value],
+) -> Result<Vec<DeviceProfile>, ProfileFault>
+    requires { length values.now ≤ 64 }
+    ensures read { (result ≡ Err (at_top FaultKind.OutOfMemory)) ⊎ (bind result (λ devices. Ok devices.items) ≡ devices_after [] (items_view values.now)) }
+    ensures few { IfOk result (λ devices. length devices.items ≤ 64) }
+    ensures own_addresses { IfOk result (λ devices. HaveOwnAddresses devices.items) }
+    ensures devices { IfOk result (λ devices. AllByRecursion IsDevice devices.items) }
+{
+    let mut devices = Vec::new(alloc);
+    for value in values {
+        let device = match read_device(alloc, devices.as_slice(), value) {
+            Ok(device) => device,
+            Err(fault) => return Err(fault),
+        };
+        match devices.push(device) {
+            Ok(()) => {}
+            Err(_) => return Err(place::outside(FaultKind::OutOfMemory)),
+        }
+    }
+    Ok(devices)
+}

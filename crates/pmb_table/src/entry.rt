@@ -1,0 +1,33 @@
+//! A command of a device.
+
+use crate::form::Shape;
+use arrayvec::ArrayString;
+use pmb_value::Direct;
+
+/// What the data of a command stand for.
+#[derive(Clone, Copy, Debug, PartialEq, Eq)]
+pub enum Kind {
+    /// Bytes, with no number in them.
+    Raw,
+    /// A number in LINEAR11.
+    Linear11,
+    /// An output voltage, unsigned in the linear format of VOUT_MODE.
+    Vout,
+    /// A correction of the output voltage, signed in the linear format of VOUT_MODE.
+    VoutSigned,
+    /// A number in DIRECT, with these coefficients.
+    Direct(Direct),
+    /// Status bits.
+    Status,
+}
+
+/// A command of a device: its code, its name, its forms, what its data stand for, and whether it
+/// has a value for each page.
+#[derive(Clone, Copy, Debug)]
+pub struct Entry {
+    pub code: u8,
+    pub name: ArrayString<32>,
+    pub shape: Shape,
+    pub kind: Kind,
+    pub paged: bool,
+}

@@ -1,0 +1,13 @@
+mod command_keys;
+mod commands;
+mod profile;
+mod profile_forms;
+mod profile_initial;
+mod profile_keys;
+mod profile_large;
+mod profile_order;
+mod profile_parts;
+mod profile_rows;
+mod profile_top;
+mod profile_types;
+mod status_bits;
