@@ -8,6 +8,7 @@ use Rattle.pmb_bus.specs.declared.lexer.LexFault.{LexFault}
 use Rattle.pmb_bus.specs.declared.lexer.LexFault.TheVariants.{BadToken}
 use Rattle.pmb_bus.specs.Lexer.{IsFaultOf, OpenWordIsBad}
 use Rattle.pmb_bus.specs.Text.{Spells}
+use Rattle.pmb_table.specs.Parts.{DeviceParts}
 use Rattle.pmb_cli.specs.declared.showing.Showing.{Showing}
 use Rattle.pmb_cli.specs.declared.tally.Tally.{Tally}
 use Rattle.pmb_cli.specs.declared.thin.Refusal.{Refusal as HeldRefusal}
@@ -32,67 +33,68 @@ pub fault_written : {T F : Type 0} (r : Result T F) (fault : LexFault) (P : List
     → ((at : ℕ) → fault ≡ BadToken at → OnOk r (P (bad_token_line at))) → OnOk r (P (fault_line fault))
 fault_written r (BadToken at) P h = h at refl
 
--- the events end, whatever was reported of them
-reads_tail : (showing : Showing) (events : List Event) (outcomes : List Outcome) → (reads : Reads showing events outcomes) → (report : Option HeldRefusal) × Ends reads.place report
-reads_tail showing events outcomes reads =
-    (result_err (finish_of reads.place), ends showing.reader reads.place reads.reader reads.not_held)
+module _ (profile : List DeviceParts) where
+  -- the events end, whatever was reported of them
+  reads_tail : (showing : Showing) (events : List Event) (outcomes : List Outcome) → (reads : Reads profile showing events outcomes) → (report : Option HeldRefusal) × Ends profile reads.place report
+  reads_tail showing events outcomes reads =
+      (result_err (finish_of reads.place), ends profile showing.reader reads.place reads.reader reads.not_held)
 
--- an end inside a packet is all that is left out
-tail_left_out : (outcomes : List Outcome) (report : Option HeldRefusal) → but_truncation outcomes ≡ outcomes → but_truncation (outcomes ++ end_outcomes report) ≡ outcomes
-tail_left_out outcomes None whole = ap but_truncation (append-nil outcomes) ∙ whole
-tail_left_out outcomes (Some refusal) whole =
-    filter-append (λ o. not (is_truncation o)) outcomes (end_outcomes (Some refusal)) ∙ (append-nil (but_truncation outcomes) ∙ whole)
+  -- an end inside a packet is all that is left out
+  tail_left_out : (outcomes : List Outcome) (report : Option HeldRefusal) → but_truncation outcomes ≡ outcomes → but_truncation (outcomes ++ end_outcomes report) ≡ outcomes
+  tail_left_out outcomes None whole = ap but_truncation (append-nil outcomes) ∙ whole
+  tail_left_out outcomes (Some refusal) whole =
+      filter-append (λ o. not (is_truncation o)) outcomes (end_outcomes (Some refusal)) ∙ (append-nil (but_truncation outcomes) ∙ whole)
 
--- what is shown of the words that have ended
-pub shows_so_far : (showing : Showing) (bytes : List ℕ) (outcomes : List Outcome) → Stands showing bytes outcomes → ShowsSoFar bytes (lines_of outcomes)
-shows_so_far showing bytes outcomes stands =
-    let reads = stands.reads in
-    let tail = reads_tail showing stands.events outcomes reads in record {
-      events = stands.events;
-      outcomes = outcomes ++ end_outcomes tail.0;
-      begins = stands.lexer.begins;
-      spells = stands.lexer.ended;
-      reads = reads_end showing stands.events outcomes tail.0 reads tail.1;
-      lines = ap lines_of (sym (tail_left_out outcomes tail.0 reads.whole));
-    }
+  -- what is shown of the words that have ended
+  pub shows_so_far : (showing : Showing) (bytes : List ℕ) (outcomes : List Outcome) → Stands profile showing bytes outcomes → ShowsSoFar profile bytes (lines_of outcomes)
+  shows_so_far showing bytes outcomes stands =
+      let reads = stands.reads in
+      let tail = reads_tail showing stands.events outcomes reads in record {
+        events = stands.events;
+        outcomes = outcomes ++ end_outcomes tail.0;
+        begins = stands.lexer.begins;
+        spells = stands.lexer.ended;
+        reads = reads_end profile showing stands.events outcomes tail.0 reads tail.1;
+        lines = ap lines_of (sym (tail_left_out outcomes tail.0 reads.whole));
+      }
 
--- two places from which the same word goes to the end are one
-same_place : (a b word whole : ℕ) → a + word ≡ whole → b + word ≡ whole → a ≡ b
-same_place a b open_length whole h k = omega arith
+  -- two places from which the same word goes to the end are one
+  same_place : (a b word whole : ℕ) → a + word ≡ whole → b + word ≡ whole → a ≡ b
+  same_place a b open_length whole h k = omega arith
 
--- the word under way is no token
-pub shows_bad : (showing : Showing) (after : Tally) (events : List Event) (outcomes : List Outcome) (used bytes : List ℕ) (fault : LexFault)
-    → Reads showing events outcomes → OpenWordIsBad used bytes events → IsFaultOf (length used) used fault → after ≡ with_refusal showing.tally
-    → ShowsUpToBadWord bytes (lines_of outcomes ++ fault_line fault) after
-shows_bad showing after events outcomes used bytes (BadToken at) reads bad fault_is counted =
-    let tail = reads_tail showing events outcomes reads in
-    let left = tail_left_out outcomes tail.0 reads.whole in
-    let at_is : at ≡ capped bad.0 = fault_is.2 ∙ ap capped (same_place fault_is.0 bad.0 _ _ fault_is.1 bad.1) in record {
+  -- the word under way is no token
+  pub shows_bad : (showing : Showing) (after : Tally) (events : List Event) (outcomes : List Outcome) (used bytes : List ℕ) (fault : LexFault)
+      → Reads profile showing events outcomes → OpenWordIsBad used bytes events → IsFaultOf (length used) used fault → after ≡ with_refusal showing.tally
+      → ShowsUpToBadWord profile bytes (lines_of outcomes ++ fault_line fault) after
+  shows_bad showing after events outcomes used bytes (BadToken at) reads bad fault_is counted =
+      let tail = reads_tail showing events outcomes reads in
+      let left = tail_left_out outcomes tail.0 reads.whole in
+      let at_is : at ≡ capped bad.0 = fault_is.2 ∙ ap capped (same_place fault_is.0 bad.0 _ _ fault_is.1 bad.1) in record {
+        events = events;
+        outcomes = outcomes ++ end_outcomes tail.0;
+        place = bad.0;
+        bad = bad.2;
+        reads = reads_end profile showing events outcomes tail.0 reads tail.1;
+        lines = rw (left, at_is) refl;
+        packets = ap (λ (t : Tally). t.packets) counted ∙ (reads.packets ∙ ap (λ l. capped (packets_in l)) (sym left));
+        refusals = ap (λ (t : Tally). t.refusals) counted ∙ (ap counted_up reads.refusals ∙ (counted_up-capped (refusals_in outcomes) ∙ ap (λ l. capped (refusals_in l + 1)) (sym left)));
+      }
+
+  -- the text ends between words, perhaps with a last event: what it reads as is shown
+  pub ends_text : (after : Showing) (bytes : List ℕ) (events : List Event) (outcomes more : List Outcome) (h0 h1 h2 : Option (List ℕ)) (w0 w1 : List ℕ)
+      → Spells bytes events → Writes h0 w0 h1 w1 (lines_of more) → EndsEvents profile events (outcomes ++ more) h1 w1 h2 after
+      → EndsText profile bytes outcomes h0 w0 h2 after
+  ends_text after bytes events outcomes more h0 h1 h2 w0 w1 spells writes ends = record {
+    text = lines_of more ++ ends.text;
+    writes = writes_then h0 h1 h2 w0 w1 [] (lines_of more) ends.text writes ends.writes;
+    shows = inl (record {
       events = events;
-      outcomes = outcomes ++ end_outcomes tail.0;
-      place = bad.0;
-      bad = bad.2;
-      reads = reads_end showing events outcomes tail.0 reads tail.1;
-      lines = rw (left, at_is) refl;
-      packets = ap (λ (t : Tally). t.packets) counted ∙ (reads.packets ∙ ap (λ l. capped (packets_in l)) (sym left));
-      refusals = ap (λ (t : Tally). t.refusals) counted ∙ (ap counted_up reads.refusals ∙ (counted_up-capped (refusals_in outcomes) ∙ ap (λ l. capped (refusals_in l + 1)) (sym left)));
-    }
-
--- the text ends between words, perhaps with a last event: what it reads as is shown
-pub ends_text : (after : Showing) (bytes : List ℕ) (events : List Event) (outcomes more : List Outcome) (h0 h1 h2 : Option (List ℕ)) (w0 w1 : List ℕ)
-    → Spells bytes events → Writes h0 w0 h1 w1 (lines_of more) → EndsEvents events (outcomes ++ more) h1 w1 h2 after
-    → EndsText bytes outcomes h0 w0 h2 after
-ends_text after bytes events outcomes more h0 h1 h2 w0 w1 spells writes ends = record {
-  text = lines_of more ++ ends.text;
-  writes = writes_then h0 h1 h2 w0 w1 [] (lines_of more) ends.text writes ends.writes;
-  shows = inl (record {
-    events = events;
-    outcomes = ends.all;
-    spells = spells;
-    reads = ends.reads;
-    lines = sym (append_assoc (lines_of outcomes) (lines_of more) ends.text)
-        ∙ (ap (λ l. l ++ ends.text) (sym (flat_map-append line_of outcomes more)) ∙ sym ends.lines);
-    packets = ends.packets;
-    refusals = ends.refusals;
-  });
-}
+      outcomes = ends.all;
+      spells = spells;
+      reads = ends.reads;
+      lines = sym (append_assoc (lines_of outcomes) (lines_of more) ends.text)
+          ∙ (ap (λ l. l ++ ends.text) (sym (flat_map-append line_of outcomes more)) ∙ sym ends.lines);
+      packets = ends.packets;
+      refusals = ends.refusals;
+    });
+  }

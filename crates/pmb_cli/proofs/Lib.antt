@@ -1,4 +1,6 @@
+pub mod Grammars
 pub mod Packets
+pub mod Stepping
 pub mod Feeding
 pub mod Readings
 pub mod Reporting
@@ -8,4 +10,14 @@ pub mod Endings
 pub mod Taking
 pub mod Running
 pub mod Shown
+pub mod FormatLemmas
+pub mod AnswerLemmas
+pub mod LineLemmas
+pub mod AnsweringLemmas
+pub mod AskedLemmas
+pub mod FormatWords
+pub mod Marks
+pub mod Fronts
+pub mod FrontReads
+pub mod Statuses
 mod WordsExamples

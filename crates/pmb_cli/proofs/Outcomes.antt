@@ -4,6 +4,7 @@ use Rattle.std.proofs.lemmas.List.Elements.{filter-append}
 use Rattle.std.proofs.lemmas.Grind.{flat_map-append}
 use Rattle.std.proofs.lemmas.List.Sums.{sum_by-append}
 use Rattle.pmb_bus.specs.declared.event.Event.{Event}
+use Rattle.pmb_table.specs.Parts.{DeviceParts}
 use Rattle.pmb_cli.specs.declared.reported.Reported.{Reported}
 use Rattle.pmb_cli.specs.declared.reported.Reported.TheVariants as reports
 use Rattle.pmb_cli.specs.declared.showing.Showing.{Showing}
@@ -60,88 +61,89 @@ refusals_counted old new outcomes (Some (reports.Refusal refusal)) counts before
     rw (count_by-append (λ o. not (is_packet o)) outcomes (Refusal refusal.at ∷ []))
     (ap (λ (t : Tally). t.refusals) counts ∙ (ap counted_up before ∙ counted_up-capped (refusals_in outcomes)))
 
--- What a report says of a reader, before and after: it stands at a place to which the report leads.
-abbrev pub ReportedBy : Reader → Event → Option Reported → Reader → Type 0
-ReportedBy old event report new =
-    (place : Place) → StandsAt old place → IsReading place → (after : Place) × StandsAt new after × IsReading after × Leads place event report after
+module _ (profile : List DeviceParts) where
+  -- What a report says of a reader, before and after: it stands at a place to which the report leads.
+  abbrev pub ReportedBy : Reader → Event → Option Reported → Reader → Type 0
+  ReportedBy old event report new =
+      (place : Place) → StandsAt profile old place → IsReading place → (after : Place) × StandsAt profile new after × IsReading after × Leads profile place event report after
 
--- an event more, with what it is reported as
-pub reads_more : (old new : Showing) (events : List Event) (outcomes : List Outcome) (event : Event) (report : Option Reported)
-    → Reads old events outcomes → ReportedBy old.reader event report new.reader → Counts old.tally new.tally report
-    → Reads new (events ++ event ∷ []) (outcomes ++ outcome_list report)
-reads_more old new events outcomes event report reads reported counts =
-    let step = reported reads.place reads.reader reads.not_held in record {
-      place = step.0;
-      reader = step.1;
-      not_held = step.2;
-      leads = λ rest others after. rw (append_assoc events (event ∷ []) rest, append_assoc outcomes (outcome_list report) others)
-          (reads.leads (event ∷ rest) (outcome_list report ++ others) (step.3 rest others after));
-      whole = filter-append (λ o. not (is_truncation o)) outcomes (outcome_list report)
-          ∙ (ap (λ l. l ++ but_truncation (outcome_list report)) reads.whole ∙ ap (λ l. outcomes ++ l) (report_whole report));
-      packets = packets_counted old.tally new.tally outcomes report counts reads.packets;
-      refusals = refusals_counted old.tally new.tally outcomes report counts reads.refusals;
-    }
+  -- an event more, with what it is reported as
+  pub reads_more : (old new : Showing) (events : List Event) (outcomes : List Outcome) (event : Event) (report : Option Reported)
+      → Reads profile old events outcomes → ReportedBy old.reader event report new.reader → Counts old.tally new.tally report
+      → Reads profile new (events ++ event ∷ []) (outcomes ++ outcome_list report)
+  reads_more old new events outcomes event report reads reported counts =
+      let step = reported reads.place reads.reader reads.not_held in record {
+        place = step.0;
+        reader = step.1;
+        not_held = step.2;
+        leads = λ rest others after. rw (append_assoc events (event ∷ []) rest, append_assoc outcomes (outcome_list report) others)
+            (reads.leads (event ∷ rest) (outcome_list report ++ others) (step.3 rest others after));
+        whole = filter-append (λ o. not (is_truncation o)) outcomes (outcome_list report)
+            ∙ (ap (λ l. l ++ but_truncation (outcome_list report)) reads.whole ∙ ap (λ l. outcomes ++ l) (report_whole report));
+        packets = packets_counted old.tally new.tally outcomes report counts reads.packets;
+        refusals = refusals_counted old.tally new.tally outcomes report counts reads.refusals;
+      }
 
--- an event more, and the lines of what it is reported as
-pub takes_event : (old new : Showing) (events : List Event) (outcomes : List Outcome) (event : Event) (report : Option Reported) (held_old held_new : Option (List ℕ))
-    → Reads old events outcomes → ReportedBy old.reader event report new.reader → Counts old.tally new.tally report
-    → Writes held_old old.waiting.items held_new new.waiting.items (lines_of (outcome_list report))
-    → TakesEvent events outcomes event held_old old.waiting.items held_new new
-takes_event old new events outcomes event report held_old held_new reads reported counts writes = record {
-  more = outcome_list report;
-  reads = reads_more old new events outcomes event report reads reported counts;
-  writes = writes;
-}
+  -- an event more, and the lines of what it is reported as
+  pub takes_event : (old new : Showing) (events : List Event) (outcomes : List Outcome) (event : Event) (report : Option Reported) (held_old held_new : Option (List ℕ))
+      → Reads profile old events outcomes → ReportedBy old.reader event report new.reader → Counts old.tally new.tally report
+      → Writes held_old old.waiting.items held_new new.waiting.items (lines_of (outcome_list report))
+      → TakesEvent profile events outcomes event held_old old.waiting.items held_new new
+  takes_event old new events outcomes event report held_old held_new reads reported counts writes = record {
+    more = outcome_list report;
+    reads = reads_more old new events outcomes event report reads reported counts;
+    writes = writes;
+  }
 
--- the events end: what they read as
-pub reads_end : (showing : Showing) (events : List Event) (outcomes : List Outcome) (report : Option HeldRefusal)
-    → (reads : Reads showing events outcomes) → Ends reads.place report → Reading events (outcomes ++ end_outcomes report)
-reads_end showing events outcomes report reads ends =
-    subst (λ (es : List Event). Reading es (outcomes ++ end_outcomes report)) (append-nil events) (reads.leads [] (end_outcomes report) ends)
+  -- the events end: what they read as
+  pub reads_end : (showing : Showing) (events : List Event) (outcomes : List Outcome) (report : Option HeldRefusal)
+      → (reads : Reads profile showing events outcomes) → Ends profile reads.place report → Reading profile events (outcomes ++ end_outcomes report)
+  reads_end showing events outcomes report reads ends =
+      subst (λ (es : List Event). Reading profile es (outcomes ++ end_outcomes report)) (append-nil events) (reads.leads [] (end_outcomes report) ends)
 
--- what the end counts
-abbrev pub CountsEnd : Tally → Tally → Option HeldRefusal → Type 0
-CountsEnd old new None = new ≡ old
-CountsEnd old new (Some refusal) = new ≡ with_refusal old
+  -- what the end counts
+  abbrev pub CountsEnd : Tally → Tally → Option HeldRefusal → Type 0
+  CountsEnd old new None = new ≡ old
+  CountsEnd old new (Some refusal) = new ≡ with_refusal old
 
-end_packets : (old new : Tally) (outcomes : List Outcome) (report : Option HeldRefusal) → CountsEnd old new report
-    → old.packets ≡ capped (packets_in outcomes) → new.packets ≡ capped (packets_in (outcomes ++ end_outcomes report))
-end_packets old new outcomes None counts before =
-    rw (count_by-append is_packet outcomes [], add-zero) (ap (λ (t : Tally). t.packets) counts ∙ before)
-end_packets old new outcomes (Some refusal) counts before =
-    rw (count_by-append is_packet outcomes (Truncated refusal.at ∷ []), add-zero) (ap (λ (t : Tally). t.packets) counts ∙ before)
+  end_packets : (old new : Tally) (outcomes : List Outcome) (report : Option HeldRefusal) → CountsEnd old new report
+      → old.packets ≡ capped (packets_in outcomes) → new.packets ≡ capped (packets_in (outcomes ++ end_outcomes report))
+  end_packets old new outcomes None counts before =
+      rw (count_by-append is_packet outcomes [], add-zero) (ap (λ (t : Tally). t.packets) counts ∙ before)
+  end_packets old new outcomes (Some refusal) counts before =
+      rw (count_by-append is_packet outcomes (Truncated refusal.at ∷ []), add-zero) (ap (λ (t : Tally). t.packets) counts ∙ before)
 
-end_refusals : (old new : Tally) (outcomes : List Outcome) (report : Option HeldRefusal) → CountsEnd old new report
-    → old.refusals ≡ capped (refusals_in outcomes) → new.refusals ≡ capped (refusals_in (outcomes ++ end_outcomes report))
-end_refusals old new outcomes None counts before =
-    rw (count_by-append (λ o. not (is_packet o)) outcomes [], add-zero) (ap (λ (t : Tally). t.refusals) counts ∙ before)
-end_refusals old new outcomes (Some refusal) counts before =
-    rw (count_by-append (λ o. not (is_packet o)) outcomes (Truncated refusal.at ∷ []))
-    (ap (λ (t : Tally). t.refusals) counts ∙ (ap counted_up before ∙ counted_up-capped (refusals_in outcomes)))
+  end_refusals : (old new : Tally) (outcomes : List Outcome) (report : Option HeldRefusal) → CountsEnd old new report
+      → old.refusals ≡ capped (refusals_in outcomes) → new.refusals ≡ capped (refusals_in (outcomes ++ end_outcomes report))
+  end_refusals old new outcomes None counts before =
+      rw (count_by-append (λ o. not (is_packet o)) outcomes [], add-zero) (ap (λ (t : Tally). t.refusals) counts ∙ before)
+  end_refusals old new outcomes (Some refusal) counts before =
+      rw (count_by-append (λ o. not (is_packet o)) outcomes (Truncated refusal.at ∷ []))
+      (ap (λ (t : Tally). t.refusals) counts ∙ (ap counted_up before ∙ counted_up-capped (refusals_in outcomes)))
 
--- the events end, and the lines of what that is reported as
-pub ends_events : (old new : Showing) (events : List Event) (outcomes : List Outcome) (report : Option HeldRefusal) (held_old held_new : Option (List ℕ))
-    → Reads old events outcomes → ((place : Place) → StandsAt old.reader place → IsReading place → Ends place report) → CountsEnd old.tally new.tally report
-    → Writes held_old old.waiting.items held_new [] (lines_of (end_outcomes report))
-    → EndsEvents events outcomes held_old old.waiting.items held_new new
-ends_events old new events outcomes report held_old held_new reads ends counts writes = record {
-  all = outcomes ++ end_outcomes report;
-  text = lines_of (end_outcomes report);
-  reads = reads_end old events outcomes report reads (ends reads.place reads.reader reads.not_held);
-  lines = flat_map-append line_of outcomes (end_outcomes report);
-  packets = end_packets old.tally new.tally outcomes report counts reads.packets;
-  refusals = end_refusals old.tally new.tally outcomes report counts reads.refusals;
-  writes = writes;
-}
+  -- the events end, and the lines of what that is reported as
+  pub ends_events : (old new : Showing) (events : List Event) (outcomes : List Outcome) (report : Option HeldRefusal) (held_old held_new : Option (List ℕ))
+      → Reads profile old events outcomes → ((place : Place) → StandsAt profile old.reader place → IsReading place → Ends profile place report) → CountsEnd old.tally new.tally report
+      → Writes held_old old.waiting.items held_new [] (lines_of (end_outcomes report))
+      → EndsEvents profile events outcomes held_old old.waiting.items held_new new
+  ends_events old new events outcomes report held_old held_new reads ends counts writes = record {
+    all = outcomes ++ end_outcomes report;
+    text = lines_of (end_outcomes report);
+    reads = reads_end old events outcomes report reads (ends reads.place reads.reader reads.not_held);
+    lines = flat_map-append line_of outcomes (end_outcomes report);
+    packets = end_packets old.tally new.tally outcomes report counts reads.packets;
+    refusals = end_refusals old.tally new.tally outcomes report counts reads.refusals;
+    writes = writes;
+  }
 
--- it doesn't matter where the lexer is
-pub reads_same : (a b : Showing) (events : List Event) (outcomes : List Outcome) → a.reader ≡ b.reader → a.tally ≡ b.tally → Reads a events outcomes → Reads b events outcomes
-reads_same a b events outcomes same_reader same_tally reads = record {
-  place = reads.place;
-  reader = subst (λ (r : Reader). StandsAt r reads.place) same_reader reads.reader;
-  not_held = reads.not_held;
-  leads = reads.leads;
-  whole = reads.whole;
-  packets = sym (ap (λ (t : Tally). t.packets) same_tally) ∙ reads.packets;
-  refusals = sym (ap (λ (t : Tally). t.refusals) same_tally) ∙ reads.refusals;
-}
+  -- it doesn't matter where the lexer is
+  pub reads_same : (a b : Showing) (events : List Event) (outcomes : List Outcome) → a.reader ≡ b.reader → a.tally ≡ b.tally → Reads profile a events outcomes → Reads profile b events outcomes
+  reads_same a b events outcomes same_reader same_tally reads = record {
+    place = reads.place;
+    reader = subst (λ (r : Reader). StandsAt profile r reads.place) same_reader reads.reader;
+    not_held = reads.not_held;
+    leads = reads.leads;
+    whole = reads.whole;
+    packets = sym (ap (λ (t : Tally). t.packets) same_tally) ∙ reads.packets;
+    refusals = sym (ap (λ (t : Tally). t.refusals) same_tally) ∙ reads.refusals;
+  }

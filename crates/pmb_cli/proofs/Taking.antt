@@ -5,6 +5,7 @@ use Rattle.pmb_bus.specs.declared.event.Event.{Event}
 use Rattle.pmb_bus.specs.declared.lexer.Lexer.{Lexer}
 use Rattle.pmb_bus.specs.declared.lexer.LexFault.{LexFault}
 use Rattle.pmb_bus.specs.Lexer.{StandsAt as LexerStandsAt, NeedsMore, EndsWord, Refuses, IsFaultOf}
+use Rattle.pmb_table.specs.Parts.{DeviceParts}
 use Rattle.pmb_cli.specs.declared.showing.Showing.{Showing}
 use Rattle.pmb_cli.specs.Outgoing.{Writes}
 use Rattle.pmb_cli.specs.Reading.{Outcome}
@@ -15,93 +16,94 @@ use Rattle.pmb_cli.proofs.Endings.{fault_line, shows_bad}
 use Rattle.pmb_cli.proofs.Outcomes.{reads_same}
 use Rattle.pmb_cli.proofs.Writing.{writes_then, writes_nothing, writes_as}
 
--- a front of the piece was taken, all but the rest
-pub record TookUpTo (bytes : List ℕ) (outcomes : List Outcome) (piece rest : List ℕ) (held_old : Option (List ℕ)) (waiting_old : List ℕ) (held : Option (List ℕ)) (showing : Showing) : Type 0 where
-  pub used : List ℕ
-  pub more : List Outcome
-  pub split : piece ≡ used ++ rest
-  pub stands : Stands showing (bytes ++ used) (outcomes ++ more)
-  pub writes : Writes held_old waiting_old held showing.waiting.items (lines_of more)
+module _ (profile : List DeviceParts) where
+  -- a front of the piece was taken, all but the rest
+  pub record TookUpTo (bytes : List ℕ) (outcomes : List Outcome) (piece rest : List ℕ) (held_old : Option (List ℕ)) (waiting_old : List ℕ) (held : Option (List ℕ)) (showing : Showing) : Type 0 where
+    pub used : List ℕ
+    pub more : List Outcome
+    pub split : piece ≡ used ++ rest
+    pub stands : Stands profile showing (bytes ++ used) (outcomes ++ more)
+    pub writes : Writes held_old waiting_old held showing.waiting.items (lines_of more)
 
--- the same of equal texts and outcomes
-stands_as : (showing : Showing) (a b : List ℕ) (x y : List Outcome) → a ≡ b → x ≡ y → Stands showing a x → Stands showing b y
-stands_as showing a b x y e f stands = subst (λ (t : List ℕ). Stands showing t y) e (subst (λ (o : List Outcome). Stands showing a o) f stands)
+  -- the same of equal texts and outcomes
+  stands_as : (showing : Showing) (a b : List ℕ) (x y : List Outcome) → a ≡ b → x ≡ y → Stands profile showing a x → Stands profile showing b y
+  stands_as showing a b x y e f stands = subst (λ (t : List ℕ). Stands profile showing t y) e (subst (λ (o : List Outcome). Stands profile showing a o) f stands)
 
--- none of it is taken yet
-pub took_none : (showing : Showing) (bytes : List ℕ) (outcomes : List Outcome) (piece : List ℕ) (held : Option (List ℕ))
-    → Stands showing bytes outcomes → TookUpTo bytes outcomes piece piece held showing.waiting.items held showing
-took_none showing bytes outcomes piece held stands = record {
-  used = [];
-  more = [];
-  split = refl;
-  stands = stands_as showing bytes (bytes ++ []) outcomes (outcomes ++ []) (sym (append-nil bytes)) (sym (append-nil outcomes)) stands;
-  writes = writes_nothing held showing.waiting.items;
-}
+  -- none of it is taken yet
+  pub took_none : (showing : Showing) (bytes : List ℕ) (outcomes : List Outcome) (piece : List ℕ) (held : Option (List ℕ))
+      → Stands profile showing bytes outcomes → TookUpTo bytes outcomes piece piece held showing.waiting.items held showing
+  took_none showing bytes outcomes piece held stands = record {
+    used = [];
+    more = [];
+    split = refl;
+    stands = stands_as showing bytes (bytes ++ []) outcomes (outcomes ++ []) (sym (append-nil bytes)) (sym (append-nil outcomes)) stands;
+    writes = writes_nothing held showing.waiting.items;
+  }
 
--- a count of the bytes used counts those of the text
-counts_text : (text rest : List ℕ) (used : ℕ) → used ≤ length rest → length text + used ≡ length (text ++ take used rest)
-counts_text text rest used within = sym (length-append text (take used rest) ∙ ap (λ k. length text + k) (length-take-le used rest within))
+  -- a count of the bytes used counts those of the text
+  counts_text : (text rest : List ℕ) (used : ℕ) → used ≤ length rest → length text + used ≡ length (text ++ take used rest)
+  counts_text text rest used within = sym (length-append text (take used rest) ∙ ap (λ k. length text + k) (length-take-le used rest within))
 
--- a lexer that stands at a text, counted so, stands at its length
-stands_counted : (lexer : Lexer) (n : ℕ) (a b : List ℕ) (events : List Event) → a ≡ b → n ≡ length a → LexerStandsAt lexer n a events → LexerStandsAt lexer (length b) b events
-stands_counted lexer n a b events e counted stands =
-    subst (λ (t : List ℕ). LexerStandsAt lexer (length t) t events) e (subst (λ (k : ℕ). LexerStandsAt lexer k a events) counted stands)
+  -- a lexer that stands at a text, counted so, stands at its length
+  stands_counted : (lexer : Lexer) (n : ℕ) (a b : List ℕ) (events : List Event) → a ≡ b → n ≡ length a → LexerStandsAt lexer n a events → LexerStandsAt lexer (length b) b events
+  stands_counted lexer n a b events e counted stands =
+      subst (λ (t : List ℕ). LexerStandsAt lexer (length t) t events) e (subst (λ (k : ℕ). LexerStandsAt lexer k a events) counted stands)
 
--- a word more of it is taken
-pub took_event : (before after : Showing) (lexer : Lexer) (bytes : List ℕ) (outcomes : List Outcome) (piece rest left : List ℕ) (used : ℕ) (event : Event) (h0 h1 h2 : Option (List ℕ)) (w0 : List ℕ)
-    → (took : TookUpTo bytes outcomes piece rest h0 w0 h1 before)
-    → EndsWord (length (bytes ++ took.used)) (bytes ++ took.used) took.stands.events rest used lexer event
-    → TakesEvent took.stands.events (outcomes ++ took.more) event h1 before.waiting.items h2 after → after.lexer ≡ lexer → left ≡ drop used rest
-    → TookUpTo bytes outcomes piece left h0 w0 h2 after
-took_event before after lexer bytes outcomes piece rest left used event h0 h1 h2 w0 took word taken same_lexer left_is =
-    let text = bytes ++ took.used in record {
-      used = took.used ++ take used rest;
-      more = took.more ++ taken.more;
-      split = took.split ∙ (ap (λ l. took.used ++ l) (sym (take-append-drop used rest) ∙ ap (λ l. take used rest ++ l) (sym left_is))
-          ∙ sym (append_assoc took.used (take used rest) left));
-      stands = record {
-        events = took.stands.events ++ event ∷ [];
-        lexer = subst (λ (l : Lexer). LexerStandsAt l (length (bytes ++ (took.used ++ take used rest))) (bytes ++ (took.used ++ take used rest)) (took.stands.events ++ event ∷ [])) (sym same_lexer)
-            (stands_counted lexer _ _ _ _ (append_assoc bytes took.used (take used rest)) (counts_text text rest used word.within) word.stands);
-        reads = subst (λ (o : List Outcome). Reads after (took.stands.events ++ event ∷ []) o) (append_assoc outcomes took.more taken.more) taken.reads;
-      };
-      writes = writes_as _ _ _ _ _ _ _ refl (sym (flat_map-append line_of took.more taken.more)) (writes_then _ _ _ _ _ _ _ _ took.writes taken.writes);
-    }
+  -- a word more of it is taken
+  pub took_event : (before after : Showing) (lexer : Lexer) (bytes : List ℕ) (outcomes : List Outcome) (piece rest left : List ℕ) (used : ℕ) (event : Event) (h0 h1 h2 : Option (List ℕ)) (w0 : List ℕ)
+      → (took : TookUpTo bytes outcomes piece rest h0 w0 h1 before)
+      → EndsWord (length (bytes ++ took.used)) (bytes ++ took.used) took.stands.events rest used lexer event
+      → TakesEvent profile took.stands.events (outcomes ++ took.more) event h1 before.waiting.items h2 after → after.lexer ≡ lexer → left ≡ drop used rest
+      → TookUpTo bytes outcomes piece left h0 w0 h2 after
+  took_event before after lexer bytes outcomes piece rest left used event h0 h1 h2 w0 took word taken same_lexer left_is =
+      let text = bytes ++ took.used in record {
+        used = took.used ++ take used rest;
+        more = took.more ++ taken.more;
+        split = took.split ∙ (ap (λ l. took.used ++ l) (sym (take-append-drop used rest) ∙ ap (λ l. take used rest ++ l) (sym left_is))
+            ∙ sym (append_assoc took.used (take used rest) left));
+        stands = record {
+          events = took.stands.events ++ event ∷ [];
+          lexer = subst (λ (l : Lexer). LexerStandsAt l (length (bytes ++ (took.used ++ take used rest))) (bytes ++ (took.used ++ take used rest)) (took.stands.events ++ event ∷ [])) (sym same_lexer)
+              (stands_counted lexer _ _ _ _ (append_assoc bytes took.used (take used rest)) (counts_text text rest used word.within) word.stands);
+          reads = subst (λ (o : List Outcome). Reads profile after (took.stands.events ++ event ∷ []) o) (append_assoc outcomes took.more taken.more) taken.reads;
+        };
+        writes = writes_as _ _ _ _ _ _ _ refl (sym (flat_map-append line_of took.more taken.more)) (writes_then _ _ _ _ _ _ _ _ took.writes taken.writes);
+      }
 
--- all of it is taken, and nothing waits
-pub took_all : (before after : Showing) (bytes : List ℕ) (outcomes : List Outcome) (piece rest : List ℕ) (used : ℕ) (h0 h1 h2 : Option (List ℕ)) (w0 : List ℕ)
-    → (took : TookUpTo bytes outcomes piece rest h0 w0 h1 before)
-    → NeedsMore (length (bytes ++ took.used)) (bytes ++ took.used) took.stands.events rest used after.lexer
-    → before.reader ≡ after.reader → before.tally ≡ after.tally → Writes h1 before.waiting.items h2 after.waiting.items [] → after.waiting.items ≡ []
-    → TakesPiece bytes outcomes piece h0 w0 h2 after
-took_all before after bytes outcomes piece rest used h0 h1 h2 w0 took needs same_reader same_tally writes sent =
-    let text = bytes ++ took.used in record {
-      more = took.more;
-      stands = record {
-        events = took.stands.events;
-        lexer = stands_counted after.lexer _ (text ++ rest) _ _ (append_assoc bytes took.used rest ∙ ap (λ l. bytes ++ l) (sym took.split))
-            (ap (λ k. length text + k) needs.all ∙ sym (length-append text rest)) needs.stands;
-        reads = reads_same before after took.stands.events (outcomes ++ took.more) same_reader same_tally took.stands.reads;
-      };
-      writes = writes_as _ _ _ _ _ _ _ sent (append-nil (lines_of took.more)) (writes_then _ _ _ _ _ _ _ _ took.writes writes);
-      sent = sent;
-    }
+  -- all of it is taken, and nothing waits
+  pub took_all : (before after : Showing) (bytes : List ℕ) (outcomes : List Outcome) (piece rest : List ℕ) (used : ℕ) (h0 h1 h2 : Option (List ℕ)) (w0 : List ℕ)
+      → (took : TookUpTo bytes outcomes piece rest h0 w0 h1 before)
+      → NeedsMore (length (bytes ++ took.used)) (bytes ++ took.used) took.stands.events rest used after.lexer
+      → before.reader ≡ after.reader → before.tally ≡ after.tally → Writes h1 before.waiting.items h2 after.waiting.items [] → after.waiting.items ≡ []
+      → TakesPiece profile bytes outcomes piece h0 w0 h2 after
+  took_all before after bytes outcomes piece rest used h0 h1 h2 w0 took needs same_reader same_tally writes sent =
+      let text = bytes ++ took.used in record {
+        more = took.more;
+        stands = record {
+          events = took.stands.events;
+          lexer = stands_counted after.lexer _ (text ++ rest) _ _ (append_assoc bytes took.used rest ∙ ap (λ l. bytes ++ l) (sym took.split))
+              (ap (λ k. length text + k) needs.all ∙ sym (length-append text rest)) needs.stands;
+          reads = reads_same profile before after took.stands.events (outcomes ++ took.more) same_reader same_tally took.stands.reads;
+        };
+        writes = writes_as _ _ _ _ _ _ _ sent (append-nil (lines_of took.more)) (writes_then _ _ _ _ _ _ _ _ took.writes writes);
+        sent = sent;
+      }
 
--- a word of it is no token
-pub took_fault : (before after : Showing) (lexer : Lexer) (bytes : List ℕ) (outcomes : List Outcome) (piece rest : List ℕ) (used : ℕ) (fault : LexFault) (h0 h1 h2 : Option (List ℕ)) (w0 : List ℕ)
-    → (took : TookUpTo bytes outcomes piece rest h0 w0 h1 before)
-    → Refuses (length (bytes ++ took.used)) (bytes ++ took.used) took.stands.events rest used lexer fault
-    → after.tally ≡ with_refusal before.tally → Writes h1 before.waiting.items h2 [] (fault_line fault)
-    → StopsInPiece bytes outcomes piece h0 w0 h2 after
-took_fault before after lexer bytes outcomes piece rest used fault h0 h1 h2 w0 took refuses counted writes =
-    let text = bytes ++ took.used in
-    let whole : text ++ rest ≡ bytes ++ piece = append_assoc bytes took.used rest ∙ ap (λ l. bytes ++ l) (sym took.split) in
-    let fault_is = subst (λ (k : ℕ). IsFaultOf k (text ++ take used rest) fault) (counts_text text rest used (omega (arith, refuses.within))) refuses.at in
-    let lines : lines_of (outcomes ++ took.more) ++ fault_line fault ≡ lines_of outcomes ++ (lines_of took.more ++ fault_line fault) =
-    ap (λ l. l ++ fault_line fault) (flat_map-append line_of outcomes took.more) ∙ append_assoc (lines_of outcomes) (lines_of took.more) (fault_line fault) in record {
-      text = lines_of took.more ++ fault_line fault;
-      writes = writes_then _ _ _ _ _ _ _ _ took.writes writes;
-      shows = λ more. subst (λ (b : List ℕ). ShowsUpToBadWord (b ++ more) (lines_of outcomes ++ (lines_of took.more ++ fault_line fault)) after.tally) whole
-          (subst (λ (t : List ℕ). ShowsUpToBadWord ((text ++ rest) ++ more) t after.tally) lines
-          (shows_bad before after.tally took.stands.events (outcomes ++ took.more) (text ++ take used rest) ((text ++ rest) ++ more) fault took.stands.reads (refuses.bad more) fault_is counted));
-    }
+  -- a word of it is no token
+  pub took_fault : (before after : Showing) (lexer : Lexer) (bytes : List ℕ) (outcomes : List Outcome) (piece rest : List ℕ) (used : ℕ) (fault : LexFault) (h0 h1 h2 : Option (List ℕ)) (w0 : List ℕ)
+      → (took : TookUpTo bytes outcomes piece rest h0 w0 h1 before)
+      → Refuses (length (bytes ++ took.used)) (bytes ++ took.used) took.stands.events rest used lexer fault
+      → after.tally ≡ with_refusal before.tally → Writes h1 before.waiting.items h2 [] (fault_line fault)
+      → StopsInPiece profile bytes outcomes piece h0 w0 h2 after
+  took_fault before after lexer bytes outcomes piece rest used fault h0 h1 h2 w0 took refuses counted writes =
+      let text = bytes ++ took.used in
+      let whole : text ++ rest ≡ bytes ++ piece = append_assoc bytes took.used rest ∙ ap (λ l. bytes ++ l) (sym took.split) in
+      let fault_is = subst (λ (k : ℕ). IsFaultOf k (text ++ take used rest) fault) (counts_text text rest used (omega (arith, refuses.within))) refuses.at in
+      let lines : lines_of (outcomes ++ took.more) ++ fault_line fault ≡ lines_of outcomes ++ (lines_of took.more ++ fault_line fault) =
+      ap (λ l. l ++ fault_line fault) (flat_map-append line_of outcomes took.more) ∙ append_assoc (lines_of outcomes) (lines_of took.more) (fault_line fault) in record {
+        text = lines_of took.more ++ fault_line fault;
+        writes = writes_then _ _ _ _ _ _ _ _ took.writes writes;
+        shows = λ more. subst (λ (b : List ℕ). ShowsUpToBadWord profile (b ++ more) (lines_of outcomes ++ (lines_of took.more ++ fault_line fault)) after.tally) whole
+            (subst (λ (t : List ℕ). ShowsUpToBadWord profile ((text ++ rest) ++ more) t after.tally) lines
+            (shows_bad profile before after.tally took.stands.events (outcomes ++ took.more) (text ++ take used rest) ((text ++ rest) ++ more) fault took.stands.reads (refuses.bad more) fault_is counted));
+      }

@@ -1,7 +1,7 @@
 -- What `clap` finds in some words, computed: the words of the contracts are not empty.
 use Rattle.std.proofs.Common.{◌≡◌, [], ◌∷◌, codes, refl}
 use Rattle.clap.proofs.OnLiterals.{clap_on_literals}
-use Rattle.clap.specs.declared.error.kind.ErrorKind.TheVariants.{DisplayHelp, DisplayHelpOnMissingArgumentOrSubcommand, InvalidSubcommand, MissingRequiredArgument, UnknownArgument}
+use Rattle.clap.specs.declared.error.kind.ErrorKind.TheVariants.{DisplayHelp, DisplayHelpOnMissingArgumentOrSubcommand, InvalidSubcommand, UnknownArgument}
 use Rattle.pmb_cli.specs.Words.{faults_of}
 
 -- `pmb show --sample` is taken.
@@ -9,8 +9,8 @@ show_sample : faults_of (codes "pmb" ∷ codes "show" ∷ codes "--sample" ∷ [
 unfolding clap_on_literals
 show_sample = refl
 
--- `pmb show` lacks its flag.
-show_alone : faults_of (codes "pmb" ∷ codes "show" ∷ []) ≡ MissingRequiredArgument ∷ []
+-- `pmb show` is taken without it.
+show_alone : faults_of (codes "pmb" ∷ codes "show" ∷ []) ≡ []
 unfolding clap_on_literals
 show_alone = refl
 

@@ -1,7 +1,14 @@
+pub mod Answer
+pub mod Answering
+pub mod Asked
 pub mod Failing
+pub mod FormatWord
+pub mod Front
 pub mod Io
 pub mod Lines
 pub mod Outgoing
+pub mod Profiled
+pub mod Grammar
 pub mod Packet
 pub mod Reading
 pub mod Reported
@@ -9,5 +16,6 @@ pub mod Show
 pub mod Showing
 pub mod Status
 pub mod Tally
+pub mod TextLines
 pub mod Thin
 pub mod Words

@@ -2,9 +2,14 @@
 use Rattle.std.specs.Prelude.{ℕ, List, [], ◌∷◌, ◌++◌, codes, decimal}
 use Rattle.hex.specs.Hex.{encode_lower}
 
--- a Write Word of VOUT_COMMAND to the device 58h: address, command code, then the bytes on the bus in their order
-abbrev pub packet_line : ℕ → ℕ → List ℕ
-packet_line lo hi = codes "write 58 21 " ++ encode_lower (lo ∷ []) ++ codes " " ++ encode_lower (hi ∷ []) ++ codes "\n"
+-- a byte's two digits
+abbrev pub digits : ℕ → List ℕ
+digits byte = encode_lower (byte ∷ [])
+
+-- a Write Word: the device's address, the command code, then the bytes on the bus in their order
+abbrev pub packet_line : ℕ → ℕ → ℕ → ℕ → List ℕ
+packet_line address code lo hi =
+    codes "write " ++ digits address ++ codes " " ++ digits code ++ codes " " ++ digits lo ++ codes " " ++ digits hi ++ codes "\n"
 
 -- the place is the event's, counted from 0
 abbrev pub refusal_line : ℕ → List ℕ

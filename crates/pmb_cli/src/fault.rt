@@ -12,6 +12,9 @@ pub enum ToolFault {
     /// The reader gave bytes in 2^32 reads and had not ended.
     #[error("too many reads")]
     TooManyReads,
+    /// The profile has more than 1,048,576 bytes.
+    #[error("profile too long")]
+    ProfileTooLong,
     /// There was no memory.
     #[error("no memory")]
     Memory,

@@ -25,12 +25,16 @@ fn digits(byte: u8) -> [u8; 2]
     digits
 }
 
-/// The line of a Write Word of `lo` and `hi`.
-pub(crate) fn packet_line(lo: u8, hi: u8) -> Line
-    ensures { result.items ≡ packet_line_text lo hi }
+/// The line of a Write Word of `lo` and `hi` to a command of the device with an address.
+pub(crate) fn packet_line(address: u8, code: u8, lo: u8, hi: u8) -> Line
+    ensures { result.items ≡ packet_line_text address code lo hi }
 {
     let mut line = Line::new();
-    append(&mut line, b"write 58 21 ");
+    append(&mut line, b"write ");
+    append(&mut line, &digits(address));
+    append(&mut line, b" ");
+    append(&mut line, &digits(code));
+    append(&mut line, b" ");
     append(&mut line, &digits(lo));
     append(&mut line, b" ");
     append(&mut line, &digits(hi));

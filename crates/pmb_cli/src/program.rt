@@ -1,50 +1,43 @@
 //! The whole program over a reader and two writers.
 
 ghost use Rattle.std.specs.Prelude.{◌≡◌, ◌≢◌, ◌≤◌, ◌⊎◌, [], false, map, IfOk};
-ghost use Rattle.clap.specs.Words.{FailsBy, app_of, kind_of};
+ghost use Rattle.clap.specs.Words.{FailsBy, app_of, kind_of, subcommand_of, subcommand_rows_of};
 ghost use Rattle.clap.specs.declared.builder.command.Command.TheViews.{out-Command as fields_of};
 ghost use Rattle.std.specs.declared.io.ErrorKind.TheVariants.{OutOfMemory};
+ghost use Rattle.pmb_cli.specs.declared.line_task.LineTask.{LineTask};
+ghost use Rattle.pmb_cli.specs.declared.tally.Tally.{Tally as TallyOf};
+ghost use Rattle.pmb_cli.specs.Answering.{AnsweredAll};
+ghost use Rattle.pmb_cli.specs.Asked.{AskFor, HasBadFormat};
 ghost use Rattle.pmb_cli.specs.Io.{one_more};
-ghost use Rattle.pmb_cli.specs.Status.{ReadOften, status_of};
-ghost use Rattle.pmb_cli.specs.Words.{AreRefused, AskForHelp, MayBeRefused, faults_of, pmb_app, show_app};
+ghost use Rattle.pmb_cli.specs.Profiled.{HasBadProfile};
+ghost use Rattle.pmb_cli.specs.Status.{ReadOften, run_status};
+ghost use Rattle.pmb_cli.specs.Words.{AreRefused, AskForHelp, MayBeRefused, faults_of, lines_app, pmb_app, show_app};
 
+use crate::answering::answer_lines;
+use crate::asked::asked;
 use crate::fault::ToolFault;
+use crate::format_fault::FormatFault;
 use crate::io::{Sink, Source};
-use crate::showing::show;
-use arrayvec::ArrayString;
+use crate::profiled::{show_profiled, show_sample};
+use crate::status::{BAD_WORDS, DONE, ended, tell, tell_format};
 use clap::error::ErrorKind;
 use clap::{Arg, ArgAction, ArgMatches, Command, Error};
 use std::alloc::{AllocError, Global};
 use std::convert::AsStr;
-use std::fmt::Write;
 use std::io;
-
-/// Nothing went wrong.
-const DONE: u8 = 0;
-
-/// The capture has refusals.
-const REFUSALS: u8 = 1;
-
-/// The words are no command.
-const BAD_WORDS: u8 = 2;
-
-/// A read or a write failed, or there were too many reads.
-const IO_FAILED: u8 = 3;
-
-/// There was no memory.
-const NO_MEMORY: u8 = 4;
 
 /// Runs `pmb` as its words say, the program's own name first, and answers its exit status.
 ///
 /// | status | |
 /// | --- | --- |
 /// | 0 | done, or help was asked for |
-/// | 1 | the capture has refusals |
-/// | 2 | the words are no command |
+/// | 1 | the capture has refusals, or lines were answered by a fault |
+/// | 2 | the words are no command, or name no format |
 /// | 3 | a read or a write failed, or there were too many reads |
 /// | 4 | there was no memory |
 ///
-/// Faults of the statuses 2 to 4 are told on `err`. The words are looked at before anything is read.
+/// Faults of the statuses 2 to 4 are told on `err`. The words are looked at before anything is read,
+/// and then the format.
 pub fn tool<S: AsStr, R: Source, W: Sink, E: Sink>(
     alloc: Global,
     words: &[S],
@@ -56,23 +49,36 @@ pub fn tool<S: AsStr, R: Source, W: Sink, E: Sink>(
 
     // The words are looked at first.
     ensures refused { AreRefused (map S.text words.now) → (result ≡ 2) ⊎ (result ≡ 4) }
-    ensures told { result ≡ 2 → MayBeRefused (map S.text words.now) }
+    ensures told { result ≡ 2 → MayBeRefused (map S.text words.now) ⊎ (HasBadFormat (map S.text words.now)
+        ⊎ HasBadProfile (R.remaining reader.old) (R.remaining reader.new) (R.has_ended reader.new)) }
     ensures helped { AskForHelp (map S.text words.now) → (result ≡ 0) ⊎ (result ≡ 3) ⊎ (result ≡ 4) }
     ensures unread { faults_of (map S.text words.now) ≢ [] → reader.new ≡ reader.old }
     ensures unwritten { AreRefused (map S.text words.now) → out.new ≡ out.old }
+
+    // Then the format is looked at.
+    ensures bad_format { HasBadFormat (map S.text words.now) → (result ≡ 2) ⊎ (result ≡ 4) }
+    ensures bad_format_unread { HasBadFormat (map S.text words.now) → reader.new ≡ reader.old }
+    ensures bad_format_unwritten { HasBadFormat (map S.text words.now) → out.new ≡ out.old }
+
+    // Where lines are asked for, all that is read is answered.
+    ensures answered { (task : LineTask) → AskFor (map S.text words.now) task → result ≤ 1
+        → (tally : TallyOf) × (result ≡ run_status (Ok tally)) × AnsweredAll task [] (R.remaining reader.old) (R.remaining reader.new)
+        (W.contents out.old) (W.contents out.new) (R.has_ended reader.new) tally }
 
     // No read and no write on `out` failed where it answers 0 or 1, and one did, or there were too many reads, where 3.
     ensures done { result ≤ 1 → (R.failures reader.new ≡ R.failures reader.old) × (W.failures out.new ≡ W.failures out.old) }
     ensures io_failed { result ≡ 3 → (R.failures reader.new ≡ one_more (R.failures reader.old))
         ⊎ ((W.failures out.new ≡ one_more (W.failures out.old)) ⊎ ReadOften (R.remaining reader.old) (R.remaining reader.new)) }
 {
-    if let Err(error) = parse(alloc, words) {
-        return tell_words(alloc, &error, out, err);
-    }
-    match show(&[], reader, out) {
-        Ok(tally) if tally.refusals == 0 => DONE,
-        Ok(_) => REFUSALS,
-        Err(fault) => tell(fault, err),
+    let matches = match parse(alloc, words) {
+        Ok(matches) => matches,
+        Err(error) => return tell_words(alloc, words, &error, out, err),
+    };
+    match asked(&matches) {
+        None if wants_sample(&matches) => show_sample(alloc, reader, out, err),
+        None => show_profiled(alloc, reader, out, err),
+        Some(Ok(task)) => ended(answer_lines(&task, &[], reader, out), err),
+        Some(Err(fault)) => tell_format(fault, err),
     }
 }
 
@@ -89,9 +95,30 @@ pub fn no_words<E: Sink>(kind: io::ErrorKind, err: &mut E) -> u8
     BAD_WORDS
 }
 
+// Whether the words are those of `encode` or `decode` with a FORMAT that begins with `-`, which `clap`
+// takes for a flag. No format begins so.
+fn has_flag_for_format<S: AsStr>(words: &[S]) -> bool {
+    match words {
+        [_, subcommand, format] => {
+            (subcommand.as_str() == "encode" || subcommand.as_str() == "decode")
+                && format.as_str().starts_with('-')
+        }
+        _ => false,
+    }
+}
+
+// Whether `show` is to take the sample profile.
+fn wants_sample(matches: &ArgMatches<'_>) -> bool {
+    match matches.subcommand() {
+        Some((_, arguments)) => arguments.get_flag("sample"),
+        None => false,
+    }
+}
+
 // What the words say, or the first fault in them.
 fn parse<'a, S: AsStr>(alloc: Global, words: &'a [S]) -> Result<ArgMatches<'a>, Error>
-    ensures { FailsBy (faults_of (map S.text words.entry.now)) result }
+    ensures kinds { FailsBy (faults_of (map S.text words.entry.now)) result }
+    ensures matches { IfOk result (λ matches. subcommand_rows_of matches ≡ subcommand_of pmb_app (map S.text words.entry.now)) }
 {
     pmb_command(alloc)?.try_get_matches_from(words)
 }
@@ -104,7 +131,17 @@ fn pmb_command<'a>(alloc: Global) -> Result<Command<'a>, AllocError>
         .about("Reads PMBus traffic")
         .subcommand_required(true)
         .arg_required_else_help(true)
-        .subcommand(show_command(alloc)?)
+        .subcommand(show_command(alloc)?)?
+        .subcommand(lines_command(
+            alloc,
+            "encode",
+            "Writes the code of each quantity, one a line",
+        )?)?
+        .subcommand(lines_command(
+            alloc,
+            "decode",
+            "Writes the quantity of each code, one a line",
+        )?)
 }
 
 // `show` with its flag.
@@ -115,15 +152,37 @@ fn show_command<'a>(alloc: Global) -> Result<Command<'a>, AllocError>
     let sample = Arg::new(alloc, "sample")
         .long("sample")
         .action(ArgAction::SetTrue)
-        .required(true)
-        .help("Read the capture under the sample profile");
+        .help("Take the sample profile, and not one from the front of the input");
     Command::new(alloc, "show")
         .about("Shows the transactions of a capture, one a line")
         .arg(sample)
 }
 
-// Tells what `clap` says of the words: help on `out`, a fault on `err`.
-fn tell_words<W: Sink, E: Sink>(alloc: Global, error: &Error, out: &mut W, err: &mut E) -> u8
+// `encode` or `decode` with its FORMAT.
+fn lines_command<'a>(
+    alloc: Global,
+    name: &'a str,
+    about: &'a str,
+) -> Result<Command<'a>, AllocError>
+    ensures shape { IfOk result (λ command. app_of command ≡ lines_app name.entry.now) }
+    ensures local { IfOk result (λ command. (fields_of command).has_globals ≡ false) }
+{
+    let format = Arg::new(alloc, "FORMAT")
+        .action(ArgAction::Set)
+        .required(true)
+        .help("linear11, ulinear16:E, slinear16:E, vout:HH or direct:M,B,R");
+    Command::new(alloc, name).about(about).arg(format)
+}
+
+// Tells what `clap` says of the words: help on `out`, a fault on `err`. What it takes for an unknown
+// flag in the place of FORMAT is told as a format.
+fn tell_words<S: AsStr, W: Sink, E: Sink>(
+    alloc: Global,
+    words: &[S],
+    error: &Error,
+    out: &mut W,
+    err: &mut E,
+) -> u8
     ensures within { result ≤ 4 }
     ensures done { result ≤ 1 → W.failures out.new ≡ W.failures out.old }
     ensures io_failed { result ≡ 3 → W.failures out.new ≡ one_more (W.failures out.old) }
@@ -136,6 +195,9 @@ fn tell_words<W: Sink, E: Sink>(alloc: Global, error: &Error, out: &mut W, err: 
     if kind == ErrorKind::OutOfMemory {
         return tell(ToolFault::Memory, err);
     }
+    if kind == ErrorKind::UnknownArgument && has_flag_for_format(words) {
+        return tell_format(FormatFault::BadFormat, err);
+    }
     let Ok(text) = error.to_string(alloc) else {
         return tell(ToolFault::Memory, err);
     };
@@ -147,17 +209,4 @@ fn tell_words<W: Sink, E: Sink>(alloc: Global, error: &Error, out: &mut W, err: 
     }
     let _ = err.write_all(text.as_bytes());
     BAD_WORDS
-}
-
-// Tells a fault on `err` and answers its status. That `err` fails changes nothing.
-fn tell<E: Sink>(fault: ToolFault, err: &mut E) -> u8
-    ensures { result ≡ status_of fault }
-{
-    let mut text = ArrayString::<32>::new();
-    let _ = write!(text, "pmb: {fault}\n");
-    let _ = err.write_all(text.as_str().as_bytes());
-    match fault {
-        ToolFault::Read | ToolFault::Write | ToolFault::TooManyReads => IO_FAILED,
-        ToolFault::Memory => NO_MEMORY,
-    }
 }

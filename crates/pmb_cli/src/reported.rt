@@ -3,6 +3,8 @@
 //! After a refusal the reader is made to pass over events at once, the refused event first, so no
 //! refusal is ever held between two calls.
 
+ghost use Rattle.std.specs.Prelude.{List};
+ghost use Rattle.pmb_table.specs.Parts.{DeviceParts};
 ghost use Rattle.pmb_cli.specs.Thin.{Place, StandsAt};
 ghost use Rattle.pmb_cli.specs.Reported.{IsReading, Leads, Ends};
 
@@ -18,8 +20,8 @@ pub enum Reported {
 
 /// Hands one event to a reader, and after a refusal has it pass over events, the refused one first.
 pub fn report(reader: &mut Reader, event: Event) -> Option<Reported>
-    ensures { (place : Place) → StandsAt reader.old place → IsReading place
-        → (after : Place) × StandsAt reader.new after × IsReading after × Leads place event result after }
+    ensures { (profile : List DeviceParts) (place : Place) → StandsAt profile reader.old place → IsReading place
+        → (after : Place) × StandsAt profile reader.new after × IsReading after × Leads profile place event result after }
 {
     match reader.feed(&[event]).outcome {
         Outcome::More => None,
@@ -34,7 +36,7 @@ pub fn report(reader: &mut Reader, event: Event) -> Option<Reported>
 
 /// What the end of the events is reported as: a refusal where they end inside a packet.
 pub fn report_end(reader: &Reader) -> Option<Refusal>
-    ensures { (place : Place) → StandsAt reader.now place → IsReading place → Ends place result }
+    ensures { (profile : List DeviceParts) (place : Place) → StandsAt profile reader.now place → IsReading place → Ends profile place result }
 {
     reader.finish().err()
 }

@@ -7,6 +7,7 @@
 ghost use Rattle.std.specs.Prelude.{◌≡◌, ◌≢◌, ℕ, ◌^◌, ◌++◌, [], List, IfOk, OnOk, Err};
 ghost use Rattle.pmb_bus.specs.declared.event.Event.{Event as BusEvent};
 ghost use Rattle.pmb_bus.specs.declared.lexer.LexFault.TheVariants.{BadToken};
+ghost use Rattle.pmb_table.specs.Parts.{DeviceParts};
 ghost use Rattle.pmb_cli.specs.Io.{one_more, WriterTells};
 ghost use Rattle.pmb_cli.specs.Lines.{bad_token_line as bad_token_text};
 ghost use Rattle.pmb_cli.specs.Outgoing.{Writes};
@@ -24,6 +25,7 @@ use crate::tally::Tally;
 use crate::thin::Reader;
 use pmb_bus::laws::ended_words_lead_on;
 use pmb_bus::{Event, LexFault, Lexer, Step};
+use pmb_table::Profile;
 
 /// How many bytes one read asks for.
 const PIECE: usize = 65536;
@@ -41,21 +43,21 @@ enum Flow {
 }
 
 #[derive(Drop)]
-struct Showing {
+struct Showing<'a> {
     lexer: Lexer,
-    reader: Reader,
+    reader: Reader<'a>,
     tally: Tally,
     waiting: Waiting,
 }
 
-impl Showing {
-    fn new() -> Showing
-        ensures stands { Stands result [] [] }
+impl<'a> Showing<'a> {
+    fn new(profile: &'a Profile) -> Showing<'a>
+        ensures stands { Stands profile.entry.now result [] [] }
         ensures empty { result.waiting.items ≡ [] }
     {
         Showing {
             lexer: Lexer::new(),
-            reader: Reader::new(),
+            reader: Reader::new(profile),
             tally: Tally::new(),
             waiting: Waiting::new(),
         }
@@ -63,8 +65,8 @@ impl Showing {
 
     /// Takes the next piece of the text, and writes the lines of what it completes.
     fn take<W: Sink>(&mut self, piece: &[u8], writer: &mut W) -> Result<Flow, ToolFault>
-        ensures takes { (bytes : List ℕ) (outcomes : List Outcome) → Stands self.old bytes outcomes
-            → IfOk result (Takes bytes outcomes piece.now (W.contents writer.old) self.old.waiting.items (W.contents writer.new) self.new) }
+        ensures takes { (profile : List DeviceParts) (bytes : List ℕ) (outcomes : List Outcome) → Stands profile self.old bytes outcomes
+            → IfOk result (Takes profile bytes outcomes piece.now (W.contents writer.old) self.old.waiting.items (W.contents writer.new) self.new) }
         ensures failed { WriterTells (W.failures writer.old) (W.failures writer.new) result }
     {
         let mut rest = piece;
@@ -87,15 +89,15 @@ impl Showing {
     /// Counts what an event completes, and has its line wait.
     fn take_event<W: Sink>(&mut self, event: Event, writer: &mut W) -> Result<(), ToolFault>
         ensures lexer { self.new.lexer ≡ self.old.lexer }
-        ensures takes { (events : List BusEvent) (outcomes : List Outcome) → Reads self.old events outcomes
-            → OnOk result (TakesEvent events outcomes event (W.contents writer.old) self.old.waiting.items (W.contents writer.new) self.new) }
+        ensures takes { (profile : List DeviceParts) (events : List BusEvent) (outcomes : List Outcome) → Reads profile self.old events outcomes
+            → OnOk result (TakesEvent profile events outcomes event (W.contents writer.old) self.old.waiting.items (W.contents writer.new) self.new) }
         ensures failed { WriterTells (W.failures writer.old) (W.failures writer.new) result }
     {
         match report(&mut self.reader, event) {
             None => Ok(()),
             Some(Reported::Packet(word)) => {
                 self.tally.count_packet();
-                let line = packet_line(word.lo, word.hi);
+                let line = packet_line(word.address, word.code, word.lo, word.hi);
                 put(&mut self.waiting, line.as_slice(), writer)
             }
             Some(Reported::Refusal(refusal)) => {
@@ -122,8 +124,8 @@ impl Showing {
 
     /// The end of the text.
     fn end<W: Sink>(&mut self, writer: &mut W) -> Result<(), ToolFault>
-        ensures ends { (bytes : List ℕ) (outcomes : List Outcome) → Stands self.old bytes outcomes
-            → OnOk result (EndsText bytes outcomes (W.contents writer.old) self.old.waiting.items (W.contents writer.new) self.new) }
+        ensures ends { (profile : List DeviceParts) (bytes : List ℕ) (outcomes : List Outcome) → Stands profile self.old bytes outcomes
+            → OnOk result (EndsText profile bytes outcomes (W.contents writer.old) self.old.waiting.items (W.contents writer.new) self.new) }
         ensures failed { WriterTells (W.failures writer.old) (W.failures writer.new) result }
     {
         match self.lexer.finish() {
@@ -138,8 +140,8 @@ impl Showing {
 
     /// The end of the events: inside a packet it is a refusal.
     fn end_events<W: Sink>(&mut self, writer: &mut W) -> Result<(), ToolFault>
-        ensures ends { (events : List BusEvent) (outcomes : List Outcome) → Reads self.old events outcomes
-            → OnOk result (EndsEvents events outcomes (W.contents writer.old) self.old.waiting.items (W.contents writer.new) self.new) }
+        ensures ends { (profile : List DeviceParts) (events : List BusEvent) (outcomes : List Outcome) → Reads profile self.old events outcomes
+            → OnOk result (EndsEvents profile events outcomes (W.contents writer.old) self.old.waiting.items (W.contents writer.new) self.new) }
         ensures failed { WriterTells (W.failures writer.old) (W.failures writer.new) result }
     {
         match report_end(&self.reader) {
@@ -155,7 +157,7 @@ impl Showing {
 }
 
 /// Writes a line for each packet and each refusal of the capture whose text is `first` and what the
-/// reader gives.
+/// reader gives, under a profile.
 ///
 /// The lines of a piece are written before the next is read. It ends with the reader, or at a word
 /// that is no token, whose line comes last.
@@ -165,12 +167,13 @@ impl Showing {
 /// `Read` where the reader failed: the lines of what was read before are written. `Write` where the
 /// writer failed. `TooManyReads` where 2^32 reads gave bytes and the reader had not ended.
 pub fn show<R: Source, W: Sink>(
+    profile: &Profile,
     first: &[u8],
     reader: &mut R,
     writer: &mut W,
 ) -> Result<Tally, ToolFault>
     // What was written is the text of `first` and the bytes read, however the reader cut them.
-    ensures ok { IfOk result (ShowedAll first.now (R.remaining reader.old) (R.remaining reader.new)
+    ensures ok { IfOk result (ShowedAll profile.now first.now (R.remaining reader.old) (R.remaining reader.new)
         (W.contents writer.old) (W.contents writer.new) (R.has_ended reader.new)) }
 
     // The reader failed in this call exactly where it answers `Read`, the writer where it answers `Write`.
@@ -179,16 +182,17 @@ pub fn show<R: Source, W: Sink>(
     ensures write { result ≡ Err ToolFault.Write → W.failures writer.new ≡ one_more (W.failures writer.old) }
     ensures no_write { result ≢ Err ToolFault.Write → W.failures writer.new ≡ W.failures writer.old }
     ensures memory { result ≢ Err ToolFault.Memory }
+    ensures profile { result ≢ Err ToolFault.ProfileTooLong }
 
     // What was written before a fault of reading is the lines of what was read, a front of its text.
-    ensures before_read { result ≡ Err ToolFault.Read → ShowedFront first.now (R.remaining reader.old) (R.remaining reader.new)
+    ensures before_read { result ≡ Err ToolFault.Read → ShowedFront profile.now first.now (R.remaining reader.old) (R.remaining reader.new)
         (W.contents writer.old) (W.contents writer.new) 0 }
-    ensures too_many { result ≡ Err ToolFault.TooManyReads → ShowedFront first.now (R.remaining reader.old) (R.remaining reader.new)
+    ensures too_many { result ≡ Err ToolFault.TooManyReads → ShowedFront profile.now first.now (R.remaining reader.old) (R.remaining reader.new)
         (W.contents writer.old) (W.contents writer.new) (2 ^ 32) }
 {
     // Whatever was read when reading fails comes to some text.
     ended_words_lead_on();
-    let mut showing = Showing::new();
+    let mut showing = Showing::new(profile);
     match showing.take(first, writer)? {
         Flow::More => {}
         Flow::BadToken => return Ok(showing.tally),

@@ -1,17 +1,21 @@
 //! What no clause says: captures with what is printed of them, the words of the command, and readers
 //! and writers that fail at each of their calls. Expected values are worked out by hand.
 
-use crate::thin::{Feed, Outcome, Reader, Refusal, WriteWord, write_word};
-use crate::{Failing, Io, Sink, Source, Tally, ToolFault, laws, no_words, show, tool};
-use pmb_bus::Event;
+mod formats;
+mod front;
+mod profiled;
+
+use crate::{Failing, Io, Sink, Source, no_words, tool};
 use std::alloc::{AllocError, Global};
 use std::io;
 use std::test::Fail;
 
+mod thin;
+
 const SHOW: [&str; 3] = ["pmb", "show", "--sample"];
 
 // A capture, and what `pmb show --sample` prints of it. The exit status is 0 where no line has a `#`.
-const ROWS: [(&str, &str); 27] = [
+const ROWS: [(&str, &str); 28] = [
     ("", ""),
     ("# nothing", ""),
     (" \t\r\n", ""),
@@ -35,7 +39,8 @@ const ROWS: [(&str, &str); 27] = [
     ),
     ("S b0 A 21", "# refusal at 4\n"),
     ("S b0 A 21 A 00 A 18 N P", "# refusal at 8\n"),
-    ("S b0 A 22 A 00 A 18 A P", "# refusal at 3\n"),
+    ("S b0 A 22 A 00 A 18 A P", "write 58 22 00 18\n"),
+    ("S b0 A 20 A 17 A P", "# refusal at 3\n"),
     ("S b1", "# refusal at 1\n"),
     // A refused STOP ends the passing over at once.
     (
@@ -106,13 +111,9 @@ fn prints_each_row_whole_and_byte_by_byte(rt: HostRuntime) {
 
 #[test]
 fn looks_at_the_words(rt: HostRuntime) {
-    let bad: [(&[&str], &str); 6] = [
+    let bad: [(&[&str], &str); 5] = [
         (&[], "Reads PMBus traffic\n"),
         (&["pmb"], "Reads PMBus traffic\n"),
-        (
-            &["pmb", "show"],
-            "error: the following required arguments were not provided:\n  --sample\n",
-        ),
         (
             &["pmb", "shw", "--sample"],
             "error: unrecognized subcommand 'shw'\n",
@@ -146,7 +147,7 @@ fn looks_at_the_words(rt: HostRuntime) {
         ),
         (
             &["pmb", "show", "--help"],
-            "Shows the transactions of a capture, one a line\n\nUsage: pmb show --sample\n",
+            "Shows the transactions of a capture, one a line\n\nUsage: pmb show [OPTIONS]\n",
         ),
     ];
     for (words, printed) in help {
@@ -315,65 +316,4 @@ fn ends_on_senseless_input(rt: HostRuntime) -> Result<(), Fail> {
         assert!(rt; line.is_empty() || line.starts_with(b"# refusal at "));
     }
     Ok(())
-}
-
-#[test]
-fn shows_from_bytes_that_were_read_already(rt: HostRuntime) {
-    let mut reader = Io::new(b" A 18 A P S".as_slice());
-    let mut writer = Io::new(Vec::new(rt.alloc()));
-    let tally = show(b"P S b0 A 21 A 00", &mut reader, &mut writer);
-    assert_eq!(rt;
-        tally,
-        Ok(Tally {
-            packets: 1,
-            refusals: 2
-        })
-    );
-    assert_eq!(rt;
-        writer.into_inner().as_slice(),
-        b"# refusal at 0\nwrite 58 21 00 18\n# refusal at 12\n".as_slice()
-    );
-    let mut reader = Failing::new(Io::new(b"".as_slice()));
-    reader.fail_after(0);
-    let mut writer = Io::new(Vec::new(rt.alloc()));
-    assert_eq!(rt; show(b"", &mut reader, &mut writer), Err(ToolFault::Read));
-}
-
-#[test]
-fn reads_a_word_and_holds_a_refusal(rt: HostRuntime) {
-    let mut reader = Reader::new();
-    let fed = reader.feed(&write_word(0x00, 0x18));
-    let word = WriteWord { lo: 0x00, hi: 0x18 };
-    assert_eq!(rt;
-        fed,
-        Feed {
-            used: 10,
-            outcome: Outcome::Packet(word)
-        }
-    );
-    assert_eq!(rt; reader.finish(), Ok(()));
-    let refused = Feed {
-        used: 0,
-        outcome: Outcome::Refused(Refusal { at: 10 }),
-    };
-    assert_eq!(rt; reader.feed(&[Event::Stop, Event::Start]), refused);
-    assert_eq!(rt; reader.feed(&[Event::Start]), refused);
-    assert_eq!(rt; reader.finish(), Err(Refusal { at: 10 }));
-    reader.resync();
-    assert_eq!(rt; reader.finish(), Ok(()));
-    let fed = reader.feed(&[Event::Stop, Event::Start]);
-    assert_eq!(rt;
-        fed,
-        Feed {
-            used: 2,
-            outcome: Outcome::More
-        }
-    );
-    assert_eq!(rt; reader.finish(), Err(Refusal { at: 12 }));
-    laws::one_packet();
-    laws::no_packet_begins_another();
-    laws::each_list_has_a_reading();
-    laws::one_reading();
-    laws::written_is_read();
-    laws::one_showing();
 }

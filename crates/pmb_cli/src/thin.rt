@@ -1,10 +1,12 @@
-//! The first packet form, a Write Word of VOUT_COMMAND to the device 58h, and a reader of it.
+//! The first packet form, a Write Word without packet error code, and a reader of it under a profile.
 //!
 //! The module stands in for the packet crate: its definitions of viability, passing over and
 //! truncation are those of the whole codec, over a grammar of one form.
 
-ghost use Rattle.std.specs.Prelude.{◌≡◌, ℕ, ◌+◌, ◌≤◌, List, [], ◌++◌, length};
+ghost use Rattle.std.specs.Prelude.{◌≡◌, ℕ, ◌+◌, ◌<◌, ◌≤◌, List, [], ◌++◌, length};
 ghost use Rattle.pmb_bus.specs.declared.event.Event.{Event as BusEvent};
+ghost use Rattle.pmb_table.specs.Parts.{DeviceParts};
+ghost use Rattle.pmb_cli.specs.Grammar.{TakesWord, IsGrammar};
 ghost use Rattle.pmb_cli.specs.Packet.{word_events};
 ghost use Rattle.pmb_cli.specs.Reading.{capped};
 ghost use Rattle.pmb_cli.specs.Thin.{
@@ -13,6 +15,7 @@ ghost use Rattle.pmb_cli.specs.Thin.{
   Passing,
   StandsAt,
   events_before,
+  Fits,
   Steps,
   OpenAnswers,
   Feeds,
@@ -20,17 +23,17 @@ ghost use Rattle.pmb_cli.specs.Thin.{
   finish_of,
 };
 
+use crate::grammar::Grammar;
 use pmb_bus::Event;
+use pmb_table::Profile;
 
-/// The address byte of the device 58h, for writing.
-const ADDRESS: u8 = 0xb0;
-
-/// The command code of VOUT_COMMAND.
-const COMMAND: u8 = 0x21;
-
-/// What is read: a word that is written to VOUT_COMMAND of the device 58h.
+/// What is read: a word that is written to a command of a device.
 #[derive(Clone, Copy, Debug, PartialEq, Eq)]
 pub struct WriteWord {
+    /// The address of the device, of 7 bits.
+    pub address: u8,
+    /// The command code.
+    pub code: u8,
     /// The low byte, which goes first.
     pub lo: u8,
     /// The high byte.
@@ -63,19 +66,26 @@ pub struct Feed {
     pub outcome: Outcome,
 }
 
-/// The event with which the packet under way goes on, and the data bytes that it has so far.
+/// The device and the command that a word is written to.
+#[derive(Clone, Copy, Debug, PartialEq, Eq)]
+struct Target {
+    address: u8,
+    code: u8,
+}
+
+/// The event with which the packet under way goes on, and what it has told so far.
 #[derive(Clone, Copy, Debug, PartialEq, Eq)]
 enum Next {
     Start,
     Address,
-    AddressAck,
-    Command,
-    CommandAck,
-    Low,
-    LowAck { lo: u8 },
-    High { lo: u8 },
-    HighAck { lo: u8, hi: u8 },
-    Stop { lo: u8, hi: u8 },
+    AddressAck { address: u8 },
+    Command { address: u8 },
+    CommandAck { target: Target },
+    Low { target: Target },
+    LowAck { target: Target, lo: u8 },
+    High { target: Target, lo: u8 },
+    HighAck { target: Target, lo: u8, hi: u8 },
+    Stop { target: Target, lo: u8, hi: u8 },
 }
 
 /// What one event more makes of the packet under way.
@@ -104,22 +114,25 @@ enum State {
 ///
 /// It refuses at the first event that no packet goes on with, and holds that refusal until
 /// [`resync`](Reader::resync).
-#[derive(Clone, Copy, Debug, PartialEq, Eq)]
-pub struct Reader {
+#[derive(Clone, Copy, Debug)]
+pub struct Reader<'a> {
+    grammar: Grammar<'a>,
     state: State,
     /// How many events were used since `new`; stays at the greatest `u64`.
     used: u64,
 }
 
-/// The events of a Write Word of `lo` and `hi` to VOUT_COMMAND of the device 58h, without PEC.
-pub fn write_word(lo: u8, hi: u8) -> [Event; 10]
-    ensures { result ≡ word_events lo hi }
+/// The events of a Write Word of `lo` and `hi` to a command of the device with an address, which is below 128, without
+/// packet error code.
+pub fn write_word(address: u8, code: u8, lo: u8, hi: u8) -> [Event; 10]
+    requires { address < 128 }
+    ensures { result ≡ word_events address code lo hi }
 {
     [
         Event::Start,
-        Event::Byte(ADDRESS),
+        Event::Byte(2 * address),
         Event::Ack,
-        Event::Byte(COMMAND),
+        Event::Byte(code),
         Event::Ack,
         Event::Byte(lo),
         Event::Ack,
@@ -129,33 +142,83 @@ pub fn write_word(lo: u8, hi: u8) -> [Event; 10]
     ]
 }
 
+/// Begins a packet.
+fn start_step(grammar: &Grammar) -> Step
+    ensures { (profile : List DeviceParts) → IsGrammar profile grammar.now → Steps profile (events_before Next.Start) BusEvent.Start result }
+{
+    if grammar.takes_some() {
+        Step::On(Next::Address)
+    } else {
+        Step::Refused
+    }
+}
+
+/// Takes an address byte, of which bit 0 is 0 for writing.
+fn address_step(grammar: &Grammar, byte: u8) -> Step
+    ensures { (profile : List DeviceParts) → IsGrammar profile grammar.now → Steps profile (events_before Next.Address) (BusEvent.Byte byte) result }
+{
+    let address = byte / 2;
+    if byte % 2 == 0 && grammar.takes_some_at(address) {
+        Step::On(Next::AddressAck { address })
+    } else {
+        Step::Refused
+    }
+}
+
+/// Takes a command code, for the device with an address.
+fn code_step(grammar: &Grammar, address: u8, code: u8) -> Step
+    ensures { (profile : List DeviceParts) → IsGrammar profile grammar.now → Steps profile (events_before (Next.Command address)) (BusEvent.Byte code) result }
+{
+    if grammar.takes(address, code) {
+        Step::On(Next::CommandAck {
+            target: Target { address, code },
+        })
+    } else {
+        Step::Refused
+    }
+}
+
 impl Next {
     /// Takes one event more.
-    fn step(self, event: Event) -> Step
-        ensures { Steps (events_before self) event result }
+    fn step(self, grammar: &Grammar, event: Event) -> Step
+        ensures { (profile : List DeviceParts) → IsGrammar profile grammar.now → Fits profile self → Steps profile (events_before self) event result }
     {
         match (self, event) {
-            (Next::Start, Event::Start) => Step::On(Next::Address),
-            (Next::Address, Event::Byte(ADDRESS)) => Step::On(Next::AddressAck),
-            (Next::AddressAck, Event::Ack) => Step::On(Next::Command),
-            (Next::Command, Event::Byte(COMMAND)) => Step::On(Next::CommandAck),
-            (Next::CommandAck, Event::Ack) => Step::On(Next::Low),
-            (Next::Low, Event::Byte(lo)) => Step::On(Next::LowAck { lo }),
-            (Next::LowAck { lo }, Event::Ack) => Step::On(Next::High { lo }),
-            (Next::High { lo }, Event::Byte(hi)) => Step::On(Next::HighAck { lo, hi }),
-            (Next::HighAck { lo, hi }, Event::Ack) => Step::On(Next::Stop { lo, hi }),
-            (Next::Stop { lo, hi }, Event::Stop) => Step::Packet(WriteWord { lo, hi }),
+            (Next::Start, Event::Start) => start_step(grammar),
+            (Next::Address, Event::Byte(byte)) => address_step(grammar, byte),
+            (Next::AddressAck { address }, Event::Ack) => Step::On(Next::Command { address }),
+            (Next::Command { address }, Event::Byte(code)) => code_step(grammar, address, code),
+            (Next::CommandAck { target }, Event::Ack) => Step::On(Next::Low { target }),
+            (Next::Low { target }, Event::Byte(lo)) => Step::On(Next::LowAck { target, lo }),
+            (Next::LowAck { target, lo }, Event::Ack) => Step::On(Next::High { target, lo }),
+            (Next::High { target, lo }, Event::Byte(hi)) => Step::On(Next::HighAck {
+                target,
+                lo,
+                hi,
+            }),
+            (Next::HighAck { target, lo, hi }, Event::Ack) => Step::On(Next::Stop {
+                target,
+                lo,
+                hi,
+            }),
+            (Next::Stop { target, lo, hi }, Event::Stop) => Step::Packet(WriteWord {
+                address: target.address,
+                code: target.code,
+                lo,
+                hi,
+            }),
             _ => Step::Refused,
         }
     }
 }
 
-impl Reader {
-    /// A reader before its first event.
-    pub fn new() -> Reader
-        ensures { StandsAt result (Open 0 []) }
+impl<'a> Reader<'a> {
+    /// A reader of packets under a profile, before its first event.
+    pub fn new(profile: &'a Profile) -> Reader<'a>
+        ensures { StandsAt profile.entry.now result (Open 0 []) }
     {
         Reader {
+            grammar: Grammar::new(profile),
             state: State::Open(Next::Start),
             used: 0,
         }
@@ -166,11 +229,13 @@ impl Reader {
     /// They are used up to and with the STOP that ends a packet, up to and without an event that is
     /// refused, or whole. What is not used is to be given again.
     pub fn feed(&mut self, events: &[Event]) -> Feed
-        ensures stands { (place : Place) → StandsAt self.old place → Feeds place events.now result.used result.outcome self.new }
-        ensures gives_back { (n lo hi : ℕ) (more : List BusEvent) → StandsAt self.old (Open n [])
-            → events.now ≡ word_events lo hi ++ more
-            → (result ≡ record { used = 10; outcome = Outcome.Packet (record { lo = lo; hi = hi }) })
-            × StandsAt self.new (Open (n + 10) []) }
+        ensures stands { (profile : List DeviceParts) (place : Place) → StandsAt profile self.old place
+            → Feeds profile place events.now result.used result.outcome self.new }
+        ensures gives_back { (profile : List DeviceParts) (n address code lo hi : ℕ) (more : List BusEvent) → TakesWord profile address code
+            → StandsAt profile self.old (Open n [])
+            → events.now ≡ word_events address code lo hi ++ more
+            → (result ≡ record { used = 10; outcome = Outcome.Packet (record { address = address; code = code; lo = lo; hi = hi }) })
+            × StandsAt profile self.new (Open (n + 10) []) }
         // A caller's loop rests on this, wherever the reader stands.
         ensures within { result.used ≤ length events.now }
     {
@@ -187,11 +252,12 @@ impl Reader {
     /// Reads on, up to the end of a packet or an event that is refused.
     fn read(&mut self, mut next: Next, events: &[Event]) -> Feed
         ensures within { result.used ≤ length events.now }
-        ensures reads { (n : ℕ) → self.old.used ≡ capped n
-            → OpenAnswers n (events_before next) events.now result.used result.outcome self.new }
+        ensures reads { (profile : List DeviceParts) (n : ℕ) → IsGrammar profile self.old.grammar → Fits profile next
+            → self.old.used ≡ capped n
+            → OpenAnswers profile n (events_before next) events.now result.used result.outcome self.new }
     {
         for (i, event) in events.iter().enumerate() {
-            match next.step(*event) {
+            match next.step(&self.grammar, *event) {
                 Step::On(after) => next = after,
                 Step::Packet(word) => {
                     self.go_to(State::Open(Next::Start), i + 1);
@@ -219,8 +285,8 @@ impl Reader {
     /// Passes over events up to and with the first STOP, and reads what follows it.
     fn pass_over(&mut self, events: &[Event]) -> Feed
         ensures within { result.used ≤ length events.now }
-        ensures passes { (n : ℕ) → self.old.used ≡ capped n
-            → Feeds (Passing n) events.now result.used result.outcome self.new }
+        ensures passes { (profile : List DeviceParts) (n : ℕ) → IsGrammar profile self.old.grammar → self.old.used ≡ capped n
+            → Feeds profile (Passing n) events.now result.used result.outcome self.new }
     {
         for (i, event) in events.iter().enumerate() {
             if let Event::Stop = event {
@@ -242,6 +308,7 @@ impl Reader {
 
     /// Goes over to a state with more events used.
     fn go_to(&mut self, state: State, used: usize)
+        ensures grammar { self.new.grammar ≡ self.old.grammar }
         ensures state { self.new.state ≡ state }
         ensures counted { (n : ℕ) → self.old.used ≡ capped n → self.new.used ≡ capped (n + used) }
     {
@@ -252,7 +319,7 @@ impl Reader {
     /// After a refusal, begins to pass over events up to and with the next STOP. Elsewhere it
     /// changes nothing.
     pub fn resync(&mut self)
-        ensures { (place : Place) → StandsAt self.old place → StandsAt self.new (resynced place) }
+        ensures { (profile : List DeviceParts) (place : Place) → StandsAt profile self.old place → StandsAt profile self.new (resynced place) }
     {
         if let State::Held = self.state {
             self.state = State::Passing;
@@ -262,7 +329,7 @@ impl Reader {
     /// The end of the events: `Ok` between packets and while passing over; the refusal that is held;
     /// else a refusal at the number of events, since they end inside a packet.
     pub fn finish(&self) -> Result<(), Refusal>
-        ensures { (place : Place) → StandsAt self.now place → result ≡ finish_of place }
+        ensures { (profile : List DeviceParts) (place : Place) → StandsAt profile self.now place → result ≡ finish_of place }
     {
         match self.state {
             State::Open(Next::Start) | State::Passing => Ok(()),

@@ -6,7 +6,7 @@ use Rattle.pmb_value.specs.Coding.{IsSpaced}
 use Rattle.pmb_value.specs.Linear.{twos_complement}
 use Rattle.pmb_value.specs.Direct.{Coefficients, positive_part, sign_of, direct}
 use Rattle.pmb_value.proofs.Scaling.{scale_lt, unscale_lt, one-scale, minus_one-scale}
-use Rattle.pmb_value.proofs.Words.{spaced_up, spaced_down, between_signed}
+use Rattle.pmb_value.proofs.Words.{Follow, Oppose, spaced_up, spaced_down, between_signed}
 
 pub ten_positive : (k : ℕ) → 0 < 10 ^ k
 ten_positive k = omega (arith, one-le-pow k 10 (omega arith))
@@ -36,24 +36,30 @@ abbrev pub with_slope : ℤ → ℤ → ℤ → Coefficients
 with_slope m b r = record { m = m; b = b; r = r }
 
 module _ (b r : ℤ) where
-  spaced_rising : (n : ℕ) → IsSpaced (direct (with_slope (pos (suc n)) b r))
-  spaced_rising n =
+  pub follow_rising : (n : ℕ) → Follow (twos_complement 16) (direct (with_slope (pos (suc n)) b r)).numerator
+  follow_rising n =
       let d = with_slope (pos (suc n)) b r in
-      spaced_up (twos_complement 16) (λ code. pos 1 *ℤ unsigned_numerator d code) (suc n * 10 ^ positive_part r) (denominator_positive (pos (suc n)) (positive_part r) (λ e. cc)) between_signed
-      (λ x y less. let h = rises d x y less in omega (arith, ints, one-scale (unsigned_numerator d x), one-scale (unsigned_numerator d y)))
-      (λ x y less. falls_back d x y (omega (arith, ints, one-scale (unsigned_numerator d x), one-scale (unsigned_numerator d y))))
+      record {
+        up = λ x y less. let h = rises d x y less in omega (arith, ints, one-scale (unsigned_numerator d x), one-scale (unsigned_numerator d y));
+        down = λ x y less. falls_back d x y (omega (arith, ints, one-scale (unsigned_numerator d x), one-scale (unsigned_numerator d y)));
+      }
 
-  spaced_falling : (n : ℕ) → IsSpaced (direct (with_slope (negsuc n) b r))
-  spaced_falling n =
+  pub oppose_falling : (n : ℕ) → Oppose (twos_complement 16) (direct (with_slope (negsuc n) b r)).numerator
+  oppose_falling n =
       let d = with_slope (negsuc n) b r in
-      spaced_down (twos_complement 16) (λ code. negsuc 0 *ℤ unsigned_numerator d code) (suc n * 10 ^ positive_part r) (denominator_positive (negsuc n) (positive_part r) (λ e. cc)) between_signed
-      (λ x y less. let h = rises d x y less in omega (arith, ints, minus_one-scale (unsigned_numerator d x), minus_one-scale (unsigned_numerator d y)))
-      (λ x y less. falls_back d y x (omega (arith, ints, minus_one-scale (unsigned_numerator d x), minus_one-scale (unsigned_numerator d y))))
+      record {
+        up = λ x y less. let h = rises d x y less in omega (arith, ints, minus_one-scale (unsigned_numerator d x), minus_one-scale (unsigned_numerator d y));
+        down = λ x y less. falls_back d y x (omega (arith, ints, minus_one-scale (unsigned_numerator d x), minus_one-scale (unsigned_numerator d y)));
+      }
 
   spaced_slope : (m : ℤ) → m ≢ pos 0 → IsSpaced (direct (with_slope m b r))
   spaced_slope (pos zero) slope = absurd (slope refl)
-  spaced_slope (pos (suc n)) slope = spaced_rising n
-  spaced_slope (negsuc n) slope = spaced_falling n
+  spaced_slope (pos (suc n)) slope =
+      let d = direct (with_slope (pos (suc n)) b r) in
+      spaced_up (twos_complement 16) d.numerator d.denominator (denominator_positive (pos (suc n)) (positive_part r) slope) between_signed (follow_rising n)
+  spaced_slope (negsuc n) slope =
+      let d = direct (with_slope (negsuc n) b r) in
+      spaced_down (twos_complement 16) d.numerator d.denominator (denominator_positive (negsuc n) (positive_part r) slope) between_signed (oppose_falling n)
 
 pub IsSpaced-direct : (d : Coefficients) → d.m ≢ pos 0 → IsSpaced (direct d)
 IsSpaced-direct d slope = spaced_slope d.b d.r d.m slope

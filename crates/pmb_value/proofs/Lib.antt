@@ -11,3 +11,6 @@ pub mod TextLemmas
 pub mod DigitLemmas
 pub mod ReadingLemmas
 pub mod RoundTrip
+pub mod OneNearest
+pub mod OneDirect
+pub mod OneLinear11

@@ -1,4 +1,4 @@
--- The codes of LINEAR11: canonical ones, and what lies between two odd ones.
+-- The codes of LINEAR11: canonical ones, and what lies between two of one parity.
 use Rattle.std.proofs.Common.{◌≡◌, ◌≢◌, ℕ, zero, suc, ◌+◌, ◌-◌, ◌*◌, ◌/◌, ◌%◌, ◌^◌, ◌<◌, ◌≤◌, ◌⊎◌, inl, inr, ℤ, pos, negsuc, ◌+ℤ◌, ◌-ℤ◌, ◌*ℤ◌, ◌<ℤ◌, ◌≤ℤ◌, unsigned_abs, refl, sym, ap, ◌∙◌, subst, arith}
 use Rattle.std.proofs.lemmas.Int.{ints, by_lt_z}
 use Rattle.std.proofs.lemmas.Bool.{cases_lt, cases_eq}
@@ -180,92 +180,167 @@ canonical_code k code =
     let none : mantissa k ≡ pos 0 = omega (arith, ints) in
     (0, omega arith, zero_is_canonical, zero_value ∙ sym (itself.value_is ∙ ap (λ z. z *ℤ pos (2 ^ steps k)) none ∙ zero-*ℤ (pos (2 ^ steps k))))))
 
--- the mantissa of an odd code is odd
-odd_mantissa : (c : ℕ) → c % 2 ≡ 1 → (g : ℕ) × (mantissa c +ℤ pos 2048 ≡ pos g) × (g % 2 ≡ 1)
-odd_mantissa c odd =
+-- the mantissa of a code has its parity
+mantissa_parity : (c : ℕ) → (g : ℕ) × (mantissa c +ℤ pos 2048 ≡ pos g) × (g % 2 ≡ c % 2)
+mantissa_parity c =
     elim (cases_lt (c % 2048) 1024) [
       | inl low ↦ let is = complement_low 11 (c % 2048) low in (c % 2048 + 2048, omega (arith, ints), omega arith)
       | inr high ↦ let is = complement_high 11 (c % 2048) high in (c % 2048, omega (arith, ints), omega arith)
     ]
 
--- a code strictly between two values
-HasMiddle : ℤ → ℕ → ℤ → ℕ → Type 0
-HasMiddle y b z d = (j : ℕ) × IsCode j × ((y *ℤ pos (2 ^ b)) <ℤ linear11_numerator j) × (linear11_numerator j <ℤ (z *ℤ pos (2 ^ d)))
+-- a value as a mantissa, which is g - 2048, at its least exponent
+record IsForm (v y : ℤ) (b g : ℕ) : Type 0 where
+  fits : IsMantissa y
+  steps_fit : b ≤ 31
+  offset : y +ℤ pos 2048 ≡ pos g
+  least : IsLeast y b
+  value_is : v ≡ y *ℤ pos (2 ^ b)
 
--- one code, where its mantissa is between both at its own exponent
-middle_code : (y z m : ℤ) (b d e : ℕ) → IsMantissa m → e ≤ 31 → (y *ℤ pos (2 ^ b)) <ℤ (m *ℤ pos (2 ^ e)) → (m *ℤ pos (2 ^ e)) <ℤ (z *ℤ pos (2 ^ d)) → HasMiddle y b z d
-unfolding HasMiddle
-middle_code y z m b d e m_fits e_fits low high =
-    let code = code_of m e m_fits e_fits in
-    (code.0, code.1.is_code, omega (arith, ints, code.1.value_is), omega (arith, ints, code.1.value_is))
+zero_form : (v : ℤ) → v ≡ pos 0 → IsForm v (pos 0) 0 2048
+zero_form v none = record {
+  fits = (omega (arith, ints), omega (arith, ints));
+  steps_fit = omega arith;
+  offset = omega (arith, ints);
+  least = inl (omega arith);
+  value_is = none ∙ sym (zero-*ℤ (pos (2 ^ 0)));
+}
 
--- at one exponent the next mantissa is between
-middle_same : (y z : ℤ) (b : ℕ) (g h : ℕ) → IsMantissa y → IsMantissa z → b ≤ 31 → y +ℤ pos 2048 ≡ pos g → z +ℤ pos 2048 ≡ pos h → g % 2 ≡ 1 → h % 2 ≡ 1 → y <ℤ z → HasMiddle y b z b
-middle_same y z b g h y_fits z_fits b_fits y_is z_is y_odd z_odd less =
-    middle_code y z (y +ℤ pos 1) b b b (omega (arith, ints, y_fits), omega (arith, ints, z_fits)) b_fits
-    (scale_lt y (y +ℤ pos 1) (2 ^ b) (pow_pos b) (omega (arith, ints)))
-    (scale_lt (y +ℤ pos 1) z (2 ^ b) (pow_pos b) (omega (arith, ints)))
-
--- below a greater exponent, 1024 at the smaller one is between
-middle_above : (y z : ℤ) (b d : ℕ) (h : ℕ) → b < d → d ≤ 31 → IsMantissa y → z +ℤ pos 2048 ≡ pos h → h % 2 ≡ 1 → (z <ℤ negsuc 511) ⊎ (pos 511 <ℤ z) → (y *ℤ pos (2 ^ b)) <ℤ (z *ℤ pos (2 ^ d)) → HasMiddle y b z d
-middle_above y z b d h order d_fits y_fits z_is z_odd (inl low) less =
-    let split = power_splits z b d (omega arith) in
-    let at_b : y <ℤ (z *ℤ pos (2 ^ (d - b))) = unscale_lt y (z *ℤ pos (2 ^ (d - b))) (2 ^ b) (pow_pos b) (omega (arith, ints)) in
-    let grown = grows_down 512 z (2 ^ (d - b)) (two_or_more (d - b) (omega arith)) (omega (arith, ints)) in
-    absurd (omega (arith, ints, y_fits))
-middle_above y z b d h order d_fits y_fits z_is z_odd (inr high) less =
-    let split = power_splits z b d (omega arith) in
-    let grown = grows_up 513 z (2 ^ (d - b)) (two_or_more (d - b) (omega arith)) (omega (arith, ints)) in
-    let half = half_power (pos 512) (b + 1) (omega arith) in
-    let same : (pos 512 *ℤ pos 2) *ℤ pos (2 ^ (b + 1 - 1)) ≡ pos 1024 *ℤ pos (2 ^ b) = ap (λ k. pos 1024 *ℤ pos (2 ^ k)) (omega arith) in
-    let low : (y *ℤ pos (2 ^ b)) <ℤ (pos 1024 *ℤ pos (2 ^ b)) = scale_lt y (pos 1024) (2 ^ b) (pow_pos b) (omega (arith, ints, y_fits)) in
-    let high : (pos 1024 *ℤ pos (2 ^ b)) <ℤ ((z *ℤ pos (2 ^ (d - b))) *ℤ pos (2 ^ b)) = scale_lt (pos 1024) (z *ℤ pos (2 ^ (d - b))) (2 ^ b) (pow_pos b) (omega (arith, ints)) in
-    middle_code y z (pos 512) b d (b + 1) (omega (arith, ints), omega (arith, ints)) (omega arith) (omega (arith, ints)) (omega (arith, ints))
-
--- above a greater exponent, -1024 at the smaller one is between
-middle_below : (y z : ℤ) (b d : ℕ) (h : ℕ) → d < b → b ≤ 31 → IsMantissa z → z +ℤ pos 2048 ≡ pos h → h % 2 ≡ 1 → (y <ℤ negsuc 511) ⊎ (pos 511 <ℤ y) → (y *ℤ pos (2 ^ b)) <ℤ (z *ℤ pos (2 ^ d)) → HasMiddle y b z d
-middle_below y z b d h order b_fits z_fits z_is z_odd (inr high) less =
-    let split = power_splits y d b (omega arith) in
-    let at_d : (y *ℤ pos (2 ^ (b - d))) <ℤ z = unscale_lt (y *ℤ pos (2 ^ (b - d))) z (2 ^ d) (pow_pos d) (omega (arith, ints)) in
-    let grown = grows_up 512 y (2 ^ (b - d)) (two_or_more (b - d) (omega arith)) (omega (arith, ints)) in
-    absurd (omega (arith, ints, z_fits))
-middle_below y z b d h order b_fits z_fits z_is z_odd (inl low) less =
-    let split = power_splits y d b (omega arith) in
-    let grown = grows_down 512 y (2 ^ (b - d)) (two_or_more (b - d) (omega arith)) (omega (arith, ints)) in
-    let over : ((y *ℤ pos (2 ^ (b - d))) *ℤ pos (2 ^ d)) <ℤ (negsuc 1023 *ℤ pos (2 ^ d)) = scale_lt (y *ℤ pos (2 ^ (b - d))) (negsuc 1023) (2 ^ d) (pow_pos d) (omega (arith, ints)) in
-    let under : (negsuc 1023 *ℤ pos (2 ^ d)) <ℤ (z *ℤ pos (2 ^ d)) = scale_lt (negsuc 1023) z (2 ^ d) (pow_pos d) (omega (arith, ints, z_fits)) in
-    middle_code y z (negsuc 1023) b d d (omega (arith, ints), omega (arith, ints)) (omega arith) (omega (arith, ints)) under
-
--- the large mantissas of an exponent that is not the least one
-large_mantissa : (y : ℤ) (b : ℕ) → 0 < b → IsLeast y b → (y <ℤ negsuc 511) ⊎ (pos 511 <ℤ y)
-large_mantissa y b positive (inl none) = absurd (omega arith)
-large_mantissa y b positive (inr large) = large
-
-pub between : (c k : ℕ) → IsCode c → IsCode k → IsCanonicalLinear11 c → IsCanonicalLinear11 k → c % 2 ≡ 1 → k % 2 ≡ 1 → linear11_numerator c <ℤ linear11_numerator k → (j : ℕ) × IsCode j × (linear11_numerator c <ℤ linear11_numerator j) × (linear11_numerator j <ℤ linear11_numerator k)
-unfolding HasMiddle
-between c k c_code k_code c_canonical k_canonical c_odd k_odd less =
-    let c_least = canonical_is_least c (mantissa c) (steps c) (holds_itself c c_code) (steps_fit c c_code) c_canonical (λ none. omega arith) in
-    let k_least = canonical_is_least k (mantissa k) (steps k) (holds_itself k k_code) (steps_fit k k_code) k_canonical (λ none. omega arith) in
-    let c_is = odd_mantissa c c_odd in
-    let k_is = odd_mantissa k k_odd in
-    elim (cases_lt (steps c) (steps k)) [
-      | inl smaller ↦
-          middle_above (mantissa c) (mantissa k) (steps c) (steps k) k_is.0 smaller (steps_fit k k_code) (mantissa_fits c) k_is.1 k_is.2 (large_mantissa (mantissa k) (steps k) (omega arith) k_least.1) less
-      | inr others ↦
-          elim (cases_lt (steps k) (steps c)) [
-            | inl greater ↦
-                middle_below (mantissa c) (mantissa k) (steps c) (steps k) k_is.0 greater (steps_fit c c_code) (mantissa_fits k) k_is.1 k_is.2 (large_mantissa (mantissa c) (steps c) (omega arith) c_least.1) less
-            | inr least ↦
-                let same : steps k ≡ steps c = omega arith in
-                let P : ℕ → Type 0 = λ b. (mantissa c *ℤ pos (2 ^ steps c)) <ℤ (mantissa k *ℤ pos (2 ^ b)) in
-                let Q : ℕ → Type 0 = λ b. HasMiddle (mantissa c) (steps c) (mantissa k) b in
-                let less_here = subst P same less in
-                subst Q (sym same) (middle_same (mantissa c) (mantissa k) (steps c) c_is.0 k_is.0 (mantissa_fits c) (mantissa_fits k) (steps_fit c c_code) c_is.1 k_is.1 c_is.2 k_is.2 (unscale_lt (mantissa c) (mantissa k) (2 ^ steps c) (pow_pos (steps c)) less_here))
-          ]
+-- the form of a canonical code has its parity
+form_of : (c : ℕ) → IsCode c → IsCanonicalLinear11 c → (y : ℤ) × (b : ℕ) × (g : ℕ) × IsForm (linear11_numerator c) y b g × (g % 2 ≡ c % 2)
+form_of c code canonical =
+    elim (cases_eq c 0) [
+      | inl none ↦ (pos 0, 0, 2048, zero_form (linear11_numerator c) (ap linear11_numerator none ∙ zero_value), omega arith)
+      | inr some ↦
+          let itself = holds_itself c code in
+          let least = canonical_is_least c (mantissa c) (steps c) itself (steps_fit c code) canonical some in
+          let parity = mantissa_parity c in (
+            mantissa c,
+            steps c,
+            parity.0,
+            record { fits = mantissa_fits c; steps_fit = steps_fit c code; offset = parity.1; least = least.1; value_is = itself.value_is },
+            parity.2,
+          )
     ]
 
+-- a code strictly between two values
+abbrev pub HasMiddle : ℤ → ℤ → Type 0
+HasMiddle v w = (j : ℕ) × IsCode j × (v <ℤ linear11_numerator j) × (linear11_numerator j <ℤ w)
+
+-- one code, where its mantissa is between both at its own exponent
+middle_code : (v w m : ℤ) (e : ℕ) → IsMantissa m → e ≤ 31 → v <ℤ (m *ℤ pos (2 ^ e)) → (m *ℤ pos (2 ^ e)) <ℤ w → HasMiddle v w
+middle_code v w m e m_fits e_fits low high =
+    let code = code_of m e m_fits e_fits in
+    (code.0, code.1.is_code, omega (arith, ints, code.1.value_is, low), omega (arith, ints, code.1.value_is, high))
+
+-- at one exponent the next mantissa is between
+middle_same : (v w y z : ℤ) (b g h : ℕ) → IsForm v y b g → IsForm w z b h → g % 2 ≡ h % 2 → v <ℤ w → HasMiddle v w
+middle_same v w y z b g h low high parity less =
+    let below : y <ℤ z = unscale_lt y z (2 ^ b) (pow_pos b) (omega (arith, ints, low.value_is, high.value_is)) in
+    let after = scale_lt y (y +ℤ pos 1) (2 ^ b) (pow_pos b) (omega (arith, ints)) in
+    let before = scale_lt (y +ℤ pos 1) z (2 ^ b) (pow_pos b) (omega (arith, ints, low.offset, high.offset)) in
+    middle_code v w (y +ℤ pos 1) b (omega (arith, ints, low.fits), omega (arith, ints, high.fits)) low.steps_fit (omega (arith, ints, low.value_is)) (omega (arith, ints, high.value_is))
+
+-- the mantissa of a greater exponent is large
+large_mantissa : (y : ℤ) (b d : ℕ) → d < b → IsLeast y b → (y <ℤ negsuc 511) ⊎ (pos 511 <ℤ y)
+large_mantissa y b d greater (inl none) = absurd (omega arith)
+large_mantissa y b d greater (inr large) = large
+
+-- two values with mantissas of one parity
+module _ (v w y z : ℤ) (b d g h : ℕ) (low : IsForm v y b g) (high : IsForm w z d h) (parity : g % 2 ≡ h % 2) where
+  -- below a greater exponent, its mantissa before a large one is between, if that is still large
+  middle_previous : b < d → pos 512 <ℤ z → HasMiddle v w
+  middle_previous order large =
+      let split = power_splits (z -ℤ pos 1) b d (omega arith) in
+      let grown = grows_up 512 (z -ℤ pos 1) (2 ^ (d - b)) (two_or_more (d - b) (omega arith)) (omega (arith, ints)) in
+      let after = scale_lt y ((z -ℤ pos 1) *ℤ pos (2 ^ (d - b))) (2 ^ b) (pow_pos b) (omega (arith, ints, low.fits)) in
+      let before = scale_lt (z -ℤ pos 1) z (2 ^ d) (pow_pos d) (omega (arith, ints)) in
+      middle_code v w (z -ℤ pos 1) d (omega (arith, ints), omega (arith, ints, high.fits)) high.steps_fit (omega (arith, ints, low.value_is)) (omega (arith, ints, high.value_is))
+
+  -- .. or 1023 at the smaller one
+  middle_above : b < d → pos 511 <ℤ z → HasMiddle v w
+  middle_above order large =
+      let split = power_splits z b d (omega arith) in
+      let grown = grows_up 512 z (2 ^ (d - b)) (two_or_more (d - b) (omega arith)) (omega (arith, ints)) in
+      by_lt_z y (pos 1023)
+      (λ less.
+      let after = scale_lt y (pos 1023) (2 ^ b) (pow_pos b) less in
+      let before = scale_lt (pos 1023) (z *ℤ pos (2 ^ (d - b))) (2 ^ b) (pow_pos b) (omega (arith, ints)) in
+      middle_code v w (pos 1023) b (omega (arith, ints), omega (arith, ints)) low.steps_fit (omega (arith, ints, low.value_is)) (omega (arith, ints, high.value_is)))
+      (λ at_least. middle_previous order (omega (arith, ints, low.fits, low.offset, high.offset, at_least)))
+
+  -- above a greater exponent, its mantissa after a large negative one is between, if that is still large
+  middle_next : d < b → y <ℤ negsuc 512 → HasMiddle v w
+  middle_next order large =
+      let split = power_splits (y +ℤ pos 1) d b (omega arith) in
+      let grown = grows_down 512 (y +ℤ pos 1) (2 ^ (b - d)) (two_or_more (b - d) (omega arith)) (omega (arith, ints)) in
+      let after = scale_lt y (y +ℤ pos 1) (2 ^ b) (pow_pos b) (omega (arith, ints)) in
+      let before = scale_lt ((y +ℤ pos 1) *ℤ pos (2 ^ (b - d))) z (2 ^ d) (pow_pos d) (omega (arith, ints, high.fits)) in
+      middle_code v w (y +ℤ pos 1) b (omega (arith, ints, low.fits), omega (arith, ints)) low.steps_fit (omega (arith, ints, low.value_is)) (omega (arith, ints, high.value_is))
+
+  -- .. or -1024 at the smaller one
+  middle_below : d < b → y <ℤ negsuc 511 → HasMiddle v w
+  middle_below order large =
+      let split = power_splits y d b (omega arith) in
+      let grown = grows_down 512 y (2 ^ (b - d)) (two_or_more (b - d) (omega arith)) (omega (arith, ints)) in
+      by_lt_z (negsuc 1023) z
+      (λ less.
+      let after = scale_lt (y *ℤ pos (2 ^ (b - d))) (negsuc 1023) (2 ^ d) (pow_pos d) (omega (arith, ints)) in
+      let before = scale_lt (negsuc 1023) z (2 ^ d) (pow_pos d) less in
+      middle_code v w (negsuc 1023) d (omega (arith, ints), omega (arith, ints)) high.steps_fit (omega (arith, ints, low.value_is)) (omega (arith, ints, high.value_is)))
+      (λ at_most. middle_next order (omega (arith, ints, high.fits, low.offset, high.offset, at_most)))
+
+  -- no value is below a large negative one of a greater exponent
+  not_above : b < d → v <ℤ w → z <ℤ negsuc 511 → ⊥
+  not_above order less large =
+      let split = power_splits z b d (omega arith) in
+      let at_b : y <ℤ (z *ℤ pos (2 ^ (d - b))) = unscale_lt y (z *ℤ pos (2 ^ (d - b))) (2 ^ b) (pow_pos b) (omega (arith, ints, low.value_is, high.value_is)) in
+      let grown = grows_down 512 z (2 ^ (d - b)) (two_or_more (d - b) (omega arith)) (omega (arith, ints)) in
+      omega (arith, ints, low.fits)
+
+  -- .. nor above a large positive one
+  not_below : d < b → v <ℤ w → pos 511 <ℤ y → ⊥
+  not_below order less large =
+      let split = power_splits y d b (omega arith) in
+      let at_d : (y *ℤ pos (2 ^ (b - d))) <ℤ z = unscale_lt (y *ℤ pos (2 ^ (b - d))) z (2 ^ d) (pow_pos d) (omega (arith, ints, low.value_is, high.value_is)) in
+      let grown = grows_up 512 y (2 ^ (b - d)) (two_or_more (b - d) (omega arith)) (omega (arith, ints)) in
+      omega (arith, ints, high.fits)
+
+  -- at any two exponents
+  middle_of_forms : v <ℤ w → HasMiddle v w
+  middle_of_forms less =
+      elim (cases_lt b d) [
+        | inl smaller ↦
+            elim (large_mantissa z d b smaller high.least) [
+              | inl negative ↦ absurd (not_above smaller less negative)
+              | inr positive ↦ middle_above smaller positive
+            ]
+        | inr others ↦
+            elim (cases_lt d b) [
+              | inl greater ↦
+                  elim (large_mantissa y b d greater low.least) [
+                    | inl negative ↦ middle_below greater negative
+                    | inr positive ↦ absurd (not_below greater less positive)
+                  ]
+              | inr least ↦
+                  let same : d ≡ b = omega arith in
+                  let P : ℕ → Type 0 = λ e. IsForm w z e h in
+                  middle_same v w y z b g h low (subst P same high) parity less
+            ]
+      ]
+
+-- between two canonical codes of one parity lies another
+pub between : (c k : ℕ) → IsCode c → IsCode k → IsCanonicalLinear11 c → IsCanonicalLinear11 k → c % 2 ≡ k % 2 → linear11_numerator c <ℤ linear11_numerator k → HasMiddle (linear11_numerator c) (linear11_numerator k)
+between c k c_code k_code c_canonical k_canonical parity less =
+    let low = form_of c c_code c_canonical in
+    let high = form_of k k_code k_canonical in
+    middle_of_forms (linear11_numerator c) (linear11_numerator k) low.0 high.0 low.1 high.1 low.2 high.2 low.3 high.3 (low.4 ∙ parity ∙ sym high.4) less
+
 pub IsSpaced-linear11 : IsSpaced linear11
-IsSpaced-linear11 = record { positive = omega arith; canonical_code = canonical_code; between = between }
+IsSpaced-linear11 = record {
+  positive = omega arith;
+  canonical_code = canonical_code;
+  between = λ c k c_code k_code c_canonical k_canonical c_odd k_odd. between c k c_code k_code c_canonical k_canonical (c_odd ∙ sym k_odd);
+}
 
 -- the test that the code makes
 to_least : (k : ℕ) → IsCode k → IsLeastExponent (exponent k) (mantissa k) → IsLeast (mantissa k) (steps k)

@@ -26,7 +26,7 @@ scale_lt d (negsuc a) (negsuc b) positive less =
     omega (arith, ints)
 
 -- the first of two equally near codes with another between them is not best
-not_best : (f : Coding) (q : Fraction) (c k j : ℕ) → 0 < q.denominator → distance f q k ≡ distance f q c → f.numerator c <ℤ f.numerator j → f.numerator j <ℤ f.numerator k → distance f q j < distance f q c
+pub not_best : (f : Coding) (q : Fraction) (c k j : ℕ) → 0 < q.denominator → distance f q k ≡ distance f q c → f.numerator c <ℤ f.numerator j → f.numerator j <ℤ f.numerator k → distance f q j < distance f q c
 not_best f q c k j positive tie low high =
     nearer_between (scaled f q) (scaled_code f q c) (scaled_code f q k) (scaled_code f q j) (scale_lt q.denominator (f.numerator c) (f.numerator j) positive low) (scale_lt q.denominator (f.numerator j) (f.numerator k) positive high) (sym tie)
 

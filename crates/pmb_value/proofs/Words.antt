@@ -1,5 +1,5 @@
 -- Two's complement words, and formats whose values are evenly spaced.
-use Rattle.std.proofs.Common.{◌≡◌, ℕ, ◌+◌, ◌-◌, ◌%◌, ◌^◌, ◌<◌, ◌≤◌, ◌⊎◌, inl, inr, ℤ, pos, ◌+ℤ◌, ◌-ℤ◌, ◌*ℤ◌, ◌<ℤ◌, refl, sym, arith}
+use Rattle.std.proofs.Common.{◌≡◌, ℕ, ◌+◌, ◌-◌, ◌%◌, ◌^◌, ◌<◌, ◌≤◌, ◌⊎◌, inl, inr, ℤ, pos, ◌+ℤ◌, ◌-ℤ◌, ◌*ℤ◌, ◌<ℤ◌, refl, sym, ◌∙◌, arith}
 use Rattle.std.proofs.lemmas.Int.{ints}
 use Rattle.std.proofs.lemmas.Bool.{cases_lt, cases_eq, cond_below, cond_above}
 use Rattle.std.proofs.lemmas.Nat.{pow_pos}
@@ -17,13 +17,12 @@ pub complement_high : (bits field : ℕ) → 2 ^ (bits - 1) ≤ field → twos_c
 unfolding twos_complement
 complement_high bits field high = sym (cond_above field (2 ^ (bits - 1)) (pos field) (pos field -ℤ pos (2 ^ bits)) (pos field -ℤ pos (2 ^ bits)) high refl)
 
--- between two odd words lies another
+-- between two words of one parity lies another
 abbrev pub HasBetween : (ℕ → ℤ) → Type 0
-HasBetween w = (c k : ℕ) → IsCode c → IsCode k → c % 2 ≡ 1 → k % 2 ≡ 1 → w c <ℤ w k → (j : ℕ) × IsCode j × (w c <ℤ w j) × (w j <ℤ w k)
+HasBetween w = (c k : ℕ) → IsCode c → IsCode k → c % 2 ≡ k % 2 → w c <ℤ w k → (j : ℕ) × IsCode j × (w c <ℤ w j) × (w j <ℤ w k)
 
 pub between_unsigned : HasBetween (λ code. pos code)
-between_unsigned c k c_code k_code c_odd k_odd less =
-    (c + 1, omega (arith, ints), omega (arith, ints), omega (arith, ints))
+between_unsigned c k c_code k_code parity less = (c + 1, omega (arith, ints), omega (arith, ints), omega (arith, ints))
 
 -- a word and its number, in either half
 signed_word : (c : ℕ) → IsCode c → ((c < 32768) × (twos_complement 16 c ≡ pos c)) ⊎ ((32768 ≤ c) × (twos_complement 16 c +ℤ pos 65536 ≡ pos c))
@@ -33,11 +32,11 @@ signed_word c code =
       | inr high ↦ let same = complement_high 16 c high in inr (high, omega (arith, ints))
     ]
 
--- the next word of an odd one that is not the greatest
-next_word : (c : ℕ) → IsCode c → c % 2 ≡ 1 → twos_complement 16 c <ℤ pos 32767 → (j : ℕ) × IsCode j × (j % 2 ≡ 0) × (twos_complement 16 j ≡ twos_complement 16 c +ℤ pos 1)
-next_word c code odd small =
+-- the next word of one that is not the greatest
+next_word : (c : ℕ) → IsCode c → twos_complement 16 c <ℤ pos 32767 → (j : ℕ) × IsCode j × (j % 2 + c % 2 ≡ 1) × (twos_complement 16 j ≡ twos_complement 16 c +ℤ pos 1)
+next_word c code small =
     elim (signed_word c code) [
-      | inl low ↦ let next = complement_low 16 (c + 1) (omega (arith, ints, low.1)) in (c + 1, omega (arith, ints), omega arith, omega (arith, ints, low.1))
+      | inl low ↦ let next = complement_low 16 (c + 1) (omega (arith, ints, low.1)) in (c + 1, omega (arith, ints, low), omega arith, omega (arith, ints, low.1))
       | inr high ↦
           elim (cases_eq c 65535) [
             | inl last ↦ let zero = complement_low 16 0 (omega arith) in (0, omega arith, omega arith, omega (arith, ints, high.1))
@@ -46,7 +45,7 @@ next_word c code odd small =
     ]
 
 -- two words of one number are one
-same_word : (j k : ℕ) → IsCode j → IsCode k → twos_complement 16 j ≡ twos_complement 16 k → j ≡ k
+pub same_word : (j k : ℕ) → IsCode j → IsCode k → twos_complement 16 j ≡ twos_complement 16 k → j ≡ k
 same_word j k j_code k_code same =
     elim (signed_word j j_code) [
       | inl j_low ↦ elim (signed_word k k_code) [ inl k_low ↦ omega (arith, ints, j_low, k_low, same) | inr k_high ↦ omega (arith, ints, j_low, k_high, same) ]
@@ -58,35 +57,52 @@ at_most_greatest : (k : ℕ) → IsCode k → twos_complement 16 k <ℤ pos 3276
 at_most_greatest k code = elim (signed_word k code) [ inl low ↦ omega (arith, ints, low) | inr high ↦ omega (arith, ints, high) ]
 
 pub between_signed : HasBetween (twos_complement 16)
-between_signed c k c_code k_code c_odd k_odd less =
+between_signed c k c_code k_code parity less =
     let greatest = at_most_greatest k k_code in
-    let next = next_word c c_code c_odd (omega (arith, ints)) in
+    let next = next_word c c_code (omega (arith, ints)) in
     let apart : twos_complement 16 next.0 ≡ twos_complement 16 k → ⊥ = λ same. let one = same_word next.0 k next.1 k_code same in omega (arith, next.2) in
     (next.0, next.1, omega (arith, ints, next.3), ordered (twos_complement 16 next.0) (twos_complement 16 k) apart (λ h. h) (λ more. absurd (omega (arith, ints, next.3))))
 
--- Where words are in the order of their values, and each code is canonical, a format is spaced.
-pub spaced_up : (w : ℕ → ℤ) (n : ℕ → ℤ) (d : ℕ) → 0 < d → HasBetween w → ((x y : ℕ) → w x <ℤ w y → n x <ℤ n y) → ((x y : ℕ) → n x <ℤ n y → w x <ℤ w y) → IsSpaced (record { numerator = n; denominator = d; IsCanonical = IsAnyCode })
-spaced_up w n d positive between up down = record {
-  positive = positive;
-  canonical_code = λ k code. (k, code, tt, refl);
-  between = λ c k c_code k_code _ _ c_odd k_odd less.
-      let middle = between c k c_code k_code c_odd k_odd (down c k less) in
-      (middle.0, middle.1, up c middle.0 middle.2, up middle.0 k middle.3);
-}
+-- values are in the order of their words
+pub record Follow (w n : ℕ → ℤ) : Type 0 where
+  pub up : (x y : ℕ) → w x <ℤ w y → n x <ℤ n y
+  pub down : (x y : ℕ) → n x <ℤ n y → w x <ℤ w y
 
 -- .. or in the other order
-pub spaced_down : (w : ℕ → ℤ) (n : ℕ → ℤ) (d : ℕ) → 0 < d → HasBetween w → ((x y : ℕ) → w x <ℤ w y → n y <ℤ n x) → ((x y : ℕ) → n x <ℤ n y → w y <ℤ w x) → IsSpaced (record { numerator = n; denominator = d; IsCanonical = IsAnyCode })
-spaced_down w n d positive between up down = record {
+pub record Oppose (w n : ℕ → ℤ) : Type 0 where
+  pub up : (x y : ℕ) → w x <ℤ w y → n y <ℤ n x
+  pub down : (x y : ℕ) → n x <ℤ n y → w y <ℤ w x
+
+-- Where values are in the order of their words, and each code is canonical, a format is spaced.
+pub spaced_up : (w : ℕ → ℤ) (n : ℕ → ℤ) (d : ℕ) → 0 < d → HasBetween w → Follow w n → IsSpaced (record { numerator = n; denominator = d; IsCanonical = IsAnyCode })
+spaced_up w n d positive between order = record {
   positive = positive;
   canonical_code = λ k code. (k, code, tt, refl);
   between = λ c k c_code k_code _ _ c_odd k_odd less.
-      let middle = between k c k_code c_code k_odd c_odd (down c k less) in
-      (middle.0, middle.1, up middle.0 c middle.3, up k middle.0 middle.2);
+      let middle = between c k c_code k_code (c_odd ∙ sym k_odd) (order.down c k less) in
+      (middle.0, middle.1, order.up c middle.0 middle.2, order.up middle.0 k middle.3);
 }
 
-pub spaced_scaled : (w : ℕ → ℤ) (p : ℕ) → 0 < p → HasBetween w → IsSpaced (record { numerator = λ code. w code *ℤ pos p; denominator = 2 ^ 16; IsCanonical = IsAnyCode })
+-- .. and likewise in the other order
+pub spaced_down : (w : ℕ → ℤ) (n : ℕ → ℤ) (d : ℕ) → 0 < d → HasBetween w → Oppose w n → IsSpaced (record { numerator = n; denominator = d; IsCanonical = IsAnyCode })
+spaced_down w n d positive between order = record {
+  positive = positive;
+  canonical_code = λ k code. (k, code, tt, refl);
+  between = λ c k c_code k_code _ _ c_odd k_odd less.
+      let middle = between k c k_code c_code (k_odd ∙ sym c_odd) (order.down c k less) in
+      (middle.0, middle.1, order.up middle.0 c middle.3, order.up k middle.0 middle.2);
+}
+
+-- a positive factor keeps the order
+pub follow_scaled : (w : ℕ → ℤ) (p : ℕ) → 0 < p → Follow w (λ code. w code *ℤ pos p)
+follow_scaled w p positive = record {
+  up = λ x y less. scale_lt (w x) (w y) p positive less;
+  down = λ x y less. unscale_lt (w x) (w y) p positive less;
+}
+
+spaced_scaled : (w : ℕ → ℤ) (p : ℕ) → 0 < p → HasBetween w → IsSpaced (record { numerator = λ code. w code *ℤ pos p; denominator = 2 ^ 16; IsCanonical = IsAnyCode })
 spaced_scaled w p positive between =
-    spaced_up w (λ code. w code *ℤ pos p) (2 ^ 16) (omega arith) between (λ x y less. scale_lt (w x) (w y) p positive less) (λ x y less. unscale_lt (w x) (w y) p positive less)
+    spaced_up w (λ code. w code *ℤ pos p) (2 ^ 16) (omega arith) between (follow_scaled w p positive)
 
 pub IsSpaced-ulinear16 : (e : ℤ) → IsSpaced (ulinear16 e)
 IsSpaced-ulinear16 e = spaced_scaled (λ code. pos code) (power e) (pow_pos _) between_unsigned

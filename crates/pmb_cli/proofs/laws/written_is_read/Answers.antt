@@ -2,4 +2,4 @@ use Rattle.pmb_cli.proofs.Readings.{written_is_read_from}
 use Rattle.pmb_cli.proofs.laws.written_is_read.Goals as goal
 
 pub returns : goal.returns
-returns c = written_is_read_from 0
+returns c = λ profile. written_is_read_from profile 0

@@ -6,6 +6,6 @@ use Rattle.pmb_cli.proofs.Reporting.{ends}
 use Rattle.pmb_cli.proofs.reported.report_end.Goals as goal
 
 pub returns : goal.returns
-returns c place stands reading =
-    let answer = c.err.ensures.value ∙ ap result_err (c.finish.ensures place stands) in
-    subst (Ends place) (sym answer) (ends c.args.reader.now place stands reading)
+returns c profile place stands reading =
+    let answer = c.err.ensures.value ∙ ap result_err (c.finish.ensures profile place stands) in
+    subst (Ends profile place) (sym answer) (ends profile c.args.reader.now place stands reading)

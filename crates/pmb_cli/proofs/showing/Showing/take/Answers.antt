@@ -10,16 +10,16 @@ use Rattle.pmb_cli.proofs.showing.Showing.take.Goals as goal
 pub loop-event-init : goal.loop-event-init
 loop-event-init g c = record {
   failures = refl;
-  took = λ bytes outcomes stands. took_none c.args.self.now bytes outcomes c.args.piece.now _ stands;
+  took = λ profile bytes outcomes stands. took_none profile c.args.self.now bytes outcomes c.args.piece.now _ stands;
 }
 
 pub returns-in-Fault-clause-takes : goal.returns-in-Fault-clause-takes
-returns-in-Fault-clause-takes g c bytes outcomes stands =
-    let took = c.loop-event.invariant.took bytes outcomes stands in
+returns-in-Fault-clause-takes g c profile bytes outcomes stands =
+    let took = c.loop-event.invariant.took profile bytes outcomes stands in
     let text = bytes ++ took.used in
     let fed = subst (λ step. Feeds (length text) text took.stands.events c.loop-event.rest.now c.feed-lexed.result.used step c.feed-lexed.new.self) c.in-Fault.is
     (c.feed-lexed.ensures.stands (length text) text took.stands.events took.stands.lexer) in
-    took_fault c.loop-event.self c.take_fault.new.self c.feed-lexed.new.self bytes outcomes c.args.piece.now c.loop-event.rest.now c.feed-lexed.result.used c.in-Fault.fault _ _ _ _ took fed
+    took_fault profile c.loop-event.self c.take_fault.new.self c.feed-lexed.new.self bytes outcomes c.args.piece.now c.loop-event.rest.now c.feed-lexed.result.used c.in-Fault.fault _ _ _ _ took fed
     c.in_ok-take_fault-in-Fault.ensures.counted
     (fault_written {T = Unit {0}} {F = ℕ} (Ok tt) c.in-Fault.fault (λ t. Writes (g.W.Sink.contents c.loop-event.writer) c.loop-event.self.waiting.items (g.W.Sink.contents c.take_fault.new.writer) [] t)
     c.in_ok-take_fault-in-Fault.ensures.writes)
@@ -27,20 +27,20 @@ returns-in-Fault-clause-takes g c bytes outcomes stands =
 pub loop-event-preserved : goal.loop-event-preserved
 loop-event-preserved g c = record {
   failures = c.in_ok-take_event-in-Event.ensures.failed ∙ c.loop-event.invariant.failures;
-  took = λ bytes outcomes stands.
-      let took = c.loop-event.invariant.took bytes outcomes stands in
+  took = λ profile bytes outcomes stands.
+      let took = c.loop-event.invariant.took profile bytes outcomes stands in
       let text = bytes ++ took.used in
       let fed = subst (λ step. Feeds (length text) text took.stands.events c.loop-event.rest.now c.feed-lexed.result.used step c.feed-lexed.new.self) c.in-Event.is
       (c.feed-lexed.ensures.stands (length text) text took.stands.events took.stands.lexer) in
-      let reads = reads_same c.loop-event.self (record c.loop-event.self { lexer = c.feed-lexed.new.self }) took.stands.events _ refl refl took.stands.reads in
-      let taken = c.in_ok-take_event-in-Event.ensures.takes took.stands.events _ reads in
-      took_event c.loop-event.self _ c.feed-lexed.new.self bytes outcomes c.args.piece.now c.loop-event.rest.now _ c.feed-lexed.result.used c.in-Event.event _ _ _ _ took fed taken c.in_ok-take_event-in-Event.ensures.lexer (search (rules, common_steps));
+      let reads = reads_same profile c.loop-event.self (record c.loop-event.self { lexer = c.feed-lexed.new.self }) took.stands.events _ refl refl took.stands.reads in
+      let taken = c.in_ok-take_event-in-Event.ensures.takes profile took.stands.events _ reads in
+      took_event profile c.loop-event.self _ c.feed-lexed.new.self bytes outcomes c.args.piece.now c.loop-event.rest.now _ c.feed-lexed.result.used c.in-Event.event _ _ _ _ took fed taken c.in_ok-take_event-in-Event.ensures.lexer (search (rules, common_steps));
 }
 
 pub returns-clause-takes : goal.returns-clause-takes
-returns-clause-takes g c bytes outcomes stands =
-    let took = c.loop-event.invariant.took bytes outcomes stands in
+returns-clause-takes g c profile bytes outcomes stands =
+    let took = c.loop-event.invariant.took profile bytes outcomes stands in
     let text = bytes ++ took.used in
     let fed = subst (λ step. Feeds (length text) text took.stands.events c.loop-event.rest.now c.feed-lexed.result.used step c.feed-lexed.new.self) c.in-Need.is
     (c.feed-lexed.ensures.stands (length text) text took.stands.events took.stands.lexer) in
-    took_all c.loop-event.self _ bytes outcomes _ _ c.feed-lexed.result.used _ _ _ _ took fed refl refl c.in_ok-send.ensures.ok c.in_ok-send.ensures.empty
+    took_all profile c.loop-event.self _ bytes outcomes _ _ c.feed-lexed.result.used _ _ _ _ took fed refl refl c.in_ok-send.ensures.ok c.in_ok-send.ensures.empty

@@ -1,4 +1,5 @@
 use Rattle.std.proofs.Common.{◌≡◌, length, List, ℕ}
+use Rattle.pmb_table.specs.Parts.{DeviceParts}
 use Rattle.pmb_cli.specs.Reading.{Outcome}
 use Rattle.pmb_cli.specs.Showing.{Stands}
 use Rattle.pmb_cli.proofs.Taking.{TookUpTo}
@@ -12,6 +13,6 @@ decreases-loop-event g l = length l.rest
 abbrev pub invariant-loop-event : goal.invariant-loop-event
 invariant-loop-event g l = record {
   failures : g.W.Sink.failures l.writer ≡ g.W.Sink.failures l.fn.writer;
-  took : (bytes : List ℕ) (outcomes : List Outcome) → Stands l.fn.self bytes outcomes
-      → TookUpTo bytes outcomes l.fn.piece l.rest (g.W.Sink.contents l.fn.writer) l.fn.self.waiting.items (g.W.Sink.contents l.writer) l.self;
+  took : (profile : List DeviceParts) (bytes : List ℕ) (outcomes : List Outcome) → Stands profile l.fn.self bytes outcomes
+      → TookUpTo profile bytes outcomes l.fn.piece l.rest (g.W.Sink.contents l.fn.writer) l.fn.self.waiting.items (g.W.Sink.contents l.writer) l.self;
 }

@@ -1,0 +1,124 @@
+-- What `clap` finds in the words `pmb encode FORMAT` and `pmb decode FORMAT`.
+use Rattle.std.proofs.Common.{◌≡◌, ℕ, false, eqb, Some, None, List, [], ◌∷◌, codes, refl, ap, ap₂, ◌∙◌}
+use Rattle.std.specs.Str.{bytes_eq}
+use Rattle.std.proofs.lemmas.Bool.{ne_eqb}
+use Rattle.clap.specs.Faults.{check_fault, defaults_fault, level_fault, settle_fault, step_fault, walk_fault, word_fault}
+use Rattle.clap.specs.Kinds.{or_else}
+use Rattle.clap.specs.Lexer.{strip_byte}
+use Rattle.clap.specs.Simple.{built_leaf}
+use Rattle.clap.specs.Walk.{Held, Step, Walk, after_step, arg_by_index, finished, idle, nothing_held, settled, to_positional, value, walk, walk_from, walked, word_met}
+use Rattle.clap.specs.Words.{Kinds, Row, Rule, Shape, Text}
+use Rattle.clap.proofs.OnLiterals.{clap_on_literals}
+use Rattle.pmb_cli.specs.declared.line_task.LineTask.TheVariants.{Encode, Decode}
+use Rattle.pmb_cli.specs.Asked.{AsksFor, asked, asked_of, for_format, task_of}
+use Rattle.pmb_cli.specs.FormatWord.{format_of}
+use Rattle.pmb_cli.specs.Words.{IsNoFlag, faults_of, lines_app}
+
+-- ---- a word without a hyphen in front
+
+-- it is not `--`
+is_no_end : (word : Text) → IsNoFlag word → bytes_eq word (45 ∷ 45 ∷ []) ≡ false
+is_no_end [] plain = refl
+is_no_end (c ∷ cs) plain = let test : eqb c 45 ≡ false = ne_eqb c 45 plain in rw test refl
+
+-- it has none to take off
+has_no_hyphen : (word : Text) → IsNoFlag word → strip_byte 45 word ≡ None
+has_no_hyphen [] plain = refl
+has_no_hyphen (c ∷ cs) plain = let test : eqb c 45 ≡ false = ne_eqb c 45 plain in rw test refl
+
+-- it is a value, where no subcommand is named and nothing waits
+is_value : (rules : List Rule) (position : ℕ) (word : Text) (h : Held) → IsNoFlag word → word_met rules [] false idle position word h ≡ (h, value)
+is_value rules position word h plain =
+    let no_end = is_no_end word plain in
+    let no_hyphen = has_no_hyphen word plain in
+    rw (no_end, no_hyphen, no_hyphen) refl
+
+-- and no fault
+is_no_fault : (s : Shape) (word : Text) (h : Held) → IsNoFlag word → word_fault s [] false idle word h ≡ []
+is_no_fault s word h plain =
+    let no_end = is_no_end word plain in
+    let no_hyphen = has_no_hyphen word plain in
+    rw (no_end, no_hyphen, no_hyphen) refl
+
+-- ---- a subcommand with that word alone
+
+-- where the walk over it ends
+walk_one : (rules : List Rule) (word : Text) → IsNoFlag word → walk rules [] nothing_held (word ∷ []) ≡ to_positional rules (arg_by_index rules 1) word (walk_from nothing_held) nothing_held
+unfolding walked
+walk_one rules word plain = ap (λ (met : Held × Step). after_step rules word (walk_from nothing_held) met.0 met.1) (is_value rules 1 word nothing_held plain)
+
+walk_fault_one : (s : Shape) (word : Text) → IsNoFlag word → walk_fault s [] (walk_from nothing_held) (word ∷ []) ≡ or_else (or_else [] (step_fault s 1 nothing_held value)) []
+unfolding walk_fault walked
+walk_fault_one s word plain =
+    ap₂ (λ (fault : Kinds) (met : Held × Step). or_else (or_else fault (step_fault s 1 met.0 met.1)) []) (is_no_fault s word nothing_held plain) (is_value s.rules 1 word nothing_held plain)
+
+-- the faults of a level, by those of its walk
+abbrev after_walk : Shape → Kinds → Walk → Kinds
+after_walk s fault end =
+    or_else fault (or_else [] (or_else (settle_fault s.rules s.args_override_self end.held)
+    (or_else (defaults_fault (settled s.rules end.held).rows s.rules)
+    (check_fault s (finished s.rules end.held) false))))
+
+-- `encode` or `decode` as it is built
+abbrev leaf : Text → Shape
+leaf name = built_leaf (lines_app name).top
+
+one_word : (s : Shape) (word : Text) → IsNoFlag word → level_fault s [] nothing_held (word ∷ []) false []
+    ≡ after_walk s (or_else (or_else [] (step_fault s 1 nothing_held value)) []) (to_positional s.rules (arg_by_index s.rules 1) word (walk_from nothing_held) nothing_held)
+one_word s word plain = ap₂ (after_walk s) (walk_fault_one s word plain) (walk_one s.rules word plain)
+
+encode_takes : (word : Text) → after_walk (leaf (codes "encode")) (or_else (or_else [] (step_fault (leaf (codes "encode")) 1 nothing_held value)) [])
+    (to_positional (leaf (codes "encode")).rules (arg_by_index (leaf (codes "encode")).rules 1) word (walk_from nothing_held) nothing_held) ≡ []
+unfolding clap_on_literals
+encode_takes word = refl
+
+decode_takes : (word : Text) → after_walk (leaf (codes "decode")) (or_else (or_else [] (step_fault (leaf (codes "decode")) 1 nothing_held value)) [])
+    (to_positional (leaf (codes "decode")).rules (arg_by_index (leaf (codes "decode")).rules 1) word (walk_from nothing_held) nothing_held) ≡ []
+unfolding clap_on_literals
+decode_takes word = refl
+
+encode_enters : (name word : Text) → faults_of (name ∷ codes "encode" ∷ word ∷ []) ≡ or_else (level_fault (leaf (codes "encode")) [] nothing_held (word ∷ []) false []) []
+unfolding clap_on_literals
+encode_enters name word = refl
+
+decode_enters : (name word : Text) → faults_of (name ∷ codes "decode" ∷ word ∷ []) ≡ or_else (level_fault (leaf (codes "decode")) [] nothing_held (word ∷ []) false []) []
+unfolding clap_on_literals
+decode_enters name word = refl
+
+-- ---- what is asked
+
+-- the matches of a walk's end
+abbrev rows_of_walk : Text → Walk → Text × List Row
+rows_of_walk name end = (name, finished (leaf name).rules end.held)
+
+encode_rows : (name word : Text) → asked (name ∷ codes "encode" ∷ word ∷ []) ≡ asked_of (Some (rows_of_walk (codes "encode") (walk (leaf (codes "encode")).rules [] nothing_held (word ∷ []))))
+unfolding clap_on_literals
+encode_rows name word = refl
+
+decode_rows : (name word : Text) → asked (name ∷ codes "decode" ∷ word ∷ []) ≡ asked_of (Some (rows_of_walk (codes "decode") (walk (leaf (codes "decode")).rules [] nothing_held (word ∷ []))))
+unfolding clap_on_literals
+decode_rows name word = refl
+
+encode_has : (word : Text) → asked_of (Some (rows_of_walk (codes "encode") (to_positional (leaf (codes "encode")).rules (arg_by_index (leaf (codes "encode")).rules 1) word (walk_from nothing_held) nothing_held)))
+    ≡ Some (for_format Encode (format_of word))
+unfolding clap_on_literals task_of
+encode_has word = refl
+
+decode_has : (word : Text) → asked_of (Some (rows_of_walk (codes "decode") (to_positional (leaf (codes "decode")).rules (arg_by_index (leaf (codes "decode")).rules 1) word (walk_from nothing_held) nothing_held)))
+    ≡ Some (for_format Decode (format_of word))
+unfolding clap_on_literals task_of
+decode_has word = refl
+
+-- `pmb encode FORMAT` is taken, and asks for what FORMAT says.
+pub asks_to_encode : (name format : Text) → IsNoFlag format → AsksFor (name ∷ codes "encode" ∷ format ∷ []) Encode format
+asks_to_encode name format plain = (
+  encode_enters name format ∙ ap (λ (k : Kinds). or_else k []) (one_word (leaf (codes "encode")) format plain ∙ encode_takes format),
+  encode_rows name format ∙ ap (λ (end : Walk). asked_of (Some (rows_of_walk (codes "encode") end))) (walk_one (leaf (codes "encode")).rules format plain) ∙ encode_has format,
+)
+
+-- and so is `pmb decode FORMAT`
+pub asks_to_decode : (name format : Text) → IsNoFlag format → AsksFor (name ∷ codes "decode" ∷ format ∷ []) Decode format
+asks_to_decode name format plain = (
+  decode_enters name format ∙ ap (λ (k : Kinds). or_else k []) (one_word (leaf (codes "decode")) format plain ∙ decode_takes format),
+  decode_rows name format ∙ ap (λ (end : Walk). asked_of (Some (rows_of_walk (codes "decode") end))) (walk_one (leaf (codes "decode")).rules format plain) ∙ decode_has format,
+)

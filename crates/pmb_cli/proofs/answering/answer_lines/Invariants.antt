@@ -1,0 +1,11 @@
+use Rattle.std.proofs.Common.{◌≡◌}
+use Rattle.pmb_cli.proofs.AnsweringLemmas.{AnsweredSoFar}
+use Rattle.pmb_cli.proofs.answering.answer_lines.Given as goal
+
+-- the lines that have ended in what was read so far are answered, and no call has failed
+abbrev pub invariant-reads : goal.invariant-reads
+invariant-reads g l = record {
+  reader_failures : g.R.Source.failures l.reader ≡ g.R.Source.failures l.fn.reader;
+  writer_failures : g.W.Sink.failures l.writer ≡ g.W.Sink.failures l.fn.writer;
+  so_far : AnsweredSoFar l.fn.task l.fn.first (g.R.Source.remaining l.fn.reader) (g.R.Source.remaining l.reader) (g.W.Sink.contents l.fn.writer) (g.W.Sink.contents l.writer) l.answering l.counter;
+}

@@ -1,0 +1,90 @@
+//! The exit statuses, and what is told of them on standard error.
+
+ghost use Rattle.std.specs.Prelude.{◌≡◌, ◌≢◌};
+ghost use Rattle.pmb_table.specs.declared.fault.FaultKind.TheVariants.{OutOfMemory};
+ghost use Rattle.pmb_cli.specs.Status.{run_status, status_of};
+
+use crate::fault::ToolFault;
+use crate::format_fault::FormatFault;
+use crate::io::Sink;
+use crate::tally::Tally;
+use arrayvec::ArrayString;
+use pmb_table::{FaultKind, ProfileFault};
+use std::fmt::Write;
+
+/// Nothing went wrong.
+pub(crate) const DONE: u8 = 0;
+
+/// The capture has refusals, or lines were answered by a fault.
+pub(crate) const REFUSALS: u8 = 1;
+
+/// The words are no command, or name no format.
+pub(crate) const BAD_WORDS: u8 = 2;
+
+/// A read or a write failed, or there were too many reads.
+pub(crate) const IO_FAILED: u8 = 3;
+
+/// There was no memory.
+pub(crate) const NO_MEMORY: u8 = 4;
+
+/// The status of a run that ended, of which a fault is told on `err`.
+pub(crate) fn ended<E: Sink>(outcome: Result<Tally, ToolFault>, err: &mut E) -> u8
+    ensures { result ≡ run_status outcome }
+{
+    match outcome {
+        Ok(tally) if tally.refusals == 0 => DONE,
+        Ok(_) => REFUSALS,
+        Err(fault) => tell(fault, err),
+    }
+}
+
+/// Tells a fault on `err` and answers its status. That `err` fails changes nothing.
+pub(crate) fn tell<E: Sink>(fault: ToolFault, err: &mut E) -> u8
+    ensures { result ≡ status_of fault }
+{
+    let mut text = ArrayString::<32>::new();
+    let _ = write!(text, "pmb: {fault}\n");
+    let _ = err.write_all(text.as_str().as_bytes());
+    match fault {
+        ToolFault::Read | ToolFault::Write | ToolFault::TooManyReads => IO_FAILED,
+        ToolFault::ProfileTooLong => BAD_WORDS,
+        ToolFault::Memory => NO_MEMORY,
+    }
+}
+
+/// Tells why a FORMAT names no format on `err`. That `err` fails changes nothing.
+pub(crate) fn tell_format<E: Sink>(fault: FormatFault, err: &mut E) -> u8
+    ensures { result ≡ 2 }
+{
+    let mut text = ArrayString::<32>::new();
+    let _ = write!(text, "pmb: format: {fault}\n");
+    let _ = err.write_all(text.as_str().as_bytes());
+    BAD_WORDS
+}
+
+/// Tells what is wrong with a profile, and where, on `err`. That `err` fails changes nothing.
+pub(crate) fn tell_profile<E: Sink>(fault: ProfileFault, err: &mut E) -> u8
+    ensures memory { fault.what ≡ OutOfMemory → result ≡ 4 }
+    ensures other { fault.what ≢ OutOfMemory → result ≡ 2 }
+{
+    if fault.what == FaultKind::OutOfMemory {
+        return tell(ToolFault::Memory, err);
+    }
+    let text = profile_text(fault);
+    let _ = err.write_all(text.as_str().as_bytes());
+    BAD_WORDS
+}
+
+/// What is told of a fault of a profile.
+fn profile_text(fault: ProfileFault) -> ArrayString<96> {
+    let mut text = ArrayString::new();
+    let _ = write!(text, "pmb: profile: {:?}", fault.what);
+    if let Some(device) = fault.device {
+        let _ = write!(text, " in device {device}");
+    }
+    if let Some(command) = fault.command {
+        let _ = write!(text, " command {command}");
+    }
+    let _ = text.try_push_str("\n");
+    text
+}
