@@ -32,12 +32,12 @@ use std::io;
 /// | --- | --- |
 /// | 0 | done, or help was asked for |
 /// | 1 | the capture has refusals, or lines were answered by a fault |
-/// | 2 | the words are no command, or name no format |
+/// | 2 | the words are no command or name no format, or the profile has a fault or is too long |
 /// | 3 | a read or a write failed, or there were too many reads |
 /// | 4 | there was no memory |
 ///
 /// Faults of the statuses 2 to 4 are told on `err`. The words are looked at before anything is read,
-/// and then the format.
+/// and then the format; then the profile is read, and then the capture.
 pub fn tool<S: AsStr, R: Source, W: Sink, E: Sink>(
     alloc: Global,
     words: &[S],

@@ -18,7 +18,7 @@ pub(crate) const DONE: u8 = 0;
 /// The capture has refusals, or lines were answered by a fault.
 pub(crate) const REFUSALS: u8 = 1;
 
-/// The words are no command, or name no format.
+/// The words are no command or name no format, or the profile has a fault or is too long.
 pub(crate) const BAD_WORDS: u8 = 2;
 
 /// A read or a write failed, or there were too many reads.
