@@ -1,0 +1,4 @@
+pub mod Writing
+pub mod Running
+pub mod LineLemmas
+pub mod LineRuns

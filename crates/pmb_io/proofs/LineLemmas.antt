@@ -1,0 +1,151 @@
+-- Lines of a text that grows by a byte, and lines of which only a front is kept.
+use Rattle.arrayvec.specs.ArrayVec.{ArrayVec}
+use Rattle.std.proofs.Common.{◌≡◌, ◌≢◌, ◌↔◌, ℕ, zero, suc, Result, Ok, Err, OnOk, OnErr, IsOk, ◌+◌, ◌<◌, ◌≤◌, Bool, true, false, cond, eqb, nat_lt, ◌||◌, is_err, List, [], ◌∷◌, ◌++◌, length, take, refl, sym, ap, ◌∙◌, inl, inr, arith, eq-eqb, length-append}
+use Rattle.std.proofs.lemmas.Bool.{cases_lt, cases_eq, ne_eqb}
+use Rattle.std.proofs.lemmas.Bool.Decides.{nat_tests}
+use Rattle.std.proofs.lemmas.List.{take_all, length-take-le}
+use Rattle.pmb_io.specs.Lines.{Cut, IsCut, carriage_return, cut, ended_line, last_line, line_feed, longer, without_return}
+use Rattle.pmb_io.specs.machine.Lines.{ended_kept, last_kept}
+
+-- a cut with one byte more in front
+abbrev after_byte : Bool → ℕ → Cut → Cut
+after_byte is_lf byte front = cond is_lf (record { ended = [] ∷ front.ended; rest = front.rest }) (longer byte front.ended front.rest)
+
+-- a cut with an LF more at the end
+abbrev with_lf : Cut → Cut
+with_lf front = record { ended = front.ended ++ front.rest ∷ []; rest = [] }
+
+-- a cut with another byte more at the end
+abbrev with_byte : ℕ → Cut → Cut
+with_byte byte front = record { ended = front.ended; rest = front.rest ++ byte ∷ [] }
+
+longer-with_lf : (byte : ℕ) (ended : List (List ℕ)) (rest : List ℕ) → longer byte (with_lf (record { ended = ended; rest = rest })).ended [] ≡ with_lf (longer byte ended rest)
+longer-with_lf byte [] rest = refl
+longer-with_lf byte (line ∷ lines) rest = refl
+
+longer-with_byte : (byte last : ℕ) (ended : List (List ℕ)) (rest : List ℕ) → longer byte ended (rest ++ last ∷ []) ≡ with_byte last (longer byte ended rest)
+longer-with_byte byte last [] rest = refl
+longer-with_byte byte last (line ∷ lines) rest = refl
+
+after_byte-with_lf : (is_lf : Bool) (byte : ℕ) (front : Cut) → after_byte is_lf byte (with_lf front) ≡ with_lf (after_byte is_lf byte front)
+after_byte-with_lf true byte front = refl
+after_byte-with_lf false byte front = longer-with_lf byte front.ended front.rest
+
+after_byte-with_byte : (is_lf : Bool) (byte last : ℕ) (front : Cut) → after_byte is_lf byte (with_byte last front) ≡ with_byte last (after_byte is_lf byte front)
+after_byte-with_byte true byte last front = refl
+after_byte-with_byte false byte last front = longer-with_byte byte last front.ended front.rest
+
+-- an LF ends the line under way
+pub cut-with_lf : (bytes : List ℕ) → cut (bytes ++ line_feed ∷ []) ≡ record { ended = (cut bytes).ended ++ (cut bytes).rest ∷ []; rest = [] }
+unfolding cut
+cut-with_lf [] = refl
+cut-with_lf (byte ∷ bytes) = ap (after_byte (eqb byte 10) byte) (cut-with_lf bytes) ∙ after_byte-with_lf (eqb byte 10) byte (cut bytes)
+
+-- another byte belongs to it
+pub cut-with_byte : (bytes : List ℕ) (last : ℕ) → last ≢ line_feed → cut (bytes ++ last ∷ []) ≡ record { ended = (cut bytes).ended; rest = (cut bytes).rest ++ last ∷ [] }
+unfolding cut
+cut-with_byte [] last other = let test : eqb last line_feed ≡ false = ne_eqb last line_feed other in rw test refl
+cut-with_byte (byte ∷ bytes) last other =
+    ap (after_byte (eqb byte 10) byte) (cut-with_byte bytes last other) ∙ after_byte-with_byte (eqb byte 10) byte last (cut bytes)
+
+-- ---- a cut text
+
+-- what one byte more in front makes of the lines
+longer_is : (byte : ℕ) (ended : List (List ℕ)) (rest bytes : List ℕ) → byte ≢ line_feed → IsCut bytes (record { ended = ended; rest = rest }) → IsCut (byte ∷ bytes) (longer byte ended rest)
+longer_is byte [] rest bytes other is = record { whole = ap (λ l. byte ∷ l) is.whole; lines = is.lines; rest = (other, is.rest) }
+longer_is byte (line ∷ lines) rest bytes other is = record {
+  whole = ap (λ l. byte ∷ l) is.whole;
+  lines = ((other, is.lines.0), is.lines.1);
+  rest = is.rest;
+}
+
+-- the parts make the text
+pub cut_is : (bytes : List ℕ) → IsCut bytes (cut bytes)
+unfolding cut
+cut_is [] = record { whole = refl; lines = tt; rest = tt }
+cut_is (byte ∷ bytes) = elim (cases_eq byte 10) [
+  | inl lf ↦
+      let test : eqb byte line_feed ≡ true = eq-eqb byte line_feed lf in
+      let is = cut_is bytes in
+      rw test (record { whole = ap (λ l. line_feed ∷ l) is.whole ∙ ap (λ b. b ∷ bytes) (sym lf); lines = (tt, is.lines); rest = is.rest })
+  | inr other ↦
+      let test : eqb byte line_feed ≡ false = ne_eqb byte line_feed other in
+      rw test (longer_is byte (cut bytes).ended (cut bytes).rest bytes other (cut_is bytes))
+]
+
+-- ---- a CR at the end
+
+pub return_dropped : (line : List ℕ) → without_return (line ++ carriage_return ∷ []) ≡ line
+unfolding without_return
+return_dropped [] = refl
+return_dropped (byte ∷ []) = refl
+return_dropped (byte ∷ next ∷ line) = ap (λ l. byte ∷ l) (return_dropped (next ∷ line))
+
+pub no_return_kept : (line : List ℕ) → ((front : List ℕ) → line ≢ front ++ carriage_return ∷ []) → without_return line ≡ line
+unfolding without_return
+no_return_kept [] none = refl
+no_return_kept (byte ∷ []) none = elim (cases_eq byte carriage_return) [
+  | inl is ↦ absurd (none [] (ap (λ b. b ∷ []) is))
+  | inr other ↦ let test : eqb byte carriage_return ≡ false = ne_eqb byte carriage_return other in rw test refl
+]
+no_return_kept (byte ∷ next ∷ line) none = ap (λ l. byte ∷ l) (no_return_kept (next ∷ line) (λ front is. none (byte ∷ front) (ap (λ l. byte ∷ l) is)))
+
+-- ---- lines of which a front is kept
+
+take_none : (n : ℕ) → take {A = ℕ} n [] ≡ []
+take_none zero = refl
+take_none (suc n) = refl
+
+-- a byte more is kept where there is room
+kept_push : (line : List ℕ) (byte n : ℕ) → length (take n line) < n → take n line ++ byte ∷ [] ≡ take n (line ++ byte ∷ [])
+kept_push [] byte zero room = absurd (omega arith)
+kept_push [] byte (suc n) room = ap (λ l. byte ∷ l) (sym (take_none n))
+kept_push (b ∷ line) byte zero room = absurd (omega arith)
+kept_push (b ∷ line) byte (suc n) room = ap (λ l. b ∷ l) (kept_push line byte n (omega arith))
+
+-- and nowhere else
+kept_full : (line : List ℕ) (byte n : ℕ) → length (take n line) ≡ n → take n line ≡ take n (line ++ byte ∷ [])
+kept_full line byte zero full = refl
+kept_full [] byte (suc n) full = absurd (omega arith)
+kept_full (b ∷ line) byte (suc n) full = ap (λ l. b ∷ l) (kept_full line byte n (omega arith))
+
+-- a front that is whole, or of a line that is too long
+pub ended_kept_is : (most : ℕ) (line : List ℕ) → ended_kept (take most line) (nat_lt most (length line)) ≡ ended_line most line
+ended_kept_is most line = elim (cases_lt most (length line)) [
+  | inl long ↦ let test : nat_lt most (length line) ≡ true = grind (arith, nat_tests) in rw test refl
+  | inr short ↦ ap (λ l. ended_kept l (nat_lt most (length line))) (take_all most line (omega arith))
+]
+
+pub last_kept_is : (most : ℕ) (line : List ℕ) → last_kept (take most line) (nat_lt most (length line)) ≡ last_line most line
+last_kept_is most line = elim (cases_lt most (length line)) [
+  | inl long ↦ let test : nat_lt most (length line) ≡ true = grind (arith, nat_tests) in rw test refl
+  | inr short ↦ ap (λ l. last_kept l (nat_lt most (length line))) (take_all most line (omega arith))
+]
+
+or_true : (b : Bool) → (b || true) ≡ true
+or_true true = refl
+or_true false = refl
+
+-- one byte more of a line under way
+pub kept_push_is : {E : Type 0} (rest : List ℕ) (byte most : ℕ) (longer : Bool) (old new : ArrayVec ℕ) (r : Result Unit E) → old.items ≡ take most rest → longer ≡ nat_lt most (length rest)
+    → IsOk r ↔ (length old.items < most) → OnOk r (new.items ≡ old.items ++ byte ∷ []) → OnErr r (new ≡ old) → OnErr r (length old.items ≡ most)
+    → (new.items ≡ take most (rest ++ byte ∷ [])) × ((longer || is_err r) ≡ nat_lt most (length (rest ++ byte ∷ [])))
+kept_push_is rest byte most longer old new (Ok x) kept is_longer room pushed same full =
+    let fits : length (take most rest) < most = rw kept at (room.0 refl) in
+    let short : length rest < most = elim (cases_lt (length rest) most) [
+      | inl less ↦ less
+      | inr more ↦ let cut_off : length (take most rest) ≡ most = length-take-le most rest (omega arith) in absurd (omega arith)
+    ] in
+    let appended : length (rest ++ byte ∷ []) ≡ length rest + 1 = length-append rest (byte ∷ []) in
+    let before : nat_lt most (length rest) ≡ false = grind (arith, nat_tests) in
+    let after : nat_lt most (length (rest ++ byte ∷ [])) ≡ false = grind (arith, nat_tests) in
+    (pushed ∙ ap (λ l. l ++ byte ∷ []) kept ∙ kept_push rest byte most fits, ap (λ (b : Bool). b || false) (is_longer ∙ before) ∙ sym after)
+kept_push_is rest byte most longer old new (Err e) kept is_longer room pushed same full =
+    let filled : length (take most rest) ≡ most = rw kept at full in
+    let long : most ≤ length rest = elim (cases_lt (length rest) most) [
+      | inl less ↦ let whole : take most rest ≡ rest = take_all most rest (omega arith) in let same : length (take most rest) ≡ length rest = ap length whole in absurd (omega arith)
+      | inr more ↦ more
+    ] in
+    let appended : length (rest ++ byte ∷ []) ≡ length rest + 1 = length-append rest (byte ∷ []) in
+    let after : nat_lt most (length (rest ++ byte ∷ [])) ≡ true = grind (arith, nat_tests) in
+    (ap (λ (v : ArrayVec ℕ). v.items) same ∙ kept ∙ kept_full rest byte most filled, or_true longer ∙ sym after)

@@ -1,0 +1,69 @@
+use Rattle.std.proofs.Common.{◌∙◌, ◌++◌, ◌+◌, ◌≤◌, ◌≢◌, [], subst, take, length, inr, sym, refl, length-take-le, arith}
+use Rattle.std.proofs.lemmas.Bool.Decides.{nat_tests}
+use Rattle.pmb_io.specs.Engines.{Either, WritesOut}
+use Rattle.pmb_io.specs.Runs.{most_piece}
+use Rattle.pmb_io.proofs.Running.{bytes_more, one_read_more, raised_by_none, stops_behind, stops_in_first, takes_first, takes_more}
+use Rattle.pmb_io.proofs.Writing.{told_no_end}
+use Rattle.pmb_io.proofs.pieces.each_piece.Goals as goal
+
+pub returns-in-Stop-clause-ok : goal.returns-in-Stop-clause-ok
+returns-in-Stop-clause-ok g c =
+    let taken = subst (λ flow. WritesOut (λ more. Either (g.E.Engine.Stands c.args.engine.now c.take_piece.new.engine c.args.first.now more) (g.E.Engine.Stops c.args.engine.now c.take_piece.new.engine c.args.first.now more) flow)
+    (g.W.Sink.contents c.args.writer.now) (g.W.Sink.contents c.take_piece.new.writer)) c.in-Stop.is
+    (c.in_ok-take_piece.ensures.takes c.args.engine.now [] [] c.requires) in
+    inr (stops_in_first (g.E.Engine.Stands c.args.engine.now) (g.E.Engine.Stops c.args.engine.now) c.take_piece.new.engine c.args.first.now _ _ _ _ taken)
+
+pub reads-init : goal.reads-init
+reads-init g c =
+    let taken = subst (λ flow. WritesOut (λ more. Either (g.E.Engine.Stands c.args.engine.now c.take_piece.new.engine c.args.first.now more) (g.E.Engine.Stops c.args.engine.now c.take_piece.new.engine c.args.first.now more) flow)
+    (g.W.Sink.contents c.args.writer.now) (g.W.Sink.contents c.take_piece.new.writer)) c.in-More.is
+    (c.in_ok-take_piece.ensures.takes c.args.engine.now [] [] c.requires) in record {
+      reader_failures = refl;
+      writer_failures = c.in_ok-take_piece.ensures.failed;
+      not_ended = refl;
+      reads = sym (raised_by_none _);
+      sent = c.in_ok-take_piece.ensures.sent;
+      so_far = takes_first (g.E.Engine.Stands c.args.engine.now c.take_piece.new.engine) c.args.first.now _ _ _ _ taken;
+    }
+
+pub returns-in-Stop-2-clause-ok : goal.returns-in-Stop-2-clause-ok
+returns-in-Stop-2-clause-ok g c =
+    let so_far = c.reads.invariant.so_far in
+    let piece = take c.in-Ok.count c.read.new.buffer in
+    let taken = subst (λ flow. WritesOut (λ more. Either
+    (g.E.Engine.Stands c.args.engine.now c.take_piece-in-reads.new.engine ((c.args.first.now ++ so_far.read) ++ piece) (so_far.text ++ more))
+    (g.E.Engine.Stops c.args.engine.now c.take_piece-in-reads.new.engine ((c.args.first.now ++ so_far.read) ++ piece) (so_far.text ++ more)) flow)
+    (g.W.Sink.contents c.reads.writer) (g.W.Sink.contents c.take_piece-in-reads.new.writer)) c.in-Stop-2.is
+    (c.in_ok-take_piece-2.ensures.takes c.args.engine.now (c.args.first.now ++ so_far.read) so_far.text so_far.holds) in
+    let small : length piece ≤ most_piece = rw (length-take-le c.in-Ok.count c.read.new.buffer c.in-Ok.ensures.within) (omega (arith, c.in-Ok.ensures.within)) in
+    inr (stops_behind (g.E.Engine.Stands c.args.engine.now) (g.E.Engine.Stops c.args.engine.now) c.reads.engine c.take_piece-in-reads.new.engine c.args.first.now piece _ _ _ _ _ _ _ _ _ so_far
+    c.in-Ok.ensures.bytes.0 (bytes_more _ _ c.in-Ok.count c.read.new.buffer c.in-Ok.ensures.within c.in-Ok.ensures.given) small taken)
+
+pub reads-preserved : goal.reads-preserved
+reads-preserved g c =
+    let so_far = c.reads.invariant.so_far in
+    let piece = take c.in-Ok.count c.read.new.buffer in
+    let some : c.in-Ok.count ≢ 0 = grind (arith, nat_tests, c.if-count-eq0.false) in
+    let taken = subst (λ flow. WritesOut (λ more. Either
+    (g.E.Engine.Stands c.args.engine.now c.take_piece-in-reads.new.engine ((c.args.first.now ++ so_far.read) ++ piece) (so_far.text ++ more))
+    (g.E.Engine.Stops c.args.engine.now c.take_piece-in-reads.new.engine ((c.args.first.now ++ so_far.read) ++ piece) (so_far.text ++ more)) flow)
+    (g.W.Sink.contents c.reads.writer) (g.W.Sink.contents c.take_piece-in-reads.new.writer)) c.in-More-2.is
+    (c.in_ok-take_piece-2.ensures.takes c.args.engine.now (c.args.first.now ++ so_far.read) so_far.text so_far.holds) in record {
+      reader_failures = c.in-Ok.ensures.failed ∙ c.reads.invariant.reader_failures;
+      writer_failures = c.in_ok-take_piece-2.ensures.failed ∙ c.reads.invariant.writer_failures;
+      not_ended = told_no_end _ _ c.in-Ok.count c.read.new.buffer c.in-Ok.ensures.ended some ∙ c.reads.invariant.not_ended;
+      reads = one_read_more _ _ _ c.reads.counter c.in-Ok.count c.reads.invariant.reads c.in-Ok.ensures.read some;
+      sent = c.in_ok-take_piece-2.ensures.sent;
+      so_far = takes_more (g.E.Engine.Stands c.args.engine.now c.reads.engine) (g.E.Engine.Stands c.args.engine.now c.take_piece-in-reads.new.engine) c.args.first.now piece _ _ _ _ _ _ _ _ _ so_far
+          c.in-Ok.ensures.bytes.0 (bytes_more _ _ c.in-Ok.count c.read.new.buffer c.in-Ok.ensures.within c.in-Ok.ensures.given) taken;
+    }
+
+pub returns-in_err-take_piece-2-clause-reads : goal.returns-in_err-take_piece-2-clause-reads
+returns-in_err-take_piece-2-clause-reads g c =
+    let some : c.in-Ok.count ≢ 0 = grind (arith, nat_tests, c.if-count-eq0.false) in
+    (c.reads.counter + 1, omega arith, one_read_more _ _ _ c.reads.counter c.in-Ok.count c.reads.invariant.reads c.in-Ok.ensures.read some)
+
+pub returns-in-Stop-2-clause-reads : goal.returns-in-Stop-2-clause-reads
+returns-in-Stop-2-clause-reads g c =
+    let some : c.in-Ok.count ≢ 0 = grind (arith, nat_tests, c.if-count-eq0.false) in
+    (c.reads.counter + 1, omega arith, one_read_more _ _ _ c.reads.counter c.in-Ok.count c.reads.invariant.reads c.in-Ok.ensures.read some)

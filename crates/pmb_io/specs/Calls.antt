@@ -1,0 +1,48 @@
+-- What calls of a reader and a writer tell of them.
+use Rattle.std.specs.Prelude.{◌≡◌, ℕ, ◌==◌, ◌||◌, ◌&&◌, min, nat_lt, Bool, Result, Ok, Err, List, length}
+use Rattle.pmb_io.specs.Count.{raised}
+use Rattle.pmb_io.specs.declared.fault.IoFault.{IoFault}
+use Rattle.pmb_io.specs.declared.fault.ToolFault.{ToolFault}
+use Rattle.pmb_io.specs.declared.fault.ToolFault.TheVariants.{Write}
+use Rattle.pmb_io.specs.declared.io.Io.{Io}
+
+-- a call that fails is counted, and no other
+abbrev pub CountsFailure : {A : Type 0} → ℕ → ℕ → Result A IoFault → Type 0
+CountsFailure old new (Ok x) = new ≡ old
+CountsFailure old new (Err fault) = new ≡ raised old 1
+
+-- so is a read that gives bytes, as one
+abbrev pub CountsRead : ℕ → ℕ → Result ℕ IoFault → Type 0
+CountsRead old new (Ok n) = new ≡ raised old (min n 1)
+CountsRead old new (Err fault) = new ≡ old
+
+-- and so are the bytes that it gives
+abbrev pub CountsBytes : ℕ → ℕ → Result ℕ IoFault → Type 0
+CountsBytes old new (Ok n) = new ≡ raised old n
+CountsBytes old new (Err fault) = new ≡ old
+
+-- a reader has ended from the first read that gave 0 bytes into a buffer with room
+abbrev pub TellsEnd : Bool → Bool → Result ℕ IoFault → List ℕ → Type 0
+TellsEnd old new (Ok n) buffer = new ≡ (old || (n == 0 && nat_lt 0 (length buffer)))
+TellsEnd old new (Err fault) buffer = new ≡ old
+
+-- A call of ours that writes: the writer failed exactly where it answers `Write`, its only fault.
+abbrev pub WriterTells : {A : Type 0} → ℕ → ℕ → Result A ToolFault → Type 0
+WriterTells old new (Ok x) = new ≡ old
+WriterTells old new (Err fault) = (fault ≡ Write) × (new ≡ raised old 1)
+
+-- what an `Io` has inside, and what it has counted so far
+abbrev pub io_inner : {T : Type 0} → Io T → T
+io_inner io = io.inner
+
+abbrev pub io_failures : {T : Type 0} → Io T → ℕ
+io_failures io = io.failures
+
+abbrev pub io_reads : {T : Type 0} → Io T → ℕ
+io_reads io = io.reads
+
+abbrev pub io_given : {T : Type 0} → Io T → ℕ
+io_given io = io.given
+
+abbrev pub io_ended : {T : Type 0} → Io T → Bool
+io_ended io = io.ended

@@ -1,0 +1,9 @@
+pub mod Calls
+pub mod Count
+pub mod Engines
+pub mod Failing
+pub mod Lines
+pub mod Outgoing
+pub mod Runs
+pub mod Tally
+pub mod machine

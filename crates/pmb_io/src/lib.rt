@@ -1,0 +1,31 @@
+//! Bytes in to bytes out: readers and writers that tell what they did, and the one loop over what is
+//! read, in pieces or in lines.
+#![tactic(auto)]
+
+mod count;
+mod engine;
+mod failing;
+mod fault;
+mod io;
+pub mod laws;
+mod line;
+mod line_task;
+mod lines;
+mod outgoing;
+mod pieces;
+mod sink;
+mod source;
+mod tally;
+
+pub use engine::{Engine, Flow};
+pub use failing::Failing;
+pub use fault::{IoFault, ToolFault};
+pub use io::Io;
+pub use line::{Line, without_return};
+pub use line_task::LineTask;
+pub use lines::Lines;
+pub use outgoing::{Waiting, put, send};
+pub use pieces::each_piece;
+pub use sink::Sink;
+pub use source::Source;
+pub use tally::Tally;

@@ -1,0 +1,122 @@
+//! The lines of an input, from its pieces.
+//!
+//! Of the line under way only as much is kept as a line may have, and whether it has more. It is
+//! handed on when its LF comes, or the end.
+
+ghost use Rattle.std.specs.Prelude.{◌≡◌, ℕ, ◌++◌, ◌∷◌, [], false, List, OnOk};
+ghost use Rattle.pmb_io.specs.Calls.{WriterTells};
+ghost use Rattle.pmb_io.specs.Engines.{PutsOut};
+ghost use Rattle.pmb_io.specs.Lines.{TextLine, lines_of, lines_task};
+ghost use Rattle.pmb_io.specs.machine.Lines.{Stands, ended_kept};
+
+use crate::engine::{Engine, Flow};
+use crate::fault::ToolFault;
+use crate::line::{Line, without_return};
+use crate::line_task::LineTask;
+use crate::outgoing::Waiting;
+use crate::sink::Sink;
+use arrayvec::ArrayVec;
+
+/// The lines of an input, handed to a task one after the other, as an [`Engine`] for
+/// [`each_piece`](crate::each_piece). A line has at most `MOST` bytes, a CR at its end counted; of a
+/// longer one only that it is too long is handed on.
+#[derive(Drop)]
+pub struct Lines<T, const MOST: usize> {
+    task: T,
+    /// The front of the line under way.
+    line: ArrayVec<u8, MOST>,
+    /// Whether it has more bytes.
+    is_longer: bool,
+}
+
+impl<T: LineTask, const MOST: usize> Lines<T, MOST> {
+    /// Nothing was handed to the task yet.
+    pub fn new(task: T) -> Lines<T, MOST>
+        ensures task { lines_task result ≡ task }
+        ensures begins { T.Stands task task [] [] → ⟦<Lines<T, MOST> as Engine>⟧.Stands result result [] [] }
+    {
+        Lines {
+            task,
+            line: ArrayVec::new(),
+            is_longer: false,
+        }
+    }
+
+    /// The task, as it has become.
+    pub fn task(&self) -> &T
+        ensures { result.now ≡ lines_task self.now }
+    {
+        &self.task
+    }
+
+    /// Takes a byte: an LF ends the line under way.
+    fn take_byte<W: Sink>(
+        &mut self,
+        byte: u8,
+        waiting: &mut Waiting,
+        writer: &mut W,
+    ) -> Result<(), ToolFault>
+        ensures takes { (start : T) (bytes text : List ℕ) → Stands (T.Stands start self.old.task) MOST self.old.line.items self.old.is_longer bytes text
+            → OnOk result (PutsOut (λ more. Stands (T.Stands start self.new.task) MOST self.new.line.items self.new.is_longer (bytes ++ byte ∷ []) (text ++ more))
+            (W.contents writer.old) waiting.old.items (W.contents writer.new) waiting.new.items) }
+        ensures failed { WriterTells (W.failures writer.old) (W.failures writer.new) result }
+    {
+        if byte != b'\n' {
+            self.is_longer |= self.line.try_push(byte).is_err();
+            return Ok(());
+        }
+        self.take_ended(waiting, writer)?;
+        self.line.clear();
+        self.is_longer = false;
+        Ok(())
+    }
+
+    /// Hands on the line under way, which an LF ended.
+    fn take_ended<W: Sink>(
+        &mut self,
+        waiting: &mut Waiting,
+        writer: &mut W,
+    ) -> Result<(), ToolFault>
+        ensures takes { (start : T) (lines : List TextLine) (text : List ℕ) → T.Stands start self.old.task lines text
+            → OnOk result (PutsOut (λ more. T.Stands start self.new.task (lines ++ ended_kept self.old.line.items self.old.is_longer ∷ []) (text ++ more))
+            (W.contents writer.old) waiting.old.items (W.contents writer.new) waiting.new.items) }
+        ensures failed { WriterTells (W.failures writer.old) (W.failures writer.new) result }
+    {
+        if self.is_longer {
+            return self.task.take_line(Line::TooLong, waiting, writer);
+        }
+        let line = without_return(self.line.as_slice());
+        self.task.take_line(Line::Ended(line), waiting, writer)
+    }
+}
+
+impl<T: LineTask, const MOST: usize> Engine for Lines<T, MOST> {
+    ghost Stands = { λ start now bytes text. Stands (T.Stands start.task now.task) MOST now.line.items now.is_longer bytes text };
+
+    ghost Stops = { λ start now bytes text. ⊥ };
+
+    ghost Ends = { λ start now bytes text. T.Stands start.task now.task (lines_of MOST bytes) text };
+
+    fn take<W: Sink>(
+        &mut self,
+        piece: &[u8],
+        waiting: &mut Waiting,
+        writer: &mut W,
+    ) -> Result<Flow, ToolFault> {
+        for byte in piece {
+            self.take_byte(*byte, waiting, writer)?;
+        }
+        Ok(Flow::More)
+    }
+
+    fn end<W: Sink>(&mut self, waiting: &mut Waiting, writer: &mut W) -> Result<(), ToolFault> {
+        if self.is_longer {
+            return self.task.take_line(Line::TooLong, waiting, writer);
+        }
+        if self.line.is_empty() {
+            return Ok(());
+        }
+        self.task
+            .take_line(Line::Last(self.line.as_slice()), waiting, writer)
+    }
+}

@@ -1,0 +1,55 @@
+//! Text on its way to a writer, in a buffer of fixed size.
+
+ghost use Rattle.std.specs.Prelude.{◌≡◌, ◌≤◌, [], length, OnOk};
+ghost use Rattle.pmb_io.specs.Calls.{WriterTells};
+ghost use Rattle.pmb_io.specs.Outgoing.{Writes};
+
+use crate::fault::ToolFault;
+use crate::sink::Sink;
+use arrayvec::ArrayVec;
+
+/// How many bytes wait at most.
+pub const ROOM: usize = 8192;
+
+/// Bytes that are still to be written.
+pub type Waiting = ArrayVec<u8, 8192>;
+
+/// Sends to the writer what waits for it.
+///
+/// # Errors
+///
+/// `Write` where the writer failed; the bytes still wait.
+pub fn send<W: Sink>(waiting: &mut Waiting, writer: &mut W) -> Result<(), ToolFault>
+    ensures ok { OnOk result (Writes (W.contents writer.old) waiting.old.items (W.contents writer.new) waiting.new.items []) }
+    ensures empty { OnOk result (waiting.new.items ≡ []) }
+    ensures failed { WriterTells (W.failures writer.old) (W.failures writer.new) result }
+{
+    if waiting.is_empty() {
+        return Ok(());
+    }
+    match writer.write_all(waiting.as_slice()) {
+        Ok(()) => {
+            waiting.clear();
+            Ok(())
+        }
+        Err(_) => Err(ToolFault::Write),
+    }
+}
+
+/// Has a text of at most [`ROOM`] bytes wait behind what waits already, which is sent first where
+/// both don't fit.
+///
+/// # Errors
+///
+/// `Write` where the writer failed; the text doesn't wait then.
+pub fn put<W: Sink>(waiting: &mut Waiting, text: &[u8], writer: &mut W) -> Result<(), ToolFault>
+    requires { length text.now ≤ ROOM }
+    ensures ok { OnOk result (Writes (W.contents writer.old) waiting.old.items (W.contents writer.new) waiting.new.items text.now) }
+    ensures failed { WriterTells (W.failures writer.old) (W.failures writer.new) result }
+{
+    if waiting.try_extend_from_slice(text).is_err() {
+        send(waiting, writer)?;
+        let _ = waiting.try_extend_from_slice(text);
+    }
+    Ok(())
+}
