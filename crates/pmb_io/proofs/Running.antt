@@ -1,5 +1,5 @@
 -- A run over a reader and a writer, piece by piece.
-use Rattle.std.proofs.Common.{◌≡◌, ℕ, ◌+◌, ◌≤◌, ◌≢◌, min, Option, List, [], ◌++◌, length, length-take-le, take, inl, inr, sym, ◌∙◌, ap, subst, refl, append_assoc, append-nil, length-append, arith}
+use Rattle.std.proofs.Common.{◌≡◌, ℕ, ◌+◌, ◌<◌, ◌≤◌, ◌≢◌, min, Option, List, [], ◌++◌, length, length-take-le, take, inl, inr, sym, ◌∙◌, ap, subst, refl, append_assoc, append-nil, length-append, arith}
 use Rattle.std.specs.Io.KnownBytes.{Consumes}
 use Rattle.pmb_io.specs.Count.{raised}
 use Rattle.pmb_io.specs.Engines.{PutsOut, WritesOut}
@@ -51,7 +51,7 @@ takes_first Holds first left given h0 h1 written = record {
 }
 
 -- a piece more is taken, or the end
-pub takes_more : (Held Holds : List ℕ → List ℕ → Type 0) (first piece : List ℕ) (l0 l1 l2 : Option (List ℕ)) (g0 g1 g2 : ℕ) (h0 h1 h2 : Option (List ℕ))
+unfoldable pub takes_more : (Held Holds : List ℕ → List ℕ → Type 0) (first piece : List ℕ) (l0 l1 l2 : Option (List ℕ)) (g0 g1 g2 : ℕ) (h0 h1 h2 : Option (List ℕ))
     → (so_far : Through Held first (record { left = l0; given = g0; held = h0 }) (record { left = l1; given = g1; held = h1 }))
     → Consumes l1 l2 piece → g2 ≡ raised g1 (length piece)
     → WritesOut (λ more. Holds ((first ++ so_far.read) ++ piece) (so_far.text ++ more)) h1 h2
@@ -95,3 +95,7 @@ one_read_more start before after count n was is some =
 -- and its bytes
 pub bytes_more : (before after n : ℕ) (buffer : List ℕ) → n ≤ length buffer → after ≡ raised before n → after ≡ raised before (length (take n buffer))
 bytes_more before after n buffer within is = is ∙ ap (raised before) (sym (length-take-le n buffer within))
+
+-- a read gives a byte or more
+pub reads_some : (read piece : List ℕ) (count : ℕ) → count ≤ length read → 0 < length piece → count + 1 ≤ length (read ++ piece)
+reads_some read piece count many some = omega (arith, length-append read piece)

@@ -3,6 +3,7 @@
 #![tactic(auto)]
 
 mod count;
+mod empty;
 mod engine;
 mod failing;
 mod fault;
@@ -17,6 +18,7 @@ mod sink;
 mod source;
 mod tally;
 
+pub use empty::Empty;
 pub use engine::{Engine, Flow};
 pub use failing::Failing;
 pub use fault::{IoFault, ToolFault};

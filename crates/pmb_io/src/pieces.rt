@@ -1,6 +1,6 @@
 //! The loop over what a reader gives.
 
-ghost use Rattle.std.specs.Prelude.{◌≡◌, ◌≢◌, ◌⊎◌, ℕ, List, [], ◌++◌, IfOk, OnOk, Err};
+ghost use Rattle.std.specs.Prelude.{◌≡◌, ◌≢◌, ◌≤◌, ◌⊎◌, ℕ, List, length, [], ◌++◌, IfOk, OnOk, Err};
 ghost use Rattle.pmb_io.specs.Calls.{WriterTells};
 ghost use Rattle.pmb_io.specs.Count.{raised};
 ghost use Rattle.pmb_io.specs.Engines.{Either, WritesOut};
@@ -63,6 +63,11 @@ pub fn each_piece<E: Engine, R: Source, W: Sink>(
         → Through (E.Stands engine.old engine.new) first.now
         (record { left = R.remaining reader.old; given = R.given reader.old; held = W.contents writer.old })
         (record { left = R.remaining reader.new; given = R.given reader.new; held = W.contents writer.new }) }
+    ensures many { result ≡ Err ToolFault.TooManyReads
+        → (through : Through (E.Stands engine.old engine.new) first.now
+        (record { left = R.remaining reader.old; given = R.given reader.old; held = W.contents writer.old })
+        (record { left = R.remaining reader.new; given = R.given reader.new; held = W.contents writer.new }))
+        × (most_reads ≤ length through.read) }
 {
     let mut waiting = Waiting::new();
     match take_piece(engine, first, &mut waiting, writer)? {

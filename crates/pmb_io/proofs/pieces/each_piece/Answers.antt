@@ -2,7 +2,7 @@ use Rattle.std.proofs.Common.{◌∙◌, ◌++◌, ◌+◌, ◌≤◌, ◌≢◌
 use Rattle.std.proofs.lemmas.Bool.Decides.{nat_tests}
 use Rattle.pmb_io.specs.Engines.{Either, WritesOut}
 use Rattle.pmb_io.specs.Runs.{most_piece}
-use Rattle.pmb_io.proofs.Running.{bytes_more, one_read_more, raised_by_none, stops_behind, stops_in_first, takes_first, takes_more}
+use Rattle.pmb_io.proofs.Running.{bytes_more, one_read_more, raised_by_none, reads_some, stops_behind, stops_in_first, takes_first, takes_more}
 use Rattle.pmb_io.proofs.Writing.{told_no_end}
 use Rattle.pmb_io.proofs.pieces.each_piece.Goals as goal
 
@@ -24,6 +24,7 @@ reads-init g c =
       reads = sym (raised_by_none _);
       sent = c.in_ok-take_piece.ensures.sent;
       so_far = takes_first (g.E.Engine.Stands c.args.engine.now c.take_piece.new.engine) c.args.first.now _ _ _ _ taken;
+      many = omega arith;
     }
 
 pub returns-in-Stop-2-clause-ok : goal.returns-in-Stop-2-clause-ok
@@ -40,6 +41,7 @@ returns-in-Stop-2-clause-ok g c =
     c.in-Ok.ensures.bytes.0 (bytes_more _ _ c.in-Ok.count c.read.new.buffer c.in-Ok.ensures.within c.in-Ok.ensures.given) small taken)
 
 pub reads-preserved : goal.reads-preserved
+unfolding takes_more
 reads-preserved g c =
     let so_far = c.reads.invariant.so_far in
     let piece = take c.in-Ok.count c.read.new.buffer in
@@ -56,6 +58,7 @@ reads-preserved g c =
       sent = c.in_ok-take_piece-2.ensures.sent;
       so_far = takes_more (g.E.Engine.Stands c.args.engine.now c.reads.engine) (g.E.Engine.Stands c.args.engine.now c.take_piece-in-reads.new.engine) c.args.first.now piece _ _ _ _ _ _ _ _ _ so_far
           c.in-Ok.ensures.bytes.0 (bytes_more _ _ c.in-Ok.count c.read.new.buffer c.in-Ok.ensures.within c.in-Ok.ensures.given) taken;
+      many = reads_some so_far.read piece c.reads.counter c.reads.invariant.many (rw (length-take-le c.in-Ok.count c.read.new.buffer c.in-Ok.ensures.within) (omega (arith, some)));
     }
 
 pub returns-in_err-take_piece-2-clause-reads : goal.returns-in_err-take_piece-2-clause-reads
@@ -67,3 +70,6 @@ pub returns-in-Stop-2-clause-reads : goal.returns-in-Stop-2-clause-reads
 returns-in-Stop-2-clause-reads g c =
     let some : c.in-Ok.count ≢ 0 = grind (arith, nat_tests, c.if-count-eq0.false) in
     (c.reads.counter + 1, omega arith, one_read_more _ _ _ c.reads.counter c.in-Ok.count c.reads.invariant.reads c.in-Ok.ensures.read some)
+
+pub returns-clause-many : goal.returns-clause-many
+returns-clause-many g c is = (c.reads.invariant.so_far, omega (arith, c.reads.invariant.many))

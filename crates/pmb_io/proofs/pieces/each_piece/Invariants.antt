@@ -1,4 +1,4 @@
-use Rattle.std.proofs.Common.{◌≡◌, []}
+use Rattle.std.proofs.Common.{◌≡◌, ◌≤◌, [], length}
 use Rattle.pmb_io.specs.Count.{raised}
 use Rattle.pmb_io.specs.Runs.{Through}
 use Rattle.pmb_io.proofs.pieces.each_piece.Given as goal
@@ -14,4 +14,5 @@ invariant-reads g l = record {
   so_far : Through (g.E.Engine.Stands l.fn.engine l.engine) l.fn.first
       (record { left = g.R.Source.remaining l.fn.reader; given = g.R.Source.given l.fn.reader; held = g.W.Sink.contents l.fn.writer })
       (record { left = g.R.Source.remaining l.reader; given = g.R.Source.given l.reader; held = g.W.Sink.contents l.writer });
+  many : l.counter ≤ length so_far.read;
 }
