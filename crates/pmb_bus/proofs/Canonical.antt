@@ -6,14 +6,10 @@ use Rattle.hex.proofs.HexLemmas.{IsDigits-lower_digits}
 use Rattle.pmb_bus.specs.declared.event.Event.{Event}
 use Rattle.pmb_bus.specs.declared.event.Event.TheVariants.{Start, Byte, Ack, Nack, Stop}
 use Rattle.pmb_bus.specs.Event.{event_of, text_of, canonical_text, AreBytes}
-use Rattle.pmb_bus.specs.Text.{ends_word, in_comment, is_word, last_run, ends_in_comment, words, runs, open_word, AreTokens, Spells}
+use Rattle.pmb_bus.specs.Text.{in_comment, is_word, last_run, ends_in_comment, words, runs, open_word, AreTokens, Spells}
 use Rattle.pmb_bus.proofs.Words.{runs_from-kept, word_byte}
-use Rattle.pmb_bus.proofs.Tokens.{AreTokens-append}
+use Rattle.pmb_bus.proofs.Tokens.{AreTokens-append, digit_goes_on}
 use Rattle.pmb_bus.proofs.Fronts.{words_between}
-
--- a digit ends no word
-digit_goes_on : (b v : ℕ) → hex_digit_value b ≡ Some v → ends_word b ≡ false
-digit_goes_on b v digit = grind (arith)
 
 -- a text that is one token and its end
 record IsOne (text : List ℕ) (event : Event) : Type 0 where

@@ -6,7 +6,10 @@ use Rattle.pmb_bus.specs.declared.lexer.LexFault.{LexFault}
 use Rattle.pmb_bus.specs.declared.lexer.Step.TheVariants as answers
 use Rattle.pmb_bus.specs.declared.lexer.Lexer.{Lexer}
 use Rattle.pmb_bus.specs.Text.{EndedWordsSpell, BeginsText}
-use Rattle.pmb_bus.specs.Lexer.{StandsAt, IsFaulted, OpenWordIsBad, Steps, NeedsMore, EndsWord, Refuses}
+use Rattle.pmb_bus.specs.machine.Standing.{StandsAt, IsFaulted}
+use Rattle.pmb_bus.specs.LexFault.{OpenWordIsBad}
+use Rattle.pmb_bus.specs.machine.Steps.{Steps}
+use Rattle.pmb_bus.specs.Lexer.{NeedsMore, EndsWord, Refuses}
 
 -- a lexer with no fault that was given the first i bytes of a piece, and has ended no word
 pub record FedTo (before : Lexer) (piece : List ℕ) (i : ℕ) (now : Lexer) : Type 0 where

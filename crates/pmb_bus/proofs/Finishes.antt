@@ -9,7 +9,9 @@ use Rattle.pmb_bus.specs.declared.lexer.Place.TheVariants as places
 use Rattle.pmb_bus.specs.declared.lexer.Lexer.{Lexer}
 use Rattle.pmb_bus.specs.Event.{event_of}
 use Rattle.pmb_bus.specs.Text.{is_separator, in_comment, ends_in_comment, is_word, open_word, AreTokens}
-use Rattle.pmb_bus.specs.Lexer.{IsPlace, StandsAt, OpenWordComesTo, FinishesBetween, FinishesWord, FinishRefuses}
+use Rattle.pmb_bus.specs.machine.Standing.{IsPlace, StandsAt}
+use Rattle.pmb_bus.specs.machine.Steps.{OpenWordComesTo}
+use Rattle.pmb_bus.specs.Lexer.{FinishesBetween, FinishesWord, FinishRefuses}
 use Rattle.pmb_bus.proofs.Words.{blank, cut_by, ends_in_comment_by}
 use Rattle.pmb_bus.proofs.Tokens.{is_word-token}
 use Rattle.pmb_bus.proofs.Fronts.{bad_word_spells_none}

@@ -6,7 +6,7 @@ use Rattle.std.proofs.lemmas.Bool.{cases_Bool, cases_eq, ne_eqb}
 use Rattle.pmb_bus.specs.declared.event.Event.{Event}
 use Rattle.pmb_bus.specs.Event.{event_of}
 use Rattle.pmb_bus.specs.Text.{is_separator, in_comment, ends_in_comment, runs, is_word, words, last_run, all_but_last, open_word, ended_words, first_run, front_word, AreTokens, Spells, EndedWordsSpell, FirstBadWord}
-use Rattle.pmb_bus.specs.Lexer.{OpenWordIsBad}
+use Rattle.pmb_bus.specs.LexFault.{OpenWordIsBad}
 use Rattle.pmb_bus.proofs.Splits.{glue, glue-nil}
 use Rattle.pmb_bus.proofs.Words.{runs_from, blank, blank_out, runs-append, words-append, words_split, comment_cuts, runs_from-kept, cut_by, longer_by, ends_in_comment_by}
 use Rattle.pmb_bus.proofs.Tokens.{no_tokens}
@@ -60,7 +60,8 @@ all_in_front text outside none = record {
   clear = ap ends_in_comment none;
 }
 
--- a byte that is neither blanked nor a separator stands outside comments, and so does the one before
+-- a byte that is neither blanked nor a separator stands outside comments, and so does the one
+-- before
 outside_before : (before : Bool) (b : ℕ) → in_comment before b ≡ false → is_separator b ≡ false → before ≡ false
 outside_before false b outside keeps = refl
 outside_before true b outside keeps =

@@ -6,8 +6,11 @@ use Rattle.pmb_bus.specs.declared.lexer.Place.TheVariants as places
 use Rattle.pmb_bus.specs.declared.event.Event.TheVariants.{Byte}
 use Rattle.hex.specs.Hex.{hex_digit_value}
 use Rattle.pmb_bus.specs.Event.{event_of, byte_event}
-use Rattle.pmb_bus.specs.Text.{in_comment, ends_word, starts_token, ends_in_comment, open_word}
-use Rattle.pmb_bus.specs.Lexer.{capped, IsPlace, BeginsToken, Lengthens}
+use Rattle.pmb_bus.specs.Text.{in_comment, ends_in_comment, open_word}
+use Rattle.pmb_bus.specs.machine.Bytes.{ends_word, starts_token}
+use Rattle.pmb_bus.specs.Count.{capped}
+use Rattle.pmb_bus.specs.machine.Standing.{IsPlace}
+use Rattle.pmb_bus.specs.machine.Steps.{BeginsToken, Lengthens}
 use Rattle.pmb_bus.proofs.Words.{longer_by, ends_in_comment_by, word_byte}
 use Rattle.pmb_bus.proofs.Tokens.{start, no_start}
 

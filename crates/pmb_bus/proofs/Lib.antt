@@ -7,5 +7,6 @@ pub mod Canonical
 pub mod Stands
 pub mod Finishes
 pub mod Lengthens
-pub mod Digits
+pub mod Classes
+pub mod FrontTokens
 pub mod Feeds

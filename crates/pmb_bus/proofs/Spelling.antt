@@ -6,7 +6,7 @@ use Rattle.std.proofs.lemmas.Bool.{cases_Bool, cases_order}
 use Rattle.pmb_bus.specs.declared.event.Event.{Event}
 use Rattle.pmb_bus.specs.Event.{event_of}
 use Rattle.pmb_bus.specs.Text.{is_separator, in_comment, blanked_from, ends_in_comment, runs, is_word, words, last_run, all_but_last, open_word, ended_words, first_run, front_word, AreTokens, Spells, EndedWordsSpell, FirstBadWord}
-use Rattle.pmb_bus.specs.Lexer.{OpenWordIsBad}
+use Rattle.pmb_bus.specs.LexFault.{OpenWordIsBad}
 use Rattle.pmb_bus.proofs.Splits.{glue, glue-nil, HasRuns, slice_split-HasRuns}
 use Rattle.pmb_bus.proofs.Words.{runs_from, blank, runs-append, words_split, open_word-append}
 use Rattle.pmb_bus.proofs.Tokens.{AreTokens-append, cases_Option, cases_word, is_word-token, one_row}

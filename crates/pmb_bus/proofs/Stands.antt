@@ -9,8 +9,12 @@ use Rattle.pmb_bus.specs.declared.lexer.Place.{Place}
 use Rattle.pmb_bus.specs.declared.lexer.Place.TheVariants as places
 use Rattle.pmb_bus.specs.declared.lexer.Lexer.{Lexer}
 use Rattle.pmb_bus.specs.Event.{event_of}
-use Rattle.pmb_bus.specs.Text.{is_separator, ends_word, in_comment, ends_in_comment, is_word, open_word, ended_words, AreTokens, Spells, EndedWordsSpell, BeginsText, blanked_from}
-use Rattle.pmb_bus.specs.Lexer.{capped, IsPlace, StandsAt, IsFaultOf, OpenWordIsBad, BeginsToken, place_behind, OpenWordComesTo, Lengthens, Stops}
+use Rattle.pmb_bus.specs.Text.{is_separator, in_comment, ends_in_comment, is_word, open_word, ended_words, AreTokens, Spells, EndedWordsSpell, BeginsText, blanked_from}
+use Rattle.pmb_bus.specs.machine.Bytes.{ends_word}
+use Rattle.pmb_bus.specs.Count.{capped}
+use Rattle.pmb_bus.specs.machine.Standing.{IsPlace, StandsAt}
+use Rattle.pmb_bus.specs.LexFault.{IsFaultOf, OpenWordIsBad}
+use Rattle.pmb_bus.specs.machine.Steps.{BeginsToken, place_behind, OpenWordComesTo, Lengthens, Stops}
 use Rattle.pmb_bus.proofs.Splits.{glue, slice_split-HasRuns}
 use Rattle.pmb_bus.proofs.Words.{runs_from, runs_from-cut, runs_from-kept, blank, cut_by, longer_by, ends_in_comment_by, in_comment_from_out, ends_word_cuts, word_byte, blank_inside_cuts}
 use Rattle.pmb_bus.proofs.Tokens.{AreTokens-append, is_word-append}

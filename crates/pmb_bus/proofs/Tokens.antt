@@ -1,13 +1,14 @@
 -- Which words are tokens, and rows of words that are.
-use Rattle.std.proofs.Common.{◌≡◌, ℕ, ◌+◌, ◌*◌, true, false, ◌⊎◌, inl, inr, Option, Some, None, is_some, List, [], ◌∷◌, ◌++◌, map, refl, sym, ap, ◌∙◌}
+use Rattle.std.proofs.Common.{◌≡◌, ℕ, ◌+◌, ◌*◌, Bool, true, false, ◌||◌, ◌⊎◌, inl, inr, Option, Some, None, is_some, List, [], ◌∷◌, ◌++◌, map, refl, sym, ap, ◌∙◌, arith}
 use Rattle.std.proofs.lemmas.List.{map-append}
 use Rattle.std.proofs.lemmas.Bool.{or_cases, or_parts}
 use Rattle.hex.specs.Hex.{hex_digit_value, is_hex_digit}
 use Rattle.pmb_bus.specs.declared.event.Event.{Event}
 use Rattle.pmb_bus.specs.declared.event.Event.TheVariants.{Byte}
 use Rattle.pmb_bus.specs.Event.{letter_event, byte_event, event_of}
-use Rattle.pmb_bus.specs.Text.{is_word, starts_token, AreTokens}
-use Rattle.pmb_bus.specs.Lexer.{BeginsToken}
+use Rattle.pmb_bus.specs.Text.{is_word, AreTokens}
+use Rattle.pmb_bus.specs.machine.Bytes.{ends_word, starts_token}
+use Rattle.pmb_bus.specs.machine.Steps.{BeginsToken}
 
 -- ---- rows of tokens
 
@@ -90,3 +91,36 @@ start b starts =
           let value = has_value (hex_digit_value b) digit in
           (Byte (value.0 * 16 + 0), inr (ap (λ (o : Option ℕ). byte_event o (Some 0)) value.1))
     ]
+
+-- ---- the bytes of a token
+
+-- a letter that is a token ends no word
+pub letter_goes_on : (b : ℕ) (event : Event) → letter_event b ≡ Some event → ends_word b ≡ false
+letter_goes_on b event letter = grind (arith)
+
+-- a digit ends no word
+pub digit_goes_on : (b v : ℕ) → hex_digit_value b ≡ Some v → ends_word b ≡ false
+digit_goes_on b v digit = grind (arith)
+
+-- a letter that is a token starts one
+pub letter_starts : (b : ℕ) (event : Event) → letter_event b ≡ Some event → starts_token b ≡ true
+letter_starts b event letter = ap (λ (o : Option Event). is_some o || is_hex_digit b) letter
+
+-- a digit starts a token
+pub digit_starts : (b v : ℕ) → hex_digit_value b ≡ Some v → starts_token b ≡ true
+digit_starts b v digit =
+    elim (is_some (letter_event b)) as (λ (v : Bool). (v || is_hex_digit b) ≡ true) [ true ↦ refl | false ↦ ap (is_some {T = ℕ}) digit ]
+
+-- the two digits of a token
+pub record AreDigits (high low : Option ℕ) (event : Event) : Type 0 where
+  pub first : ℕ
+  pub second : ℕ
+  pub high_is : high ≡ Some first
+  pub low_is : low ≡ Some second
+  pub event_is : event ≡ Byte (first * 16 + second)
+
+-- the digits that a byte's event is of
+pub digits_of : (high low : Option ℕ) (event : Event) → byte_event high low ≡ Some event → AreDigits high low event
+digits_of (Some h) (Some l) event token = record { first = h; second = l; high_is = refl; low_is = refl; event_is = cc token }
+digits_of (Some h) None event token = cc token
+digits_of None low event token = cc token

@@ -5,7 +5,8 @@ use Rattle.std.proofs.lemmas.List.{append-nil}
 use Rattle.std.proofs.lemmas.List.Elements.{filter-append}
 use Rattle.std.proofs.lemmas.List.Splits.{slice_split-cons_yes, slice_split-cons_no}
 use Rattle.std.proofs.lemmas.Bool.{cases_eq, ne_eqb, or_parts, or_cases}
-use Rattle.pmb_bus.specs.Text.{is_separator, ends_word, in_comment, blanked_from, ends_in_comment_from, ends_in_comment, runs, is_word, words, all_but_last, last_run, open_word, ended_words}
+use Rattle.pmb_bus.specs.Text.{is_separator, in_comment, blanked_from, ends_in_comment_from, ends_in_comment, runs, is_word, words, all_but_last, last_run, open_word, ended_words}
+use Rattle.pmb_bus.specs.machine.Bytes.{ends_word}
 use Rattle.pmb_bus.proofs.Splits.{glue, HasRuns, slice_split-HasRuns, slice_split-append, last_run-append, all_but_last-append, front_and_last}
 
 -- the runs of what goes on with a text that ends in a comment or not

@@ -1,17 +1,23 @@
--- The events of a bus and the tokens that spell them (SMBus 3.0 section 4: START, STOP, ACK and NACK).
-use Rattle.std.specs.Prelude.{ℕ, ◌+◌, ◌*◌, ◌<◌, ◌==◌, Option, Some, None, if◌then◌else◌, List, [], ◌∷◌, ◌++◌}
+-- The events of a bus and the tokens that spell them (SMBus 3.0 section 4: START, STOP, ACK and
+-- NACK).
+use Rattle.std.specs.Prelude.{ℕ, ◌+◌, ◌*◌, ◌<◌, ◌==◌, Option, Some, None, if◌then◌else◌, List, [], ◌∷◌, ◌++◌, codes, slice_index}
+use Prim.Native.String.{String}
 use Rattle.std.specs.List.{flat_map}
 use Rattle.hex.specs.Hex.{hex_digit_value, encode_lower}
 use Rattle.pmb_bus.specs.declared.event.Event.{Event}
 use Rattle.pmb_bus.specs.declared.event.Event.TheVariants.{Start, Byte, Ack, Nack, Stop}
 
--- the event that one letter spells: `S`, `P`, `A` and `N`
+-- the number of a character, which is written as a text of it alone
+abbrev pub character : String → ℕ
+character text = slice_index (codes text) 0
+
+-- the event that one letter spells
 abbrev pub letter_event : ℕ → Option Event
 letter_event b =
-    if b == 83 then Some Start
-    else if b == 80 then Some Stop
-    else if b == 65 then Some Ack
-    else if b == 78 then Some Nack
+    if b == character "S" then Some Start
+    else if b == character "P" then Some Stop
+    else if b == character "A" then Some Ack
+    else if b == character "N" then Some Nack
     else None
 
 -- the byte of two digits
@@ -20,7 +26,8 @@ byte_event (Some high) (Some low) = Some (Byte (high * 16 + low))
 byte_event (Some high) None = None
 byte_event None low = None
 
--- The event that a word spells: a letter, or two hexadecimal digits of either case. Other words spell none.
+-- The event that a word spells: a letter, or two hexadecimal digits of either case. Other words
+-- spell none.
 abbrev pub event_of : List ℕ → Option Event
 event_of [] = None
 event_of (b ∷ []) = letter_event b
@@ -29,11 +36,11 @@ event_of (a ∷ b ∷ c ∷ more) = None
 
 -- The canonical text of an event: its token in lower-case digits and a space; after STOP a LF.
 abbrev pub text_of : Event → List ℕ
-text_of Start = 83 ∷ 32 ∷ []
-text_of (Byte b) = encode_lower (b ∷ []) ++ 32 ∷ []
-text_of Ack = 65 ∷ 32 ∷ []
-text_of Nack = 78 ∷ 32 ∷ []
-text_of Stop = 80 ∷ 10 ∷ []
+text_of Start = codes "S "
+text_of (Byte b) = encode_lower (b ∷ []) ++ codes " "
+text_of Ack = codes "A "
+text_of Nack = codes "N "
+text_of Stop = codes "P\n"
 
 -- the canonical text of a capture: that of its events, in order
 abbrev pub canonical_text : List Event → List ℕ

@@ -1,30 +1,23 @@
 -- What events a text spells.
-use Rattle.std.specs.Prelude.{◌≡◌, ℕ, ◌==◌, ◌||◌, Bool, true, false, Some, None, is_some, if◌then◌else◌, List, [], ◌∷◌, ◌++◌, length, map, filter}
+use Rattle.std.specs.Prelude.{◌≡◌, ℕ, ◌+◌, ◌==◌, ◌||◌, Bool, true, false, Some, None, if◌then◌else◌, List, [], ◌∷◌, ◌++◌, length, map, filter}
 use Rattle.std.specs.List.{slice_split}
 use Rattle.pmb_bus.specs.declared.event.Event.{Event}
-use Rattle.hex.specs.Hex.{is_hex_digit}
-use Rattle.pmb_bus.specs.Event.{event_of, letter_event}
+use Rattle.pmb_bus.specs.Count.{capped}
+use Rattle.pmb_bus.specs.Event.{character, event_of}
 
 -- space, tab, LF and CR separate words
 abbrev pub is_separator : ℕ → Bool
-is_separator b = b == 32 || b == 9 || b == 10 || b == 13
+is_separator b = b == character " " || b == character "\t" || b == character "\n" || b == character "\r"
 
--- whether a byte outside comments ends a word
-abbrev pub ends_word : ℕ → Bool
-ends_word b = is_separator b || b == 35
-
--- whether some token begins with a byte
-abbrev pub starts_token : ℕ → Bool
-starts_token b = is_some (letter_event b) || is_hex_digit b
-
--- Whether a byte stands in a comment, given whether the one before does: a comment runs from `#` up to the next LF.
+-- Whether a byte stands in a comment, given whether the one before does: a comment runs from `#` up
+-- to the next LF.
 abbrev pub in_comment : Bool → ℕ → Bool
-in_comment before b = if b == 10 then false else (before || b == 35)
+in_comment before b = if b == character "\n" then false else (before || b == character "#")
 
 -- The text with a space in place of each byte of a comment.
 abbrev pub blanked_from : Bool → List ℕ → List ℕ
 blanked_from before [] = []
-blanked_from before (b ∷ rest) = (if in_comment before b then 32 else b) ∷ blanked_from (in_comment before b) rest
+blanked_from before (b ∷ rest) = (if in_comment before b then character " " else b) ∷ blanked_from (in_comment before b) rest
 
 abbrev pub blanked : List ℕ → List ℕ
 blanked text = blanked_from false text
@@ -78,6 +71,11 @@ last_run (run ∷ next ∷ more) = last_run (next ∷ more)
 abbrev pub open_word : List ℕ → List ℕ
 open_word text = last_run (runs text)
 
+-- The word under way at the end of a text of n bytes has its first byte at `at`, counted from 0 and
+-- staying at the greatest u64.
+abbrev pub WordBeginsAt : ℕ → List ℕ → ℕ → Type 0
+WordBeginsAt n text at = (first : ℕ) × (first + length (open_word text) ≡ n) × (at ≡ capped first)
+
 -- the words before that: those that a separator or a comment has ended
 abbrev pub ended_words : List ℕ → List (List ℕ)
 ended_words text = filter is_word (all_but_last (runs text))
@@ -95,7 +93,8 @@ first_run (run ∷ more) = run
 abbrev pub front_word : List ℕ → List ℕ
 front_word text = first_run (runs text)
 
--- The first word of a text that is no token begins at `place`; those before it are the tokens of the events.
+-- The first word of a text that is no token begins at `place`; those before it are the tokens of
+-- the events.
 pub record FirstBadWord (text : List ℕ) (events : List Event) (place : ℕ) : Type 0 where
   pub front : List ℕ
   pub rest : List ℕ

@@ -16,8 +16,8 @@ pub fn one_spelling()
     ensures { (text : List ℕ) (a b : List Event) → Spells text a → Spells text b → a ≡ b }
 {}
 
-/// A text whose ended words are tokens spells their events, or with its last word one event more, or
-/// its last word is its first bad one.
+/// A text whose ended words are tokens spells their events, or with its last word one event more,
+/// or its last word is its first bad one.
 pub fn ended_words_lead_on()
     ensures { (text : List ℕ) (events : List Event) → EndedWordsSpell text events
         → Spells text events

@@ -1,19 +1,24 @@
 //! Reads events from the text of a capture.
 //!
 //! A [`Lexer`] keeps where it is within a word and how many bytes it has used, and nothing else of
-//! the text. `feed` is a loop over `step`, which takes one byte: a byte ends the word under way, or
-//! it is one more byte of a word. What each `Place` says of the text is `IsPlace` of the specs: a
-//! new place needs its line there, and its arm in `Place::end` and `Place::lengthened`.
+//! the text. `feed_bytes` is a loop over `step`, which takes one byte: a byte ends the word under
+//! way, or it is one more byte of a word. What each `Place` says of the text is `IsPlace` of the
+//! specs: a new place needs its line there, and its arm in `Place::end` and `Place::lengthened`.
+//!
+//! Most of a capture is tokens with one separator each. Between words `feed` takes such a token at
+//! once, where it and its separator lie in the next three bytes. All else goes byte by byte.
 
-ghost use Rattle.std.specs.Prelude.{◌≡◌, ◌+◌, ◌-◌, ◌^◌, ◌<◌, ◌≤◌, ℕ, length, min, true, false, List, [], Err};
-ghost use Rattle.hex.specs.Hex.{hex_digit_value};
+ghost use Rattle.std.specs.Prelude.{◌≡◌, ◌+◌, ◌<◌, ◌≤◌, ℕ, length, true, false, List, [], Err};
 ghost use Rattle.pmb_bus.specs.declared.event.Event.{Event as BusEvent};
-ghost use Rattle.pmb_bus.specs.Event.{letter_event, byte_event};
-ghost use Rattle.pmb_bus.specs.Text.{ends_word, starts_token, ends_in_comment};
-ghost use Rattle.pmb_bus.specs.Lexer.{StandsAt, IsFaulted, Feeds, Finishes, Steps, IsPlace, capped, OpenWordComesTo, Lengthens, option_event, place_behind};
+ghost use Rattle.pmb_bus.specs.Count.{capped};
+ghost use Rattle.pmb_bus.specs.Text.{ends_in_comment};
+ghost use Rattle.pmb_bus.specs.Lexer.{StandsAt, IsFaulted, Feeds, Finishes};
+ghost use Rattle.pmb_bus.specs.machine.Bytes.{ends_word};
+ghost use Rattle.pmb_bus.specs.machine.Standing.{IsPlace};
+ghost use Rattle.pmb_bus.specs.machine.Steps.{Steps, OpenWordComesTo, Lengthens, place_behind};
 
+use crate::alphabet::{digits, ends_word, front_token, letter, starts_token};
 use crate::event::Event;
-use hex::FromHex;
 
 /// A word that is no token.
 #[derive(Clone, Copy, Debug, PartialEq, Eq)]
@@ -56,45 +61,6 @@ enum Place {
     Two { at: u64, byte: u8 },
     /// A word was no token.
     Faulted(LexFault),
-}
-
-// Whether a byte outside comments ends a word.
-#[inline]
-fn ends_word(byte: u8) -> bool
-    ensures { result ≡ ends_word byte }
-{
-    matches!(byte, b' ' | b'\t' | b'\r' | b'\n' | b'#')
-}
-
-#[inline]
-fn letter(byte: u8) -> Option<Event>
-    ensures { result ≡ letter_event byte }
-{
-    match byte {
-        b'S' => Some(Event::Start),
-        b'P' => Some(Event::Stop),
-        b'A' => Some(Event::Ack),
-        b'N' => Some(Event::Nack),
-        _ => None,
-    }
-}
-
-#[inline]
-fn starts_token(byte: u8) -> bool
-    ensures { result ≡ starts_token byte }
-{
-    letter(byte).is_some() || byte.is_ascii_hexdigit()
-}
-
-// The byte of two digits.
-#[inline]
-fn digits(first: u8, second: u8) -> Option<u8>
-    ensures { option_event result ≡ byte_event (hex_digit_value first) (hex_digit_value second) }
-{
-    match <[u8; 1]>::from_hex([first, second]) {
-        Ok(bytes) => Some(bytes[0]),
-        Err(_) => None,
-    }
 }
 
 impl Place {
@@ -181,12 +147,35 @@ impl Lexer {
     ///
     /// A piece is used up to the end of its first word, or whole: the bytes behind `used` are to be
     /// given again. After a fault every call answers that fault and uses nothing.
+    #[inline]
     pub fn feed(&mut self, bytes: &[u8]) -> Lexed
         ensures stands { (n : ℕ) (text : List ℕ) (events : List BusEvent) → StandsAt self.old n text events
             → Feeds n text events bytes.now result.used result.step self.new }
         ensures faulted { (fault : LexFault) → IsFaulted self.old fault
             → (result ≡ record { used = 0; step = Step.Fault fault }) × (self.new ≡ self.old) }
         // What a caller's loop stands on, wherever the lexer stands.
+        ensures within { result.used ≤ length bytes.now }
+        ensures progress { (event : BusEvent) → result.step ≡ Step.Event event → 0 < result.used }
+    {
+        if let Place::Between = self.place {
+            if let Some(token) = front_token(bytes) {
+                self.used = self.used.saturating_add(token.used as u64);
+                return Lexed {
+                    used: token.used,
+                    step: Step::Event(token.event),
+                };
+            }
+        }
+        self.feed_bytes(bytes)
+    }
+
+    // Takes the next piece of the text, one byte after the other.
+    #[inline(never)]
+    fn feed_bytes(&mut self, bytes: &[u8]) -> Lexed
+        ensures stands { (n : ℕ) (text : List ℕ) (events : List BusEvent) → StandsAt self.old n text events
+            → Feeds n text events bytes.now result.used result.step self.new }
+        ensures faulted { (fault : LexFault) → IsFaulted self.old fault
+            → (result ≡ record { used = 0; step = Step.Fault fault }) × (self.new ≡ self.old) }
         ensures within { result.used ≤ length bytes.now }
         ensures progress { (event : BusEvent) → result.step ≡ Step.Event event → 0 < result.used }
     {
@@ -304,7 +293,7 @@ impl Lexer {
     // Counts a byte that was used, and goes on at `place`.
     #[inline]
     fn advance(&mut self, place: Place)
-        ensures { self.new ≡ record { place = place; used = min (self.old.used + 1) (2 ^ 64 - 1) } }
+        ensures { self.new ≡ record { place = place; used = capped (self.old.used + 1) } }
     {
         self.place = place;
         self.used = self.used.saturating_add(1);

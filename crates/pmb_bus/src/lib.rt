@@ -14,11 +14,10 @@
 //! ```
 #![tactic(auto)]
 
+mod alphabet;
 mod event;
 pub mod laws;
 mod lexer;
-#[cfg(test)]
-mod tests;
 
 pub use event::{Event, Token, event_text};
 pub use lexer::{LexFault, Lexed, Lexer, Step};

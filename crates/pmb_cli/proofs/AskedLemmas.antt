@@ -1,5 +1,5 @@
 -- What `clap` found in the words, as what they ask for.
-use Rattle.std.proofs.Common.{◌≡◌, true, false, Option, Some, None, List, [], codes, refl, ap, ◌∙◌}
+use Rattle.std.proofs.Common.{◌≡◌, Bool, true, false, Option, Some, None, List, [], codes, refl, ap, ◌∙◌}
 use Rattle.std.specs.Borrow.{Bor}
 use Rattle.std.specs.Option.{option_map, unwrap_or}
 use Rattle.std.specs.Prelude.{Box}
@@ -8,23 +8,23 @@ use Rattle.std.specs.Str.{bytes_eq}
 use Rattle.clap.specs.Words.{Row, Text, found_of, rows_of, subcommand_rows}
 use Rattle.clap.specs.declared.parser.matches.ArgMatches.TheViews.{out-SubCommand}
 use Rattle.clap.specs.declared.parser.matches.SubCommand.{SubCommand}
-use Rattle.pmb_cli.specs.declared.line_task.LineTask.TheVariants.{Encode, Decode}
-use Rattle.pmb_cli.specs.Asked.{for_format, task_of}
-use Rattle.pmb_cli.specs.FormatWord.{format_of}
+use Rattle.pmb_cli.specs.Asked.{Decode, Encode, Show, entered, format_in, has_sample}
 
 -- ---- the subcommand
 
-pub of_encode : (name format : Text) → bytes_eq name (codes "encode") ≡ true → Some (for_format Encode (format_of format)) ≡ task_of name format
-unfolding task_of
-of_encode name format is = rw is refl
+pub of_encode : (name : Text) (rows : List Row) (format : Text) → bytes_eq name (codes "encode") ≡ true → format ≡ format_in rows → Encode format ≡ entered name rows
+unfolding entered
+of_encode name rows format is format_is = rw is (ap Encode format_is)
 
-pub of_decode : (name format : Text) → bytes_eq name (codes "encode") ≡ false → bytes_eq name (codes "decode") ≡ true → Some (for_format Decode (format_of format)) ≡ task_of name format
-unfolding task_of
-of_decode name format not is = rw (not, is) refl
+pub of_decode : (name : Text) (rows : List Row) (format : Text) → bytes_eq name (codes "encode") ≡ false → bytes_eq name (codes "decode") ≡ true → format ≡ format_in rows
+    → Decode format ≡ entered name rows
+unfolding entered
+of_decode name rows format not is format_is = rw (not, is) (ap Decode format_is)
 
-pub of_neither : (name format : Text) → bytes_eq name (codes "encode") ≡ false → bytes_eq name (codes "decode") ≡ false → None ≡ task_of name format
-unfolding task_of
-of_neither name format not_1 not_2 = rw (not_1, not_2) refl
+pub of_show : (name : Text) (rows : List Row) (sample : Bool) → bytes_eq name (codes "encode") ≡ false → bytes_eq name (codes "decode") ≡ false → sample ≡ has_sample rows
+    → Show sample ≡ entered name rows
+unfolding entered
+of_show name rows sample not_1 not_2 sample_is = rw (not_1, not_2) (ap Show sample_is)
 
 -- ---- its matches
 

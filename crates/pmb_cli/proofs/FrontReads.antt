@@ -1,83 +1,163 @@
 -- A run of `front` over a reader, piece by piece.
-use Rattle.std.proofs.Common.{◌≡◌, ℕ, ◌+◌, ◌<◌, ◌≤◌, Bool, true, false, Option, Result, Ok, Err, IfOk, IfErr, List, [], ◌++◌, length, take, drop, inl, inr, refl, sym, ap, ◌∙◌, subst, arith}
+use Rattle.std.proofs.Common.{◌≡◌, ◌≢◌, ◌↔◌, IsTrue, ℕ, ◌+◌, ◌<◌, ◌≤◌, min, Bool, true, false, Result, Ok, Err, IfOk, OnErr, List, [], ◌++◌, length, take, drop, inl, inr, refl, sym, ap, ◌∙◌, subst, arith}
 use Rattle.std.specs.Prelude.{if◌then◌else◌}
 use Rattle.std.specs.Result.{is_ok, is_err}
 use Rattle.std.specs.declared.alloc.AllocError.{AllocError}
-use Rattle.std.specs.Io.KnownBytes.{Consumes, IsAtEnd}
-use Rattle.std.proofs.lemmas.List.{append-nil, length-take-le, take_all, drop_all}
-use Rattle.pmb_cli.specs.declared.fault.ToolFault.{ToolFault}
-use Rattle.pmb_cli.specs.declared.fault.ToolFault.TheVariants.{ProfileTooLong}
-use Rattle.pmb_cli.specs.Front.{Parts, NoMark, Reads, Ends, ReadFront, ReadTooMuch, most_profile}
+use Rattle.std.specs.Io.KnownBytes.{Consumes, IsAtEnd, Keeps}
+use Rattle.std.proofs.lemmas.List.{append-nil, length-append, length-take-le}
+use Rattle.pmb_io.specs.Count.{raised}
+use Rattle.pmb_io.specs.Runs.{most_piece}
+use Rattle.pmb_io.specs.declared.fault.ToolFault.{ToolFault}
+use Rattle.pmb_io.specs.declared.fault.ToolFault.TheVariants.{ProfileTooLong}
+use Rattle.pmb_io.proofs.Running.{bytes_more, one_read_more, raised_by_none, raised_twice}
+use Rattle.pmb_io.proofs.Writing.{consumes_then, consumes_nothing, keeps_consumes}
+use Rattle.pmb_cli.specs.Front.{FirstMark, Gave, MayFit, NoMark, Parts, ReadFront, ReadTooMuch, Reads, Told, Undecided, most_profile}
+use Rattle.pmb_cli.proofs.Limits.{late_cannot_fit, short_fits}
 use Rattle.pmb_cli.proofs.Marks.{none_in_nothing}
-use Rattle.pmb_cli.proofs.Writing.{consumes_then, consumes_nothing}
+
+-- ---- what a reader gave
+
+gave_nothing : (told : Told) → Gave told told []
+gave_nothing told = record { consumed = consumes_nothing told.left; given = sym (raised_by_none told.given) }
+
+gave_then : (old mid new : Told) (read piece : List ℕ) → Gave old mid read → Gave mid new piece → Gave old new (read ++ piece)
+gave_then old mid new read piece first second = record {
+  consumed = consumes_then old.left mid.left new.left read piece first.consumed second.consumed;
+  given = second.given ∙ (ap (λ n. raised n (length piece)) first.given ∙ (raised_twice old.given (length read) (length piece) ∙ ap (raised old.given) (sym (length-append read piece))));
+}
+
+gave_no_more : (old mid new : Told) (read : List ℕ) → Gave old mid read → Gave mid new [] → Gave old new read
+gave_no_more old mid new read first second = subst (λ (t : List ℕ). Gave old new t) (append-nil read) (gave_then old mid new read [] first second)
+
+-- a read gives a piece
+pub gave_piece : (old new : Told) (count : ℕ) (buffer : List ℕ) → count ≤ length buffer → Consumes old.left new.left (take count buffer) → new.given ≡ raised old.given count
+    → Gave old new (take count buffer)
+gave_piece old new count buffer within consumed given = record { consumed = consumed; given = bytes_more old.given new.given count buffer within given }
+
+-- or nothing
+pub gave_none : (old new : Told) (count : ℕ) (buffer : List ℕ) → count ≡ 0 → Consumes old.left new.left (take count buffer) → new.given ≡ raised old.given count → Gave old new []
+gave_none old new count buffer none consumed given = record {
+  consumed = subst (λ (n : ℕ). Consumes old.left new.left (take n buffer)) none consumed;
+  given = given ∙ ap (raised old.given) none;
+}
+
+-- or fails
+pub gave_no_bytes : (old mid new : Told) (read : List ℕ) → Gave old mid read → Keeps mid.left new.left → new.given ≡ mid.given → Gave old new read
+gave_no_bytes old mid new read first kept same =
+    gave_no_more old mid new read first (record { consumed = keeps_consumes mid.left new.left kept; given = same ∙ sym (raised_by_none mid.given) })
+
+-- ---- what was read
 
 -- nothing is read
-pub reads_nothing : (left : Option (List ℕ)) → Reads left left []
-reads_nothing left = record {
+pub reads_nothing : (told : Told) → Reads told told []
+reads_nothing told = record {
+  gave = gave_nothing told;
   before = [];
   piece = [];
-  consumed = consumes_nothing left;
   whole = refl;
   small = omega arith;
-  undecided = record { none = none_in_nothing; short = omega arith };
+  undecided = record { none = none_in_nothing; may_fit = short_fits [] none_in_nothing (omega arith) };
 }
 
 -- a piece more is read, where nothing was decided
-pub reads_more : (left0 left1 left2 : Option (List ℕ)) (read piece : List ℕ) → Reads left0 left1 read → NoMark read → length read < most_profile + 4
-    → Consumes left1 left2 piece → length piece ≤ 65536 → Reads left0 left2 (read ++ piece)
-reads_more left0 left1 left2 read piece reads none short consumed small = record {
+pub reads_more : (old mid new : Told) (read piece : List ℕ) → Reads old mid read → Undecided read → Gave mid new piece → length piece ≤ most_piece → Reads old new (read ++ piece)
+reads_more old mid new read piece reads undecided gave small = record {
+  gave = gave_then old mid new read piece reads.gave gave;
   before = read;
   piece = piece;
-  consumed = consumes_then left0 left1 left2 read piece reads.consumed consumed;
   whole = refl;
   small = small;
-  undecided = record { none = none; short = short };
+  undecided = undecided;
 }
 
--- a read that gives nothing
-pub consumes_no_more : (left0 left1 left2 : Option (List ℕ)) (read : List ℕ) → Consumes left0 left1 read → Consumes left1 left2 [] → Consumes left0 left2 read
-consumes_no_more left0 left1 left2 read first second =
-    subst (λ (t : List ℕ). Consumes left0 left2 t) (append-nil read) (consumes_then left0 left1 left2 read [] first second)
+-- the bytes of one read more
+pub reads_piece : (old mid new : Told) (read : List ℕ) (count : ℕ) (buffer : List ℕ) → Reads old mid read → NoMark read → MayFit read
+    → count ≤ length buffer → length buffer ≤ most_piece → Consumes mid.left new.left (take count buffer) → new.given ≡ raised mid.given count
+    → Reads old new (read ++ take count buffer)
+reads_piece old mid new read count buffer reads none fit within small consumed given =
+    reads_more old mid new read (take count buffer) reads (record { none = none; may_fit = fit }) (gave_piece mid new count buffer within consumed given)
+    (omega (arith, length-take-le count buffer within, within, small))
 
-pub reads_no_more : (left0 left1 left2 : Option (List ℕ)) (read : List ℕ) → Reads left0 left1 read → Consumes left1 left2 [] → Reads left0 left2 read
-reads_no_more left0 left1 left2 read reads consumed = record {
+-- a read that gives nothing
+pub reads_no_more : (old mid new : Told) (read : List ℕ) → Reads old mid read → Gave mid new [] → Reads old new read
+reads_no_more old mid new read reads gave = record {
+  gave = gave_no_more old mid new read reads.gave gave;
   before = reads.before;
   piece = reads.piece;
-  consumed = consumes_no_more left0 left1 left2 read reads.consumed consumed;
   whole = reads.whole;
   small = reads.small;
   undecided = reads.undecided;
 }
 
+-- ---- how often
+
+-- so many reads at most gave bytes
+abbrev pub FewReads : ℕ → ℕ → ℕ → Type 0
+FewReads most old new = (count : ℕ) × (count ≤ most) × (new ≡ raised old count)
+
+pub no_reads : (most told : ℕ) → FewReads most told told
+no_reads most told = (0, omega arith, sym (raised_by_none told))
+
+pub one_more : (most more old mid new n : ℕ) → FewReads most old mid → new ≡ raised mid (min n 1) → n ≢ 0 → most < more → FewReads more old new
+one_more most more old mid new n few is some room = (few.0 + 1, omega (arith, few.1), one_read_more old mid new few.0 n few.2 is some)
+
+pub none_more : (most more old mid new n : ℕ) → FewReads most old mid → new ≡ raised mid (min n 1) → n ≡ 0 → most ≤ more → FewReads more old new
+none_more most more old mid new n few is none room =
+    (few.0, omega (arith, few.1), is ∙ (ap (λ n. raised mid (min n 1)) none ∙ (raised_by_none mid ∙ few.2)))
+
+pub same_reads : (most more old mid new : ℕ) → FewReads most old mid → new ≡ mid → most ≤ more → FewReads more old new
+same_reads most more old mid new few is room = (few.0, omega (arith, few.1), is ∙ few.2)
+
+-- ---- what it comes to
+
 -- the reader ended, and all is profile
-pub ends_with_reader : (read : List ℕ) (count : ℕ) (left : Option (List ℕ)) (ended : Bool) → count ≡ length read → NoMark read → ended ≡ true → IsAtEnd left
-    → Ends read (take count read) (drop count read) left ended
-ends_with_reader read count left ended all none is_ended at_end =
-    inr (record { none = none; all = take_all count read (omega arith); nothing = drop_all count read (omega arith) }, is_ended, at_end)
+pub all_within : (result : Result Parts ToolFault) (old new : Told) (ended : Bool) (read : List ℕ) → Reads old new read → NoMark read → ended ≡ true → IsAtEnd new.left
+    → IfOk result (λ front. front.profile ≡ read) → IfOk result (λ front. front.rest ≡ []) → IfOk result (λ front. front.marked ≡ false) → IfOk result (λ _. length read ≤ most_profile)
+    → IfOk result (ReadFront old new ended)
+all_within (Ok front) old new ended read reads none is_ended at_end profile rest unmarked within = record {
+  read = read;
+  reads = reads;
+  ends = inr (record { unmarked = unmarked; all = record { none = none; all = profile; nothing = rest }; ended = is_ended; at_end = at_end });
+  within = omega (arith, ap length profile, within);
+}
+all_within (Err fault) old new ended read reads none is_ended at_end profile rest unmarked within = tt
+
+-- or is too long
+pub all_past_limit : (result : Result Parts ToolFault) (old new : Told) (ended : Bool) (read : List ℕ) → Reads old new read → NoMark read → ended ≡ true → IsAtEnd new.left
+    → OnErr result (most_profile < length read) → result ≡ Err ProfileTooLong → ReadTooMuch old new ended
+all_past_limit (Ok front) old new ended read reads none is_ended at_end long is = absurd (cc)
+all_past_limit (Err fault) old new ended read reads none is_ended at_end long is = record {
+  read = read;
+  reads = reads;
+  too_long = inr (record { none = none; long = long; ended = is_ended; at_end = at_end });
+}
 
 -- what `cut` leaves at `Ok`
-pub cut_within : (result : Result Parts ToolFault) (left0 left1 : Option (List ℕ)) (ended : Bool) (read : List ℕ) (start end : ℕ) → Reads left0 left1 read
-    → Ends read (take start read) (drop end read) left1 ended → start ≤ length read
-    → IfOk result (λ front. front.profile ≡ take start read) → IfOk result (λ front. front.rest ≡ drop end read) → IfOk result (λ _. start ≤ most_profile)
-    → IfOk result (ReadFront left0 left1 ended)
-cut_within (Ok front) left0 left1 ended read start end reads ends inside profile rest within = record {
+pub cut_within : (result : Result Parts ToolFault) (old new : Told) (ended : Bool) (read : List ℕ) (start end : ℕ) → Reads old new read
+    → FirstMark read (take start read) (drop end read) → start ≤ length read
+    → IfOk result (λ front. front.profile ≡ take start read) → IfOk result (λ front. front.rest ≡ drop end read) → IfOk result (λ front. front.marked ≡ true) → IfOk result (λ _. start ≤ most_profile)
+    → IfOk result (ReadFront old new ended)
+cut_within (Ok front) old new ended read start end reads first inside profile rest marked within = record {
   read = read;
   reads = reads;
-  ends = subst (λ (p : List ℕ). Ends read p front.rest left1 ended) (sym profile) (subst (λ (r : List ℕ). Ends read (take start read) r left1 ended) (sym rest) ends);
+  ends = inl (record { marked = marked; first = subst (λ (p : List ℕ). FirstMark read p front.rest) (sym profile) (subst (λ (r : List ℕ). FirstMark read (take start read) r) (sym rest) first) });
   within = omega (arith, ap length profile, length-take-le start read inside, within);
 }
-cut_within (Err fault) left0 left1 ended read start end reads ends inside profile rest within = tt
+cut_within (Err fault) old new ended read start end reads first inside profile rest marked within = tt
 
 -- what `cut` refuses
-pub cut_past_limit : (result : Result Parts ToolFault) (left0 left1 : Option (List ℕ)) (ended : Bool) (read : List ℕ) (start end : ℕ) → Reads left0 left1 read
-    → Ends read (take start read) (drop end read) left1 ended → start ≤ length read
-    → IfErr result (λ fault. (fault ≡ ProfileTooLong) × (most_profile < start)) → result ≡ Err ProfileTooLong → ReadTooMuch left0 left1 ended
-cut_past_limit (Ok front) left0 left1 ended read start end reads ends inside long is = absurd (cc)
-cut_past_limit (Err fault) left0 left1 ended read start end reads ends inside long is = record {
+pub cut_past_limit : (result : Result Parts ToolFault) (old new : Told) (ended : Bool) (read : List ℕ) (start end : ℕ) → Reads old new read
+    → FirstMark read (take start read) (drop end read) → start ≤ length read → OnErr result (most_profile < start) → result ≡ Err ProfileTooLong → ReadTooMuch old new ended
+cut_past_limit (Ok front) old new ended read start end reads first inside long is = absurd (cc)
+cut_past_limit (Err fault) old new ended read start end reads first inside long is = record {
   read = read;
   reads = reads;
-  too_long = inl (record { profile = take start read; rest = drop end read; ends = ends; long = omega (arith, length-take-le start read inside, long.1) });
+  too_long = inl (late_cannot_fit read (take start read) (drop end read) first (omega (arith, length-take-le start read inside, long)));
 }
+
+-- what is told not to fit does not
+pub told_unfit : (fits : Bool) (text seen : List ℕ) → IsTrue fits ↔ MayFit seen → seen ≡ text → fits ≡ false → MayFit text → ⊥
+told_unfit fits text seen told same unfit fit = absurd (let contrary : true ≡ false = sym (told.1 (subst MayFit (sym same) fit)) ∙ unfit in cc)
 
 -- what a growth that was not refused leaves
 pub grown : (growth : Result Unit AllocError) (refused : Bool) (items read piece : List ℕ) → refused ≡ is_err growth → refused ≡ false

@@ -1,8 +1,8 @@
 -- A text has one profile and one rest.
 use Rattle.std.proofs.Common.{◌≡◌, ℕ, ◌+◌, ◌<◌, ◌≤◌, List, [], ◌∷◌, ◌++◌, length, take, drop, codes, inl, inr, refl, sym, ap, ◌∙◌, arith, append_assoc}
 use Rattle.std.proofs.lemmas.List.{length-append, take_at, drop-append-le, append_cancel_left}
-use Rattle.pmb_cli.specs.Front.{IsMark, StartsLine, HasMark, FirstMark, IsFront, GoesPastLimit, most_profile}
-use Rattle.pmb_cli.proofs.Marks.{begins_with, mark_in_front, mark_stays, mark_at_most}
+use Rattle.pmb_cli.specs.Front.{IsMark, StartsLine, HasMark, FirstMark, IsFront}
+use Rattle.pmb_cli.proofs.Marks.{begins_with, mark_in_front, mark_stays}
 
 -- a line `%%` ends at the first LF behind its start
 ends_at_lf : (line seen rest after : List ℕ) → IsMark line → seen ++ 10 ∷ rest ≡ line ++ after → length line ≤ length seen + 1
@@ -66,14 +66,3 @@ unique text p q a b (inr first) (inr second) = (first.all ∙ sym second.all, fi
 -- more behind a text leaves its first line `%%`
 pub stays : (text p a more : List ℕ) → FirstMark text p a → FirstMark (text ++ more) p (a ++ more)
 stays text p a more first = record { line = first.line; mark = mark_stays text more p first.line a first.mark; none_before = first.none_before }
-
--- what is not within the limit is past it
-past : (n : ℕ) → (n ≤ most_profile → ⊥) → most_profile < n
-past n not_within = omega (arith, not_within)
-
--- what passes the limit without a line `%%` passes it whatever follows
-pub goes_on : (text more p a : List ℕ) → GoesPastLimit text → IsFront (text ++ more) p a → most_profile < length p
-goes_on text more p a long (inl first) =
-    past (length p) (λ within. long.none p first.line (drop (length (p ++ first.line)) text)
-    (mark_in_front text more p first.line a first.mark (omega (arith, length-append p first.line, mark_at_most first.line first.mark.is_mark, long.long))))
-goes_on text more p a long (inr whole) = omega (arith, ap length whole.all, length-append text more, long.long)

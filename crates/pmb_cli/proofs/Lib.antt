@@ -1,23 +1,9 @@
-pub mod Grammars
-pub mod Packets
-pub mod Stepping
-pub mod Feeding
-pub mod Readings
-pub mod Reporting
-pub mod Writing
-pub mod Outcomes
-pub mod Endings
-pub mod Taking
-pub mod Running
-pub mod Shown
-pub mod FormatLemmas
-pub mod AnswerLemmas
-pub mod LineLemmas
-pub mod AnsweringLemmas
-pub mod AskedLemmas
-pub mod FormatWords
 pub mod Marks
 pub mod Fronts
+pub mod Limits
 pub mod FrontReads
 pub mod Statuses
+pub mod Behind
+pub mod AskedLemmas
+pub mod AskedWords
 mod WordsExamples

@@ -1,9 +1,12 @@
 -- Lines `%%` in a text and in a front of it.
-use Rattle.std.proofs.Common.{◌≡◌, ℕ, Bool, true, false, ◌+◌, ◌<◌, ◌≤◌, List, [], ◌∷◌, ◌++◌, length, take, drop, get_or, codes, inl, inr, refl, sym, ap, ◌∙◌, subst, arith, append_assoc}
+use Rattle.std.proofs.Common.{◌≡◌, ◌⊎◌, ℕ, Bool, true, false, eqb, ◌+◌, ◌<◌, ◌≤◌, List, [], ◌∷◌, ◌++◌, length, take, drop, get_or, codes, inl, inr, refl, sym, ap, ◌∙◌, subst, arith, append_assoc}
 use Rattle.std.specs.Prelude.{◌==◌}
+use Rattle.std.proofs.lemmas.Bool.{cases_eq, ne_eqb}
 use Rattle.std.proofs.lemmas.Bool.Decides.{nat_tests}
 use Rattle.std.proofs.lemmas.List.{append-nil, length-append, take-append-drop, take_at, drop_at, take-append-le, take-take, take_more, same_from_push, length-take-le}
-use Rattle.pmb_cli.specs.Front.{IsMark, StartsLine, HasMark, NoMark, NoneEndsWithin, FirstMark, EndsInMark, WithoutReturn}
+use Rattle.pmb_io.specs.Lines.{carriage_return, without_return}
+use Rattle.pmb_cli.specs.Front.{IsMark, StartsLine, HasMark, NoMark, FirstMark}
+use Rattle.pmb_cli.specs.machine.Front.{NoneEndsWithin, EndsInMark}
 
 -- a line `%%` has three or four bytes
 pub mark_at_least : (line : List ℕ) → IsMark line → 3 ≤ length line
@@ -66,7 +69,7 @@ none_at_end text count all none before line after mark =
     none before line after mark (omega (arith, ap length (mark.whole ∙ sym (append_assoc before line after)), length-append (before ++ line) after))
 
 -- what is not at most a number is more
-by_order : (m n : ℕ) → (n ≤ m → ⊥) → m < n
+pub by_order : (m n : ℕ) → (n ≤ m → ⊥) → m < n
 by_order m n not_at_most = omega (arith, not_at_most)
 
 -- a line ends later than where none ends
@@ -118,11 +121,49 @@ ends_in_mark text before tail whole is_mark starts =
       is_mark = subst (λ (t : List ℕ). IsMark (t ++ codes "\n")) (sym tail_is) is_mark;
     }
 
+-- without the CR at the end, or the same where there is none
+abbrev WithoutReturn : List ℕ → List ℕ → Type 0
+WithoutReturn text line = (text ≡ line ++ codes "\r") ⊎ ((line ≡ text) × ((front : List ℕ) → text ≡ front ++ codes "\r" → ⊥))
+
+-- what does not end in CR does not with one byte more in front
+not_in_tail : (byte next : ℕ) (text front : List ℕ) → ((before : List ℕ) → next ∷ text ≡ before ++ codes "\r" → ⊥) → byte ∷ next ∷ text ≡ front ++ codes "\r" → ⊥
+not_in_tail byte next text [] none ends = absurd (omega (arith, ap length ends))
+not_in_tail byte next text (b ∷ front) none ends = let tail : next ∷ text ≡ front ++ codes "\r" = cc in none front tail
+
+-- and with one more in front
+dropped_behind : (byte next : ℕ) (text line : List ℕ) → WithoutReturn (next ∷ text) line → WithoutReturn (byte ∷ next ∷ text) (byte ∷ line)
+dropped_behind byte next text line (inl return) = inl (ap (λ l. byte ∷ l) return)
+dropped_behind byte next text line (inr none) = inr (ap (λ l. byte ∷ l) none.0, λ front ends. not_in_tail byte next text front none.1 ends)
+
+-- what is left of a text that loses its CR
+dropped : (text : List ℕ) → WithoutReturn text (without_return text)
+unfolding without_return
+dropped [] = inr (refl, λ front ends. absurd (omega (arith, ap length ends, length-append front (codes "\r"))))
+dropped (byte ∷ []) = elim (cases_eq byte carriage_return) [
+  | inl same ↦ subst (λ (b : ℕ). WithoutReturn (b ∷ []) (without_return (b ∷ []))) (sym same) (inl refl)
+  | inr other ↦
+      let test : eqb byte carriage_return ≡ false = ne_eqb byte carriage_return other in
+      rw test (inr (refl, λ front ends. other (same_from_push [] front byte carriage_return ends).1))
+]
+dropped (byte ∷ next ∷ text) = dropped_behind byte next text (without_return (next ∷ text)) (dropped (next ∷ text))
+
 -- where the text ends in `%%` at the start of a line, with CR behind it or not, an LF ends a line `%%`
-pub found : (text line before : List ℕ) → WithoutReturn text line → line ≡ before ++ codes "%%" → StartsLine before → EndsInMark text (length before)
-found text line before (inl return) ends starts =
+found_in : (text line before : List ℕ) → WithoutReturn text line → line ≡ before ++ codes "%%" → StartsLine before → EndsInMark text (length before)
+found_in text line before (inl return) ends starts =
     ends_in_mark text before (codes "%%\r") (return ∙ (ap (λ l. l ++ codes "\r") ends ∙ append_assoc before (codes "%%") (codes "\r"))) (inr refl) starts
-found text line before (inr none) ends starts = ends_in_mark text before (codes "%%") (sym none.0 ∙ ends) (inl refl) starts
+found_in text line before (inr none) ends starts = ends_in_mark text before (codes "%%") (sym none.0 ∙ ends) (inl refl) starts
+
+pub found : (text line before : List ℕ) → line ≡ without_return text → line ≡ before ++ codes "%%" → StartsLine before → EndsInMark text (length before)
+found text line before is ends starts = found_in text line before (subst (WithoutReturn text) (sym is) (dropped text)) ends starts
+
+-- without it a text is no longer
+no_longer : (text line : List ℕ) → WithoutReturn text line → length line ≤ length text
+no_longer text line (inl return) = omega (arith, ap length return, length-append line (codes "\r"))
+no_longer text line (inr none) = omega (arith, ap length none.0)
+
+pub within_line : (text line before tail : List ℕ) → line ≡ without_return text → line ≡ before ++ tail → length before ≤ length text
+within_line text line before tail is ends =
+    omega (arith, no_longer text line (subst (WithoutReturn text) (sym is) (dropped text)), ap length ends, length-append before tail)
 
 -- what is before the LF of a line
 before_lf : (text before front line : List ℕ) → line ≡ front ++ 10 ∷ [] → text ++ 10 ∷ [] ≡ before ++ (line ++ []) → text ≡ before ++ front
@@ -144,11 +185,11 @@ by_ends text line before mark (inr none) whole (inr cr_lf) =
     absurd (none.1 (before ++ codes "%%") (text_is ∙ sym (append_assoc before (codes "%%") (codes "\r"))))
 
 -- where an LF ends a line `%%`, the text without a CR at its end ends in `%%`
-pub stripped : (text line before mark : List ℕ) → WithoutReturn text line → HasMark (text ++ 10 ∷ []) before mark [] → line ≡ before ++ codes "%%"
-stripped text line before mark without has = by_ends text line before mark without has.whole has.is_mark
+pub stripped : (text line before mark : List ℕ) → line ≡ without_return text → HasMark (text ++ 10 ∷ []) before mark [] → line ≡ before ++ codes "%%"
+stripped text line before mark is has = by_ends text line before mark (subst (WithoutReturn text) (sym is) (dropped text)) has.whole has.is_mark
 
--- bytes that are there and do not end in LF start no line
-pub starts_none : (before : List ℕ) (empty ends : Bool) → empty ≡ (length before == 0) → empty ≡ false
-    → ((front : List ℕ) → before ≡ front ++ codes "\n" → ends ≡ true) → ends ≡ false → StartsLine before → ⊥
-starts_none before empty ends empty_is not_empty told not_ends (inl nothing) = let none : length before ≡ 0 = ap length nothing in grind (arith, nat_tests)
-starts_none before empty ends empty_is not_empty told not_ends (inr lines) = let yes : ends ≡ true = told lines.0 lines.1 in cc
+-- where a line starts behind bytes that are there, they end in LF
+pub line_ends : (before : List ℕ) (empty ends : Bool) → empty ≡ (length before == 0) → empty ≡ false
+    → ((front : List ℕ) → before ≡ front ++ codes "\n" → ends ≡ true) → StartsLine before → ends ≡ true
+line_ends before empty ends empty_is not_empty told (inl nothing) = let none : length before ≡ 0 = ap length nothing in absurd (grind (arith, nat_tests))
+line_ends before empty ends empty_is not_empty told (inr lines) = told lines.0 lines.1

@@ -1,12 +1,13 @@
 -- What the status of a run says of its outcome.
-use Rattle.std.proofs.Common.{◌≡◌, ℕ, ◌≤◌, ◌⊎◌, ◌^◌, ◌++◌, ◌==◌, if◌then◌else◌, Bool, true, false, Option, Result, Ok, Err, List, length, inl, inr, refl, arith}
-use Rattle.std.proofs.lemmas.List.{length-append}
-use Rattle.std.specs.Io.KnownBytes.{Consumes}
-use Rattle.pmb_cli.specs.declared.fault.ToolFault.{ToolFault}
-use Rattle.pmb_cli.specs.declared.fault.ToolFault.TheVariants.{Read, Write, TooManyReads, ProfileTooLong, Memory}
-use Rattle.pmb_cli.specs.declared.tally.Tally.{Tally}
+use Rattle.std.proofs.Common.{◌≡◌, ◌∙◌, ap, ℕ, ◌+◌, ◌≤◌, ◌⊎◌, ◌==◌, if◌then◌else◌, Bool, true, false, Result, Ok, Err, IfOk, subst, inl, inr, refl, arith}
+use Rattle.pmb_io.specs.declared.fault.ToolFault.{ToolFault}
+use Rattle.pmb_io.specs.declared.fault.ToolFault.TheVariants.{Read, Write, TooManyReads, ProfileTooLong, Memory}
+use Rattle.pmb_io.specs.declared.tally.Tally.{Tally}
 use Rattle.pmb_cli.specs.Status.{ReadOften, run_status}
-use Rattle.pmb_cli.proofs.Writing.{consumes_then}
+use Rattle.pmb_io.specs.Count.{raised}
+use Rattle.pmb_io.specs.Runs.{most_reads}
+use Rattle.pmb_io.proofs.Running.{raised_twice}
+use Rattle.pmb_cli.specs.Front.{most_profile}
 
 -- with status 3 a read or a write failed, or there were too many reads
 pub io_fault : (outcome : Result Tally ToolFault) → run_status outcome ≡ 3 →
@@ -25,8 +26,19 @@ io_fault (Err TooManyReads) three = inr (inr refl)
 io_fault (Err ProfileTooLong) three = absurd cc
 io_fault (Err Memory) three = absurd cc
 
--- who read often behind what was read before, read often
-pub read_often_behind : (a b c : Option (List ℕ)) (before read : List ℕ) → Consumes a b before → Consumes b c read
-    → 2 ^ 32 ≤ length read → ReadOften a c
-read_often_behind a b c before read first next often =
-    (before ++ read, consumes_then a b c before read first next, omega (arith, length-append before read, often))
+-- who made so many reads behind others read often
+pub read_often_behind : (old mid new : ℕ) → ((count : ℕ) × (count ≤ most_profile + 4) × (mid ≡ raised old count)) → new ≡ raised mid most_reads → ReadOften old new
+read_often_behind old mid new before often = (before.0 + most_reads, omega arith, often ∙ (ap (λ n. raised n most_reads) before.2 ∙ raised_twice old before.0 most_reads))
+
+-- with status 0 or 1 a run ended well
+pub ended_well : (outcome : Result Tally ToolFault) → run_status outcome ≤ 1 → (tally : Tally) × (outcome ≡ Ok tally)
+ended_well (Ok tally) within = (tally, refl)
+ended_well (Err Read) within = absurd (omega arith)
+ended_well (Err Write) within = absurd (omega arith)
+ended_well (Err TooManyReads) within = absurd (omega arith)
+ended_well (Err ProfileTooLong) within = absurd (omega arith)
+ended_well (Err Memory) within = absurd (omega arith)
+
+-- what holds of it
+pub at_ok : (Holds : Tally → Type 0) (outcome : Result Tally ToolFault) (tally : Tally) → outcome ≡ Ok tally → IfOk outcome Holds → Holds tally
+at_ok Holds outcome tally is holds = subst (λ (r : Result Tally ToolFault). IfOk r Holds) is holds

@@ -4,16 +4,6 @@ use Rattle.clap.proofs.OnLiterals.{clap_on_literals}
 use Rattle.clap.specs.declared.error.kind.ErrorKind.TheVariants.{DisplayHelp, DisplayHelpOnMissingArgumentOrSubcommand, InvalidSubcommand, UnknownArgument}
 use Rattle.pmb_cli.specs.Words.{faults_of}
 
--- `pmb show --sample` is taken.
-show_sample : faults_of (codes "pmb" ∷ codes "show" ∷ codes "--sample" ∷ []) ≡ []
-unfolding clap_on_literals
-show_sample = refl
-
--- `pmb show` is taken without it.
-show_alone : faults_of (codes "pmb" ∷ codes "show" ∷ []) ≡ []
-unfolding clap_on_literals
-show_alone = refl
-
 -- `pmb` alone is told the help, as a fault.
 no_words : faults_of (codes "pmb" ∷ []) ≡ DisplayHelpOnMissingArgumentOrSubcommand ∷ []
 unfolding clap_on_literals
@@ -28,11 +18,6 @@ misspelt = refl
 one_more_word : faults_of (codes "pmb" ∷ codes "show" ∷ codes "--sample" ∷ codes "more" ∷ []) ≡ UnknownArgument ∷ []
 unfolding clap_on_literals
 one_more_word = refl
-
--- `pmb --help` asks for help, and for nothing else.
-asks_help : faults_of (codes "pmb" ∷ codes "--help" ∷ []) ≡ DisplayHelp ∷ []
-unfolding clap_on_literals
-asks_help = refl
 
 -- `pmb help` may ask for help, or name a subcommand that is none.
 help_subcommand : faults_of (codes "pmb" ∷ codes "help" ∷ []) ≡ DisplayHelp ∷ InvalidSubcommand ∷ []

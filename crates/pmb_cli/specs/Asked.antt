@@ -1,45 +1,52 @@
 -- What the words ask for, where `clap` finds no fault in them.
-use Rattle.std.specs.Prelude.{◌≡◌, Option, Some, None, Result, Ok, Err, List, [], codes, if◌then◌else◌, unwrap_or}
+use Rattle.std.specs.Prelude.{◌≡◌, ◌⊎◌, Bool, false, Option, Some, None, Err, List, [], codes, if◌then◌else◌, unwrap_or}
 use Rattle.std.specs.Str.{bytes_eq}
 use Rattle.clap.specs.Words.{Row, Text, first_of, subcommand_of}
-use Rattle.pmb_cli.specs.declared.format_fault.FormatFault.{FormatFault}
-use Rattle.pmb_cli.specs.declared.format_word.NamedFormat.{NamedFormat}
-use Rattle.pmb_cli.specs.declared.line_task.LineTask.{LineTask}
-use Rattle.pmb_cli.specs.declared.line_task.LineTask.TheVariants.{Encode, Decode}
-use Rattle.pmb_cli.specs.FormatWord.{format_of}
+use Rattle.pmb_convert.specs.Spelling.{Names}
+use Rattle.pmb_convert.specs.declared.format_fault.FormatFault.{FormatFault}
+use Rattle.pmb_cli.specs.declared.asked.Task.{Task}
+use Rattle.pmb_cli.specs.declared.asked.Task.TheVariants as asks
 use Rattle.pmb_cli.specs.Words.{faults_of, pmb_app}
 
--- a task for a format, or the fault of its word
-abbrev pub for_format : (NamedFormat → LineTask) → Result NamedFormat FormatFault → Result LineTask FormatFault
-for_format task (Ok format) = Ok (task format)
-for_format task (Err fault) = Err fault
+-- A capture is to be shown, under the sample profile or else under the one in front of it; or lines are to be encoded or
+-- decoded, in the format that a text names.
+pub data Asking : Type 0 where
+  Show : (sample : Bool) → Asking
+  Encode : (format : Text) → Asking
+  Decode : (format : Text) → Asking
 
--- what a subcommand's name and its FORMAT ask to be done with lines; nothing for another subcommand
-unfoldable pub task_of : Text → Text → Option (Result LineTask FormatFault)
-task_of name format =
-    if bytes_eq name (codes "encode") then Some (for_format Encode (format_of format)) else (
-    if bytes_eq name (codes "decode") then Some (for_format Decode (format_of format)) else None)
+-- the same as it is kept
+abbrev pub asking_of : Task → Asking
+asking_of (asks.Show sample) = Show sample
+asking_of (asks.Encode format) = Encode format.now
+asking_of (asks.Decode format) = Decode format.now
 
--- FORMAT among a subcommand's matches, and no text where there is none
+-- the flag `--sample` among a subcommand's matches
+abbrev pub has_sample : List Row → Bool
+has_sample rows = bytes_eq (unwrap_or (first_of (codes "sample") rows) []) (codes "true")
+
+-- FORMAT among them, and no text where there is none
 abbrev pub format_in : List Row → Text
 format_in rows = unwrap_or (first_of (codes "FORMAT") rows) []
 
-abbrev pub asked_of : Option (Text × List Row) → Option (Result LineTask FormatFault)
-asked_of None = None
-asked_of (Some entered) = task_of entered.0 (format_in entered.1)
+-- what a subcommand asks for
+unfoldable pub entered : Text → List Row → Asking
+entered name rows =
+    if bytes_eq name (codes "encode") then Encode (format_in rows) else (
+    if bytes_eq name (codes "decode") then Decode (format_in rows) else Show (has_sample rows))
 
--- what the words ask to be done with lines, or the fault of their FORMAT
-abbrev pub asked : List Text → Option (Result LineTask FormatFault)
-asked words = asked_of (subcommand_of pmb_app words)
+abbrev pub asked_of : Option (Text × List Row) → Asking
+asked_of None = Show false
+asked_of (Some subcommand) = entered subcommand.0 subcommand.1
 
--- `clap` finds no fault in the words, but their FORMAT names no format
-abbrev pub HasBadFormat : List Text → Type 0
-HasBadFormat words = (faults_of words ≡ []) × ((fault : FormatFault) × (asked words ≡ Some (Err fault)))
+-- `clap` finds no fault in the words, and they ask for this
+pub record AskFor (words : List Text) (asking : Asking) : Type 0 where
+  pub no_fault : faults_of words ≡ []
+  pub asks : asked_of (subcommand_of pmb_app words) ≡ asking
 
--- `clap` finds no fault in the words, and they ask for this to be done with lines
-abbrev pub AskFor : List Text → LineTask → Type 0
-AskFor words task = (faults_of words ≡ []) × (asked words ≡ Some (Ok task))
-
--- `clap` finds no fault in the words, and they ask for a task with the format that a text names
-abbrev pub AsksFor : List Text → (NamedFormat → LineTask) → Text → Type 0
-AsksFor words task format = (faults_of words ≡ []) × (asked words ≡ Some (for_format task (format_of format)))
+-- they ask for lines in a format, but its text names none
+pub record HasBadFormat (words : List Text) : Type 0 where
+  pub format : Text
+  pub asks : AskFor words (Encode format) ⊎ AskFor words (Decode format)
+  pub fault : FormatFault
+  pub bad : Names format (Err fault)

@@ -1,15 +1,20 @@
 -- Where the profile at the front of a capture ends: at the first line `%%`.
-use Rattle.std.specs.Prelude.{◌≡◌, ℕ, ◌+◌, ◌<◌, ◌≤◌, ◌⊎◌, Bool, true, Option, List, [], ◌++◌, length, take, drop, codes}
+use Rattle.std.specs.Prelude.{◌≡◌, ℕ, ◌+◌, ◌<◌, ◌≤◌, ◌⊎◌, Bool, true, false, Option, List, [], ◌++◌, length, codes}
 use Rattle.std.specs.Io.KnownBytes.{Consumes, IsAtEnd}
+use Rattle.pmb_io.specs.Count.{raised}
+use Rattle.pmb_io.specs.Runs.{most_piece}
 
 -- how many bytes a profile may have
 abbrev pub most_profile : ℕ
 most_profile = 1048576
 
--- what was read, without the line between: the profile, and what stands behind the line
+-- What was read, without the line between: the profile, what stands behind the line, and whether there is such a line.
 pub record Parts : Type 0 where
   pub profile : List ℕ
   pub rest : List ℕ
+  pub marked : Bool
+
+-- ---- the first line `%%` of a text
 
 -- a line `%%` with its end, LF or CR LF
 abbrev pub IsMark : List ℕ → Type 0
@@ -44,68 +49,96 @@ pub record AllProfile (text profile rest : List ℕ) : Type 0 where
 abbrev pub IsFront : List ℕ → List ℕ → List ℕ → Type 0
 IsFront text profile rest = FirstMark text profile rest ⊎ AllProfile text profile rest
 
--- no line `%%` ends within this many bytes
-abbrev pub NoneEndsWithin : List ℕ → ℕ → Type 0
-NoneEndsWithin text count = (before line after : List ℕ) → HasMark text before line after → length (before ++ line) ≤ count → ⊥
+-- ---- the limit
 
--- with an LF behind it, a text ends in a line `%%` that starts here
-abbrev pub EndsInMark : List ℕ → ℕ → Type 0
-EndsInMark text start = HasMark (text ++ codes "\n") (take start text) (drop start text ++ codes "\n") []
-
--- without CR at the end
-abbrev pub WithoutReturn : List ℕ → List ℕ → Type 0
-WithoutReturn text line = (text ≡ line ++ codes "\r") ⊎ ((line ≡ text) × ((front : List ℕ) → text ≡ front ++ codes "\r" → ⊥))
-
--- Nothing is decided: no line `%%` is there, and one may follow that begins within the limit, as it has at most 4 bytes.
-pub record Undecided (read : List ℕ) : Type 0 where
-  pub none : NoMark read
-  pub short : length read < most_profile + 4
-
--- what was read: before the last piece nothing was decided
-pub record Reads (left_old left_new : Option (List ℕ)) (read : List ℕ) : Type 0 where
-  pub before : List ℕ
-  pub piece : List ℕ
-  pub consumed : Consumes left_old left_new read
-  pub whole : read ≡ before ++ piece
-  pub small : length piece ≤ 65536
-  pub undecided : Undecided before
-
--- the profile has ended: at a line `%%`, or with the reader
-abbrev pub Ends : List ℕ → List ℕ → List ℕ → Option (List ℕ) → Bool → Type 0
-Ends read profile rest left_new ended = FirstMark read profile rest ⊎ (AllProfile read profile rest × (ended ≡ true) × IsAtEnd left_new)
-
--- `Ok`
-pub record ReadFront (left_old left_new : Option (List ℕ)) (ended : Bool) (front : Parts) : Type 0 where
-  pub read : List ℕ
-  pub reads : Reads left_old left_new read
-  pub ends : Ends read front.profile front.rest left_new ended
-  pub within : length front.profile ≤ most_profile
-
--- the profile has ended, past the limit
-pub record EndsPastLimit (read : List ℕ) (left_new : Option (List ℕ)) (ended : Bool) : Type 0 where
+-- some continuation of a text has a profile within the limit
+pub record MayFit (text : List ℕ) : Type 0 where
+  pub more : List ℕ
   pub profile : List ℕ
   pub rest : List ℕ
-  pub ends : Ends read profile rest left_new ended
-  pub long : most_profile < length profile
+  pub front : IsFront (text ++ more) profile rest
+  pub within : length profile ≤ most_profile
 
--- the profile has not ended, and passes the limit whatever follows
-pub record GoesPastLimit (read : List ℕ) : Type 0 where
+-- a text ends in these bytes, with which a line starts within the limit
+pub record EndsInLine (text tail : List ℕ) : Type 0 where
+  pub before : List ℕ
+  pub whole : text ≡ before ++ tail
+  pub starts : StartsLine before
+  pub within : length before ≤ most_profile
+
+-- in a line `%%` whose LF is still to come
+abbrev pub EndsInOpening : List ℕ → Type 0
+EndsInOpening text = EndsInLine text (codes "%") ⊎ (EndsInLine text (codes "%%") ⊎ EndsInLine text (codes "%%\r"))
+
+-- nothing is decided: there is no line `%%`, and the profile may be within the limit
+pub record Undecided (text : List ℕ) : Type 0 where
+  pub none : NoMark text
+  pub may_fit : MayFit text
+
+-- ---- what `front` read
+
+-- what a reader tells: the bytes that it has left, and how many it has given
+pub record Told : Type 0 where
+  pub left : Option (List ℕ)
+  pub given : ℕ
+
+-- these bytes were read
+pub record Gave (old new : Told) (read : List ℕ) : Type 0 where
+  pub consumed : Consumes old.left new.left read
+  pub given : new.given ≡ raised old.given (length read)
+
+-- these bytes were read, and nothing was decided before the last piece
+pub record Reads (old new : Told) (read : List ℕ) : Type 0 where
+  pub gave : Gave old new read
+  pub before : List ℕ
+  pub piece : List ℕ
+  pub whole : read ≡ before ++ piece
+  pub small : length piece ≤ most_piece
+  pub undecided : Undecided before
+
+-- the profile has ended at a line `%%`
+pub record EndsAtMark (read : List ℕ) (front : Parts) : Type 0 where
+  pub marked : front.marked ≡ true
+  pub first : FirstMark read front.profile front.rest
+
+-- it has ended with the reader
+pub record EndsWithReader (read : List ℕ) (front : Parts) (new : Told) (has_ended : Bool) : Type 0 where
+  pub unmarked : front.marked ≡ false
+  pub all : AllProfile read front.profile front.rest
+  pub ended : has_ended ≡ true
+  pub at_end : IsAtEnd new.left
+
+-- `Ok`
+pub record ReadFront (old new : Told) (has_ended : Bool) (front : Parts) : Type 0 where
+  pub read : List ℕ
+  pub reads : Reads old new read
+  pub ends : EndsAtMark read front ⊎ EndsWithReader read front new has_ended
+  pub within : length front.profile ≤ most_profile
+
+-- the reader has ended, and all is profile, past the limit
+pub record EndsPastLimit (read : List ℕ) (new : Told) (has_ended : Bool) : Type 0 where
   pub none : NoMark read
-  pub long : most_profile + 4 ≤ length read
+  pub long : most_profile < length read
+  pub ended : has_ended ≡ true
+  pub at_end : IsAtEnd new.left
 
 -- `ProfileTooLong`
-pub record ReadTooMuch (left_old left_new : Option (List ℕ)) (ended : Bool) : Type 0 where
+pub record ReadTooMuch (old new : Told) (has_ended : Bool) : Type 0 where
   pub read : List ℕ
-  pub reads : Reads left_old left_new read
-  pub too_long : EndsPastLimit read left_new ended ⊎ GoesPastLimit read
+  pub reads : Reads old new read
+  pub too_long : (MayFit read → ⊥) ⊎ EndsPastLimit read new has_ended
 
 -- `Memory`: nothing was decided before the last piece
-pub record ReadSome (left_old left_new : Option (List ℕ)) : Type 0 where
+pub record ReadSome (old new : Told) : Type 0 where
   pub read : List ℕ
-  pub reads : Reads left_old left_new read
+  pub reads : Reads old new read
 
 -- `Read`: nothing was decided
-pub record ReadUndecided (left_old left_new : Option (List ℕ)) : Type 0 where
+pub record ReadUndecided (old new : Told) : Type 0 where
   pub read : List ℕ
-  pub consumed : Consumes left_old left_new read
+  pub gave : Gave old new read
   pub undecided : Undecided read
+
+-- how many reads gave bytes: each gave one or more, and the last came before the text could not fit
+abbrev pub MadeReads : ℕ → ℕ → Type 0
+MadeReads old new = (count : ℕ) × (count ≤ most_profile + 4) × (new ≡ raised old count)

@@ -1,53 +1,34 @@
-//! What the words of the command ask to be done with lines.
+//! What the words of the command ask for.
 
 ghost use Rattle.std.specs.Prelude.{◌≡◌};
 ghost use Rattle.clap.specs.Words.{subcommand_rows_of};
-ghost use Rattle.pmb_cli.specs.declared.line_task.LineTask.TheVariants.{Encode, Decode};
-ghost use Rattle.pmb_cli.specs.Asked.{asked_of, for_format, task_of};
-ghost use Rattle.pmb_cli.specs.FormatWord.{format_of};
+ghost use Rattle.pmb_cli.specs.Asked.{asked_of, asking_of};
 
-use crate::format_fault::FormatFault;
-use crate::format_word::NamedFormat;
-use crate::line_task::LineTask;
 use clap::ArgMatches;
 
-/// The task that the words ask for, or the fault of its FORMAT; `None` where they ask for no lines.
-pub(crate) fn asked(matches: &ArgMatches<'_>) -> Option<Result<LineTask, FormatFault>>
-    ensures { result ≡ asked_of (subcommand_rows_of matches.now) }
-{
-    match matches.subcommand() {
-        Some((name, arguments)) => task_of(name, arguments.get_str("FORMAT").unwrap_or("")),
-        None => None,
-    }
+/// What is to be done.
+#[derive(Clone, Copy)]
+pub(crate) enum Task<'a> {
+    /// A capture is shown, under the sample profile, or else under the one in front of it.
+    Show(bool),
+    /// Lines are encoded in the format that a text names.
+    Encode(&'a str),
+    /// Lines are decoded in the format that a text names.
+    Decode(&'a str),
 }
 
-/// The task of a subcommand and its FORMAT.
-fn task_of(name: &str, format: &str) -> Option<Result<LineTask, FormatFault>>
-    ensures { result ≡ task_of name.now format.now }
+/// What the words ask for. `show` is what is left where it is neither of the others.
+pub(crate) fn asked<'a>(matches: &ArgMatches<'a>) -> Task<'a>
+    ensures { asking_of result ≡ asked_of (subcommand_rows_of matches.now) }
 {
+    let Some((name, arguments)) = matches.subcommand() else {
+        return Task::Show(false);
+    };
     if name == "encode" {
-        Some(encode_task(format))
+        Task::Encode(arguments.get_str("FORMAT").unwrap_or(""))
     } else if name == "decode" {
-        Some(decode_task(format))
+        Task::Decode(arguments.get_str("FORMAT").unwrap_or(""))
     } else {
-        None
-    }
-}
-
-fn encode_task(format: &str) -> Result<LineTask, FormatFault>
-    ensures { result ≡ for_format Encode (format_of format.now) }
-{
-    match NamedFormat::parse(format) {
-        Ok(format) => Ok(LineTask::Encode(format)),
-        Err(fault) => Err(fault),
-    }
-}
-
-fn decode_task(format: &str) -> Result<LineTask, FormatFault>
-    ensures { result ≡ for_format Decode (format_of format.now) }
-{
-    match NamedFormat::parse(format) {
-        Ok(format) => Ok(LineTask::Decode(format)),
-        Err(fault) => Err(fault),
+        Task::Show(arguments.get_str("sample").unwrap_or("") == "true")
     }
 }

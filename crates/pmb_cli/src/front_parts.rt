@@ -1,6 +1,6 @@
 //! What stands before a line `%%` and what was read behind it.
 
-ghost use Rattle.std.specs.Prelude.{◌≡◌, ◌≤◌, length, take, drop};
+ghost use Rattle.std.specs.Prelude.{◌≡◌, ◌≤◌, [], true, false, length, take, drop};
 
 use std::marker::Model;
 
@@ -11,8 +11,10 @@ pub struct Front {
     bytes: Vec<u8>,
     /// Where the profile ends.
     profile_end: usize,
-    /// Where the line `%%` ends.
+    /// Where what stands behind the profile and the line `%%` starts.
     rest_start: usize,
+    /// Whether there is such a line.
+    marked: bool,
 }
 
 impl Model for Front {
@@ -21,23 +23,40 @@ impl Model for Front {
 
     ghost Value = { Parts };
 
-    ghost view = { λ front. record { profile = take front.profile_end front.bytes.items; rest = drop front.rest_start front.bytes.items } };
+    ghost view = { λ front. record { profile = take front.profile_end front.bytes.items; rest = drop front.rest_start front.bytes.items; marked = front.marked } };
 
     ghost invariant = { λ front. (front.profile_end ≤ length front.bytes.items) × (front.rest_start ≤ length front.bytes.items) };
 }
 
 impl Front {
-    /// The front whose profile ends at a place of what was read, and whose rest starts at another.
-    pub(crate) fn new(bytes: Vec<u8>, profile_end: usize, rest_start: usize) -> Front
-        requires profile { profile_end ≤ length bytes.items }
-        requires rest { rest_start ≤ length bytes.items }
-        ensures profile { result.profile ≡ take profile_end bytes.items }
-        ensures rest { result.rest ≡ drop rest_start bytes.items }
+    /// The front of what was read, with a line `%%` from one place to another.
+    pub(crate) fn at_mark(bytes: Vec<u8>, start: usize, end: usize) -> Front
+        requires start { start ≤ length bytes.items }
+        requires end { end ≤ length bytes.items }
+        ensures profile { result.profile ≡ take start bytes.items }
+        ensures rest { result.rest ≡ drop end bytes.items }
+        ensures marked { result.marked ≡ true }
     {
         Front {
             bytes,
-            profile_end,
-            rest_start,
+            profile_end: start,
+            rest_start: end,
+            marked: true,
+        }
+    }
+
+    /// The front of what was read, where all of it is profile.
+    pub(crate) fn all(bytes: Vec<u8>) -> Front
+        ensures profile { result.profile ≡ bytes.items }
+        ensures rest { result.rest ≡ [] }
+        ensures marked { result.marked ≡ false }
+    {
+        let end = bytes.len();
+        Front {
+            bytes,
+            profile_end: end,
+            rest_start: end,
+            marked: false,
         }
     }
 
@@ -53,5 +72,13 @@ impl Front {
         ensures { result.now ≡ self.now.rest }
     {
         &self.bytes.as_slice()[self.rest_start..]
+    }
+
+    /// Whether a line `%%` was read, so that a capture follows it, if an empty one. Without one the
+    /// reader ended behind the profile.
+    pub fn has_capture(&self) -> bool
+        ensures { result ≡ self.now.marked }
+    {
+        self.marked
     }
 }

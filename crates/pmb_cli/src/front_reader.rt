@@ -1,14 +1,15 @@
 //! The front of a capture that brings its profile: the profile, and a line `%%` behind it.
 //!
 //! Each byte is looked at once, when it comes: a line `%%` is seen at its LF, by the bytes before it.
+//! Past the limit the last bytes alone tell whether a line `%%` that starts in time may still come.
 
-ghost use Rattle.std.specs.Prelude.{◌≡◌, ◌≢◌, ℕ, ◌+◌, ◌≤◌, ◌<◌, ◌++◌, [], List, IfOk, IfErr, IfSome, IfNone, Err, codes, length, take, drop};
-ghost use Rattle.pmb_cli.specs.Front.{FirstMark, IsFront, NoMark, NoneEndsWithin, EndsInMark, WithoutReturn, HasMark, GoesPastLimit, ReadFront, ReadTooMuch, ReadSome, ReadUndecided, most_profile};
-ghost use Rattle.pmb_cli.specs.Io.{one_more};
+ghost use Rattle.std.specs.Prelude.{◌≡◌, ◌≢◌, ℕ, ◌≤◌, ◌<◌, ◌++◌, ◌↔◌, [], List, true, false, IfOk, IfErr, IfSome, IfNone, IsTrue, Err, OnErr, codes, length, take, drop};
+ghost use Rattle.pmb_cli.specs.Front.{EndsInLine, EndsInOpening, FirstMark, HasMark, MadeReads, MayFit, NoMark, ReadFront, ReadSome, ReadTooMuch, ReadUndecided, StartsLine, most_profile};
+ghost use Rattle.pmb_cli.specs.machine.Front.{EndsInMark, NoneEndsWithin};
+ghost use Rattle.pmb_io.specs.Count.{raised};
 
-use crate::fault::ToolFault;
 use crate::front_parts::Front;
-use crate::io::Source;
+use pmb_io::{Source, ToolFault, without_return};
 use std::alloc::Global;
 
 /// How many bytes one read asks for.
@@ -16,10 +17,6 @@ const PIECE: usize = 8192;
 
 /// How many bytes a profile has at most.
 const MOST_PROFILE: usize = 1_048_576;
-
-/// So many bytes without a line `%%` are a profile that is too long: one that begins where the
-/// longest profile ends has four bytes at most.
-const ENOUGH: usize = MOST_PROFILE + 4;
 
 /// Where a line `%%` is.
 #[derive(Clone, Copy)]
@@ -37,41 +34,46 @@ struct Mark {
 ///
 /// # Errors
 ///
-/// `Read` where the reader failed. `ProfileTooLong` where the profile has more bytes: that is known
-/// at the latest four bytes behind the limit. `Memory` where there is no memory for what was read.
+/// `Read` where the reader failed. `ProfileTooLong` where the profile has more bytes: as soon as so
+/// much was read that it has, whatever follows, which is one to four bytes behind the limit, or where
+/// the reader ended. `Memory` where there is no memory for what was read.
 pub fn front<R: Source>(alloc: Global, reader: &mut R) -> Result<Front, ToolFault>
     // The first line `%%` was read, or the reader ended.
-    ensures ok { IfOk result (ReadFront (R.remaining reader.old) (R.remaining reader.new) (R.has_ended reader.new)) }
+    ensures ok { IfOk result (ReadFront
+        (record { left = R.remaining reader.old; given = R.given reader.old })
+        (record { left = R.remaining reader.new; given = R.given reader.new })
+        (R.has_ended reader.new)) }
 
-    // The profile passes the limit, whatever follows.
-    ensures too_long { result ≡ Err ToolFault.ProfileTooLong → ReadTooMuch (R.remaining reader.old) (R.remaining reader.new) (R.has_ended reader.new) }
+    // The profile passes the limit, whatever follows, or the reader ended.
+    ensures too_long { result ≡ Err ToolFault.ProfileTooLong → ReadTooMuch
+        (record { left = R.remaining reader.old; given = R.given reader.old })
+        (record { left = R.remaining reader.new; given = R.given reader.new })
+        (R.has_ended reader.new) }
 
     // The reader failed in this call exactly where it answers `Read`, and before that nothing was decided.
-    ensures read { result ≡ Err ToolFault.Read → R.failures reader.new ≡ one_more (R.failures reader.old) }
+    ensures read { result ≡ Err ToolFault.Read → R.failures reader.new ≡ raised (R.failures reader.old) 1 }
     ensures no_read { result ≢ Err ToolFault.Read → R.failures reader.new ≡ R.failures reader.old }
-    ensures before_read { result ≡ Err ToolFault.Read → ReadUndecided (R.remaining reader.old) (R.remaining reader.new) }
-    ensures before_memory { result ≡ Err ToolFault.Memory → ReadSome (R.remaining reader.old) (R.remaining reader.new) }
+    ensures before_read { result ≡ Err ToolFault.Read → ReadUndecided
+        (record { left = R.remaining reader.old; given = R.given reader.old })
+        (record { left = R.remaining reader.new; given = R.given reader.new }) }
+    ensures before_memory { result ≡ Err ToolFault.Memory → ReadSome
+        (record { left = R.remaining reader.old; given = R.given reader.old })
+        (record { left = R.remaining reader.new; given = R.given reader.new }) }
 
-    // It writes nothing, and the reads are few: each gives a byte or more.
-    ensures no_write { result ≢ Err ToolFault.Write }
+    // The reads that gave bytes are few, and it writes nothing.
+    ensures reads { MadeReads (R.reads reader.old) (R.reads reader.new) }
     ensures few_reads { result ≢ Err ToolFault.TooManyReads }
+    ensures no_write { result ≢ Err ToolFault.Write }
 {
     let mut bytes = Vec::new(alloc);
     let mut piece = [0; PIECE];
-    while bytes.len() < ENOUGH {
+    while may_fit(bytes.as_slice()) {
         let count = match reader.read(&mut piece) {
             Ok(count) => count,
             Err(_) => return Err(ToolFault::Read),
         };
         if count == 0 {
-            let all = bytes.len();
-            return cut(
-                bytes,
-                Mark {
-                    start: all,
-                    end: all,
-                },
-            );
+            return all(bytes);
         }
         let from = bytes.len();
         if bytes.extend_from_slice(&piece[..count]).is_err() {
@@ -84,13 +86,20 @@ pub fn front<R: Source>(alloc: Global, reader: &mut R) -> Result<Front, ToolFaul
     Err(ToolFault::ProfileTooLong)
 }
 
-/// A text has one profile and one rest. With more behind it, the profile stays, and the rest goes on
-/// with it; and a profile that is too long without a line `%%` stays too long.
-pub fn one_front()
-    ensures unique { (text p q a b : List ℕ) → IsFront text p a → IsFront text q b → (p ≡ q) × (a ≡ b) }
-    ensures stays { (text p a more : List ℕ) → FirstMark text p a → FirstMark (text ++ more) p (a ++ more) }
-    ensures long { (text more p a : List ℕ) → GoesPastLimit text → IsFront (text ++ more) p a → most_profile < length p }
-{}
+// The front of what was read, where it ended without a line `%%`.
+fn all(bytes: Vec<u8>) -> Result<Front, ToolFault>
+    ensures profile { IfOk result (λ front. front.profile ≡ bytes.items) }
+    ensures rest { IfOk result (λ front. front.rest ≡ []) }
+    ensures unmarked { IfOk result (λ front. front.marked ≡ false) }
+    ensures within { IfOk result (λ _. length bytes.items ≤ most_profile) }
+    ensures fault { IfErr result (λ fault. fault ≡ ToolFault.ProfileTooLong) }
+    ensures long { OnErr result (most_profile < length bytes.items) }
+{
+    if bytes.len() > MOST_PROFILE {
+        return Err(ToolFault::ProfileTooLong);
+    }
+    Ok(Front::all(bytes))
+}
 
 // The front of what was read, cut at a line, where the profile is not too long.
 fn cut(bytes: Vec<u8>, mark: Mark) -> Result<Front, ToolFault>
@@ -98,13 +107,40 @@ fn cut(bytes: Vec<u8>, mark: Mark) -> Result<Front, ToolFault>
     requires end { mark.end ≤ length bytes.items }
     ensures profile { IfOk result (λ front. front.profile ≡ take mark.start bytes.items) }
     ensures rest { IfOk result (λ front. front.rest ≡ drop mark.end bytes.items) }
+    ensures marked { IfOk result (λ front. front.marked ≡ true) }
     ensures within { IfOk result (λ _. mark.start ≤ most_profile) }
-    ensures long { IfErr result (λ fault. (fault ≡ ToolFault.ProfileTooLong) × (most_profile < mark.start)) }
+    ensures fault { IfErr result (λ fault. fault ≡ ToolFault.ProfileTooLong) }
+    ensures long { OnErr result (most_profile < mark.start) }
 {
     if mark.start > MOST_PROFILE {
         return Err(ToolFault::ProfileTooLong);
     }
-    Ok(Front::new(bytes, mark.start, mark.end))
+    Ok(Front::at_mark(bytes, mark.start, mark.end))
+}
+
+// Whether the profile of a text without a line `%%` may be within the limit, by what follows.
+fn may_fit(text: &[u8]) -> bool
+    requires { NoMark text.now }
+    ensures { IsTrue result ↔ MayFit text.now }
+{
+    text.len() <= MOST_PROFILE || ends_in_opening(text)
+}
+
+// Whether a text ends in a line `%%` whose LF is still to come, and which starts within the limit.
+fn ends_in_opening(text: &[u8]) -> bool
+    ensures { IsTrue result ↔ EndsInOpening text.now }
+{
+    ends_in_line(text, b"%") || ends_in_line(text, b"%%") || ends_in_line(text, b"%%\r")
+}
+
+// Whether a text ends in these bytes, with which a line starts within the limit.
+fn ends_in_line(text: &[u8], tail: &[u8]) -> bool
+    ensures { IsTrue result ↔ EndsInLine text.now tail.now }
+{
+    match text.strip_suffix(tail) {
+        Some(before) => before.len() <= MOST_PROFILE && starts_line(before),
+        None => false,
+    }
 }
 
 // The first line `%%`, where none ends in the bytes before `from`.
@@ -136,19 +172,16 @@ fn mark_start(text: &[u8]) -> Option<usize>
     let Some(before) = line.strip_suffix(b"%%") else {
         return None;
     };
-    if before.is_empty() || before.ends_with(b"\n") {
+    if starts_line(before) {
         Some(before.len())
     } else {
         None
     }
 }
 
-// The text without a CR at its end.
-fn without_return(text: &[u8]) -> &[u8]
-    ensures { WithoutReturn text.now result.now }
+// Whether a line starts behind these bytes.
+fn starts_line(before: &[u8]) -> bool
+    ensures { IsTrue result ↔ StartsLine before.now }
 {
-    match text.strip_suffix(b"\r") {
-        Some(line) => line,
-        None => text,
-    }
+    before.is_empty() || before.ends_with(b"\n")
 }

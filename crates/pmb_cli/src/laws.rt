@@ -1,50 +1,37 @@
 //! Laws over the definitions alone.
 
-ghost use Rattle.std.specs.Prelude.{◌≡◌, ℕ, List, [], ◌++◌, map};
-ghost use Rattle.std.specs.List.{All, flat_map};
-ghost use Rattle.pmb_table.specs.Parts.{DeviceParts};
-ghost use Rattle.pmb_bus.specs.declared.event.Event.{Event};
-ghost use Rattle.pmb_cli.specs.declared.thin.WriteWord.{WriteWord};
-ghost use Rattle.pmb_cli.specs.Grammar.{TakesWord};
-ghost use Rattle.pmb_cli.specs.Packet.{word_events, Packet};
-ghost use Rattle.pmb_cli.specs.declared.tally.Tally.{Tally};
-ghost use Rattle.pmb_cli.specs.Show.{Shows};
-ghost use Rattle.pmb_cli.specs.Reading.{Outcome, Accepted, Reading};
+ghost use Rattle.std.specs.Prelude.{◌≡◌, ℕ, ◌+◌, ◌<◌, ◌≤◌, ◌++◌, ◌⊎◌, ◌↔◌, ◌∷◌, [], List, codes, false, length, true};
+ghost use Rattle.clap.specs.Words.{Text};
+ghost use Rattle.pmb_cli.specs.Asked.{AskFor, Decode, Encode, Show};
+ghost use Rattle.pmb_cli.specs.Words.{AskToTell, IsFlag};
+ghost use Rattle.pmb_cli.specs.Front.{EndsInOpening, FirstMark, IsFront, MayFit, NoMark, most_profile};
 
-use pmb_bus::laws::{one_bad_word, one_spelling, spelled_has_no_bad_word};
-
-/// Events are the packet of at most one transaction.
-pub fn one_packet()
-    ensures { (profile : List DeviceParts) (t u : WriteWord) (events : List Event) → Packet profile t events → Packet profile u events → t ≡ u }
+/// A text has one profile and one rest. With more behind it, the profile stays, and the rest goes on
+/// with it.
+pub fn one_front()
+    ensures unique { (text p q a b : List ℕ) → IsFront text p a → IsFront text q b → (p ≡ q) × (a ≡ b) }
+    ensures stays { (text p a more : List ℕ) → FirstMark text p a → FirstMark (text ++ more) p (a ++ more) }
 {}
 
-/// A packet is not the beginning of a longer one, so where one ends needs no event more.
-pub fn no_packet_begins_another()
-    ensures { (profile : List DeviceParts) (t u : WriteWord) (events more : List Event) → Packet profile t events → Packet profile u (events ++ more) → more ≡ [] }
+/// When a profile is too long whatever follows: a text without a line `%%` may still have a profile
+/// within the limit where the text is no longer, or ends in the front of a line `%%` that starts there,
+/// so at the latest four bytes behind it. What cannot fit stays so, as a first line `%%` behind the
+/// limit does.
+pub fn one_limit()
+    ensures fits { (text : List ℕ) → NoMark text → MayFit text ↔ ((length text ≤ most_profile) ⊎ EndsInOpening text) }
+    ensures long { (text : List ℕ) → NoMark text → most_profile + 4 ≤ length text → MayFit text → ⊥ }
+    ensures late { (text p a : List ℕ) → FirstMark text p a → most_profile < length p → MayFit text → ⊥ }
+    ensures stays { (text more : List ℕ) → (MayFit text → ⊥) → MayFit (text ++ more) → ⊥ }
 {}
 
-/// Each list of events reads as something, whatever it holds.
-pub fn each_list_has_a_reading()
-    ensures { (profile : List DeviceParts) (events : List Event) → (outcomes : List Outcome) × Reading profile events outcomes }
+/// The words `pmb show --sample`, `pmb show`, `pmb encode FORMAT` and `pmb decode FORMAT` have no fault
+/// of `clap`'s and ask for just that, where FORMAT does not begin with `-`; `pmb --help` and
+/// `pmb --version` ask to be told about it.
+pub fn words_ask()
+    ensures show_sample { (name : Text) → AskFor (name ∷ codes "show" ∷ codes "--sample" ∷ []) (Show true) }
+    ensures show { (name : Text) → AskFor (name ∷ codes "show" ∷ []) (Show false) }
+    ensures encode { (name format : Text) → (IsFlag format → ⊥) → AskFor (name ∷ codes "encode" ∷ format ∷ []) (Encode format) }
+    ensures decode { (name format : Text) → (IsFlag format → ⊥) → AskFor (name ∷ codes "decode" ∷ format ∷ []) (Decode format) }
+    ensures help { (name : Text) → AskToTell (name ∷ codes "--help" ∷ []) }
+    ensures version { (name : Text) → AskToTell (name ∷ codes "--version" ∷ []) }
 {}
-
-/// A list of events reads as one thing only.
-pub fn one_reading()
-    ensures { (profile : List DeviceParts) (events : List Event) (a b : List Outcome) → Reading profile events a → Reading profile events b → a ≡ b }
-{}
-
-/// Packets that are written one after another, each of which the profile takes, read as just their transactions, in their
-/// order.
-pub fn written_is_read()
-    ensures { (profile : List DeviceParts) (ts : List WriteWord) → All (λ t. TakesWord profile t.address t.code) ts
-        → Reading profile (flat_map (λ t. word_events t.address t.code t.lo t.hi) ts) (map Accepted ts) }
-{}
-
-/// What is shown for bytes, and its tally, is a function of the bytes.
-pub fn one_showing()
-    ensures { (profile : List DeviceParts) (bytes a b : List ℕ) (s t : Tally) → Shows profile bytes a s → Shows profile bytes b t → (a ≡ b) × (s ≡ t) }
-{
-    one_spelling();
-    one_bad_word();
-    spelled_has_no_bad_word();
-}

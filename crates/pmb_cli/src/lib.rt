@@ -1,43 +1,19 @@
-//! Bytes in to bytes out.
+//! The command `pmb` over a reader and two writers: what its words say, the profile in front of a
+//! capture, and `tool`, which runs it.
 #![tactic(auto)]
 
-mod answer;
-mod answering;
 mod asked;
-mod decoding;
-mod encoding;
-mod failing;
-mod fault;
-mod format_fault;
-pub mod format_laws;
-mod format_word;
 mod front_parts;
 mod front_reader;
-mod grammar;
-mod io;
 pub mod laws;
-mod line_task;
-mod lines;
-mod outgoing;
-mod profiled;
 mod program;
-mod reported;
-mod showing;
+mod shown;
 mod status;
-mod tally;
-#[cfg(test)]
-mod tests;
-pub mod thin;
+mod words;
 
-pub use decoding::decode_lines;
-pub use encoding::encode_lines;
-pub use failing::Failing;
-pub use fault::ToolFault;
-pub use format_fault::FormatFault;
-pub use format_word::NamedFormat;
 pub use front_parts::Front;
-pub use front_reader::{front, one_front};
-pub use io::{Io, IoFault, Sink, Source};
+pub use front_reader::front;
+pub use pmb_capture::show;
+pub use pmb_convert::{FormatFault, NamedFormat, decode_lines, encode_lines};
+pub use pmb_io::{Failing, Io, IoFault, Sink, Source, Tally, ToolFault};
 pub use program::{no_words, tool};
-pub use showing::show;
-pub use tally::Tally;

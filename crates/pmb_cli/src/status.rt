@@ -1,14 +1,12 @@
 //! The exit statuses, and what is told of them on standard error.
 
 ghost use Rattle.std.specs.Prelude.{◌≡◌, ◌≢◌};
-ghost use Rattle.pmb_table.specs.declared.fault.FaultKind.TheVariants.{OutOfMemory};
+ghost use Rattle.pmb_keys.specs.declared.fault.FaultKind.TheVariants.{OutOfMemory};
 ghost use Rattle.pmb_cli.specs.Status.{run_status, status_of};
 
-use crate::fault::ToolFault;
-use crate::format_fault::FormatFault;
-use crate::io::Sink;
-use crate::tally::Tally;
 use arrayvec::ArrayString;
+use pmb_convert::FormatFault;
+use pmb_io::{Sink, Tally, ToolFault};
 use pmb_table::{FaultKind, ProfileFault};
 use std::fmt::Write;
 

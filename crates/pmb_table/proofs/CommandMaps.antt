@@ -5,9 +5,11 @@ use Rattle.std.proofs.lemmas.Bool.{eqb-true}
 use Rattle.std.specs.List.{IsDistinct}
 use Rattle.std.specs.Map.{keys_of, lookup}
 use Rattle.indexmap.specs.IndexMap.{insert_entry}
-use Rattle.pmb_table.specs.declared.command.Command.{Command}
-use Rattle.pmb_table.specs.Parts.{command_parts, command_with}
-use Rattle.pmb_table.specs.CommandMap.{commands_view, AreAtTheirCodes, HaveOwnCodes}
+use Rattle.pmb_keys.specs.declared.command.Command.{Command}
+use Rattle.pmb_keys.specs.CommandView.{command_parts}
+use Rattle.pmb_command.specs.Parts.{command_with}
+use Rattle.pmb_table.specs.machine.CommandMap.{commands_view, AreAtTheirCodes}
+use Rattle.pmb_command.specs.Parts.{HaveOwnCodes}
 use Rattle.pmb_table.specs.Profile.{put}
 
 -- the keys of the map are the codes of its commands

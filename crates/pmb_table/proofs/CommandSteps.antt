@@ -5,10 +5,10 @@ use Rattle.toml.specs.View.{view, items_view}
 use Rattle.toml.specs.declared.value.Value.{Value}
 use Rattle.toml.proofs.Views.{items_view-drop}
 use Rattle.pmb_table.specs.declared.fault.ProfileFault.{ProfileFault}
-use Rattle.pmb_table.specs.Parts.{CommandParts}
-use Rattle.pmb_table.specs.Rules.{bind}
-use Rattle.pmb_table.specs.CommandRules.{command_of}
-use Rattle.pmb_table.specs.CommandMap.{Taken, after_one}
+use Rattle.pmb_command.specs.Parts.{CommandParts}
+use Rattle.pmb_keys.specs.Rules.{bind}
+use Rattle.pmb_keys.specs.CommandRules.{command_of}
+use Rattle.pmb_table.specs.machine.CommandMap.{Taken, after_one}
 use Rattle.pmb_table.specs.Profile.{at_command, commands_after, placed, put}
 
 -- the values from a place on are the one there and those after it

@@ -4,9 +4,10 @@ use Rattle.std.proofs.lemmas.Cmp.{nat_eq_equiv}
 use Rattle.std.proofs.lemmas.List.{map-append}
 use Rattle.std.proofs.lemmas.Map.Keys.{IsDistinct-push}
 use Rattle.toml.specs.Data.{Data, Items, item}
-use Rattle.pmb_table.specs.Parts.{DeviceParts}
-use Rattle.pmb_table.specs.Rules.{bind}
-use Rattle.pmb_table.specs.CommandMap.{HaveOwnAddresses, IsNewAddress}
+use Rattle.pmb_command.specs.Parts.{DeviceParts}
+use Rattle.pmb_keys.specs.Rules.{bind}
+use Rattle.pmb_command.specs.Parts.{HaveOwnAddresses}
+use Rattle.pmb_command.specs.Parts.{IsNew}
 use Rattle.pmb_table.specs.Profile.{device_of, devices_after, item_count}
 use Rattle.toml.specs.View.{items_view}
 use Rattle.toml.specs.declared.value.Value.{Value}
@@ -17,7 +18,7 @@ pub rest_of_device : (before : List DeviceParts) (d : Data) (ds : Items) (device
 rest_of_device before d ds device read = ap (λ r. bind r (λ x. devices_after (before ++ x ∷ []) ds)) read
 
 -- one more device with an address of its own
-pub HaveOwnAddresses-push : (devices : List DeviceParts) (device : DeviceParts) → HaveOwnAddresses devices → IsNewAddress devices device.address → HaveOwnAddresses (devices ++ device ∷ [])
+pub HaveOwnAddresses-push : (devices : List DeviceParts) (device : DeviceParts) → HaveOwnAddresses devices → IsNew device.address (map (λ d. d.address) devices) → HaveOwnAddresses (devices ++ device ∷ [])
 HaveOwnAddresses-push devices device own new =
     rw (map-append (λ d. d.address) devices (device ∷ [])) (IsDistinct-push nat_eq_equiv (map (λ d. d.address) devices) device.address own new)
 

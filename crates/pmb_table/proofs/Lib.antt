@@ -1,9 +1,5 @@
-pub mod Finding
-pub mod RowLemmas
-pub mod StandardLemmas
+pub mod Accepted
 pub mod StandardList
-pub mod AddressRules
-pub mod Binds
 pub mod CommandMaps
 pub mod CommandSteps
 pub mod DeviceSteps

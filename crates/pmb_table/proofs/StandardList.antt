@@ -4,11 +4,15 @@ use Rattle.std.specs.List.{AllByRecursion, range_with_len, cons_option}
 use Rattle.std.proofs.lemmas.Bool.{ne_eqb}
 use Rattle.std.proofs.lemmas.List.{map-append, append-nil}
 use Rattle.std.proofs.lemmas.List.Elements.{filter_map-append}
-use Rattle.pmb_table.specs.Commands.{standard_entry}
-use Rattle.pmb_table.specs.Entry.{EntryParts}
-use Rattle.pmb_table.specs.Parts.{CommandParts}
+use Rattle.pmb_command.specs.Commands.{standard_entry}
+use Rattle.pmb_command.specs.Entry.{EntryParts}
+use Rattle.pmb_command.specs.Parts.{CommandParts}
 use Rattle.pmb_table.specs.Profile.{put, standard_commands}
-use Rattle.pmb_table.proofs.StandardLemmas.{standard_code}
+use Rattle.pmb_command.specs.Standard.{IsStandardAt}
+
+-- what is said of each standard entry
+abbrev pub AreSound : Type 0
+AreSound = (code : ℕ) (e : EntryParts) → standard_entry code ≡ Some e → IsStandardAt code e
 
 -- a command of which the profile says nothing
 abbrev pub bare : EntryParts → CommandParts
@@ -45,16 +49,16 @@ pub standard_from-none : (n : ℕ) → standard_entry n ≡ None → standard_fr
 standard_from-none n none = sym (standard_from-more n None none ∙ append-nil (standard_from 0 n))
 
 -- each has a code in the range
-below : (a n : ℕ) → AllByRecursion (λ x. x.entry.code < a + n) (standard_from a n)
-below a zero = tt
-below a (suc n) =
+below : AreSound → (a n : ℕ) → AllByRecursion (λ x. x.entry.code < a + n) (standard_from a n)
+below sound a zero = tt
+below sound a (suc n) =
     let same : (a + 1) + n ≡ a + suc n = omega arith in
-    by (standard_entry a) refl (subst (λ k. AllByRecursion (λ x. x.entry.code < k) (standard_from (a + 1) n)) same (below (a + 1) n))
+    by (standard_entry a) refl (subst (λ k. AllByRecursion (λ x. x.entry.code < k) (standard_from (a + 1) n)) same (below sound (a + 1) n))
   where
     by : (o : Option EntryParts) → standard_entry a ≡ o → AllByRecursion (λ x. x.entry.code < a + suc n) (standard_from (a + 1) n)
         → AllByRecursion (λ x. x.entry.code < a + suc n) (map bare (cons_option o (filter_map standard_entry (range_with_len (a + 1) n))))
     by None is rest = rest
-    by (Some e) is rest = (omega (arith, standard_code a e is), rest)
+    by (Some e) is rest = (omega (arith, (sound a e is).same_code), rest)
 
 -- a command with a code above all others goes last
 put-above : (c : CommandParts) (cs : List CommandParts) → AllByRecursion (λ x. x.entry.code < c.entry.code) cs → put c cs ≡ cs ++ c ∷ []
@@ -64,8 +68,8 @@ put-above c (x ∷ xs) above =
     rw (ne_eqb c.entry.code x.entry.code (λ same. omega arith)) (ap (λ ys. x ∷ ys) (put-above c xs above.1))
 
 -- so the next standard command goes last
-pub put-standard : (n : ℕ) (e : EntryParts) → standard_entry n ≡ Some e → put (bare e) (standard_from 0 n) ≡ standard_from 0 (n + 1)
-put-standard n e has =
-    let same : 0 + n ≡ e.code = omega (arith, standard_code n e has) in
-    put-above (bare e) (standard_from 0 n) (subst (λ k. AllByRecursion (λ x. x.entry.code < k) (standard_from 0 n)) same (below 0 n))
+pub put-standard : AreSound → (n : ℕ) (e : EntryParts) → standard_entry n ≡ Some e → put (bare e) (standard_from 0 n) ≡ standard_from 0 (n + 1)
+put-standard sound n e has =
+    let same : 0 + n ≡ e.code = omega (arith, (sound n e has).same_code) in
+    put-above (bare e) (standard_from 0 n) (subst (λ k. AllByRecursion (λ x. x.entry.code < k) (standard_from 0 n)) same (below sound 0 n))
     ∙ sym (standard_from-more n (Some e) has)

@@ -1,11 +1,2 @@
-pub mod Entry
-pub mod Rows
-pub mod Commands
-pub mod Standard
-pub mod StatusBits
-pub mod Parts
-pub mod Rules
-pub mod CommandRules
 pub mod Profile
-pub mod CommandMap
-pub mod DeviceKeysView
+pub mod machine

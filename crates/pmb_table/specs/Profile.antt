@@ -1,76 +1,16 @@
 -- What the table of a TOML document says as a profile, or its first fault with its place.
-use Rattle.std.specs.Prelude.{◌≡◌, ◌⊎◌, ℕ, suc, Bool, true, not, if◌then◌else◌, Option, Some, None, IsUtf8, Result, Ok, Err, List, [], ◌∷◌, ◌++◌, map, codes, length, nat_eq, nat_le}
-use Rattle.std.specs.List.{list_any, filter_map, range_with_len}
-use Rattle.toml.specs.Data.{Data, Items, no_items, item, Members, as_integer, as_bool, as_array, as_table}
+use Rattle.std.specs.Prelude.{◌≡◌, ◌⊎◌, ℕ, suc, if◌then◌else◌, Some, None, IsUtf8, Result, Ok, Err, List, [], ◌∷◌, ◌++◌, map, codes, length, nat_eq, nat_le}
+use Rattle.std.specs.List.{filter_map, range_with_len}
+use Rattle.toml.specs.Data.{Data, Items, no_items, item, Members, as_array, as_table}
 use Rattle.toml.specs.Parse.{parse_document}
-use Rattle.pmb_value.specs.Direct.{Coefficients}
-use Rattle.pmb_table.specs.declared.fault.FaultKind.{FaultKind}
-use Rattle.pmb_table.specs.declared.fault.FaultKind.TheVariants as faults
+use Rattle.pmb_keys.specs.declared.fault.FaultKind.{FaultKind}
+use Rattle.pmb_keys.specs.declared.fault.FaultKind.TheVariants as faults
 use Rattle.pmb_table.specs.declared.fault.ProfileFault.{ProfileFault}
-use Rattle.pmb_table.specs.declared.pec_mode.PecMode.{PecMode}
-use Rattle.pmb_table.specs.declared.pec_mode.PecMode.TheVariants.{Off, On, Optional}
-use Rattle.pmb_table.specs.Commands.{standard_entry}
-use Rattle.pmb_table.specs.CommandRules.{byte_rule, word_rule, coefficients, command_of}
-use Rattle.pmb_table.specs.Parts.{CommandParts, DeviceParts}
-use Rattle.pmb_table.specs.Rules.{bind, or_fault, unless, natural_within, only, typed, required, optional, defaulted}
-
--- the keys of a device's table
-abbrev pub device_key_names : List (List ℕ)
-device_key_names =
-    codes "address" ∷ codes "pec" ∷ codes "pages" ∷ codes "vout_mode" ∷ codes "standard" ∷ codes "vout_direct" ∷ codes "command" ∷ []
-
--- 08h to 77h without 0ch (SMBus 3.0 appendix C: the others are reserved, and 0ch is the Alert Response Address), and no earlier device's
-abbrev pub address_rule : List ℕ → Data → Result ℕ FaultKind
-address_rule taken d =
-    bind (typed as_integer d) (λ z.
-    bind (or_fault faults.BadAddress (natural_within 0x08 0x77 z)) (λ address.
-    bind (unless faults.BadAddress (not (nat_eq address 0x0c))) (λ _.
-    bind (unless faults.AddressTwice (not (list_any (nat_eq address) taken))) (λ _.
-    Ok address))))
-
-abbrev pub pec_words : List (List ℕ × PecMode)
-pec_words = (codes "off", Off) ∷ (codes "on", On) ∷ (codes "optional", Optional) ∷ []
-
-abbrev pub pages_rule : Data → Result ℕ FaultKind
-pages_rule d = bind (typed as_integer d) (λ z. or_fault faults.BadPages (natural_within 1 32 z))
-
--- the table of `vout_direct`
-abbrev pub coefficients_rule : Data → Result Coefficients FaultKind
-coefficients_rule d =
-    bind (typed as_table d) (λ ms.
-    bind (only (codes "m" ∷ codes "b" ∷ codes "r" ∷ []) ms) (λ _.
-    coefficients ms))
-
--- what the keys of a device say
-pub record DeviceKeys : Type 0 where
-  pub address : ℕ
-  pub pec : PecMode
-  pub pages : ℕ
-  pub vout_mode : ℕ
-  pub standard : Bool
-  pub vout_direct : Option Coefficients
-  pub commands : Items
-
--- each key ruled in its turn, where earlier devices have these addresses
-abbrev pub device_keys : List ℕ → Members → Result DeviceKeys FaultKind
-device_keys taken ms =
-    bind (only device_key_names ms) (λ _.
-    bind (required (address_rule taken) (codes "address") ms) (λ address.
-    bind (required (word_rule faults.BadValue pec_words) (codes "pec") ms) (λ pec.
-    bind (defaulted pages_rule 1 (codes "pages") ms) (λ pages.
-    bind (defaulted byte_rule 0x17 (codes "vout_mode") ms) (λ vout_mode.
-    bind (defaulted (typed as_bool) true (codes "standard") ms) (λ standard.
-    bind (optional coefficients_rule (codes "vout_direct") ms) (λ vout_direct.
-    bind (defaulted (typed as_array) no_items (codes "command") ms) (λ commands.
-    Ok (record {
-      address = address;
-      pec = pec;
-      pages = pages;
-      vout_mode = vout_mode;
-      standard = standard;
-      vout_direct = vout_direct;
-      commands = commands;
-    })))))))))
+use Rattle.pmb_command.specs.Commands.{standard_entry}
+use Rattle.pmb_keys.specs.CommandRules.{command_of}
+use Rattle.pmb_command.specs.Parts.{CommandParts, DeviceParts}
+use Rattle.pmb_keys.specs.DeviceKeys.{DeviceKeys, device_keys}
+use Rattle.pmb_keys.specs.Rules.{bind, unless, only, typed, required}
 
 -- a fault outside of all devices, one in a device, and one in a command of a device
 abbrev pub at_top : FaultKind → ProfileFault
@@ -102,20 +42,24 @@ commands_after n taken commands no_items = Ok commands
 commands_after n taken commands (item d ds) =
     bind (placed (at_command n (length taken)) (command_of taken d)) (λ c. commands_after n (taken ++ c.entry.code ∷ []) (put c commands) ds)
 
+-- the device of what its keys say, with these commands
+abbrev pub device_parts : DeviceKeys → List CommandParts → DeviceParts
+device_parts keys commands = record {
+  address = keys.address;
+  pec = keys.pec;
+  pages = keys.pages;
+  vout_mode = keys.vout_mode;
+  vout_direct = keys.vout_direct;
+  commands = commands;
+}
+
 -- the device of a value that comes after other devices
 abbrev pub device_of : List DeviceParts → Data → Result DeviceParts ProfileFault
 device_of before d =
     let n = length before in
     bind (placed (at_device n) (bind (typed as_table d) (device_keys (map (λ x. x.address) before)))) (λ keys.
     bind (commands_after n [] (if keys.standard then standard_commands else []) keys.commands) (λ commands.
-    Ok (record {
-      address = keys.address;
-      pec = keys.pec;
-      pages = keys.pages;
-      vout_mode = keys.vout_mode;
-      vout_direct = keys.vout_direct;
-      commands = commands;
-    })))
+    Ok (device_parts keys commands)))
 
 -- The devices after further values, where these came before.
 abbrev pub devices_after : List DeviceParts → Items → Result (List DeviceParts) ProfileFault

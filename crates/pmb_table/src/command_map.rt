@@ -1,12 +1,13 @@
 //! The commands of a device, in their order.
 
 ghost use Rattle.std.specs.Prelude.{◌≡◌, [], length, option_map, slice_get, OnOk, OnErr};
-ghost use Rattle.pmb_table.specs.Parts.{command_parts, command_with};
-ghost use Rattle.pmb_table.specs.CommandMap.{HaveOwnCodes};
+ghost use Rattle.pmb_keys.specs.CommandView.{command_parts};
+ghost use Rattle.pmb_command.specs.Parts.{command_with};
+ghost use Rattle.pmb_command.specs.Parts.{HaveOwnCodes};
 ghost use Rattle.pmb_table.specs.Profile.{put};
 
-use crate::command::Command;
 use indexmap::IndexMap;
+use pmb_keys::Command;
 use std::alloc::{AllocError, Global};
 use std::marker::Model;
 
@@ -19,8 +20,8 @@ pub(crate) struct CommandMap {
 
 impl Model for CommandMap {
     ghost use Rattle.std.specs.Prelude.{List};
-    ghost use Rattle.pmb_table.specs.Parts.{CommandParts};
-    ghost use Rattle.pmb_table.specs.CommandMap.{commands_view, AreAtTheirCodes};
+    ghost use Rattle.pmb_command.specs.Parts.{CommandParts};
+    ghost use Rattle.pmb_table.specs.machine.CommandMap.{commands_view, AreAtTheirCodes};
 
     ghost Value = { List CommandParts };
 
@@ -58,7 +59,7 @@ impl CommandMap {
         self.commands.len()
     }
 
-    /// The command with a code.
+    /// The command with a code. A device answers `entry` and `initial` by it.
     pub fn get(&self, code: u8) -> Option<&Command>
         ensures { option_map (λ c. command_parts c.now) result ≡ command_with code self.now }
     {

@@ -1,18 +1,22 @@
 //! The commands of a device, as the tables of a profile change the standard ones.
 
-ghost use Rattle.std.specs.Prelude.{◌≡◌, ◌⊎◌, [], Ok, Err, IfOk, if◌then◌else◌};
+ghost use Rattle.std.specs.Prelude.{◌≡◌, ◌⊎◌, ◌≤◌, [], length, Ok, Err, IfOk, if◌then◌else◌};
+ghost use Rattle.std.specs.List.{AllByRecursion};
+ghost use Rattle.pmb_command.specs.Bus.{IsCommand};
 ghost use Rattle.toml.specs.View.{view, items_view};
-ghost use Rattle.pmb_table.specs.Rules.{bind};
-ghost use Rattle.pmb_table.specs.CommandMap.{AreTaken, HaveOwnCodes, Taken, after_one};
-ghost use Rattle.pmb_table.specs.Profile.{at_top, standard_commands, commands_after};
+ghost use Rattle.pmb_keys.specs.Rules.{bind};
+ghost use Rattle.pmb_table.specs.machine.CommandMap.{AreTaken, Taken, after_one};
+ghost use Rattle.pmb_command.specs.Parts.{HaveOwnCodes, IsNew};
+ghost use Rattle.pmb_keys.specs.CommandRules.{command_of};
+ghost use Rattle.pmb_keys.specs.CommandView.{command_parts};
+ghost use Rattle.pmb_table.specs.Profile.{at_command, at_top, placed, standard_commands, commands_after};
 
-use crate::command::Command;
-use crate::command_keys::read_command;
 use crate::command_map::CommandMap;
-use crate::commands::standard;
-use crate::fault::{FaultKind, ProfileFault};
+use crate::fault::ProfileFault;
 use crate::place;
 use arrayvec::ArrayVec;
+use pmb_command::{laws, standard};
+use pmb_keys::{Command, FaultKind, read_command};
 use std::alloc::{AllocError, Global};
 use toml::Value;
 
@@ -20,7 +24,9 @@ use toml::Value;
 fn standard_ones(alloc: Global) -> Result<CommandMap, AllocError>
     ensures commands { IfOk result (λ commands. commands ≡ standard_commands) }
     ensures own_codes { IfOk result HaveOwnCodes }
+    ensures accepted { IfOk result (λ commands. AllByRecursion IsCommand commands) }
 {
+    laws::standard_entries_are_sound();
     let mut commands = CommandMap::new(alloc);
     for code in 0u16..256 {
         if let Some(entry) = standard(code as u8) {
@@ -37,6 +43,7 @@ fn standard_ones(alloc: Global) -> Result<CommandMap, AllocError>
 pub(crate) fn first_commands(alloc: Global, has_standard: bool) -> Result<CommandMap, AllocError>
     ensures commands { IfOk result (λ commands. commands ≡ (if has_standard then standard_commands else [])) }
     ensures own_codes { IfOk result HaveOwnCodes }
+    ensures accepted { IfOk result (λ commands. AllByRecursion IsCommand commands) }
 {
     if has_standard {
         standard_ones(alloc)
@@ -52,6 +59,24 @@ fn code_of(command: &Command) -> u8
     command.entry.code
 }
 
+/// Reads a table of a device, where the tables before it have the codes `taken`; its fault lies there.
+fn read_placed(
+    alloc: Global,
+    device: u8,
+    value: &Value,
+    taken: &[u8],
+) -> Result<Command, ProfileFault>
+    requires { length taken.now ≤ 256 }
+    ensures read { (result ≡ Err (at_top FaultKind.OutOfMemory)) ⊎ (bind result (λ c. Ok (command_parts c)) ≡ placed (at_command device (length taken.now)) (command_of taken.now (view value.now))) }
+    ensures accepted { IfOk result (λ c. IsCommand (command_parts c)) }
+    ensures own_code { IfOk result (λ c. IsNew c.entry.code taken.now) }
+{
+    match read_command(alloc, value, taken) {
+        Ok(command) => Ok(command),
+        Err(what) => Err(place::in_command(device, taken.len() as u16, what)),
+    }
+}
+
 /// Reads one more table of a device, where the tables before it have the codes `taken`.
 fn read_next(
     alloc: Global,
@@ -64,10 +89,11 @@ fn read_next(
     ensures read { (result ≡ Err (at_top FaultKind.OutOfMemory)) ⊎ (bind {Y = Taken} result (λ _. Ok (taken.new.items, commands.new)) ≡ after_one device (taken.old.items, commands.old) (view value.now)) }
     ensures taken { AreTaken taken.new.items }
     ensures own_codes { HaveOwnCodes commands.old → HaveOwnCodes commands.new }
+    ensures accepted { AllByRecursion IsCommand commands.old → AllByRecursion IsCommand commands.new }
 {
-    let command = match read_command(alloc, value, taken.as_slice()) {
+    let command = match read_placed(alloc, device, value, taken.as_slice()) {
         Ok(command) => command,
-        Err(what) => return Err(place::in_command(device, taken.len() as u16, what)),
+        Err(fault) => return Err(fault),
     };
     let code = code_of(&command);
     taken.push(code);
@@ -84,9 +110,11 @@ pub(crate) fn read_commands(
     first: CommandMap,
     values: &[Value],
 ) -> Result<CommandMap, ProfileFault>
-    requires { HaveOwnCodes first }
+    requires own_codes { HaveOwnCodes first }
+    requires accepted { AllByRecursion IsCommand first }
     ensures read { (result ≡ Err (at_top FaultKind.OutOfMemory)) ⊎ (result ≡ commands_after device [] first (items_view values.now)) }
     ensures own_codes { IfOk result HaveOwnCodes }
+    ensures accepted { IfOk result (λ commands. AllByRecursion IsCommand commands) }
 {
     let mut taken = ArrayVec::new();
     let mut commands = first;

@@ -1,16 +1,17 @@
 //! A device of a bus, as a profile describes it.
 
-ghost use Rattle.std.specs.Prelude.{◌≡◌, ◌<◌, length, option_map, slice_get};
+ghost use Rattle.std.specs.Prelude.{◌≡◌, ◌<◌, length, option_map, slice_get, IfSome};
+ghost use Rattle.pmb_command.specs.Bus.{IsDevice, IsEntry, IsInitial};
 ghost use Rattle.std.specs.Option.{option_and_then};
-ghost use Rattle.pmb_table.specs.Entry.{entry_parts};
-ghost use Rattle.pmb_table.specs.Parts.{command_with};
-ghost use Rattle.pmb_table.specs.CommandMap.{HaveOwnCodes, device_parts};
-ghost use Rattle.pmb_table.specs.DeviceKeysView.{keys_parts};
+ghost use Rattle.pmb_command.specs.Entry.{entry_parts};
+ghost use Rattle.pmb_command.specs.Parts.{command_with};
+ghost use Rattle.pmb_command.specs.Parts.{HaveOwnCodes};
+ghost use Rattle.pmb_table.specs.Profile.{device_parts};
+ghost use Rattle.pmb_keys.specs.DeviceKeysView.{keys_parts};
 
 use crate::command_map::CommandMap;
-use crate::device_keys::DeviceKeys;
-use crate::entry::Entry;
-use crate::pec_mode::PecMode;
+use pmb_command::{Entry, PecMode};
+use pmb_keys::DeviceKeys;
 use pmb_value::Direct;
 use std::marker::Model;
 
@@ -27,9 +28,8 @@ pub struct DeviceProfile {
 }
 
 impl Model for DeviceProfile {
-    ghost use Rattle.std.specs.Prelude.{◌<◌};
-    ghost use Rattle.pmb_table.specs.Parts.{DeviceParts};
-    ghost use Rattle.pmb_table.specs.CommandMap.{HaveOwnCodes};
+    ghost use Rattle.pmb_command.specs.Bus.{IsDevice};
+    ghost use Rattle.pmb_command.specs.Parts.{DeviceParts};
 
     ghost Value = { DeviceParts };
 
@@ -42,14 +42,20 @@ impl Model for DeviceProfile {
       commands = d.commands;
     } };
 
-    ghost invariant = { λ d. (d.address < 128) × HaveOwnCodes d.commands };
+    ghost invariant = { λ d. IsDevice (record {
+      address = d.address;
+      pec = d.pec;
+      pages = d.pages;
+      vout_mode = d.vout_mode;
+      vout_direct = d.vout_direct;
+      commands = d.commands;
+    }) };
 }
 
 impl DeviceProfile {
     /// The device of these keys and commands.
     pub(crate) fn new(keys: &DeviceKeys, commands: CommandMap) -> Self
-        requires address { keys.now.address < 128 }
-        requires own_codes { HaveOwnCodes commands }
+        requires { IsDevice (device_parts (keys_parts keys.now) commands) }
         ensures { result ≡ device_parts (keys_parts keys.now) commands }
     {
         DeviceProfile {
@@ -77,7 +83,8 @@ impl DeviceProfile {
         self.pec
     }
 
-    /// The number of pages.
+    /// The number of pages, 1 to 32. Like `address` and `vout_mode` it is the number that the
+    /// device's key gives.
     pub fn pages(&self) -> u8
         ensures { result ≡ self.now.pages }
     {
@@ -91,7 +98,8 @@ impl DeviceProfile {
         self.vout_mode
     }
 
-    /// The coefficients of the output voltage under the DIRECT format of VOUT_MODE, where there are any.
+    /// The coefficients of the output voltage under the DIRECT format of VOUT_MODE, where there are
+    /// any.
     pub fn vout_direct(&self) -> Option<Direct>
         ensures { result ≡ self.now.vout_direct }
     {
@@ -102,13 +110,15 @@ impl DeviceProfile {
     pub fn len(&self) -> usize
         ensures len { result ≡ length self.now.commands }
         ensures own_codes { HaveOwnCodes self.now.commands }
+        ensures accepted { IsDevice self.now }
     {
         self.commands.len()
     }
 
     /// The command with a code.
     pub fn entry(&self, code: u8) -> Option<&Entry>
-        ensures { option_map (λ e. entry_parts e.now) result ≡ option_map (λ c. c.entry) (command_with code self.now.commands) }
+        ensures entry { option_map (λ e. entry_parts e.now) result ≡ option_map (λ c. c.entry) (command_with code self.now.commands) }
+        ensures accepted { IfSome result (λ e. IsEntry (entry_parts e.now)) }
     {
         match self.commands.get(code) {
             Some(command) => Some(&command.entry),
@@ -116,10 +126,11 @@ impl DeviceProfile {
         }
     }
 
-    /// The command at an index: the standard ones in the order of their codes, where the device has them, then those that
-    /// the profile adds, in its order.
+    /// The command at an index: the standard ones in the order of their codes, where the device has
+    /// them, then those that the profile adds, in its order.
     pub fn entry_at(&self, index: usize) -> Option<&Entry>
-        ensures { option_map (λ e. entry_parts e.now) result ≡ option_map (λ c. c.entry) (slice_get self.now.commands index) }
+        ensures entry { option_map (λ e. entry_parts e.now) result ≡ option_map (λ c. c.entry) (slice_get self.now.commands index) }
+        ensures accepted { IfSome result (λ e. IsEntry (entry_parts e.now)) }
     {
         match self.commands.at(index) {
             Some(command) => Some(&command.entry),
@@ -129,7 +140,8 @@ impl DeviceProfile {
 
     /// The bytes that the register of a code begins with, where the profile says.
     pub fn initial(&self, code: u8) -> Option<&[u8]>
-        ensures { option_map (λ bytes. bytes.now) result ≡ option_and_then (λ c. c.initial) (command_with code self.now.commands) }
+        ensures bytes { option_map (λ bytes. bytes.now) result ≡ option_and_then (λ c. c.initial) (command_with code self.now.commands) }
+        ensures accepted { IfSome result (λ bytes. IfSome (command_with code self.now.commands) (λ c. IsInitial c.entry bytes.now)) }
     {
         match self.commands.get(code) {
             Some(command) => match &command.initial {

@@ -3,16 +3,18 @@
 ghost use Rattle.std.specs.Prelude.{◌≡◌, ◌⊎◌, ◌<◌, ◌≤◌, [], map, length, Ok, Err, IfOk};
 ghost use Rattle.std.specs.List.{AllByRecursion};
 ghost use Rattle.toml.specs.View.{view, items_view};
-ghost use Rattle.pmb_table.specs.CommandMap.{HaveOwnAddresses, IsDevice, IsNewAddress};
+ghost use Rattle.pmb_command.specs.Bus.{IsDevice};
+ghost use Rattle.pmb_command.specs.Parts.{HaveOwnAddresses};
+ghost use Rattle.pmb_command.specs.Parts.{IsNew};
 ghost use Rattle.pmb_table.specs.Profile.{at_top, device_of, devices_after};
-ghost use Rattle.pmb_table.specs.Rules.{bind};
+ghost use Rattle.pmb_keys.specs.Rules.{bind};
 
 use crate::device_commands::{first_commands, read_commands};
-use crate::device_keys::read_device_keys;
 use crate::device_profile::DeviceProfile;
-use crate::fault::{FaultKind, ProfileFault};
+use crate::fault::ProfileFault;
 use crate::place;
 use arrayvec::ArrayVec;
+use pmb_keys::{FaultKind, read_device_keys};
 use std::alloc::Global;
 use toml::Value;
 
@@ -37,7 +39,7 @@ fn read_device(
     requires { length before.now ≤ 64 }
     ensures read { (result ≡ Err (at_top FaultKind.OutOfMemory)) ⊎ (result ≡ device_of before.now (view value.now)) }
     ensures device { IfOk result IsDevice }
-    ensures own_address { IfOk result (λ d. IsNewAddress before.now d.address) }
+    ensures own_address { IfOk result (λ d. IsNew d.address (map (λ x. x.address) before.now)) }
 {
     let addresses = addresses_of(before);
     let number = before.len() as u8;

@@ -1,42 +1,6 @@
-//! Why a text is no profile, and where.
+//! Where a profile is wrong.
 
-/// What is wrong with a profile. Where several things are, the first one is told, in the order in
-/// which `docs/profiles.md` gives the rules.
-#[derive(Clone, Copy, Debug, PartialEq, Eq)]
-pub enum FaultKind {
-    /// The text is no TOML document.
-    NotToml,
-    /// A table has a key that it may not have.
-    UnknownKey,
-    /// A key that a table must have is not there.
-    MissingKey,
-    /// A value has another type than its key asks for.
-    WrongType,
-    /// There are more than 64 devices.
-    TooManyDevices,
-    /// An address is reserved or none of 7 bits: outside 08h to 77h, or 0ch.
-    BadAddress,
-    /// An earlier device has the address.
-    AddressTwice,
-    /// A number outside 0 to 255, or a word that its key does not know.
-    BadValue,
-    /// A number of pages outside 1 to 32.
-    BadPages,
-    /// A name that no standard command has.
-    UnknownName,
-    /// A name that is not 1 to 32 of A to Z, 0 to 9 and `_`.
-    BadName,
-    /// A form that its key does not know, or forms that do not go together.
-    BadForm,
-    /// Coefficients of DIRECT outside their ranges.
-    BadCoefficients,
-    /// An earlier command of the device has the code.
-    CodeTwice,
-    /// Initial bytes of a command that has none, or that are not of its form.
-    BadInitial,
-    /// There was no memory.
-    OutOfMemory,
-}
+use pmb_keys::FaultKind;
 
 /// What is wrong with a profile, and in which device and which command of it, both counted from 0,
 /// where it lies within one.

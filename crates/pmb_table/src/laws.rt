@@ -1,16 +1,21 @@
-//! Laws over the definitions that the contracts cite: each is the contract of a function that does nothing.
-ghost use Rattle.std.specs.Prelude.{◌≡◌, ℕ, List, Some};
-ghost use Rattle.pmb_table.specs.Entry.{EntryParts};
-ghost use Rattle.pmb_table.specs.Commands.{code_of_name, standard_entry};
-ghost use Rattle.pmb_table.specs.Standard.{IsNamed, IsStandardAt};
+//! Laws over the definitions that the contracts cite, and what each value of a type keeps: each is
+//! the contract of a function that does nothing.
+ghost use Rattle.pmb_command.specs.Bus.{IsBus, IsDevice};
 
-/// The standard entry of a code has that code and a name of its own, of at most 32 bytes, and its
-/// data are no number in DIRECT.
-pub fn standard_entries_are_sound()
-    ensures { (code : ℕ) (e : EntryParts) → standard_entry code ≡ Some e → IsStandardAt code e }
-{}
+use crate::device_profile::DeviceProfile;
+use crate::profile::Profile;
+pub use pmb_command::laws::{names_are_of_entries, standard_entries_are_sound};
 
-/// The code of a name is a byte, and has a standard entry with that name.
-pub fn names_are_of_entries()
-    ensures { (name : List ℕ) (code : ℕ) → code_of_name name ≡ Some code → IsNamed name code }
-{}
+/// What was tested when a profile was accepted holds of it from then on.
+pub fn accepted_bus(profile: &Profile)
+    ensures { IsBus profile.now }
+{
+    let _ = profile.len();
+}
+
+/// What was tested when a device was accepted holds of it from then on.
+pub fn accepted_device(device: &DeviceProfile)
+    ensures { IsDevice device.now }
+{
+    let _ = device.len();
+}

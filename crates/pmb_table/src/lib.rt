@@ -1,40 +1,32 @@
-//! The commands of PMBus, the names of their status bits, and the devices of a bus, as a TOML profile describes them.
+//! The devices of a bus, as a TOML profile describes them.
+//!
+//! [`Profile::from_toml`] reads a profile or answers the first fault in it with its place. What it
+//! tested, a [`Profile`] keeps: `laws::accepted_bus` tells it of each. The commands of PMBus and the
+//! names of their status bits are those of `pmb_command`.
+//!
+//! ```rust
+//! let profile = Profile::from_toml(rt.alloc(), SAMPLE.as_bytes())?;
+//! let device = profile.device(0x58).ok_or("no device")?;
+//! assert_eq!(rt; device.pec(), PecMode::Optional);
+//! let entry = device.entry(0x88).ok_or("no command")?;
+//! assert_eq!(rt; entry.name.as_str(), "READ_VIN");
+//! assert_eq!(rt; device.initial(0x88), Some(b"\x00\xd3".as_slice()));
+//! ```
 #![tactic(auto)]
 
-mod base;
-mod command;
-mod command_keys;
 mod command_map;
-mod commands;
 mod device_commands;
-mod device_keys;
 mod device_profile;
 mod device_reader;
-mod entry;
 mod fault;
-mod fitting;
-mod form;
-mod initial;
-mod kind_keys;
 pub mod laws;
-mod name;
-mod pec_mode;
 mod place;
 mod profile;
-mod rules;
 mod sample;
-mod shape_keys;
-mod status_bits;
-#[cfg(test)]
-mod tests;
-mod words;
 
-pub use commands::{by_name, standard};
 pub use device_profile::DeviceProfile;
-pub use entry::{Entry, Kind};
-pub use fault::{FaultKind, ProfileFault};
-pub use form::{Form, Shape};
-pub use pec_mode::PecMode;
+pub use fault::ProfileFault;
+pub use pmb_command::{Entry, Form, Kind, PecMode, Shape, bit_name, by_name, standard};
+pub use pmb_keys::FaultKind;
 pub use profile::Profile;
 pub use sample::SAMPLE;
-pub use status_bits::bit_name;

@@ -3,7 +3,8 @@
 ghost use Rattle.std.specs.Prelude.{◌≡◌, ◌≢◌};
 ghost use Rattle.pmb_table.specs.Profile.{at_top, at_device, at_command};
 
-use crate::fault::{FaultKind, ProfileFault};
+use crate::fault::ProfileFault;
+use pmb_keys::FaultKind;
 
 /// A fault outside of all devices.
 pub(crate) fn outside(what: FaultKind) -> ProfileFault

@@ -1,17 +1,19 @@
 //! The devices of a bus, as a profile describes them.
 
-ghost use Rattle.std.specs.Prelude.{◌≡◌, ◌⊎◌, ◌≤◌, length, option_map, slice_get, Ok, Err, IfOk};
+ghost use Rattle.std.specs.Prelude.{◌≡◌, ◌⊎◌, ◌≤◌, length, option_map, slice_get, Ok, Err, IfOk, IfSome};
 ghost use Rattle.std.specs.List.{AllByRecursion};
 ghost use Rattle.toml.specs.View.{view, items_view, table_view};
-ghost use Rattle.pmb_table.specs.Parts.{device_with};
+ghost use Rattle.pmb_command.specs.Parts.{device_with};
 ghost use Rattle.pmb_table.specs.Profile.{Says, at_top, device_array_rule, device_items, profile_of};
-ghost use Rattle.pmb_table.specs.Rules.{bind};
-ghost use Rattle.pmb_table.specs.CommandMap.{HaveOwnAddresses, IsDevice};
+ghost use Rattle.pmb_keys.specs.Rules.{bind};
+ghost use Rattle.pmb_command.specs.Bus.{IsBus, IsDevice};
+ghost use Rattle.pmb_command.specs.Parts.{HaveOwnAddresses};
 
 use crate::device_profile::DeviceProfile;
 use crate::device_reader::read_devices;
-use crate::fault::{FaultKind, ProfileFault};
-use crate::{place, rules};
+use crate::fault::ProfileFault;
+use crate::place;
+use pmb_keys::{FaultKind, array_of, only, present};
 use std::alloc::Global;
 use std::marker::Model;
 use toml::{Table, Value};
@@ -26,16 +28,15 @@ pub struct Profile {
 }
 
 impl Model for Profile {
-    ghost use Rattle.std.specs.Prelude.{◌≤◌, List, length};
-    ghost use Rattle.std.specs.List.{AllByRecursion};
-    ghost use Rattle.pmb_table.specs.Parts.{DeviceParts};
-    ghost use Rattle.pmb_table.specs.CommandMap.{HaveOwnAddresses, IsDevice};
+    ghost use Rattle.std.specs.Prelude.{List};
+    ghost use Rattle.pmb_command.specs.Bus.{IsBus};
+    ghost use Rattle.pmb_command.specs.Parts.{DeviceParts};
 
     ghost Value = { List DeviceParts };
 
     ghost view = { λ p. p.devices.items };
 
-    ghost invariant = { λ p. (length p.devices.items ≤ 64) × HaveOwnAddresses p.devices.items × AllByRecursion IsDevice p.devices.items };
+    ghost invariant = { λ p. IsBus p.devices.items };
 }
 
 /// The values of an array of devices.
@@ -43,7 +44,7 @@ fn array_rule(value: &Value) -> Result<&[Value], FaultKind>
     ensures read { bind result (λ values. Ok (items_view values.now)) ≡ device_array_rule (view value.now) }
     ensures few { IfOk result (λ values. length values.now ≤ 64) }
 {
-    let values = rules::array_of(value)?;
+    let values = array_of(value)?;
     if values.len() <= MAX_DEVICES {
         Ok(values)
     } else {
@@ -56,8 +57,8 @@ fn device_values(table: &Table) -> Result<&[Value], FaultKind>
     ensures read { bind result (λ values. Ok (items_view values.now)) ≡ device_items (table_view table.now) }
     ensures few { IfOk result (λ values. length values.now ≤ 64) }
 {
-    rules::only(table, &["device"])?;
-    array_rule(rules::present(table, "device")?)
+    only(table, &["device"])?;
+    array_rule(present(table, "device")?)
 }
 
 /// Reads the devices of a document's table.
@@ -77,7 +78,8 @@ fn read_profile(alloc: Global, table: &Table) -> Result<Profile, ProfileFault>
 impl Profile {
     /// Reads a profile, a TOML document in UTF-8. Where several things are wrong with it, the fault
     /// is the first one in the order of the rules, with the device and the command that it lies in.
-    /// Where memory is refused before any fault is found, the answer is `OutOfMemory`, without a place.
+    /// Where memory is refused before any fault is found, the answer is `OutOfMemory`, without a
+    /// place.
     pub fn from_toml(alloc: Global, text: &[u8]) -> Result<Profile, ProfileFault>
         ensures says { (result ≡ Err (at_top FaultKind.OutOfMemory)) ⊎ Says text.now result }
     {
@@ -99,20 +101,23 @@ impl Profile {
         ensures small { length self.now ≤ 64 }
         ensures own_addresses { HaveOwnAddresses self.now }
         ensures devices { AllByRecursion IsDevice self.now }
+        ensures accepted { IsBus self.now }
     {
         self.devices.len()
     }
 
     /// The device at an index.
     pub fn device_at(&self, index: usize) -> Option<&DeviceProfile>
-        ensures { option_map (λ d. d.now) result ≡ slice_get self.now index }
+        ensures device { option_map (λ d. d.now) result ≡ slice_get self.now index }
+        ensures accepted { IfSome result (λ d. IsDevice d.now) }
     {
         self.devices.get(index)
     }
 
     /// The device with an address.
     pub fn device(&self, address: u8) -> Option<&DeviceProfile>
-        ensures { option_map (λ d. d.now) result ≡ device_with address self.now }
+        ensures device { option_map (λ d. d.now) result ≡ device_with address self.now }
+        ensures accepted { IfSome result (λ d. IsDevice d.now) }
     {
         for device in &self.devices {
             if device.address() == address {

@@ -1,7 +1,8 @@
 //! A profile to begin with.
 
-/// A profile of three devices: at 58h one that takes packets with a packet error code and without, with two pages, a first
-/// value of READ_VIN and a command of its own; at 59h one without packet error codes; at 5ah one with them.
+/// A profile of three devices: at 58h one that takes packets with a packet error code and without,
+/// with two pages, a first value of READ_VIN and a command of its own; at 59h one without packet
+/// error codes; at 5ah one with them.
 pub const SAMPLE: &str = r#"[[device]]
 address = 0x58
 pec = "optional"

@@ -2,10 +2,11 @@
 use Rattle.std.proofs.Common.{◌≡◌, ◌≢◌, ℕ, zero, suc, ◌*◌, ◌^◌, ◌<◌, ℤ, pos, negsuc, neg_ℤ, ◌-ℤ◌, ◌*ℤ◌, ◌<ℤ◌, ◌≤ℤ◌, unsigned_abs, refl, subst, arith}
 use Rattle.std.proofs.lemmas.Int.{ints}
 use Rattle.std.proofs.Math.Nat.{one-le-pow, mul-lt-mul_of_pos_right}
-use Rattle.pmb_value.specs.Coding.{IsSpaced}
+use Rattle.pmb_value.specs.machine.Spaced.{IsSpaced}
 use Rattle.pmb_value.specs.Linear.{twos_complement}
 use Rattle.pmb_value.specs.Direct.{Coefficients, positive_part, sign_of, direct}
-use Rattle.pmb_value.proofs.Scaling.{scale_lt, unscale_lt, one-scale, minus_one-scale}
+use Rattle.pmb_quantity.proofs.Scaling.{scale_lt, unscale_lt}
+use Rattle.pmb_value.proofs.Scaling.{one-scale, minus_one-scale}
 use Rattle.pmb_value.proofs.Words.{Follow, Oppose, spaced_up, spaced_down, between_signed}
 
 pub ten_positive : (k : ℕ) → 0 < 10 ^ k

@@ -1,16 +1,10 @@
 pub mod Best
 pub mod Nearest
-pub mod FractionLemmas
-pub mod Fitted
 pub mod Scaling
 pub mod Words
 pub mod DirectLemmas
 pub mod Linear11Lemmas
 pub mod LawLemmas
-pub mod TextLemmas
-pub mod DigitLemmas
-pub mod ReadingLemmas
-pub mod RoundTrip
 pub mod OneNearest
 pub mod OneDirect
 pub mod OneLinear11

@@ -4,10 +4,13 @@ use Rattle.std.proofs.lemmas.Int.{ints, by_lt_z}
 use Rattle.std.proofs.lemmas.Bool.{cases_lt, cases_eq}
 use Rattle.std.proofs.lemmas.Nat.{pow_pos, div-mul-add, mod-mul-add}
 use Rattle.std.proofs.Math.IntN.{zero-*ℤ, -ℤ-+ℤ_cancel}
-use Rattle.pmb_value.specs.Coding.{IsCode, IsSpaced}
-use Rattle.pmb_value.specs.Linear.{twos_complement, power, exponent, mantissa, linear11_numerator, IsCanonicalLinear11, IsLeastExponent, linear11}
-use Rattle.pmb_value.proofs.Scaling.{scale_lt, unscale_lt, unscale_eq, power_splits, two_or_more, grows_up, grows_down}
-use Rattle.pmb_value.proofs.Words.{complement_low, complement_high}
+use Rattle.pmb_value.specs.Coding.{IsWord}
+use Rattle.pmb_value.specs.machine.Spaced.{IsSpaced}
+use Rattle.pmb_value.specs.Linear.{twos_complement, power, exponent, mantissa, linear11_numerator, IsCanonicalLinear11, linear11}
+use Rattle.pmb_value.specs.machine.LeastExponent.{IsLeastExponent}
+use Rattle.pmb_quantity.proofs.Scaling.{scale_lt, unscale_lt, unscale_eq}
+use Rattle.pmb_value.proofs.Scaling.{power_splits, two_or_more, grows_up, grows_down}
+use Rattle.pmb_value.proofs.Words.{complement_low, complement_high, words_are_words, words_have_code}
 
 -- the exponent over -16
 abbrev pub steps : ℕ → ℕ
@@ -19,7 +22,7 @@ IsMantissa y = (negsuc 1023 ≤ℤ y) × (y ≤ℤ pos 1023)
 
 -- what the two fields of a code hold
 pub record Holds (code : ℕ) (y : ℤ) (b : ℕ) : Type 0 where
-  pub is_code : IsCode code
+  pub is_code : IsWord code
   pub mantissa_is : mantissa code ≡ y
   pub exponent_is : exponent code ≡ pos b -ℤ pos 16
   pub value_is : linear11_numerator code ≡ y *ℤ pos (2 ^ b)
@@ -42,16 +45,16 @@ field_5 f fits =
 pub mantissa_fits : (code : ℕ) → IsMantissa (mantissa code)
 mantissa_fits code = field_11 (code % 2048) (omega arith)
 
-pub exponent_fits : (code : ℕ) → IsCode code → (negsuc 15 ≤ℤ exponent code) × (exponent code ≤ℤ pos 15)
+pub exponent_fits : (code : ℕ) → IsWord code → (negsuc 15 ≤ℤ exponent code) × (exponent code ≤ℤ pos 15)
 exponent_fits code is_code = field_5 (code / 2048) (omega arith)
 
 -- each code holds its fields
-pub holds_itself : (code : ℕ) → IsCode code → Holds code (mantissa code) (steps code)
+pub holds_itself : (code : ℕ) → IsWord code → Holds code (mantissa code) (steps code)
 holds_itself code is_code =
     let fits = exponent_fits code is_code in
     record { is_code = is_code; mantissa_is = refl; exponent_is = omega (arith, ints, fits); value_is = refl }
 
-pub steps_fit : (code : ℕ) → IsCode code → steps code ≤ 31
+pub steps_fit : (code : ℕ) → IsWord code → steps code ≤ 31
 steps_fit code is_code = let fits = exponent_fits code is_code in omega (arith, ints, fits)
 
 -- each number in range has a field
@@ -153,7 +156,7 @@ least_is_canonical k y b holds some least = record {
 
 -- each value has a canonical code
 HasCanonical : ℤ → ℕ → Type 0
-HasCanonical y b = (c : ℕ) × IsCode c × IsCanonicalLinear11 c × (linear11_numerator c ≡ y *ℤ pos (2 ^ b))
+HasCanonical y b = (c : ℕ) × IsWord c × IsCanonicalLinear11 c × (linear11_numerator c ≡ y *ℤ pos (2 ^ b))
 
 by_code : (y : ℤ) (b : ℕ) → b ≤ 31 → IsMantissa y → y ≢ pos 0 → IsLeast y b → HasCanonical y b
 unfolding HasCanonical
@@ -170,11 +173,11 @@ normal_code (suc b) y b_fits y_fits some =
     let halved : y *ℤ pos (2 ^ suc b) ≡ (y *ℤ pos 2) *ℤ pos (2 ^ b) = half_power y (suc b) positive ∙ ap (λ k. (y *ℤ pos 2) *ℤ pos (2 ^ k)) (omega arith) in
     (smaller.0, smaller.1, smaller.2, smaller.3 ∙ sym halved))
 
-pub canonical_code : (k : ℕ) → IsCode k → (c : ℕ) × IsCode c × IsCanonicalLinear11 c × (linear11_numerator c ≡ linear11_numerator k)
+pub canonical_code : (k : ℕ) → IsWord k → (c : ℕ) × IsWord c × IsCanonicalLinear11 c × (linear11_numerator c ≡ linear11_numerator k)
 unfolding HasCanonical
 canonical_code k code =
     let itself = holds_itself k code in
-    let given : mantissa k ≢ pos 0 → (c : ℕ) × IsCode c × IsCanonicalLinear11 c × (linear11_numerator c ≡ linear11_numerator k) = normal_code (steps k) (mantissa k) (steps_fit k code) (mantissa_fits k) in
+    let given : mantissa k ≢ pos 0 → (c : ℕ) × IsWord c × IsCanonicalLinear11 c × (linear11_numerator c ≡ linear11_numerator k) = normal_code (steps k) (mantissa k) (steps_fit k code) (mantissa_fits k) in
     by_lt_z (mantissa k) (pos 0) (λ less. given (λ none. absurd (omega (arith, ints)))) (λ at_least.
     by_lt_z (pos 0) (mantissa k) (λ more. given (λ none. absurd (omega (arith, ints)))) (λ at_most.
     let none : mantissa k ≡ pos 0 = omega (arith, ints) in
@@ -206,7 +209,7 @@ zero_form v none = record {
 }
 
 -- the form of a canonical code has its parity
-form_of : (c : ℕ) → IsCode c → IsCanonicalLinear11 c → (y : ℤ) × (b : ℕ) × (g : ℕ) × IsForm (linear11_numerator c) y b g × (g % 2 ≡ c % 2)
+form_of : (c : ℕ) → IsWord c → IsCanonicalLinear11 c → (y : ℤ) × (b : ℕ) × (g : ℕ) × IsForm (linear11_numerator c) y b g × (g % 2 ≡ c % 2)
 form_of c code canonical =
     elim (cases_eq c 0) [
       | inl none ↦ (pos 0, 0, 2048, zero_form (linear11_numerator c) (ap linear11_numerator none ∙ zero_value), omega arith)
@@ -224,7 +227,7 @@ form_of c code canonical =
 
 -- a code strictly between two values
 abbrev pub HasMiddle : ℤ → ℤ → Type 0
-HasMiddle v w = (j : ℕ) × IsCode j × (v <ℤ linear11_numerator j) × (linear11_numerator j <ℤ w)
+HasMiddle v w = (j : ℕ) × IsWord j × (v <ℤ linear11_numerator j) × (linear11_numerator j <ℤ w)
 
 -- one code, where its mantissa is between both at its own exponent
 middle_code : (v w m : ℤ) (e : ℕ) → IsMantissa m → e ≤ 31 → v <ℤ (m *ℤ pos (2 ^ e)) → (m *ℤ pos (2 ^ e)) <ℤ w → HasMiddle v w
@@ -329,7 +332,7 @@ module _ (v w y z : ℤ) (b d g h : ℕ) (low : IsForm v y b g) (high : IsForm w
       ]
 
 -- between two canonical codes of one parity lies another
-pub between : (c k : ℕ) → IsCode c → IsCode k → IsCanonicalLinear11 c → IsCanonicalLinear11 k → c % 2 ≡ k % 2 → linear11_numerator c <ℤ linear11_numerator k → HasMiddle (linear11_numerator c) (linear11_numerator k)
+pub between : (c k : ℕ) → IsWord c → IsWord k → IsCanonicalLinear11 c → IsCanonicalLinear11 k → c % 2 ≡ k % 2 → linear11_numerator c <ℤ linear11_numerator k → HasMiddle (linear11_numerator c) (linear11_numerator k)
 between c k c_code k_code c_canonical k_canonical parity less =
     let low = form_of c c_code c_canonical in
     let high = form_of k k_code k_canonical in
@@ -338,23 +341,25 @@ between c k c_code k_code c_canonical k_canonical parity less =
 pub IsSpaced-linear11 : IsSpaced linear11
 IsSpaced-linear11 = record {
   positive = omega arith;
-  canonical_code = canonical_code;
-  between = λ c k c_code k_code c_canonical k_canonical c_odd k_odd. between c k c_code k_code c_canonical k_canonical (c_odd ∙ sym k_odd);
+  words = words_are_words linear11_numerator (2 ^ 16) IsCanonicalLinear11;
+  some_code = words_have_code linear11_numerator (2 ^ 16) IsCanonicalLinear11;
+  canonical_code = λ k code. let c = canonical_code k code in (c.0, (c.1, c.2), c.3);
+  between = λ c k c_written k_written c_odd k_odd. between c k c_written.0 k_written.0 c_written.1 k_written.1 (c_odd ∙ sym k_odd);
 }
 
 -- the test that the code makes
-to_least : (k : ℕ) → IsCode k → IsLeastExponent (exponent k) (mantissa k) → IsLeast (mantissa k) (steps k)
+to_least : (k : ℕ) → IsWord k → IsLeastExponent (exponent k) (mantissa k) → IsLeast (mantissa k) (steps k)
 to_least k code (inl least) = let is = holds_itself k code in inl (omega (arith, ints, is.exponent_is))
 to_least k code (inr large) = inr large
 
-from_least : (k : ℕ) → IsCode k → IsLeast (mantissa k) (steps k) → IsLeastExponent (exponent k) (mantissa k)
+from_least : (k : ℕ) → IsWord k → IsLeast (mantissa k) (steps k) → IsLeastExponent (exponent k) (mantissa k)
 from_least k code (inl none) = let is = holds_itself k code in inl (omega (arith, ints, is.exponent_is))
 from_least k code (inr large) = inr large
 
-pub canonical_by_test : (k : ℕ) → IsCode k → mantissa k ≢ pos 0 → IsLeastExponent (exponent k) (mantissa k) → IsCanonicalLinear11 k
+pub canonical_by_test : (k : ℕ) → IsWord k → mantissa k ≢ pos 0 → IsLeastExponent (exponent k) (mantissa k) → IsCanonicalLinear11 k
 canonical_by_test k code some least = least_is_canonical k (mantissa k) (steps k) (holds_itself k code) some (to_least k code least)
 
-pub test_of_canonical : (k : ℕ) → IsCode k → k ≢ 0 → IsCanonicalLinear11 k → (mantissa k ≢ pos 0) × IsLeastExponent (exponent k) (mantissa k)
+pub test_of_canonical : (k : ℕ) → IsWord k → k ≢ 0 → IsCanonicalLinear11 k → (mantissa k ≢ pos 0) × IsLeastExponent (exponent k) (mantissa k)
 test_of_canonical k code some canonical =
     let is = canonical_is_least k (mantissa k) (steps k) (holds_itself k code) (steps_fit k code) canonical some in
     (is.0, from_least k code is.1)

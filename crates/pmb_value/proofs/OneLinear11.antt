@@ -3,9 +3,9 @@ use Rattle.std.proofs.Common.{◌≡◌, ◌≢◌, ℕ, ◌+◌, ◌-◌, ◌/�
 use Rattle.std.proofs.lemmas.Int.{ints}
 use Rattle.std.proofs.lemmas.Bool.{cases_lt, cases_eq}
 use Rattle.std.proofs.lemmas.Nat.{pow_pos}
-use Rattle.pmb_value.specs.Coding.{IsCode}
+use Rattle.pmb_value.specs.Coding.{IsWord}
 use Rattle.pmb_value.specs.Linear.{twos_complement, exponent, mantissa, linear11_numerator, IsCanonicalLinear11, linear11}
-use Rattle.pmb_value.proofs.Scaling.{unscale_eq}
+use Rattle.pmb_quantity.proofs.Scaling.{unscale_eq}
 use Rattle.pmb_value.proofs.Words.{complement_low, complement_high}
 use Rattle.pmb_value.proofs.Linear11Lemmas.{steps, zero_value, between}
 use Rattle.pmb_value.proofs.OneNearest.{IsSeparated}
@@ -29,14 +29,14 @@ same_field bits j k halves j_fits k_fits same =
     ]
 
 -- two codes of one mantissa and one exponent are one
-same_code : (a b : ℕ) → IsCode a → IsCode b → mantissa a ≡ mantissa b → exponent a ≡ exponent b → a ≡ b
+same_code : (a b : ℕ) → IsWord a → IsWord b → mantissa a ≡ mantissa b → exponent a ≡ exponent b → a ≡ b
 same_code a b a_code b_code same_mantissa same_exponent =
     let low : a % 2048 ≡ b % 2048 = same_field 11 (a % 2048) (b % 2048) (omega arith) (omega arith) (omega arith) same_mantissa in
     let high : a / 2048 ≡ b / 2048 = same_field 5 (a / 2048) (b / 2048) (omega arith) (omega arith) (omega arith) same_exponent in
     omega (arith, low, high)
 
 -- each value but 0 has one code with the least exponent
-one_other_code : (a b : ℕ) → IsCode a → IsCode b → IsCanonicalLinear11 a → IsCanonicalLinear11 b → linear11_numerator a ≡ linear11_numerator b → linear11_numerator a ≢ pos 0 → a ≡ b
+one_other_code : (a b : ℕ) → IsWord a → IsWord b → IsCanonicalLinear11 a → IsCanonicalLinear11 b → linear11_numerator a ≡ linear11_numerator b → linear11_numerator a ≢ pos 0 → a ≡ b
 one_other_code a b a_code b_code a_canonical b_canonical same some =
     let at_most : exponent a ≤ℤ exponent b = a_canonical.least_exponent some b b_code (sym same) in
     let at_least : exponent b ≤ℤ exponent a = b_canonical.least_exponent (λ none. some (same ∙ none)) a a_code same in
@@ -46,7 +46,7 @@ one_other_code a b a_code b_code a_canonical b_canonical same some =
     same_code a b a_code b_code same_mantissa same_exponent
 
 -- each value has one canonical code
-one_code : (a b : ℕ) → IsCode a → IsCode b → IsCanonicalLinear11 a → IsCanonicalLinear11 b → linear11_numerator a ≡ linear11_numerator b → a ≡ b
+one_code : (a b : ℕ) → IsWord a → IsWord b → IsCanonicalLinear11 a → IsCanonicalLinear11 b → linear11_numerator a ≡ linear11_numerator b → a ≡ b
 one_code a b a_code b_code a_canonical b_canonical same =
     elim (cases_eq a 0) [
       | inl zero ↦ zero ∙ sym (b_canonical.zero (sym same ∙ ap linear11_numerator zero ∙ zero_value))

@@ -2,18 +2,19 @@
 use Rattle.std.proofs.Common.{◌≡◌, ◌≢◌, ℕ, ◌%◌, ◌^◌, ◌<◌, ℤ, pos, ◌*ℤ◌, ◌<ℤ◌, sym, ◌∙◌, arith}
 use Rattle.std.proofs.lemmas.Int.{ints, by_lt_z}
 use Rattle.std.proofs.lemmas.Nat.{pow_pos}
-use Rattle.pmb_value.specs.Fraction.{Fraction}
-use Rattle.pmb_value.specs.Coding.{Coding, IsCode, IsNearest, distance}
-use Rattle.pmb_value.specs.Linear.{twos_complement, power, IsAnyCode, ulinear16, slinear16}
+use Rattle.pmb_quantity.specs.Fraction.{Fraction}
+use Rattle.pmb_value.specs.Coding.{Coding, IsWord, IsNearest, distance}
+use Rattle.pmb_value.specs.Linear.{twos_complement, power, IsAnyCode, linear16, ulinear16, slinear16}
 use Rattle.pmb_value.specs.Laws.{HasOneNearest}
+use Rattle.pmb_value.specs.machine.Spaced.{HasBetween}
 use Rattle.pmb_value.proofs.Nearest.{not_best}
-use Rattle.pmb_value.proofs.Words.{HasBetween, Follow, Oppose, follow_scaled, between_unsigned, between_signed, same_word}
+use Rattle.pmb_value.proofs.Words.{Follow, Oppose, follow_scaled, between_unsigned, between_signed, same_word}
 
 -- What leaves a quantity one nearest code: each value has one canonical code, and between two values whose canonical
 -- codes are both even lies another, so no tie is between two even ones.
 pub record IsSeparated (f : Coding) : Type 0 where
-  pub one_code : (a b : ℕ) → IsCode a → IsCode b → f.IsCanonical a → f.IsCanonical b → f.numerator a ≡ f.numerator b → a ≡ b
-  pub between : (a b : ℕ) → IsCode a → IsCode b → f.IsCanonical a → f.IsCanonical b → a % 2 ≡ 0 → b % 2 ≡ 0 → f.numerator a <ℤ f.numerator b → (j : ℕ) × IsCode j × (f.numerator a <ℤ f.numerator j) × (f.numerator j <ℤ f.numerator b)
+  pub one_code : (a b : ℕ) → f.IsCode a → f.IsCode b → f.IsCanonical a → f.IsCanonical b → f.numerator a ≡ f.numerator b → a ≡ b
+  pub between : (a b : ℕ) → f.IsCode a → f.IsCode b → f.IsCanonical a → f.IsCanonical b → a % 2 ≡ 0 → b % 2 ≡ 0 → f.numerator a <ℤ f.numerator b → (j : ℕ) × f.IsCode j × (f.numerator a <ℤ f.numerator j) × (f.numerator j <ℤ f.numerator b)
 
 -- two nearest codes are equally far
 equally_far : (f : Coding) (q : Fraction) (a b : ℕ) → IsNearest f q a → IsNearest f q b → distance f q b ≡ distance f q a
@@ -38,7 +39,7 @@ has_one_nearest f separated q a b positive a_nearest b_nearest =
 
 -- each number is that of one word
 abbrev pub HasOneWord : (ℕ → ℤ) → Type 0
-HasOneWord w = (a b : ℕ) → IsCode a → IsCode b → w a ≡ w b → a ≡ b
+HasOneWord w = (a b : ℕ) → IsWord a → IsWord b → w a ≡ w b → a ≡ b
 
 one_unsigned : HasOneWord (λ code. pos code)
 one_unsigned a b a_code b_code same = omega (arith, ints)
@@ -50,7 +51,7 @@ same_words w n a b apart same =
     by_lt_z (w b) (w a) (λ more. absurd (apart b a more (sym same))) (λ at_least. omega (arith, ints)))
 
 -- Where values are in the order of their words, and each code is canonical, a format is separated.
-pub separated_up : (w : ℕ → ℤ) (n : ℕ → ℤ) (d : ℕ) → HasOneWord w → HasBetween w → Follow w n → IsSeparated (record { numerator = n; denominator = d; IsCanonical = IsAnyCode })
+pub separated_up : (w : ℕ → ℤ) (n : ℕ → ℤ) (d : ℕ) → HasOneWord w → HasBetween w → Follow w n → IsSeparated (record { IsCode = IsWord; numerator = n; denominator = d; IsCanonical = IsAnyCode })
 separated_up w n d one_word between order = record {
   one_code = λ a b a_code b_code _ _ same.
       one_word a b a_code b_code (same_words w n a b (λ x y less equal. omega (arith, ints, order.up x y less)) same);
@@ -60,7 +61,7 @@ separated_up w n d one_word between order = record {
 }
 
 -- .. and likewise in the other order
-pub separated_down : (w : ℕ → ℤ) (n : ℕ → ℤ) (d : ℕ) → HasOneWord w → HasBetween w → Oppose w n → IsSeparated (record { numerator = n; denominator = d; IsCanonical = IsAnyCode })
+pub separated_down : (w : ℕ → ℤ) (n : ℕ → ℤ) (d : ℕ) → HasOneWord w → HasBetween w → Oppose w n → IsSeparated (record { IsCode = IsWord; numerator = n; denominator = d; IsCanonical = IsAnyCode })
 separated_down w n d one_word between order = record {
   one_code = λ a b a_code b_code _ _ same.
       one_word a b a_code b_code (same_words w n a b (λ x y less equal. omega (arith, ints, order.up x y less)) same);
@@ -69,12 +70,12 @@ separated_down w n d one_word between order = record {
       (middle.0, middle.1, order.up middle.0 a middle.3, order.up b middle.0 middle.2);
 }
 
-separated_scaled : (w : ℕ → ℤ) (p : ℕ) → 0 < p → HasOneWord w → HasBetween w → IsSeparated (record { numerator = λ code. w code *ℤ pos p; denominator = 2 ^ 16; IsCanonical = IsAnyCode })
-separated_scaled w p positive one_word between =
-    separated_up w (λ code. w code *ℤ pos p) (2 ^ 16) one_word between (follow_scaled w p positive)
+IsSeparated-linear16 : (w : ℕ → ℤ) (e : ℤ) → HasOneWord w → HasBetween w → IsSeparated (linear16 w e)
+IsSeparated-linear16 w e one_word between =
+    separated_up w (λ code. w code *ℤ pos (power e)) (2 ^ 16) one_word between (follow_scaled w (power e) (pow_pos _))
 
 pub IsSeparated-ulinear16 : (e : ℤ) → IsSeparated (ulinear16 e)
-IsSeparated-ulinear16 e = separated_scaled (λ code. pos code) (power e) (pow_pos _) one_unsigned between_unsigned
+IsSeparated-ulinear16 e = IsSeparated-linear16 (λ code. pos code) e one_unsigned between_unsigned
 
 pub IsSeparated-slinear16 : (e : ℤ) → IsSeparated (slinear16 e)
-IsSeparated-slinear16 e = separated_scaled (twos_complement 16) (power e) (pow_pos _) same_word between_signed
+IsSeparated-slinear16 e = IsSeparated-linear16 (twos_complement 16) e same_word between_signed

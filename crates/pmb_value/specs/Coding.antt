@@ -1,16 +1,17 @@
 -- What a number format is, and which of its codes is nearest to a quantity.
 use Rattle.std.specs.Prelude.{◌≡◌, ◌≢◌, ℕ, ◌%◌, ◌^◌, ◌<◌, ◌≤◌, ℤ, pos, ◌-ℤ◌, ◌*ℤ◌, ◌<ℤ◌, ◌≤ℤ◌, unsigned_abs}
-use Rattle.pmb_value.specs.Fraction.{Fraction, lowest_terms}
+use Rattle.pmb_quantity.specs.Fraction.{Fraction, lowest_terms}
 
--- the value of each code, as a whole number over one denominator, and the codes that an encoder writes
+-- which words are codes, the value of each as a whole number over one denominator, and the codes that an encoder writes
 pub record Coding : Type 1 where
+  pub IsCode : ℕ → Type 0
   pub numerator : ℕ → ℤ
   pub denominator : ℕ
   pub IsCanonical : ℕ → Type 0
 
--- the codes of every format are the words
-abbrev pub IsCode : ℕ → Type 0
-IsCode code = code < 2 ^ 16
+-- two bytes
+abbrev pub IsWord : ℕ → Type 0
+IsWord code = code < 2 ^ 16
 
 -- the value of a code
 abbrev pub value_of : Coding → ℕ → Fraction
@@ -29,35 +30,28 @@ distance f q code = unsigned_abs (scaled f q -ℤ scaled_code f q code)
 
 -- no code is nearer, and among two that are equally near the even one is taken
 pub record IsNearest (f : Coding) (q : Fraction) (code : ℕ) : Type 0 where
-  pub is_code : IsCode code
+  pub is_code : f.IsCode code
   pub canonical : f.IsCanonical code
-  pub none_nearer : (k : ℕ) → IsCode k → distance f q code ≤ distance f q k
-  pub even_at_tie : (k : ℕ) → IsCode k → f.numerator k ≢ f.numerator code → distance f q k ≡ distance f q code → code % 2 ≡ 0
+  pub none_nearer : (k : ℕ) → f.IsCode k → distance f q code ≤ distance f q k
+  pub even_at_tie : (k : ℕ) → f.IsCode k → f.numerator k ≢ f.numerator code → distance f q k ≡ distance f q code → code % 2 ≡ 0
 
 -- the quantity is under every value of the format
 abbrev pub IsBelow : Coding → Fraction → Type 0
-IsBelow f q = (k : ℕ) → IsCode k → scaled f q <ℤ scaled_code f q k
+IsBelow f q = (k : ℕ) → f.IsCode k → scaled f q <ℤ scaled_code f q k
 
 -- the quantity is over every value of the format
 abbrev pub IsAbove : Coding → Fraction → Type 0
-IsAbove f q = (k : ℕ) → IsCode k → scaled_code f q k <ℤ scaled f q
+IsAbove f q = (k : ℕ) → f.IsCode k → scaled_code f q k <ℤ scaled f q
 
 -- the quantity is at or over the value of some code
 abbrev pub ReachesSome : Coding → Fraction → Type 0
-ReachesSome f q = (k : ℕ) × IsCode k × (scaled_code f q k ≤ℤ scaled f q)
+ReachesSome f q = (k : ℕ) × f.IsCode k × (scaled_code f q k ≤ℤ scaled f q)
 
 -- the value of some code is at or over the quantity
 abbrev pub IsReachedBySome : Coding → Fraction → Type 0
-IsReachedBySome f q = (k : ℕ) × IsCode k × (scaled f q ≤ℤ scaled_code f q k)
+IsReachedBySome f q = (k : ℕ) × f.IsCode k × (scaled f q ≤ℤ scaled_code f q k)
 
 -- the quantity is from the least value of the format to the greatest
 pub record IsInRange (f : Coding) (q : Fraction) : Type 0 where
   pub from_least : ReachesSome f q
   pub to_greatest : IsReachedBySome f q
-
--- What lets every quantity in range have a nearest code: each value has a canonical code, and between two values whose
--- canonical codes are both odd lies another, so no tie is between two odd ones.
-pub record IsSpaced (f : Coding) : Type 0 where
-  pub positive : 0 < f.denominator
-  pub canonical_code : (k : ℕ) → IsCode k → (c : ℕ) × IsCode c × f.IsCanonical c × (f.numerator c ≡ f.numerator k)
-  pub between : (c k : ℕ) → IsCode c → IsCode k → f.IsCanonical c → f.IsCanonical k → c % 2 ≡ 1 → k % 2 ≡ 1 → f.numerator c <ℤ f.numerator k → (j : ℕ) × IsCode j × (f.numerator c <ℤ f.numerator j) × (f.numerator j <ℤ f.numerator k)

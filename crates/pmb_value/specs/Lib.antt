@@ -1,12 +1,10 @@
-pub mod Fraction
-pub mod Quantity
+pub use Rattle.pmb_quantity.specs.Fraction
+pub use Rattle.pmb_quantity.specs.Quantity
+pub use Rattle.pmb_quantity.specs.QuantityText
+pub use Rattle.pmb_quantity.specs.Reading
 pub mod Coding
 pub mod Linear
 pub mod Direct
-pub mod Candidate
-pub mod Sign
 pub mod Vout
 pub mod Laws
-pub mod QuantityText
-pub mod Reading
-pub mod Numeral
+pub mod machine

@@ -1,10 +1,14 @@
 -- LINEAR11 (PMBus Part II revision 1.3, section 7) and the linear formats of VOUT (section 8).
-use Rattle.std.specs.Prelude.{◌≡◌, ◌≢◌, ℕ, ◌/◌, ◌-◌, ◌%◌, ◌^◌, ◌⊎◌, ℤ, pos, negsuc, ◌<ℤ◌, ◌+ℤ◌, ◌-ℤ◌, ◌*ℤ◌, ◌≤ℤ◌, unsigned_abs, nat_lt, if◌then◌else◌}
-use Rattle.pmb_value.specs.Coding.{Coding, IsCode}
+use Rattle.std.specs.Prelude.{◌≡◌, ◌≢◌, ℕ, ◌/◌, ◌-◌, ◌%◌, ◌^◌, ℤ, pos, negsuc, ◌+ℤ◌, ◌-ℤ◌, ◌*ℤ◌, ◌≤ℤ◌, unsigned_abs, nat_lt, if◌then◌else◌}
+use Rattle.pmb_value.specs.Coding.{Coding, IsWord}
 
 -- a field of so many bits, read as a two's complement number
 unfoldable pub twos_complement : ℕ → ℕ → ℤ
 twos_complement bits field = if nat_lt field (2 ^ (bits - 1)) then pos field else pos field -ℤ pos (2 ^ bits)
+
+-- an exponent of five bits in two's complement
+abbrev pub IsExponent : ℤ → Type 0
+IsExponent exponent = (negsuc 15 ≤ℤ exponent) × (exponent ≤ℤ pos 15)
 
 -- 2^exponent, over 2^16: no exponent is below -16
 abbrev pub power : ℤ → ℕ
@@ -25,31 +29,28 @@ linear11_numerator code = mantissa code *ℤ pos (power (exponent code))
 -- Zero is written as 0000h. No code of the same value has a smaller exponent than a canonical one.
 pub record IsCanonicalLinear11 (code : ℕ) : Type 0 where
   pub zero : linear11_numerator code ≡ pos 0 → code ≡ 0
-  pub least_exponent : linear11_numerator code ≢ pos 0 → (k : ℕ) → IsCode k → linear11_numerator k ≡ linear11_numerator code → exponent code ≤ℤ exponent k
+  pub least_exponent : linear11_numerator code ≢ pos 0 → (k : ℕ) → IsWord k → linear11_numerator k ≡ linear11_numerator code → exponent code ≤ℤ exponent k
 
 abbrev pub linear11 : Coding
-linear11 = record { numerator = linear11_numerator; denominator = 2 ^ 16; IsCanonical = IsCanonicalLinear11 }
+linear11 = record { IsCode = IsWord; numerator = linear11_numerator; denominator = 2 ^ 16; IsCanonical = IsCanonicalLinear11 }
 
 -- every code is canonical
 abbrev pub IsAnyCode : ℕ → Type 0
 IsAnyCode _ = Unit {0}
 
--- ULINEAR16: word * 2^exponent, over 2^16
+-- the number of a word * 2^exponent, over 2^16
+abbrev pub linear16 : (ℕ → ℤ) → ℤ → Coding
+linear16 number exponent = record {
+  IsCode = IsWord;
+  numerator = λ code. number code *ℤ pos (power exponent);
+  denominator = 2 ^ 16;
+  IsCanonical = IsAnyCode;
+}
+
+-- ULINEAR16: a word counts as it stands
 abbrev pub ulinear16 : ℤ → Coding
-ulinear16 exponent = record {
-  numerator = λ code. pos code *ℤ pos (power exponent);
-  denominator = 2 ^ 16;
-  IsCanonical = IsAnyCode;
-}
+ulinear16 = linear16 (λ code. pos code)
 
--- SLINEAR16: the same with a signed word
+-- SLINEAR16: a word counts in two's complement
 abbrev pub slinear16 : ℤ → Coding
-slinear16 exponent = record {
-  numerator = λ code. twos_complement 16 code *ℤ pos (power exponent);
-  denominator = 2 ^ 16;
-  IsCanonical = IsAnyCode;
-}
-
--- No smaller exponent holds the value of this mantissa: there is none, or the doubled mantissa has no room.
-abbrev pub IsLeastExponent : ℤ → ℤ → Type 0
-IsLeastExponent exponent mantissa = (exponent ≡ negsuc 15) ⊎ ((mantissa <ℤ negsuc 511) ⊎ (pos 511 <ℤ mantissa))
+slinear16 = linear16 (twos_complement 16)

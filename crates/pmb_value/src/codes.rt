@@ -1,8 +1,9 @@
 //! The values of a format's codes as whole numbers over one denominator.
 ghost use Rattle.std.specs.Prelude.{◌≡◌, ◌↔◌, ◌^◌, ◌<◌, unsigned_abs, IsTrue};
-ghost use Rattle.pmb_value.specs.Coding.{Coding, IsSpaced, value_of};
+ghost use Rattle.pmb_value.specs.Coding.{Coding, value_of};
+ghost use Rattle.pmb_value.specs.machine.Spaced.{IsSpaced, IsWritten};
 
-use crate::quantity::Quantity;
+use pmb_quantity::Quantity;
 
 /// What the encoder asks of a format.
 pub(crate) trait Codes {
@@ -20,14 +21,21 @@ pub(crate) trait Codes {
         ensures small { result < 2 ^ 62 }
         ensures spaced { IsSpaced (coding self.now) };
 
-    /// Whether an encoder may write this code.
-    fn is_canonical(&self, code: u16) -> bool
-        ensures { IsTrue result ↔ (coding self.now).IsCanonical code };
+    /// Whether a word is a code.
+    fn is_code(&self, code: u16) -> bool
+        ensures { IsTrue result ↔ (coding self.now).IsCode code };
+
+    /// Whether an encoder writes this code.
+    fn is_written(&self, code: u16) -> bool
+        ensures { IsTrue result ↔ IsWritten (coding self.now) code };
 }
 
 /// The exact value of a code.
 pub(crate) fn decode<C: Codes>(codes: &C, code: u16) -> Quantity
     ensures { result ≡ value_of (C.coding codes.now) code }
 {
-    Quantity::reduced(codes.numerator(code), codes.denominator())
+    match Quantity::new(codes.numerator(code), codes.denominator() as i64) {
+        Ok(quantity) => quantity,
+        Err(_) => unreachable!(),
+    }
 }

@@ -6,8 +6,8 @@ use crate::codes::{self, Codes};
 use crate::format::{Format, RangeFault};
 use crate::linear::twos_complement;
 use crate::plain;
-use crate::quantity::Quantity;
 use crate::steps::Steps;
+use pmb_quantity::Quantity;
 use std::marker::Model;
 
 /// Why coefficients make no DIRECT format.
@@ -95,7 +95,11 @@ impl Codes for Direct {
         u64::from(self.m.unsigned_abs()) * u64::from(ten_to(self.r))
     }
 
-    fn is_canonical(&self, _code: u16) -> bool {
+    fn is_code(&self, _code: u16) -> bool {
+        true
+    }
+
+    fn is_written(&self, _code: u16) -> bool {
         true
     }
 }

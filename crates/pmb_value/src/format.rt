@@ -2,8 +2,8 @@
 ghost use Rattle.std.specs.Prelude.{◌≡◌, ◌↔◌, IfOk, IsOk};
 ghost use Rattle.pmb_value.specs.Coding.{Coding, value_of, IsNearest, IsInRange, IsBelow, IsAbove};
 
-use crate::quantity::Quantity;
 use crate::steps::Steps;
+use pmb_quantity::Quantity;
 
 /// On which side of a format's range a quantity lies.
 #[derive(Clone, Copy, Debug, PartialEq, Eq)]

@@ -1,13 +1,14 @@
 //! The LINEAR11 format.
 ghost use Rattle.std.specs.Prelude.{◌≡◌, ◌↔◌, IsTrue, pos, negsuc, ◌≤ℤ◌};
-ghost use Rattle.pmb_value.specs.Linear.{exponent, mantissa, linear11, IsLeastExponent};
+ghost use Rattle.pmb_value.specs.Linear.{exponent, mantissa, linear11};
+ghost use Rattle.pmb_value.specs.machine.LeastExponent.{IsLeastExponent};
 
 use crate::codes::{self, Codes};
 use crate::format::{Format, RangeFault};
 use crate::linear::{self, DENOMINATOR, LEAST_EXPONENT};
 use crate::plain;
-use crate::quantity::Quantity;
 use crate::steps::Steps;
+use pmb_quantity::Quantity;
 
 /// LINEAR11: bits 15:11 are the exponent of two, bits 10:0 the mantissa, both in two's complement. Zero is written as
 /// 0000h, and every other value with the least exponent that holds it.
@@ -31,7 +32,11 @@ impl Codes for Linear11 {
         DENOMINATOR
     }
 
-    fn is_canonical(&self, code: u16) -> bool {
+    fn is_code(&self, _code: u16) -> bool {
+        true
+    }
+
+    fn is_written(&self, code: u16) -> bool {
         if code == 0 {
             return true;
         }

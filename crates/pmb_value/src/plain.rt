@@ -2,15 +2,16 @@
 //!
 //! It is slow, and short enough to be believed. Faster encoders are compared with it.
 ghost use Rattle.std.specs.Prelude.{◌≡◌, ◌↔◌, ◌^◌, ◌<◌, IfOk, IsOk, IsNone, IsTrue, MatchBool, unsigned_abs, ◌-ℤ◌};
-ghost use Rattle.pmb_value.specs.Coding.{IsNearest, IsInRange, IsBelow, IsAbove, ReachesSome, IsReachedBySome, IsSpaced, scaled, scaled_code};
+ghost use Rattle.pmb_value.specs.Coding.{IsNearest, IsInRange, IsBelow, IsAbove, ReachesSome, IsReachedBySome, scaled, scaled_code};
+ghost use Rattle.pmb_value.specs.machine.Spaced.{HasCode, IsSpaced};
 ghost use Rattle.pmb_value.specs.declared.format.RangeFault.TheVariants.{Below, Above};
 
 use crate::codes::Codes;
 use crate::format::RangeFault;
-use crate::quantity::Quantity;
 use crate::steps::Steps;
+use pmb_quantity::Quantity;
 
-/// The codes of every format are the numbers below this one.
+/// The codes of every format are among the numbers below this one.
 const CODES: u32 = 0x1_0000;
 
 /// A code, and how far it is from the quantity.
@@ -21,7 +22,7 @@ struct Candidate {
 }
 
 impl Candidate {
-    ghost use Rattle.pmb_value.specs.Candidate.{Beats, IsBetterOf};
+    ghost use Rattle.pmb_value.specs.machine.Candidate.{Beats, IsBetterOf};
 
     /// The better of two: the nearer one, or else an even code where the other is odd.
     fn or_better(self, other: Option<Candidate>) -> Candidate
@@ -75,13 +76,15 @@ fn fault_of<C: Codes>(codes: &C, quantity: &Quantity, steps: &mut Steps) -> Opti
 
 /// Whether the quantity is under every value.
 fn is_below<C: Codes>(codes: &C, quantity: &Quantity, steps: &mut Steps) -> bool
-    ensures { MatchBool result (IsBelow (C.coding codes.now) quantity.now)
+    ensures value { MatchBool result (IsBelow (C.coding codes.now) quantity.now)
         (ReachesSome (C.coding codes.now) quantity.now) }
+    ensures some_code { HasCode (C.coding codes.now) }
 {
     let target = scaled(codes, quantity);
     for index in 0..CODES {
         steps.tick();
-        if scaled_code(codes, quantity, index as u16) <= target {
+        let code = index as u16;
+        if codes.is_code(code) && scaled_code(codes, quantity, code) <= target {
             return false;
         }
     }
@@ -90,13 +93,15 @@ fn is_below<C: Codes>(codes: &C, quantity: &Quantity, steps: &mut Steps) -> bool
 
 /// Whether the quantity is over every value.
 fn is_above<C: Codes>(codes: &C, quantity: &Quantity, steps: &mut Steps) -> bool
-    ensures { MatchBool result (IsAbove (C.coding codes.now) quantity.now)
+    ensures value { MatchBool result (IsAbove (C.coding codes.now) quantity.now)
         (IsReachedBySome (C.coding codes.now) quantity.now) }
+    ensures some_code { HasCode (C.coding codes.now) }
 {
     let target = scaled(codes, quantity);
     for index in 0..CODES {
         steps.tick();
-        if target <= scaled_code(codes, quantity, index as u16) {
+        let code = index as u16;
+        if codes.is_code(code) && target <= scaled_code(codes, quantity, code) {
             return false;
         }
     }
@@ -112,7 +117,7 @@ fn nearest<C: Codes>(codes: &C, quantity: &Quantity, steps: &mut Steps) -> u16
     for index in 0..CODES {
         steps.tick();
         let code = index as u16;
-        if codes.is_canonical(code) {
+        if codes.is_written(code) {
             let candidate = Candidate {
                 code,
                 distance: gap(target, scaled_code(codes, quantity, code)),

@@ -6,10 +6,9 @@ ghost use Rattle.pmb_value.specs.Linear.{twos_complement};
 use crate::direct::Direct;
 use crate::format::{Format, RangeFault};
 use crate::linear::exponent_of;
-use crate::quantity::Quantity;
-use crate::slinear16::Slinear16;
+use crate::linear16::{Slinear16, Ulinear16};
 use crate::steps::Steps;
-use crate::ulinear16::Ulinear16;
+use pmb_quantity::Quantity;
 
 /// Why a VOUT_MODE names no format.
 #[derive(Clone, Copy, Debug, PartialEq, Eq)]

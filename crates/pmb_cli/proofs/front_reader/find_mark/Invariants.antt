@@ -1,4 +1,4 @@
-use Rattle.pmb_cli.specs.Front.{NoneEndsWithin}
+use Rattle.pmb_cli.specs.machine.Front.{NoneEndsWithin}
 use Rattle.pmb_cli.proofs.front_reader.find_mark.Given as goal
 
 -- no line `%%` ends in the bytes that were looked at

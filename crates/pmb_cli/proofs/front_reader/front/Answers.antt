@@ -1,39 +1,83 @@
-use Rattle.std.proofs.Common.{◌≡◌, ◌∙◌, ◌+◌, ◌≤◌, ◌<◌, ◌++◌, List, ℕ, ap, length, take, drop, inl, inr, sym, subst, length-take-le, arith}
-use Rattle.std.specs.Io.KnownBytes.{Consumes}
-use Rattle.pmb_cli.specs.Front.{FirstMark, NoMark, NoneEndsWithin, Reads, most_profile}
-use Rattle.pmb_cli.proofs.FrontReads.{grown, reads_more, reads_no_more, ends_with_reader, cut_within, cut_past_limit}
-use Rattle.pmb_cli.proofs.Marks.{none_with_more}
-use Rattle.pmb_cli.proofs.Writing.{told_end}
+use Rattle.std.proofs.Common.{◌≡◌, ◌≢◌, ◌∙◌, ◌+◌, ◌≤◌, ◌<◌, ◌++◌, List, ℕ, ap, length, length-append, min, take, drop, inl, sym, subst, length-take-le, refl, arith}
+use Rattle.std.proofs.lemmas.Bool.Decides.{nat_tests}
+use Rattle.pmb_io.specs.Runs.{most_piece}
+use Rattle.pmb_io.proofs.Writing.{told_end}
+use Rattle.pmb_cli.specs.Front.{FirstMark, MayFit, NoMark, Reads, most_profile}
+use Rattle.pmb_cli.specs.machine.Front.{NoneEndsWithin}
+use Rattle.pmb_cli.proofs.FrontReads.{all_past_limit, all_within, cut_past_limit, cut_within, gave_no_bytes, gave_none, grown, no_reads, none_more, one_more, reads_no_more, reads_nothing, reads_piece, same_reads, told_unfit}
+use Rattle.pmb_cli.proofs.Limits.{fit_is_short}
+use Rattle.pmb_cli.proofs.Marks.{none_in_nothing, none_with_more}
 use Rattle.pmb_cli.proofs.front_reader.front.Goals as goal
+
+pub loop-piece-init : goal.loop-piece-init
+loop-piece-init g c =
+    let empty = c.new-bytes.ensures.items in record {
+      failures = refl;
+      counted = omega (arith, ap length empty, c.new-bytes.ensures.len);
+      few = no_reads _ _;
+      reads = subst (λ (t : List ℕ). Reads (record { left = g.R.Source.remaining c.args.reader.now; given = g.R.Source.given c.args.reader.now }) (record { left = g.R.Source.remaining c.args.reader.now; given = g.R.Source.given c.args.reader.now }) t) (sym empty) (reads_nothing (record { left = g.R.Source.remaining c.args.reader.now; given = g.R.Source.given c.args.reader.now }));
+      none = subst NoMark (sym empty) none_in_nothing;
+    }
+
+pub returns-in-Err-clause-before_read : goal.returns-in-Err-clause-before_read
+returns-in-Err-clause-before_read g c is =
+    let read = c.loop-piece.bytes.items in
+    let none : NoMark read = c.loop-piece.invariant.none in
+    let fit : MayFit read = subst MayFit c.as_slice.ensures.value (c.may_fit.ensures.0 c.loop-piece-test.true) in
+    let gave = gave_no_bytes (record { left = g.R.Source.remaining c.args.reader.now; given = g.R.Source.given c.args.reader.now }) (record { left = g.R.Source.remaining c.loop-piece.reader; given = g.R.Source.given c.loop-piece.reader }) (record { left = g.R.Source.remaining c.read.new.self; given = g.R.Source.given c.read.new.self }) read c.loop-piece.invariant.reads.gave c.in-Err.ensures.bytes c.in-Err.ensures.given in
+    record { read = read; gave = gave; undecided = record { none = none; may_fit = fit } }
+
+pub returns-in-Err-clause-reads : goal.returns-in-Err-clause-reads
+returns-in-Err-clause-reads g c =
+    let read = c.loop-piece.bytes.items in
+    same_reads (min (length read) (most_profile + 4)) (most_profile + 4) _ _ _ c.loop-piece.invariant.few c.in-Err.ensures.read (omega arith)
 
 pub returns-then-count-eq0-clause-ok : goal.returns-then-count-eq0-clause-ok
 returns-then-count-eq0-clause-ok g c =
-    let none : c.in-Ok.count ≡ 0 = c.if-count-eq0.true in
     let read = c.loop-piece.bytes.items in
-    let consumed = subst (λ n. Consumes (g.R.Source.remaining c.loop-piece.reader) (g.R.Source.remaining c.read.new.self) (take n c.read.new.buffer)) none c.in-Ok.ensures.bytes.0 in
-    let all : c.len-all.result ≡ length read = c.len-all.ensures ∙ c.loop-piece.invariant.counted in
-    cut_within c.cut.result _ _ _ read c.len-all.result c.len-all.result (reads_no_more _ _ _ read c.loop-piece.invariant.reads consumed)
-    (ends_with_reader read c.len-all.result _ _ all c.loop-piece.invariant.none (told_end _ _ c.in-Ok.count c.read.new.buffer c.in-Ok.ensures.ended none (omega arith)) (c.in-Ok.ensures.bytes.1 none (omega arith)))
-    (omega arith) c.cut.ensures.profile c.cut.ensures.rest c.cut.ensures.within
+    let none : NoMark read = c.loop-piece.invariant.none in
+    let fit : MayFit read = subst MayFit c.as_slice.ensures.value (c.may_fit.ensures.0 c.loop-piece-test.true) in
+    let no_more = reads_no_more (record { left = g.R.Source.remaining c.args.reader.now; given = g.R.Source.given c.args.reader.now }) (record { left = g.R.Source.remaining c.loop-piece.reader; given = g.R.Source.given c.loop-piece.reader }) (record { left = g.R.Source.remaining c.read.new.self; given = g.R.Source.given c.read.new.self }) read c.loop-piece.invariant.reads
+    (gave_none (record { left = g.R.Source.remaining c.loop-piece.reader; given = g.R.Source.given c.loop-piece.reader }) (record { left = g.R.Source.remaining c.read.new.self; given = g.R.Source.given c.read.new.self }) c.in-Ok.count c.read.new.buffer c.if-count-eq0.true c.in-Ok.ensures.bytes.0 c.in-Ok.ensures.given) in
+    let is_ended = told_end _ _ c.in-Ok.count c.read.new.buffer c.in-Ok.ensures.ended c.if-count-eq0.true (omega arith) in
+    let at_end = c.in-Ok.ensures.bytes.1 c.if-count-eq0.true (omega arith) in
+    all_within c.all.result (record { left = g.R.Source.remaining c.args.reader.now; given = g.R.Source.given c.args.reader.now }) (record { left = g.R.Source.remaining c.read.new.self; given = g.R.Source.given c.read.new.self }) _ read no_more none is_ended at_end c.all.ensures.profile c.all.ensures.rest c.all.ensures.unmarked c.all.ensures.within
 
 pub returns-then-count-eq0-clause-too_long : goal.returns-then-count-eq0-clause-too_long
 returns-then-count-eq0-clause-too_long g c is =
-    let none : c.in-Ok.count ≡ 0 = c.if-count-eq0.true in
     let read = c.loop-piece.bytes.items in
-    let consumed = subst (λ n. Consumes (g.R.Source.remaining c.loop-piece.reader) (g.R.Source.remaining c.read.new.self) (take n c.read.new.buffer)) none c.in-Ok.ensures.bytes.0 in
-    let all : c.len-all.result ≡ length read = c.len-all.ensures ∙ c.loop-piece.invariant.counted in
-    cut_past_limit c.cut.result _ _ _ read c.len-all.result c.len-all.result (reads_no_more _ _ _ read c.loop-piece.invariant.reads consumed)
-    (ends_with_reader read c.len-all.result _ _ all c.loop-piece.invariant.none (told_end _ _ c.in-Ok.count c.read.new.buffer c.in-Ok.ensures.ended none (omega arith)) (c.in-Ok.ensures.bytes.1 none (omega arith)))
-    (omega arith) c.cut.ensures.long is
+    let none : NoMark read = c.loop-piece.invariant.none in
+    let fit : MayFit read = subst MayFit c.as_slice.ensures.value (c.may_fit.ensures.0 c.loop-piece-test.true) in
+    let no_more = reads_no_more (record { left = g.R.Source.remaining c.args.reader.now; given = g.R.Source.given c.args.reader.now }) (record { left = g.R.Source.remaining c.loop-piece.reader; given = g.R.Source.given c.loop-piece.reader }) (record { left = g.R.Source.remaining c.read.new.self; given = g.R.Source.given c.read.new.self }) read c.loop-piece.invariant.reads
+    (gave_none (record { left = g.R.Source.remaining c.loop-piece.reader; given = g.R.Source.given c.loop-piece.reader }) (record { left = g.R.Source.remaining c.read.new.self; given = g.R.Source.given c.read.new.self }) c.in-Ok.count c.read.new.buffer c.if-count-eq0.true c.in-Ok.ensures.bytes.0 c.in-Ok.ensures.given) in
+    let is_ended = told_end _ _ c.in-Ok.count c.read.new.buffer c.in-Ok.ensures.ended c.if-count-eq0.true (omega arith) in
+    let at_end = c.in-Ok.ensures.bytes.1 c.if-count-eq0.true (omega arith) in
+    all_past_limit c.all.result (record { left = g.R.Source.remaining c.args.reader.now; given = g.R.Source.given c.args.reader.now }) (record { left = g.R.Source.remaining c.read.new.self; given = g.R.Source.given c.read.new.self }) _ read no_more none is_ended at_end c.all.ensures.long is
+
+pub returns-then-count-eq0-clause-reads : goal.returns-then-count-eq0-clause-reads
+returns-then-count-eq0-clause-reads g c =
+    let read = c.loop-piece.bytes.items in
+    none_more (min (length read) (most_profile + 4)) (most_profile + 4) _ _ _ c.in-Ok.count c.loop-piece.invariant.few c.in-Ok.ensures.read c.if-count-eq0.true (omega arith)
 
 pub returns-then-is_err-clause-before_memory : goal.returns-then-is_err-clause-before_memory
 returns-then-is_err-clause-before_memory g c is =
     let read = c.loop-piece.bytes.items in
+    let none : NoMark read = c.loop-piece.invariant.none in
+    let fit : MayFit read = subst MayFit c.as_slice.ensures.value (c.may_fit.ensures.0 c.loop-piece-test.true) in
     let piece = take c.in-Ok.count c.read.new.buffer in
-    let small : length piece ≤ 65536 = rw (length-take-le c.in-Ok.count c.read.new.buffer c.in-Ok.ensures.within) (omega (arith, c.in-Ok.ensures.within)) in
-    let short : length read < most_profile + 4 = omega (arith, c.loop-piece-test.true, c.len.ensures, c.loop-piece.invariant.counted) in
-    let reads = reads_more _ _ (g.R.Source.remaining c.read.new.self) read piece c.loop-piece.invariant.reads c.loop-piece.invariant.none short c.in-Ok.ensures.bytes.0 small in
+    let room : length c.read.new.buffer ≤ most_piece = omega arith in
+    let reads = reads_piece (record { left = g.R.Source.remaining c.args.reader.now; given = g.R.Source.given c.args.reader.now }) (record { left = g.R.Source.remaining c.loop-piece.reader; given = g.R.Source.given c.loop-piece.reader }) (record { left = g.R.Source.remaining c.read.new.self; given = g.R.Source.given c.read.new.self })
+    read c.in-Ok.count c.read.new.buffer c.loop-piece.invariant.reads none fit c.in-Ok.ensures.within room c.in-Ok.ensures.bytes.0 c.in-Ok.ensures.given in
     record { read = read ++ piece; reads = reads }
+
+pub returns-then-is_err-clause-reads : goal.returns-then-is_err-clause-reads
+returns-then-is_err-clause-reads g c =
+    let read = c.loop-piece.bytes.items in
+    let none : NoMark read = c.loop-piece.invariant.none in
+    let fit : MayFit read = subst MayFit c.as_slice.ensures.value (c.may_fit.ensures.0 c.loop-piece-test.true) in
+    let short : length read < most_profile + 4 = fit_is_short read none fit in
+    let some : c.in-Ok.count ≢ 0 = grind (arith, nat_tests, c.if-count-eq0.false) in
+    one_more (min (length read) (most_profile + 4)) (most_profile + 4) _ _ _ c.in-Ok.count c.loop-piece.invariant.few c.in-Ok.ensures.read some (omega (arith, short))
 
 pub find_mark-requires-clause-none_before : goal.find_mark-requires-clause-none_before
 find_mark-requires-clause-none_before g c =
@@ -42,63 +86,103 @@ find_mark-requires-clause-none_before g c =
     let items = c.extend_from_slice.new.self.items in
     let items_are : items ≡ read ++ piece = grown c.extend_from_slice.result c.is_err.result items read piece c.is_err.ensures.value c.if-is_err.false c.extend_from_slice.ensures.items in
     let from_is : c.len-from.result ≡ length read = c.len-from.ensures ∙ c.loop-piece.invariant.counted in
-    subst (λ (t : List ℕ). NoneEndsWithin t c.len-from.result) (sym (c.as_slice.ensures.value ∙ items_are))
+    subst (λ (t : List ℕ). NoneEndsWithin t c.len-from.result) (sym (c.as_slice-in-loop-piece.ensures.value ∙ items_are))
     (subst (λ (n : ℕ). NoneEndsWithin (read ++ piece) n) (sym from_is) (none_with_more read piece c.loop-piece.invariant.none))
 
 pub returns-in-Some-clause-ok : goal.returns-in-Some-clause-ok
 returns-in-Some-clause-ok g c =
     let read = c.loop-piece.bytes.items in
+    let none : NoMark read = c.loop-piece.invariant.none in
+    let fit : MayFit read = subst MayFit c.as_slice.ensures.value (c.may_fit.ensures.0 c.loop-piece-test.true) in
     let piece = take c.in-Ok.count c.read.new.buffer in
-    let small : length piece ≤ 65536 = rw (length-take-le c.in-Ok.count c.read.new.buffer c.in-Ok.ensures.within) (omega (arith, c.in-Ok.ensures.within)) in
-    let short : length read < most_profile + 4 = omega (arith, c.loop-piece-test.true, c.len.ensures, c.loop-piece.invariant.counted) in
-    let reads = reads_more _ _ (g.R.Source.remaining c.read.new.self) read piece c.loop-piece.invariant.reads c.loop-piece.invariant.none short c.in-Ok.ensures.bytes.0 small in
+    let room : length c.read.new.buffer ≤ most_piece = omega arith in
+    let reads = reads_piece (record { left = g.R.Source.remaining c.args.reader.now; given = g.R.Source.given c.args.reader.now }) (record { left = g.R.Source.remaining c.loop-piece.reader; given = g.R.Source.given c.loop-piece.reader }) (record { left = g.R.Source.remaining c.read.new.self; given = g.R.Source.given c.read.new.self })
+    read c.in-Ok.count c.read.new.buffer c.loop-piece.invariant.reads none fit c.in-Ok.ensures.within room c.in-Ok.ensures.bytes.0 c.in-Ok.ensures.given in
     let items = c.extend_from_slice.new.self.items in
     let items_are : items ≡ read ++ piece = grown c.extend_from_slice.result c.is_err.result items read piece c.is_err.ensures.value c.if-is_err.false c.extend_from_slice.ensures.items in
-    let seen : c.as_slice.result.now ≡ items = c.as_slice.ensures.value in
+    let all_reads = subst (λ (t : List ℕ). Reads (record { left = g.R.Source.remaining c.args.reader.now; given = g.R.Source.given c.args.reader.now }) (record { left = g.R.Source.remaining c.read.new.self; given = g.R.Source.given c.read.new.self }) t) (sym items_are) reads in
+    let seen : c.as_slice-in-loop-piece.result.now ≡ items = c.as_slice-in-loop-piece.ensures.value in
     let mark = c.in-Some.mark in
     let first : FirstMark items (take mark.start items) (drop mark.end items) =
     subst (λ (t : List ℕ). FirstMark t (take mark.start t) (drop mark.end t)) seen c.in-Some.ensures.first in
     let inside : mark.start ≤ length items = subst (λ (t : List ℕ). mark.start ≤ length t) seen c.in-Some.ensures.start in
-    let all_reads = subst (λ (t : List ℕ). Reads (g.R.Source.remaining c.args.reader.now) (g.R.Source.remaining c.read.new.self) t) (sym items_are) reads in
-    cut_within c.cut-in-Some.result _ _ _ items mark.start mark.end all_reads (inl first) inside c.cut-in-Some.ensures.profile c.cut-in-Some.ensures.rest c.cut-in-Some.ensures.within
+    cut_within c.cut.result (record { left = g.R.Source.remaining c.args.reader.now; given = g.R.Source.given c.args.reader.now }) (record { left = g.R.Source.remaining c.read.new.self; given = g.R.Source.given c.read.new.self }) _ items mark.start mark.end all_reads first inside c.cut.ensures.profile c.cut.ensures.rest c.cut.ensures.marked c.cut.ensures.within
 
 pub returns-in-Some-clause-too_long : goal.returns-in-Some-clause-too_long
 returns-in-Some-clause-too_long g c is =
     let read = c.loop-piece.bytes.items in
+    let none : NoMark read = c.loop-piece.invariant.none in
+    let fit : MayFit read = subst MayFit c.as_slice.ensures.value (c.may_fit.ensures.0 c.loop-piece-test.true) in
     let piece = take c.in-Ok.count c.read.new.buffer in
-    let small : length piece ≤ 65536 = rw (length-take-le c.in-Ok.count c.read.new.buffer c.in-Ok.ensures.within) (omega (arith, c.in-Ok.ensures.within)) in
-    let short : length read < most_profile + 4 = omega (arith, c.loop-piece-test.true, c.len.ensures, c.loop-piece.invariant.counted) in
-    let reads = reads_more _ _ (g.R.Source.remaining c.read.new.self) read piece c.loop-piece.invariant.reads c.loop-piece.invariant.none short c.in-Ok.ensures.bytes.0 small in
+    let room : length c.read.new.buffer ≤ most_piece = omega arith in
+    let reads = reads_piece (record { left = g.R.Source.remaining c.args.reader.now; given = g.R.Source.given c.args.reader.now }) (record { left = g.R.Source.remaining c.loop-piece.reader; given = g.R.Source.given c.loop-piece.reader }) (record { left = g.R.Source.remaining c.read.new.self; given = g.R.Source.given c.read.new.self })
+    read c.in-Ok.count c.read.new.buffer c.loop-piece.invariant.reads none fit c.in-Ok.ensures.within room c.in-Ok.ensures.bytes.0 c.in-Ok.ensures.given in
     let items = c.extend_from_slice.new.self.items in
     let items_are : items ≡ read ++ piece = grown c.extend_from_slice.result c.is_err.result items read piece c.is_err.ensures.value c.if-is_err.false c.extend_from_slice.ensures.items in
-    let seen : c.as_slice.result.now ≡ items = c.as_slice.ensures.value in
+    let all_reads = subst (λ (t : List ℕ). Reads (record { left = g.R.Source.remaining c.args.reader.now; given = g.R.Source.given c.args.reader.now }) (record { left = g.R.Source.remaining c.read.new.self; given = g.R.Source.given c.read.new.self }) t) (sym items_are) reads in
+    let seen : c.as_slice-in-loop-piece.result.now ≡ items = c.as_slice-in-loop-piece.ensures.value in
     let mark = c.in-Some.mark in
     let first : FirstMark items (take mark.start items) (drop mark.end items) =
     subst (λ (t : List ℕ). FirstMark t (take mark.start t) (drop mark.end t)) seen c.in-Some.ensures.first in
     let inside : mark.start ≤ length items = subst (λ (t : List ℕ). mark.start ≤ length t) seen c.in-Some.ensures.start in
-    let all_reads = subst (λ (t : List ℕ). Reads (g.R.Source.remaining c.args.reader.now) (g.R.Source.remaining c.read.new.self) t) (sym items_are) reads in
-    cut_past_limit c.cut-in-Some.result _ _ _ items mark.start mark.end all_reads (inl first) inside c.cut-in-Some.ensures.long is
+    cut_past_limit c.cut.result (record { left = g.R.Source.remaining c.args.reader.now; given = g.R.Source.given c.args.reader.now }) (record { left = g.R.Source.remaining c.read.new.self; given = g.R.Source.given c.read.new.self }) _ items mark.start mark.end all_reads first inside c.cut.ensures.long is
+
+pub returns-in-Some-clause-reads : goal.returns-in-Some-clause-reads
+returns-in-Some-clause-reads g c =
+    let read = c.loop-piece.bytes.items in
+    let none : NoMark read = c.loop-piece.invariant.none in
+    let fit : MayFit read = subst MayFit c.as_slice.ensures.value (c.may_fit.ensures.0 c.loop-piece-test.true) in
+    let short : length read < most_profile + 4 = fit_is_short read none fit in
+    let some : c.in-Ok.count ≢ 0 = grind (arith, nat_tests, c.if-count-eq0.false) in
+    one_more (min (length read) (most_profile + 4)) (most_profile + 4) _ _ _ c.in-Ok.count c.loop-piece.invariant.few c.in-Ok.ensures.read some (omega (arith, short))
+
+pub loop-piece-smaller : goal.loop-piece-smaller
+loop-piece-smaller g c =
+    let read = c.loop-piece.bytes.items in
+    let none : NoMark read = c.loop-piece.invariant.none in
+    let fit : MayFit read = subst MayFit c.as_slice.ensures.value (c.may_fit.ensures.0 c.loop-piece-test.true) in
+    let short : length read < most_profile + 4 = fit_is_short read none fit in
+    let some : c.in-Ok.count ≢ 0 = grind (arith, nat_tests, c.if-count-eq0.false) in
+    let piece = take c.in-Ok.count c.read.new.buffer in
+    let items = c.extend_from_slice.new.self.items in
+    let items_are : items ≡ read ++ piece = grown c.extend_from_slice.result c.is_err.result items read piece c.is_err.ensures.value c.if-is_err.false c.extend_from_slice.ensures.items in
+    let longer : length items ≡ length read + c.in-Ok.count =
+    ap length items_are ∙ (length-append read piece ∙ ap (λ n. length read + n) (length-take-le c.in-Ok.count c.read.new.buffer c.in-Ok.ensures.within)) in
+    omega (arith, short, some, longer)
 
 pub loop-piece-preserved : goal.loop-piece-preserved
 loop-piece-preserved g c =
     let read = c.loop-piece.bytes.items in
+    let none : NoMark read = c.loop-piece.invariant.none in
+    let fit : MayFit read = subst MayFit c.as_slice.ensures.value (c.may_fit.ensures.0 c.loop-piece-test.true) in
+    let short : length read < most_profile + 4 = fit_is_short read none fit in
+    let some : c.in-Ok.count ≢ 0 = grind (arith, nat_tests, c.if-count-eq0.false) in
     let piece = take c.in-Ok.count c.read.new.buffer in
-    let small : length piece ≤ 65536 = rw (length-take-le c.in-Ok.count c.read.new.buffer c.in-Ok.ensures.within) (omega (arith, c.in-Ok.ensures.within)) in
-    let short : length read < most_profile + 4 = omega (arith, c.loop-piece-test.true, c.len.ensures, c.loop-piece.invariant.counted) in
-    let reads = reads_more _ _ (g.R.Source.remaining c.read.new.self) read piece c.loop-piece.invariant.reads c.loop-piece.invariant.none short c.in-Ok.ensures.bytes.0 small in
+    let room : length c.read.new.buffer ≤ most_piece = omega arith in
+    let reads = reads_piece (record { left = g.R.Source.remaining c.args.reader.now; given = g.R.Source.given c.args.reader.now }) (record { left = g.R.Source.remaining c.loop-piece.reader; given = g.R.Source.given c.loop-piece.reader }) (record { left = g.R.Source.remaining c.read.new.self; given = g.R.Source.given c.read.new.self })
+    read c.in-Ok.count c.read.new.buffer c.loop-piece.invariant.reads none fit c.in-Ok.ensures.within room c.in-Ok.ensures.bytes.0 c.in-Ok.ensures.given in
     let items = c.extend_from_slice.new.self.items in
     let items_are : items ≡ read ++ piece = grown c.extend_from_slice.result c.is_err.result items read piece c.is_err.ensures.value c.if-is_err.false c.extend_from_slice.ensures.items in
-    let all_reads = subst (λ (t : List ℕ). Reads (g.R.Source.remaining c.args.reader.now) (g.R.Source.remaining c.read.new.self) t) (sym items_are) reads in
+    let longer : length items ≡ length read + c.in-Ok.count =
+    ap length items_are ∙ (length-append read piece ∙ ap (λ n. length read + n) (length-take-le c.in-Ok.count c.read.new.buffer c.in-Ok.ensures.within)) in
+    let all_reads = subst (λ (t : List ℕ). Reads (record { left = g.R.Source.remaining c.args.reader.now; given = g.R.Source.given c.args.reader.now }) (record { left = g.R.Source.remaining c.read.new.self; given = g.R.Source.given c.read.new.self }) t) (sym items_are) reads in
     record {
       failures = c.in-Ok.ensures.failed ∙ c.loop-piece.invariant.failures;
-      counted = sym c.as_slice.ensures.len ∙ ap length c.as_slice.ensures.value;
+      counted = sym c.as_slice-in-loop-piece.ensures.len ∙ ap length c.as_slice-in-loop-piece.ensures.value;
+      few = one_more (min (length read) (most_profile + 4)) (min (length items) (most_profile + 4)) _ _ _ c.in-Ok.count c.loop-piece.invariant.few c.in-Ok.ensures.read some (omega (arith, short, some, longer));
       reads = all_reads;
-      none = subst NoMark c.as_slice.ensures.value c.in_default.ensures.none;
+      none = subst NoMark c.as_slice-in-loop-piece.ensures.value c.in_default.ensures.none;
     }
 
 pub returns-clause-too_long : goal.returns-clause-too_long
-returns-clause-too_long g c is = record {
-  read = c.loop-piece.bytes.items;
-  reads = c.loop-piece.invariant.reads;
-  too_long = inr (record { none = c.loop-piece.invariant.none; long = omega (arith, c.loop-piece-test.false, c.len.ensures, c.loop-piece.invariant.counted) });
-}
+returns-clause-too_long g c is =
+    let read = c.loop-piece.bytes.items in record {
+      read = read;
+      reads = c.loop-piece.invariant.reads;
+      too_long = inl (told_unfit c.may_fit.result read c.as_slice.result.now c.may_fit.ensures c.as_slice.ensures.value c.loop-piece-test.false);
+    }
+
+pub returns-clause-reads : goal.returns-clause-reads
+returns-clause-reads g c =
+    let read = c.loop-piece.bytes.items in
+    same_reads (min (length read) (most_profile + 4)) (most_profile + 4) _ _ _ c.loop-piece.invariant.few refl (omega arith)

@@ -7,7 +7,7 @@ use Rattle.pmb_table.proofs.device_commands.read_commands.Goals as goal
 
 pub loop-value-init : goal.loop-value-init
 unfolding IsDistinct
-loop-value-init c = rw c.new-taken.ensures record { read = refl; taken = (tt, tt); own_codes = c.requires }
+loop-value-init c = rw c.new-taken.ensures record { read = refl; taken = (tt, tt); own_codes = c.requires.own_codes; accepted = c.requires.accepted }
 
 pub returns-in-Err-clause-read : goal.returns-in-Err-clause-read
 returns-in-Err-clause-read c =

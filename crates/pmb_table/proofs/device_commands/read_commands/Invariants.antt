@@ -1,6 +1,9 @@
 use Rattle.std.proofs.Common.{◌≡◌, [], drop}
+use Rattle.std.specs.List.{AllByRecursion}
+use Rattle.pmb_command.specs.Bus.{IsCommand}
 use Rattle.toml.specs.View.{items_view}
-use Rattle.pmb_table.specs.CommandMap.{AreTaken, HaveOwnCodes}
+use Rattle.pmb_table.specs.machine.CommandMap.{AreTaken}
+use Rattle.pmb_command.specs.Parts.{HaveOwnCodes}
 use Rattle.pmb_table.specs.Profile.{commands_after}
 use Rattle.pmb_table.proofs.device_commands.read_commands.Given as goal
 
@@ -10,4 +13,5 @@ invariant-loop-value l = record {
   read : commands_after l.device l.taken.items l.commands (items_view (drop l.value-index l.values)) ≡ commands_after l.device [] l.fn.first (items_view l.values);
   taken : AreTaken l.taken.items;
   own_codes : HaveOwnCodes l.commands;
+  accepted : AllByRecursion IsCommand l.commands;
 }

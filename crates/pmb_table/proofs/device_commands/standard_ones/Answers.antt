@@ -1,6 +1,9 @@
-use Rattle.std.proofs.Common.{rules, arith, ◌∙◌, sym, ap}
-use Rattle.pmb_table.specs.Entry.{entry_parts}
+use Rattle.std.proofs.Common.{rules, arith, ◌∙◌, sym, ap, subst}
+use Rattle.pmb_command.specs.Entry.{entry_parts}
 use Rattle.pmb_table.specs.Profile.{put}
+use Rattle.std.specs.List.{AllByRecursion}
+use Rattle.pmb_command.specs.Bus.{IsCommand}
+use Rattle.pmb_table.proofs.Accepted.{IsCommand-put}
 use Rattle.pmb_table.proofs.StandardList.{bare, put-standard, standard_from-all, standard_from-none}
 use Rattle.pmb_table.proofs.device_commands.standard_ones.Goals as goal
 use Rattle.pmb_table.proofs.device_commands.standard_ones.Goals.{in-Some+in_ok-put, in_default}
@@ -14,13 +17,17 @@ loop-code-preserved c =
                 w.commands-is
                 ∙ w.in_ok-put.ensures.ok
                 ∙ ap (put (bare (entry_parts w.in-Some.entry))) c.loop-code.invariant.commands
-                ∙ put-standard c.loop-code.code (entry_parts w.in-Some.entry) (sym w.in-Some.ensures);
+                ∙ put-standard c.standard_entries_are_sound.ensures c.loop-code.code (entry_parts w.in-Some.entry) (sym w.in-Some.ensures.entry);
             own_codes = search rules;
+            accepted =
+                subst (AllByRecursion IsCommand) (sym (w.commands-is ∙ w.in_ok-put.ensures.ok))
+                (IsCommand-put (bare (entry_parts w.in-Some.entry)) c.loop-code.commands (record { entry = w.in-Some.ensures.sound.entry; initial = tt }) c.loop-code.invariant.accepted);
           }
       | in_default w ↦
           record {
-            commands = w.commands-is ∙ c.loop-code.invariant.commands ∙ standard_from-none c.loop-code.code (sym w.in_default.ensures);
+            commands = w.commands-is ∙ c.loop-code.invariant.commands ∙ standard_from-none c.loop-code.code (sym w.in_default.ensures.entry);
             own_codes = search rules;
+            accepted = subst (AllByRecursion IsCommand) (sym w.commands-is) c.loop-code.invariant.accepted;
           }
     ]
 

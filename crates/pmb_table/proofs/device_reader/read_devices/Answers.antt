@@ -1,10 +1,11 @@
-use Rattle.std.proofs.Common.{◌≡◌, ◌+◌, Ok, drop, ⊎_elim, refl, sym, ap, ◌∙◌}
+use Rattle.std.proofs.Common.{◌≡◌, ◌+◌, map, Ok, drop, ⊎_elim, refl, sym, ap, ◌∙◌}
 use Rattle.std.proofs.lemmas.List.{length_push}
 use Rattle.std.specs.List.{IsDistinct}
 use Rattle.toml.specs.View.{items_view, view}
-use Rattle.pmb_table.specs.CommandMap.{IsDevice, IsNewAddress}
+use Rattle.pmb_command.specs.Bus.{IsDevice}
+use Rattle.pmb_command.specs.Parts.{IsNew}
 use Rattle.pmb_table.specs.Profile.{device_of, devices_after}
-use Rattle.pmb_table.proofs.Binds.{All-push}
+use Rattle.pmb_table.proofs.Accepted.{All-push}
 use Rattle.pmb_table.proofs.CommandSteps.{item_at}
 use Rattle.pmb_table.proofs.DeviceSteps.{HaveOwnAddresses-push, rest_of_device}
 use Rattle.pmb_table.proofs.device_reader.read_devices.Goals as goal
@@ -23,7 +24,7 @@ loop-value-preserved c =
     let before = c.loop-value.devices.items in
     let i = c.loop-value.value-index in
     let vs = c.args.values.now in
-    let own : IsNewAddress before c.in-Ok.device.address = rw (← c.as_slice.ensures.value) c.in-Ok.ensures.own_address in
+    let own : IsNew c.in-Ok.device.address (map (λ x. x.address) before) = rw (← c.as_slice.ensures.value) c.in-Ok.ensures.own_address in
     rw c.in-Ok-push.ensures.items record {
       read =
           rest_of_device before (view c.value-item.result) (items_view (drop (i + 1) vs)) c.in-Ok.device (is_read (goal.at.loop-value-preserved c).In-Ok)

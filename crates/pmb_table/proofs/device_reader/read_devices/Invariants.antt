@@ -1,7 +1,8 @@
 use Rattle.std.proofs.Common.{◌≡◌, [], drop, length}
 use Rattle.std.specs.List.{AllByRecursion}
 use Rattle.toml.specs.View.{items_view}
-use Rattle.pmb_table.specs.CommandMap.{HaveOwnAddresses, IsDevice}
+use Rattle.pmb_command.specs.Bus.{IsDevice}
+use Rattle.pmb_command.specs.Parts.{HaveOwnAddresses}
 use Rattle.pmb_table.specs.Profile.{devices_after}
 use Rattle.pmb_table.proofs.device_reader.read_devices.Given as goal
 

@@ -3,4 +3,4 @@ use Rattle.pmb_value.proofs.OneNearest.{has_one_nearest, IsSeparated-ulinear16}
 use Rattle.pmb_value.proofs.laws.ulinear16_has_one_nearest.Goals as goal
 
 pub returns : goal.returns
-returns c = λ e. has_one_nearest (ulinear16 e) (IsSeparated-ulinear16 e)
+returns c = λ e _. has_one_nearest (ulinear16 e) (IsSeparated-ulinear16 e)

@@ -3,7 +3,7 @@ use Rattle.std.proofs.lemmas.List.{append-nil}
 use Rattle.pmb_bus.specs.declared.event.Event.{Event}
 use Rattle.pmb_bus.specs.Event.{event_of}
 use Rattle.pmb_bus.specs.Text.{open_word}
-use Rattle.pmb_bus.specs.Lexer.{StandsAt}
+use Rattle.pmb_bus.specs.machine.Standing.{StandsAt}
 use Rattle.pmb_bus.proofs.Spelling.{no_word, one_word}
 use Rattle.pmb_bus.proofs.Stands.{advanced, stands_end, stops_behind}
 use Rattle.pmb_bus.proofs.lexer.Lexer.step_end.Goals as goal

@@ -1,6 +1,6 @@
 use Rattle.std.proofs.Common.{sym, subst, ◌∙◌}
 use Rattle.pmb_bus.specs.declared.lexer.Place.{Place}
-use Rattle.pmb_bus.specs.Lexer.{IsPlace}
+use Rattle.pmb_bus.specs.machine.Standing.{IsPlace}
 use Rattle.pmb_bus.proofs.Lengthens.{opens_none, lengthens_first, lengthens_no_first, lengthens_digit}
 use Rattle.pmb_bus.proofs.lexer.Place.lengthened.Goals as goal
 

@@ -1,5 +1,5 @@
 use Rattle.std.proofs.Common.{ap, ◌∙◌, option_map}
-use Rattle.pmb_table.specs.Parts.{command_parts}
+use Rattle.pmb_keys.specs.CommandView.{command_parts}
 use Rattle.pmb_table.proofs.CommandMaps.{command_with-lookup, parts_of_ref}
 use Rattle.pmb_table.proofs.command_map.CommandMap.get.Goals as goal
 

@@ -1,6 +1,6 @@
 use Rattle.std.proofs.Common.{subst, sym, ap, ◌∙◌}
-use Rattle.pmb_table.specs.CommandMap.{commands_view, AreAtTheirCodes}
-use Rattle.pmb_table.specs.Parts.{command_parts}
+use Rattle.pmb_table.specs.machine.CommandMap.{commands_view, AreAtTheirCodes}
+use Rattle.pmb_keys.specs.CommandView.{command_parts}
 use Rattle.pmb_table.specs.Profile.{put}
 use Rattle.pmb_table.proofs.CommandMaps.{AreAtTheirCodes-insert_entry, HaveOwnCodes-from_keys, put-insert_entry}
 use Rattle.pmb_table.proofs.command_map.CommandMap.put.Goals as goal

@@ -1,5 +1,5 @@
 use Rattle.std.proofs.Common.{◌≡◌, drop}
-use Rattle.pmb_table.specs.Parts.{device_with}
+use Rattle.pmb_command.specs.Parts.{device_with}
 use Rattle.pmb_table.proofs.profile.Profile.device.Given as goal
 
 -- the device is among those from here on

@@ -1,0 +1,174 @@
+-- A token in front of a piece of text, and its separator, taken at once.
+use Rattle.std.proofs.Common.{◌≡◌, ℕ, ◌+◌, ◌-◌, ◌*◌, ◌≤◌, inl, inr, true, false, Some, List, [], ◌∷◌, ◌++◌, length, take, get_or, refl, sym, ap, subst, ◌∙◌, arith}
+use Rattle.std.proofs.lemmas.List.{append_assoc, take_at, length-append}
+use Rattle.std.proofs.lemmas.Bool.{cases_eq, ne_eqb}
+use Rattle.hex.specs.Hex.{hex_digit_value}
+use Rattle.pmb_bus.specs.declared.event.Event.{Event}
+use Rattle.pmb_bus.specs.declared.event.Event.TheVariants.{Byte}
+use Rattle.pmb_bus.specs.declared.lexer.Place.{Place}
+use Rattle.pmb_bus.specs.declared.lexer.Place.TheVariants as places
+use Rattle.pmb_bus.specs.declared.lexer.Lexer.{Lexer}
+use Rattle.pmb_bus.specs.Count.{capped}
+use Rattle.pmb_bus.specs.Event.{letter_event, byte_event, event_of}
+use Rattle.pmb_bus.specs.Text.{is_separator, ends_in_comment, open_word, EndedWordsSpell}
+use Rattle.pmb_bus.specs.Lexer.{EndsWord}
+use Rattle.pmb_bus.specs.machine.Bytes.{ends_word, starts_token, BeginsWithToken}
+use Rattle.pmb_bus.specs.machine.Standing.{IsPlace, StandsAt}
+use Rattle.pmb_bus.specs.machine.Steps.{place_behind}
+use Rattle.pmb_bus.proofs.Tokens.{letter_goes_on, digit_goes_on, letter_starts, digit_starts, digits_of}
+use Rattle.pmb_bus.proofs.Spelling.{one_word}
+use Rattle.pmb_bus.proofs.Stands.{advanced, stands_end, stands_longer}
+use Rattle.pmb_bus.proofs.Lengthens.{lengthens_first, lengthens_digit}
+
+-- two digits and a separator
+pub front_digits : (text : List ℕ) (byte : ℕ) → 3 ≤ length text
+    → byte_event (hex_digit_value (get_or text 0 0)) (hex_digit_value (get_or text 1 0)) ≡ Some (Byte byte)
+    → is_separator (get_or text 2 0) ≡ true → BeginsWithToken text (Byte byte) 3
+front_digits [] byte long token separates = absurd (omega arith)
+front_digits (a ∷ []) byte long token separates = absurd (omega arith)
+front_digits (a ∷ b ∷ []) byte long token separates = absurd (omega arith)
+front_digits (a ∷ b ∷ c ∷ rest) byte long token separates = record {
+  word = a ∷ b ∷ [];
+  separator = c;
+  rest = rest;
+  split = refl;
+  token = token;
+  separates = separates;
+  counted = refl;
+}
+
+-- behind a separator is between words
+separator_behind : (b : ℕ) → is_separator b ≡ true → place_behind b ≡ places.Between
+separator_behind b separates =
+    elim (cases_eq b 35) [
+      | inl hash ↦ cc (sym (ap is_separator hash) ∙ separates)
+      | inr other ↦ rw (ne_eqb b 35 other) refl
+    ]
+
+-- a separator ends a word
+separator_ends : (b : ℕ) → is_separator b ≡ true → ends_word b ≡ true
+separator_ends b separates = rw separates refl
+
+-- a lexer stands behind a word that is a token, and that no byte has ended
+record BehindWord (now : Lexer) (n : ℕ) (text : List ℕ) (events : List Event) (word : List ℕ) (event : Event) (used : ℕ) : Type 0 where
+  stands : StandsAt now (n + length word) (text ++ word) events
+  outside : ends_in_comment (text ++ word) ≡ false
+  token : event_of (open_word (text ++ word)) ≡ Some event
+  counted : now.used ≡ capped (used + length word)
+
+module _ (before : Lexer) (n : ℕ) (text : List ℕ) (events : List Event) (stands : StandsAt before n text events) (between : before.place ≡ places.Between) where
+  -- between words
+  here : IsPlace places.Between n text
+  here = subst (λ (place : Place). IsPlace place n text) between stands.place
+
+  -- behind the first byte of a token
+  behind_first : (b : ℕ) → ends_word b ≡ false → starts_token b ≡ true
+      → StandsAt (advanced before (places.One before.used b)) (n + 1) (text ++ b ∷ []) events
+  behind_first b goes_on starts =
+      stands_longer before (advanced before (places.One before.used b)) n text b events (places.One before.used b) stands refl here.1 goes_on
+      (lengthens_first n text b before.used stands.counted here.0 here.1 goes_on starts)
+
+  -- behind a letter that is a token
+  behind_letter : (b : ℕ) (event : Event) → letter_event b ≡ Some event
+      → BehindWord (advanced before (places.One before.used b)) n text events (b ∷ []) event before.used
+  behind_letter b event letter =
+      let first = behind_first b (letter_goes_on b event letter) (letter_starts b event letter) in record {
+        stands = first;
+        outside = first.place.1;
+        token = ap event_of first.place.0 ∙ letter;
+        counted = refl;
+      }
+
+  -- behind the second digit of a token
+  behind_second : (a b high low : ℕ) → hex_digit_value a ≡ Some high → hex_digit_value b ≡ Some low
+      → StandsAt (advanced (advanced before (places.One before.used a)) (places.Two before.used (high * 16 + low))) (n + 2) (text ++ a ∷ b ∷ []) events
+  behind_second a b high low is_high is_low =
+      let value = high * 16 + low in
+      let byte : byte_event (hex_digit_value a) (hex_digit_value b) ≡ Some (Byte value) = cc (is_high, is_low) in
+      let one = advanced before (places.One before.used a) in
+      let two = advanced one (places.Two before.used value) in
+      let first = behind_first a (digit_goes_on a high is_high) (digit_starts a high is_high) in
+      let goes_on = digit_goes_on b low is_low in
+      let second = stands_longer one two (n + 1) (text ++ a ∷ []) b events (places.Two before.used value) first refl first.place.1 goes_on
+      (lengthens_digit (n + 1) (text ++ a ∷ []) b before.used a value first.place first.place.1 goes_on (sym byte)) in
+      let whole : (text ++ a ∷ []) ++ b ∷ [] ≡ text ++ a ∷ b ∷ [] = append_assoc text (a ∷ []) (b ∷ []) in
+      let count : (n + 1) + 1 ≡ n + 2 = omega arith in
+      subst (λ (m : ℕ). StandsAt two m (text ++ a ∷ b ∷ []) events) count
+      (subst (λ (all : List ℕ). StandsAt two ((n + 1) + 1) all events) whole second)
+
+  -- behind two digits
+  behind_digits : (a b high low : ℕ) → hex_digit_value a ≡ Some high → hex_digit_value b ≡ Some low
+      → BehindWord (advanced (advanced before (places.One before.used a)) (places.Two before.used (high * 16 + low))) n text events (a ∷ b ∷ []) (Byte (high * 16 + low)) before.used
+  behind_digits a b high low is_high is_low =
+      let second = behind_second a b high low is_high is_low in
+      let word = second.place in record {
+        stands = second;
+        outside = word.4;
+        token = ap event_of word.2 ∙ word.3;
+        counted = omega arith;
+      }
+
+-- ---- a separator behind it
+
+-- the token and the separator are what was used
+record TookToken (piece word : List ℕ) (separator used : ℕ) : Type 0 where
+  word_is : take (used - 1) piece ≡ word
+  all_is : take used piece ≡ word ++ separator ∷ []
+  within : used ≤ length piece
+
+-- of a piece that begins with a token
+took_token : (piece word rest : List ℕ) (separator used : ℕ) → piece ≡ word ++ separator ∷ rest → used ≡ length word + 1
+    → TookToken piece word separator used
+took_token piece word rest separator used split counted =
+    let whole : piece ≡ (word ++ separator ∷ []) ++ rest = split ∙ sym (append_assoc word (separator ∷ []) rest) in
+    let long : length (word ++ separator ∷ []) ≡ length word + 1 = length-append word (separator ∷ []) in
+    let fits : length piece ≡ length word + length (separator ∷ rest) = ap (length {A = ℕ}) split ∙ length-append word (separator ∷ rest) in record {
+      word_is = ap (take (used - 1)) split ∙ take_at word (separator ∷ rest) (used - 1) (omega (arith, counted));
+      all_is = ap (take used) whole ∙ take_at (word ++ separator ∷ []) rest used (omega (arith, long, counted));
+      within = omega (arith, fits, counted);
+    }
+
+-- behind the separator
+ends_behind : (now after : Lexer) (n : ℕ) (text : List ℕ) (events : List Event) (word : List ℕ) (event : Event) (start : ℕ) (piece rest : List ℕ) (separator used : ℕ)
+    → BehindWord now n text events word event start → is_separator separator ≡ true → piece ≡ word ++ separator ∷ rest → used ≡ length word + 1
+    → after ≡ record { place = places.Between; used = capped (start + used) } → EndsWord n text events piece used after event
+ends_behind now after n text events word event start piece rest separator used behind separates split counted is =
+    let took = took_token piece word rest separator used split counted in
+    let count : capped (start + used) ≡ capped (now.used + 1) = omega (arith, behind.counted, counted) in
+    let lexer : after ≡ advanced now (place_behind separator) = is ∙ cc (count, separator_behind separator separates) in
+    let stands : StandsAt after ((n + length word) + 1) ((text ++ word) ++ separator ∷ []) (events ++ event ∷ []) =
+    stands_end now after (n + length word) (text ++ word) separator events (event ∷ []) behind.stands lexer behind.outside
+    (separator_ends separator separates) (one_word (text ++ word) event behind.token) in
+    let all : (text ++ word) ++ separator ∷ [] ≡ text ++ take used piece =
+    append_assoc text word (separator ∷ []) ∙ ap (λ (part : List ℕ). text ++ part) (sym took.all_is) in
+    let total : (n + length word) + 1 ≡ n + used = omega (arith, counted) in record {
+      some = omega (arith, counted);
+      within = took.within;
+      before = subst (λ (part : List ℕ). EndedWordsSpell (text ++ part) events) (sym took.word_is) behind.stands.ended;
+      stands = subst (λ (m : ℕ). StandsAt after m (text ++ take used piece) (events ++ event ∷ [])) total
+          (subst (λ (t : List ℕ). StandsAt after ((n + length word) + 1) t (events ++ event ∷ [])) all stands);
+    }
+
+-- A token and a separator in front of a piece: two or three steps are this one.
+pub front_token_ends : (before after : Lexer) (n : ℕ) (text : List ℕ) (events : List Event) (piece : List ℕ) (used : ℕ) (event : Event)
+    → StandsAt before n text events → before.place ≡ places.Between → BeginsWithToken piece event used
+    → after ≡ record { place = places.Between; used = capped (before.used + used) } → EndsWord n text events piece used after event
+front_token_ends before after n text events piece used event stands between begins is =
+    by_word begins.word begins.split begins.token begins.counted
+  where
+    by_word : (word : List ℕ) → piece ≡ word ++ begins.separator ∷ begins.rest → event_of word ≡ Some event → used ≡ length word + 1
+        → EndsWord n text events piece used after event
+    by_word [] split token counted = cc token
+    by_word (b ∷ []) split token counted =
+        ends_behind (advanced before (places.One before.used b)) after n text events (b ∷ []) event before.used piece begins.rest begins.separator used
+        (behind_letter before n text events stands between b event token) begins.separates split counted is
+    by_word (a ∷ b ∷ []) split token counted =
+        let digits = digits_of (hex_digit_value a) (hex_digit_value b) event token in
+        let value = digits.first * 16 + digits.second in
+        subst (λ (found : Event). EndsWord n text events piece used after found) (sym digits.event_is)
+        (
+        ends_behind (advanced (advanced before (places.One before.used a)) (places.Two before.used value)) after n text events (a ∷ b ∷ []) (Byte value) before.used
+        piece begins.rest begins.separator used (behind_digits before n text events stands between a b digits.first digits.second digits.high_is digits.low_is)
+        begins.separates split counted is
+        )
+    by_word (a ∷ b ∷ c ∷ more) split token counted = cc token

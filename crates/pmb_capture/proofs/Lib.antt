@@ -1,0 +1,13 @@
+pub mod Grammars
+pub mod Packets
+pub mod Stepping
+pub mod Passing
+pub mod Feeding
+pub mod Readings
+pub mod Reporting
+pub mod Outcomes
+pub mod Endings
+pub mod Taking
+pub mod Putting
+pub mod Running
+pub mod Shown

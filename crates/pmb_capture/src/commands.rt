@@ -1,0 +1,3 @@
+//! The commands of this layer.
+
+pub(crate) mod show;

@@ -1,0 +1,113 @@
+-- A capture that is shown behind its profile.
+use Rattle.std.proofs.Common.{◌≡◌, ◌∙◌, ◌⊎◌, ℕ, Bool, true, false, Option, Some, None, Ok, List, [], ◌∷◌, ◌++◌, length, inl, inr, refl, sym, ap, subst, length-append}
+use Rattle.std.specs.Io.KnownBytes.{Consumes, IsAtEnd}
+use Rattle.pmb_bus.specs.Text.{BeginsText}
+use Rattle.pmb_command.specs.Parts.{DeviceParts}
+use Rattle.pmb_io.specs.Count.{raised}
+use Rattle.pmb_io.specs.Runs.{Ended, Stopped, Through, Told}
+use Rattle.pmb_io.specs.declared.tally.Tally.{Tally}
+use Rattle.pmb_io.proofs.Running.{raised_twice}
+use Rattle.pmb_io.proofs.Writing.{consumes_then}
+use Rattle.pmb_table.specs.Profile.{Says}
+use Rattle.pmb_capture.specs.Show.{Shows, StopsAtBadWord}
+use Rattle.pmb_cli.specs.Front.{EndsAtMark, EndsWithReader, FirstMark, Parts, ReadFront}
+use Rattle.pmb_cli.specs.Front as front
+use Rattle.pmb_cli.specs.Shown.{ShowedBehind}
+use Rattle.pmb_cli.proofs.Fronts.{stays}
+
+-- where a line `%%` was met
+at_mark : (read : List ℕ) (parts : Parts) (new : front.Told) (has_ended : Bool) → EndsAtMark read parts ⊎ EndsWithReader read parts new has_ended → parts.marked ≡ true
+    → FirstMark read parts.profile parts.rest
+at_mark read parts new has_ended (inl mark) marked = mark.first
+at_mark read parts new has_ended (inr ends) marked = absurd (let contrary : true ≡ false = sym marked ∙ ends.unmarked in cc)
+
+-- where none was
+at_end : (read : List ℕ) (parts : Parts) (new : front.Told) (has_ended : Bool) → EndsAtMark read parts ⊎ EndsWithReader read parts new has_ended → parts.marked ≡ false
+    → EndsWithReader read parts new has_ended
+at_end read parts new has_ended (inl mark) unmarked = absurd (let contrary : true ≡ false = sym mark.marked ∙ unmarked in cc)
+at_end read parts new has_ended (inr ends) unmarked = ends
+
+module _ (devices : List DeviceParts) (tally : Tally) where
+  abbrev pub Whole : List ℕ → List ℕ → Type 0
+  Whole bytes text = Shows devices bytes text tally
+
+  abbrev pub Cut : List ℕ → List ℕ → Type 0
+  Cut bytes text = StopsAtBadWord devices bytes text tally
+
+  abbrev pub Showed : List ℕ → Told → Told → Bool → Type 0
+  Showed rest old new has_ended = Ended Whole rest old new has_ended ⊎ Stopped Cut BeginsText rest old new
+
+  -- the profile was read, and then the capture
+  behind : (Holds : List ℕ → List ℕ → Type 0) (l0 l1 l2 : Option (List ℕ)) (g0 g1 g2 : ℕ) (h0 h1 : Option (List ℕ)) (ended_before has_ended : Bool) (parts : Parts)
+      → (before : ReadFront (record { left = l0; given = g0 }) (record { left = l1; given = g1 }) ended_before parts) → parts.marked ≡ true → Says parts.profile (Ok devices)
+      → (through : Through Holds parts.rest (record { left = l1; given = g1; held = h0 }) (record { left = l2; given = g2; held = h1 }))
+      → ((bytes text : List ℕ) → Holds bytes text → (Whole bytes text × (has_ended ≡ true) × IsAtEnd l2) ⊎ Cut bytes text)
+      → ShowedBehind (record { left = l0; given = g0; held = h0 }) (record { left = l2; given = g2; held = h1 }) has_ended tally
+  behind Holds l0 l1 l2 g0 g1 g2 h0 h1 ended_before has_ended parts before marked says through holds = record {
+    read = before.read ++ through.read;
+    text = through.text;
+    profile = parts.profile;
+    capture = parts.rest ++ through.read;
+    devices = devices;
+    consumed = consumes_then l0 l1 l2 before.read through.read before.reads.gave.consumed through.consumed;
+    given = through.given ∙ (ap (λ n. raised n (length through.read)) before.reads.gave.given
+        ∙ (raised_twice g0 (length before.read) (length through.read) ∙ ap (raised g0) (sym (length-append before.read through.read))));
+    appended = through.appended;
+    front = inl (stays before.read parts.profile parts.rest through.read (at_mark before.read parts _ ended_before before.ends marked));
+    says = says;
+    shows = holds (parts.rest ++ through.read) through.text through.holds;
+  }
+
+  pub behind_mark : (l0 l1 l2 : Option (List ℕ)) (g0 g1 g2 : ℕ) (h0 h1 : Option (List ℕ)) (ended_before has_ended : Bool) (parts : Parts)
+      → ReadFront (record { left = l0; given = g0 }) (record { left = l1; given = g1 }) ended_before parts → parts.marked ≡ true → Says parts.profile (Ok devices)
+      → Ended Whole parts.rest (record { left = l1; given = g1; held = h0 }) (record { left = l2; given = g2; held = h1 }) has_ended
+      ⊎ Stopped Cut BeginsText parts.rest (record { left = l1; given = g1; held = h0 }) (record { left = l2; given = g2; held = h1 })
+      → ShowedBehind (record { left = l0; given = g0; held = h0 }) (record { left = l2; given = g2; held = h1 }) has_ended tally
+  behind_mark l0 l1 l2 g0 g1 g2 h0 h1 ended_before has_ended parts before marked says (inl ended) =
+      behind Whole l0 l1 l2 g0 g1 g2 h0 h1 ended_before has_ended parts before marked says ended.through (λ bytes text holds. inl (holds, ended.ended, ended.at_end))
+  behind_mark l0 l1 l2 g0 g1 g2 h0 h1 ended_before has_ended parts before marked says (inr stopped) =
+      behind Cut l0 l1 l2 g0 g1 g2 h0 h1 ended_before has_ended parts before marked says stopped.through (λ bytes text holds. inr holds)
+
+  -- nothing is read of what has nothing
+  none_read : (new : Option (List ℕ)) (read : List ℕ) → Consumes (Some []) new read → read ≡ []
+  none_read (Some left) [] consumed = refl
+  none_read (Some left) (byte ∷ read) consumed = cc
+  none_read None read consumed = absurd consumed
+
+  -- all was profile, and no capture follows
+  pub behind_all : (l0 l1 : Option (List ℕ)) (g0 g1 : ℕ) (e0 e1 : Option (List ℕ)) (n0 n1 : ℕ) (h0 h1 : Option (List ℕ)) (has_ended empty_ended : Bool) (parts : Parts)
+      → ReadFront (record { left = l0; given = g0 }) (record { left = l1; given = g1 }) has_ended parts → parts.marked ≡ false → Says parts.profile (Ok devices)
+      → e0 ≡ Some []
+      → Ended Whole [] (record { left = e0; given = n0; held = h0 }) (record { left = e1; given = n1; held = h1 }) empty_ended
+      ⊎ Stopped Cut BeginsText [] (record { left = e0; given = n0; held = h0 }) (record { left = e1; given = n1; held = h1 })
+      → ShowedBehind (record { left = l0; given = g0; held = h0 }) (record { left = l1; given = g1; held = h1 }) has_ended tally
+  behind_all l0 l1 g0 g1 e0 e1 n0 n1 h0 h1 has_ended empty_ended parts before unmarked says empty (inl ended) =
+      let ends = at_end before.read parts _ has_ended before.ends unmarked in
+      let none = none_read e1 ended.through.read (subst (λ (e : Option (List ℕ)). Consumes e e1 ended.through.read) empty ended.through.consumed) in record {
+        read = before.read;
+        text = ended.through.text;
+        profile = parts.profile;
+        capture = parts.rest;
+        devices = devices;
+        consumed = before.reads.gave.consumed;
+        given = before.reads.gave.given;
+        appended = ended.through.appended;
+        front = inr ends.all;
+        says = says;
+        shows = inl (subst (λ (b : List ℕ). Whole b ended.through.text) (none ∙ sym ends.all.nothing) ended.through.holds, ends.ended, ends.at_end);
+      }
+  behind_all l0 l1 g0 g1 e0 e1 n0 n1 h0 h1 has_ended empty_ended parts before unmarked says empty (inr stopped) =
+      let ends = at_end before.read parts _ has_ended before.ends unmarked in
+      let none = none_read e1 stopped.through.read (subst (λ (e : Option (List ℕ)). Consumes e e1 stopped.through.read) empty stopped.through.consumed) in record {
+        read = before.read;
+        text = stopped.through.text;
+        profile = parts.profile;
+        capture = parts.rest;
+        devices = devices;
+        consumed = before.reads.gave.consumed;
+        given = before.reads.gave.given;
+        appended = stopped.through.appended;
+        front = inr ends.all;
+        says = says;
+        shows = inr (subst (λ (b : List ℕ). Cut b stopped.through.text) (none ∙ sym ends.all.nothing) stopped.through.holds);
+      }

@@ -1,0 +1,20 @@
+use Rattle.pmb_cli.proofs.AskedWords.{asks_to_decode, asks_to_encode, asks_to_show, asks_to_show_sample, asks_for_help, asks_for_version}
+use Rattle.pmb_cli.proofs.laws.words_ask.Goals as goal
+
+pub returns-clause-show_sample : goal.returns-clause-show_sample
+returns-clause-show_sample c = asks_to_show_sample
+
+pub returns-clause-show : goal.returns-clause-show
+returns-clause-show c = asks_to_show
+
+pub returns-clause-encode : goal.returns-clause-encode
+returns-clause-encode c = asks_to_encode
+
+pub returns-clause-decode : goal.returns-clause-decode
+returns-clause-decode c = asks_to_decode
+
+pub returns-clause-help : goal.returns-clause-help
+returns-clause-help c = asks_for_help
+
+pub returns-clause-version : goal.returns-clause-version
+returns-clause-version c = asks_for_version

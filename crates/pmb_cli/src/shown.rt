@@ -1,0 +1,72 @@
+//! `pmb show`: a capture under the sample profile, or under the profile in front of it.
+
+ghost use Rattle.std.specs.Prelude.{◌≡◌, ◌≢◌, ◌≤◌, ◌⊎◌, Ok};
+ghost use Rattle.pmb_io.specs.Count.{raised};
+ghost use Rattle.pmb_io.specs.declared.tally.Tally.{Tally as TallyOf};
+ghost use Rattle.pmb_cli.specs.Shown.{HasBadProfile, ShowedBehind, ShowedSample};
+ghost use Rattle.pmb_cli.specs.Status.{ReadOften, run_status};
+
+use crate::front_reader::front;
+use crate::status::{ended, tell, tell_profile};
+use pmb_capture::show;
+use pmb_io::{Empty, Sink, Source, ToolFault};
+use pmb_table::{Profile, SAMPLE};
+use std::alloc::Global;
+
+/// Shows the capture that the reader gives under the sample profile, and answers the exit status.
+pub(crate) fn show_sample<R: Source, W: Sink, E: Sink>(
+    alloc: Global,
+    reader: &mut R,
+    out: &mut W,
+    err: &mut E,
+) -> u8
+    ensures within { result ≤ 4 }
+    ensures no_fault { result ≢ 2 }
+    ensures showed { result ≤ 1 → (tally : TallyOf) × (result ≡ run_status (Ok tally)) × ShowedSample SAMPLE.now
+        (record { left = R.remaining reader.old; given = R.given reader.old; held = W.contents out.old })
+        (record { left = R.remaining reader.new; given = R.given reader.new; held = W.contents out.new })
+        (R.has_ended reader.new) tally }
+    ensures done { result ≤ 1 → (R.failures reader.new ≡ R.failures reader.old) × (W.failures out.new ≡ W.failures out.old) }
+    ensures io_failed { result ≡ 3 → (R.failures reader.new ≡ raised (R.failures reader.old) 1)
+        ⊎ ((W.failures out.new ≡ raised (W.failures out.old) 1) ⊎ ReadOften (R.reads reader.old) (R.reads reader.new)) }
+{
+    match Profile::from_toml(alloc, SAMPLE.as_bytes()) {
+        Ok(profile) => ended(show(&profile, &[], reader, out), err),
+        // The sample has no fault, so there was no memory.
+        Err(_) => tell(ToolFault::Memory, err),
+    }
+}
+
+/// Shows the capture behind the profile that the reader gives first, and answers the exit status.
+/// Where the reader ends without a line `%%`, there is no capture, and it is not read again.
+pub(crate) fn show_behind<R: Source, W: Sink, E: Sink>(
+    alloc: Global,
+    reader: &mut R,
+    out: &mut W,
+    err: &mut E,
+) -> u8
+    ensures within { result ≤ 4 }
+    ensures told { result ≡ 2 → HasBadProfile
+        (record { left = R.remaining reader.old; given = R.given reader.old })
+        (record { left = R.remaining reader.new; given = R.given reader.new })
+        (R.has_ended reader.new) }
+    ensures showed { result ≤ 1 → (tally : TallyOf) × (result ≡ run_status (Ok tally)) × ShowedBehind
+        (record { left = R.remaining reader.old; given = R.given reader.old; held = W.contents out.old })
+        (record { left = R.remaining reader.new; given = R.given reader.new; held = W.contents out.new })
+        (R.has_ended reader.new) tally }
+    ensures done { result ≤ 1 → (R.failures reader.new ≡ R.failures reader.old) × (W.failures out.new ≡ W.failures out.old) }
+    ensures io_failed { result ≡ 3 → (R.failures reader.new ≡ raised (R.failures reader.old) 1)
+        ⊎ ((W.failures out.new ≡ raised (W.failures out.old) 1) ⊎ ReadOften (R.reads reader.old) (R.reads reader.new)) }
+{
+    let front = match front(alloc, reader) {
+        Ok(front) => front,
+        Err(fault) => return tell(fault, err),
+    };
+    match Profile::from_toml(alloc, front.profile()) {
+        Ok(profile) if front.has_capture() => {
+            ended(show(&profile, front.rest(), reader, out), err)
+        }
+        Ok(profile) => ended(show(&profile, &[], &mut Empty, out), err),
+        Err(fault) => tell_profile(fault, err),
+    }
+}

@@ -1,0 +1,5 @@
+pub mod Finding
+pub mod FittingLemmas
+pub mod NameLemmas
+pub mod RowLemmas
+pub mod StandardLemmas

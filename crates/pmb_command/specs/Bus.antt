@@ -1,0 +1,65 @@
+-- What an accepted bus is.
+use Rattle.std.specs.Prelude.{◌≡◌, ◌≢◌, ℕ, ◌<◌, ◌≤◌, true, false, IfSome, List, length}
+use Rattle.std.specs.List.{AllByRecursion}
+use Rattle.pmb_command.specs.declared.entry.Kind.TheVariants.{Raw}
+use Rattle.pmb_command.specs.Entry.{EntryParts}
+use Rattle.pmb_command.specs.Commands.{standard_entry}
+use Rattle.pmb_command.specs.Fitting.{are_kept, has_form, is_always_raw, is_fixed, is_length, kind_fits, register_form, value_form, ways_agree}
+use Rattle.pmb_command.specs.Names.{IsNameOf}
+use Rattle.pmb_command.specs.Parts.{CommandParts, DeviceParts, HaveOwnAddresses, HaveOwnCodes}
+
+-- An address that a device may have (SMBus 3.0 appendix C): 08h to 77h, and not 0ch, the Alert
+-- Response Address.
+pub record IsDeviceAddress (address : ℕ) : Type 0 where
+  pub least : 0x08 ≤ address
+  pub greatest : address ≤ 0x77
+  pub no_alert : address ≢ 0x0c
+
+-- The forms, the kind and the pages of a command go together.
+pub record IsFitting (e : EntryParts) : Type 0 where
+  -- it is written, read or called
+  pub some_form : has_form e.shape ≡ true
+  -- it is read in the form in which it is written, if with data
+  pub one_form : ways_agree e.shape.write e.shape.read ≡ true
+  -- each form of PAGE, CLEAR_FAULTS, VOUT_MODE, COEFFICIENTS and STATUS_CML is the standard's, or
+  -- there is none
+  pub fixed : is_fixed e.code ≡ true → are_kept e.shape (standard_entry e.code) ≡ true
+  -- PAGE, CLEAR_FAULTS, VOUT_MODE and COEFFICIENTS are no numbers and no status bits
+  pub raw : is_always_raw e.code ≡ true → e.kind ≡ Raw
+  -- PAGE has one value for all pages
+  pub page : e.code ≡ 0x00 → e.paged ≡ false
+  -- numbers have two bytes, status registers one or two
+  pub kind : kind_fits e.kind (value_form e.shape) ≡ true
+
+-- The bytes that a command holds at first: PAGE and VOUT_MODE are given none, nor is a command
+-- without a register, and they are as many as its form has.
+pub record IsInitial (e : EntryParts) (bytes : List ℕ) : Type 0 where
+  pub not_page : e.code ≢ 0x00
+  pub not_vout_mode : e.code ≢ 0x20
+  pub fits : is_length (register_form e.shape) (length bytes) ≡ true
+
+-- A command that a device may have: a code, a name, and parts that go together.
+pub record IsEntry (e : EntryParts) : Type 0 where
+  pub byte : e.code < 256
+  pub name : IsNameOf e.code e.name
+  pub fitting : IsFitting e
+
+-- Such a command, and the bytes that it holds at first where a profile says.
+pub record IsCommand (c : CommandParts) : Type 0 where
+  pub entry : IsEntry c.entry
+  pub initial : IfSome c.initial (IsInitial c.entry)
+
+-- A device that a bus may have.
+pub record IsDevice (d : DeviceParts) : Type 0 where
+  pub address : IsDeviceAddress d.address
+  pub some_page : 1 ≤ d.pages
+  pub few_pages : d.pages ≤ 32
+  pub byte : d.vout_mode < 256
+  pub own_codes : HaveOwnCodes d.commands
+  pub commands : AllByRecursion IsCommand d.commands
+
+-- A bus that a profile may describe.
+pub record IsBus (bus : List DeviceParts) : Type 0 where
+  pub few : length bus ≤ 64
+  pub own_addresses : HaveOwnAddresses bus
+  pub devices : AllByRecursion IsDevice bus

@@ -1,0 +1,9 @@
+pub mod Entry
+pub mod Commands
+pub mod StatusBits
+pub mod Names
+pub mod Fitting
+pub mod Parts
+pub mod Bus
+pub mod Standard
+pub mod machine

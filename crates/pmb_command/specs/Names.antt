@@ -1,0 +1,26 @@
+-- The names of commands.
+use Rattle.std.specs.Prelude.{◌≡◌, ◌⊎◌, ℕ, ◌≤◌, Bool, true, ◌&&◌, List, [], ◌∷◌, ◌++◌, codes, length, nat_eq, nat_le}
+use Rattle.std.specs.List.{list_all, list_any}
+use Rattle.hex.specs.Hex.{encode_lower}
+
+-- the characters of which a name is made
+abbrev pub name_characters : List ℕ
+name_characters = codes "ABCDEFGHIJKLMNOPQRSTUVWXYZ0123456789_"
+
+abbrev pub is_name_byte : ℕ → Bool
+is_name_byte b = list_any (nat_eq b) name_characters
+
+-- 1 to 32 of them
+abbrev pub is_name : List ℕ → Bool
+is_name text = (nat_le 1 (length text) && nat_le (length text) 32) && list_all is_name_byte text
+
+-- the name of a command for which a profile gives only the code
+abbrev pub code_name : ℕ → List ℕ
+code_name code = codes "CMD_" ++ encode_lower (code ∷ [])
+
+-- A name of the command with a code, of 1 to 32 characters: one that fits, or the one made of the
+-- code.
+pub record IsNameOf (code : ℕ) (name : List ℕ) : Type 0 where
+  pub some : 1 ≤ length name
+  pub most : length name ≤ 32
+  pub spelled : (is_name name ≡ true) ⊎ (name ≡ code_name code)

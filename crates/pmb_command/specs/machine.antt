@@ -1,0 +1,2 @@
+-- What the code's own tables hold.
+pub mod Rows

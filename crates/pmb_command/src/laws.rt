@@ -1,0 +1,17 @@
+//! Laws over the definitions that the contracts cite: each is the contract of a function that does
+//! nothing.
+ghost use Rattle.std.specs.Prelude.{◌≡◌, ℕ, List, Some};
+ghost use Rattle.pmb_command.specs.Entry.{EntryParts};
+ghost use Rattle.pmb_command.specs.Commands.{code_of_name, standard_entry};
+ghost use Rattle.pmb_command.specs.Standard.{IsNamed, IsStandardAt};
+
+/// The standard entry of a code has that code and a name of its own, of at most 32 bytes, and its
+/// data are no number in DIRECT.
+pub fn standard_entries_are_sound()
+    ensures { (code : ℕ) (e : EntryParts) → standard_entry code ≡ Some e → IsStandardAt code e }
+{}
+
+/// The code of a name is a byte, and has a standard entry with that name.
+pub fn names_are_of_entries()
+    ensures { (name : List ℕ) (code : ℕ) → code_of_name name ≡ Some code → IsNamed name code }
+{}

@@ -1,0 +1,33 @@
+//! The commands of PMBus: in which forms they are written, read and called, and what their data
+//! stand for.
+//!
+//! [`standard`] and [`by_name`] are the standard's command table, and [`bit_name`] has the names of
+//! status bits. [`is_fitting`] says which forms, kinds and pages go together, and [`register_form`]
+//! and [`is_length`] what a register holds. The definitions of the parts of a profile, and of what
+//! an accepted bus is, stand here too.
+//!
+//! ```rust
+//! let code = by_name("STATUS_WORD").ok_or("no command")?;
+//! assert_eq!(rt; code, 0x79);
+//! let entry = standard(code).ok_or("no command")?;
+//! assert_eq!(rt; entry.shape.read, Some(Form::Two));
+//! assert_eq!(rt; bit_name(code, 15), Some("VOUT"));
+//! ```
+#![tactic(auto)]
+
+mod commands;
+mod entry;
+mod fitting;
+mod form;
+pub mod laws;
+mod name;
+mod pec_mode;
+mod status_bits;
+
+pub use commands::{by_name, standard};
+pub use entry::{Entry, Kind};
+pub use fitting::{is_fitting, is_length, register_form};
+pub use form::{Form, Shape};
+pub use name::{Name, is_name, name_of_code};
+pub use pec_mode::PecMode;
+pub use status_bits::bit_name;

@@ -1,0 +1,6 @@
+-- What holds of either side of an `if`.
+use Rattle.std.proofs.Common.{◌≡◌, Bool, true, false, cond, refl}
+
+pub picks : {A : Type 0} (P : A → Type 0) (b : Bool) (x y : A) → (b ≡ true → P x) → (b ≡ false → P y) → P (cond b x y)
+picks P true x y on_true on_false = on_true refl
+picks P false x y on_true on_false = on_false refl

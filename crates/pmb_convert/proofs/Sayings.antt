@@ -1,0 +1,221 @@
+-- From what the parts of a FORMAT say to what the whole of it says.
+use Rattle.std.proofs.Common.{◌≡◌, ◌≢◌, ℕ, false, eqb, get_or, drop, append_assoc, Result, Err, ℤ, List, ◌∷◌, ◌++◌, codes, refl, sym, ap, ◌∙◌, subst}
+use borrow.Author.Tests.{eqb-false}
+use Rattle.std.specs.Int.{w8, w16}
+use Rattle.std.specs.Prelude.{FitsSigned}
+use Rattle.std.proofs.lemmas.Int.{to_z-of_z}
+use mir.Val.{to_z, of_z}
+use Rattle.pmb_convert.specs.declared.format_fault.FormatFault.{FormatFault}
+use Rattle.pmb_convert.specs.declared.format_fault.FormatFault.TheVariants.{BadFormat}
+use Rattle.pmb_convert.specs.declared.named_format.NamedFormat.{NamedFormat}
+use Rattle.pmb_convert.specs.Spelling.{Answers, Names, Saying, Spells, Writes, WritesByte, WritesMode, direct_of, said, spelled, other, linear11, ulinear16, slinear16, vout, direct}
+use Rattle.pmb_convert.specs.machine.Parts.{HasNoComma, comma, IsDirect, IsSigned, IsUnsigned, IsVout}
+use Rattle.pmb_convert.proofs.Integers.{number_has_no_comma, one_comma, one_number}
+use Rattle.pmb_convert.proofs.Modes.{one_mode}
+
+-- an answer to what says the same
+pub answers_too : (P Q : Saying → Type 0) (answer : Result NamedFormat FormatFault) → ((s : Saying) → P s → Q s) → ((s : Saying) → Q s → P s) → Answers P answer → Answers Q answer
+answers_too P Q answer to back (spelled saying says is) = spelled saying (to saying says) is
+answers_too P Q answer to back (other none is) = other (λ s q. none s (back s q)) is
+
+-- ---- a text of a kind says what its numbers say
+
+-- texts that begin otherwise
+differ : (a b : ℕ) (front back : List ℕ) → eqb a b ≡ false → a ∷ front ≡ b ∷ back → ⊥
+differ a b front back test same = eqb-false a b test (ap (λ t. get_or t 0 0) same)
+
+-- the text of a DIRECT format, by its numbers
+direct_text : (M B R : List ℕ) → codes "direct:" ++ M ++ codes "," ++ B ++ codes "," ++ R ≡ codes "direct:" ++ comma M (comma B R)
+direct_text M B R = simp append_assoc
+
+unsigned_spells : (E : List ℕ) (s : Saying) → IsUnsigned E s → Spells (codes "ulinear16:" ++ E) s
+unsigned_spells E s is = subst (Spells (codes "ulinear16:" ++ E)) (sym is.2) (E, refl, is.1)
+
+spelled_unsigned : (E : List ℕ) (s : Saying) → Spells (codes "ulinear16:" ++ E) s → IsUnsigned E s
+spelled_unsigned E linear11 is = absurd (differ _ _ _ _ refl is)
+spelled_unsigned E (ulinear16 n) is = (n, subst (λ t. WritesByte t n) (sym (ap (drop 10) is.1)) is.2, refl)
+spelled_unsigned E (slinear16 n) is = absurd (differ _ _ _ _ refl is.1)
+spelled_unsigned E (vout n) is = absurd (differ _ _ _ _ refl is.1)
+spelled_unsigned E (direct m b r) is = absurd (differ _ _ _ _ refl is.3)
+
+signed_spells : (E : List ℕ) (s : Saying) → IsSigned E s → Spells (codes "slinear16:" ++ E) s
+signed_spells E s is = subst (Spells (codes "slinear16:" ++ E)) (sym is.2) (E, refl, is.1)
+
+spelled_signed : (E : List ℕ) (s : Saying) → Spells (codes "slinear16:" ++ E) s → IsSigned E s
+spelled_signed E linear11 is = absurd (differ _ _ _ _ refl is)
+spelled_signed E (ulinear16 n) is = absurd (differ _ _ _ _ refl is.1)
+spelled_signed E (slinear16 n) is = (n, subst (λ t. WritesByte t n) (sym (ap (drop 10) is.1)) is.2, refl)
+spelled_signed E (vout n) is = absurd (differ _ _ _ _ refl is.1)
+spelled_signed E (direct m b r) is = absurd (differ _ _ _ _ refl is.3)
+
+vout_spells : (HH : List ℕ) (s : Saying) → IsVout HH s → Spells (codes "vout:" ++ HH) s
+vout_spells HH s is = subst (Spells (codes "vout:" ++ HH)) (sym is.2) (HH, refl, is.1)
+
+spelled_vout : (HH : List ℕ) (s : Saying) → Spells (codes "vout:" ++ HH) s → IsVout HH s
+spelled_vout HH linear11 is = absurd (differ _ _ _ _ refl is)
+spelled_vout HH (ulinear16 n) is = absurd (differ _ _ _ _ refl is.1)
+spelled_vout HH (slinear16 n) is = absurd (differ _ _ _ _ refl is.1)
+spelled_vout HH (vout n) is = (n, subst (λ t. WritesMode t n) (sym (ap (drop 5) is.1)) is.2, refl)
+spelled_vout HH (direct m b r) is = absurd (differ _ _ _ _ refl is.3)
+
+direct_spells : (numbers : List ℕ) (s : Saying) → IsDirect numbers s → Spells (codes "direct:" ++ numbers) s
+direct_spells numbers s d =
+    let whole = ap (λ t. codes "direct:" ++ t) d.whole ∙ sym (direct_text d.M d.B d.R) in
+    subst (Spells (codes "direct:" ++ numbers)) (sym d.is) (d.M, d.B, d.R, whole, d.m_is, d.b_is, d.r_is)
+
+spelled_direct : (numbers : List ℕ) (s : Saying) → Spells (codes "direct:" ++ numbers) s → IsDirect numbers s
+spelled_direct numbers linear11 is = absurd (differ _ _ _ _ refl is)
+spelled_direct numbers (ulinear16 n) is = absurd (differ _ _ _ _ refl is.1)
+spelled_direct numbers (slinear16 n) is = absurd (differ _ _ _ _ refl is.1)
+spelled_direct numbers (vout n) is = absurd (differ _ _ _ _ refl is.1)
+spelled_direct numbers (direct m b r) is = record {
+  M = is.0;
+  B = is.1;
+  R = is.2;
+  m = m;
+  b = b;
+  r = r;
+  whole = ap (drop 7) (is.3 ∙ direct_text is.0 is.1 is.2);
+  m_is = is.4;
+  b_is = is.5;
+  r_is = is.6;
+  is = refl;
+}
+
+-- ---- the answers to a text of a kind
+
+pub names_unsigned : (text E : List ℕ) (answer : Result NamedFormat FormatFault) → text ≡ codes "ulinear16:" ++ E → Answers (IsUnsigned E) answer → Names text answer
+names_unsigned text E answer is answers =
+    subst (λ t. Names t answer) (sym is) (answers_too (IsUnsigned E) (Spells (codes "ulinear16:" ++ E)) answer (unsigned_spells E) (spelled_unsigned E) answers)
+
+pub names_signed : (text E : List ℕ) (answer : Result NamedFormat FormatFault) → text ≡ codes "slinear16:" ++ E → Answers (IsSigned E) answer → Names text answer
+names_signed text E answer is answers =
+    subst (λ t. Names t answer) (sym is) (answers_too (IsSigned E) (Spells (codes "slinear16:" ++ E)) answer (signed_spells E) (spelled_signed E) answers)
+
+pub names_vout : (text HH : List ℕ) (answer : Result NamedFormat FormatFault) → text ≡ codes "vout:" ++ HH → Answers (IsVout HH) answer → Names text answer
+names_vout text HH answer is answers =
+    subst (λ t. Names t answer) (sym is) (answers_too (IsVout HH) (Spells (codes "vout:" ++ HH)) answer (vout_spells HH) (spelled_vout HH) answers)
+
+pub names_direct : (text numbers : List ℕ) (answer : Result NamedFormat FormatFault) → text ≡ codes "direct:" ++ numbers → Answers (IsDirect numbers) answer → Names text answer
+names_direct text numbers answer is answers =
+    subst (λ t. Names t answer) (sym is) (answers_too (IsDirect numbers) (Spells (codes "direct:" ++ numbers)) answer (direct_spells numbers) (spelled_direct numbers) answers)
+
+-- a text of no kind says nothing
+pub names_nothing : (text : List ℕ) → text ≢ codes "linear11" → ((t : List ℕ) → text ≢ codes "ulinear16:" ++ t) → ((t : List ℕ) → text ≢ codes "slinear16:" ++ t)
+    → ((t : List ℕ) → text ≢ codes "vout:" ++ t) → ((t : List ℕ) → text ≢ codes "direct:" ++ t) → Names text (Err BadFormat)
+names_nothing text no_1 no_2 no_3 no_4 no_5 = other none refl
+  where
+    none : (s : Saying) → ¬ (Spells text s)
+    none linear11 is = no_1 is
+    none (ulinear16 n) is = no_2 is.0 is.1
+    none (slinear16 n) is = no_3 is.0 is.1
+    none (vout n) is = no_4 is.0 is.1
+    none (direct m b r) is = no_5 (comma is.0 (comma is.1 is.2)) (is.3 ∙ direct_text is.0 is.1 is.2)
+
+-- ---- three numbers round two commas
+
+pub record AreParts (numbers M B R : List ℕ) : Type 0 where
+  pub whole : numbers ≡ comma M (comma B R)
+  pub first : HasNoComma M
+  pub second : HasNoComma B
+
+pub parts_of : (numbers M rest B R : List ℕ) → HasNoComma M × (numbers ≡ comma M rest) → HasNoComma B × (rest ≡ comma B R) → AreParts numbers M B R
+parts_of numbers M rest B R front back = record { whole = front.1 ∙ ap (comma M) back.1; first = front.0; second = back.0 }
+
+-- the parts of a DIRECT format are those round the first two commas
+parts_are : (numbers M B R : List ℕ) (s : Saying) → AreParts numbers M B R → (d : IsDirect numbers s) → (d.M ≡ M) × (d.B ≡ B) × (d.R ≡ R)
+parts_are numbers M B R s parts d =
+    let front = one_comma d.M (comma d.B d.R) M (comma B R) (number_has_no_comma d.M d.m d.m_is.writes) parts.first (sym d.whole ∙ parts.whole) in
+    let back = one_comma d.B d.R B R (number_has_no_comma d.B d.b d.b_is.writes) parts.second front.1 in
+    (front.0, back.0, back.1)
+
+-- too few commas
+pub no_comma : (numbers : List ℕ) → ((front : List ℕ) → (back : List ℕ) → HasNoComma front → numbers ≢ comma front back) → Answers (IsDirect numbers) (Err BadFormat)
+no_comma numbers none = other (λ s d. none d.M (comma d.B d.R) (number_has_no_comma d.M d.m d.m_is.writes) d.whole) refl
+
+pub one_comma_alone : (numbers M rest : List ℕ) → HasNoComma M → numbers ≡ comma M rest → ((front : List ℕ) → (back : List ℕ) → HasNoComma front → rest ≢ comma front back)
+    → Answers (IsDirect numbers) (Err BadFormat)
+one_comma_alone numbers M rest free whole none = other too_few refl
+  where
+    too_few : (s : Saying) → ¬ (IsDirect numbers s)
+    too_few s d =
+        let front = one_comma d.M (comma d.B d.R) M rest (number_has_no_comma d.M d.m d.m_is.writes) free (sym d.whole ∙ whole) in
+        none d.B d.R (number_has_no_comma d.B d.b d.b_is.writes) (sym front.1)
+
+-- a part that is no number
+pub bad_m : (numbers M B R : List ℕ) → AreParts numbers M B R → ((n : ℤ) → Writes M n → ¬ (FitsSigned w16 n)) → Answers (IsDirect numbers) (Err BadFormat)
+bad_m numbers M B R parts none =
+    other (λ s d. none d.m (subst (λ t. Writes t d.m) (parts_are numbers M B R s parts d).0 d.m_is.writes) d.m_is.fits) refl
+
+pub bad_b : (numbers M B R : List ℕ) → AreParts numbers M B R → ((n : ℤ) → Writes B n → ¬ (FitsSigned w16 n)) → Answers (IsDirect numbers) (Err BadFormat)
+bad_b numbers M B R parts none =
+    other (λ s d. none d.b (subst (λ t. Writes t d.b) (parts_are numbers M B R s parts d).1 d.b_is.writes) d.b_is.fits) refl
+
+pub bad_r : (numbers M B R : List ℕ) → AreParts numbers M B R → ((n : ℤ) → Writes R n → ¬ (FitsSigned w8 n)) → Answers (IsDirect numbers) (Err BadFormat)
+bad_r numbers M B R parts none =
+    other (λ s d. none d.r (subst (λ t. Writes t d.r) (parts_are numbers M B R s parts d).2 d.r_is.writes) d.r_is.fits) refl
+
+-- three numbers
+pub three_numbers : (numbers M B R : List ℕ) (m b r : ℤ) (answer : Result NamedFormat FormatFault) → AreParts numbers M B R → Writes M m → FitsSigned w16 m → Writes B b → FitsSigned w16 b → Writes R r → FitsSigned w8 r
+    → answer ≡ direct_of (to_z w16 (of_z w16 m)) (to_z w16 (of_z w16 b)) (to_z w8 (of_z w8 r)) → Answers (IsDirect numbers) answer
+three_numbers numbers M B R m b r answer parts m_is m_fits b_is b_fits r_is r_fits is =
+    spelled (direct m b r)
+    (record {
+      M = M;
+      B = B;
+      R = R;
+      m = m;
+      b = b;
+      r = r;
+      whole = parts.whole;
+      m_is = record { writes = m_is; fits = m_fits };
+      b_is = record { writes = b_is; fits = b_fits };
+      r_is = record { writes = r_is; fits = r_fits };
+      is = refl;
+    })
+    (is ∙ (λ i. direct_of (to_z-of_z w16 m m_fits i) (to_z-of_z w16 b b_fits i) (to_z-of_z w8 r r_fits i)))
+
+-- ---- a text says one thing
+
+one_direct : (numbers : List ℕ) (a b : Saying) → IsDirect numbers a → IsDirect numbers b → a ≡ b
+one_direct numbers a b left right =
+    let round : AreParts numbers right.M right.B right.R = record {
+      whole = right.whole;
+      first = number_has_no_comma right.M right.m right.m_is.writes;
+      second = number_has_no_comma right.B right.b right.b_is.writes;
+    } in
+    let parts = parts_are numbers right.M right.B right.R a round left in
+    let m_same : left.m ≡ right.m = one_number right.M left.m right.m (subst (λ t. Writes t left.m) parts.0 left.m_is.writes) right.m_is.writes in
+    let b_same : left.b ≡ right.b = one_number right.B left.b right.b (subst (λ t. Writes t left.b) parts.1 left.b_is.writes) right.b_is.writes in
+    let r_same : left.r ≡ right.r = one_number right.R left.r right.r (subst (λ t. Writes t left.r) parts.2 left.r_is.writes) right.r_is.writes in
+    left.is ∙ (λ i. direct (m_same i) (b_same i) (r_same i)) ∙ sym right.is
+
+pub one_saying : (text : List ℕ) (a b : Saying) → Spells text a → Spells text b → a ≡ b
+one_saying text linear11 b is too = by b (subst (λ t. Spells t b) is too)
+  where
+    by : (b : Saying) → Spells (codes "linear11") b → linear11 ≡ b
+    by linear11 o = refl
+    by (ulinear16 n) o = absurd (differ _ _ _ _ refl o.1)
+    by (slinear16 n) o = absurd (differ _ _ _ _ refl o.1)
+    by (vout n) o = absurd (differ _ _ _ _ refl o.1)
+    by (direct m b r) o = absurd (differ _ _ _ _ refl o.3)
+one_saying text (ulinear16 n) b is too =
+    let o = spelled_unsigned is.0 b (subst (λ t. Spells t b) is.1 too) in
+    ap ulinear16 (one_number is.0 n o.0 is.2.writes o.1.writes) ∙ sym o.2
+one_saying text (slinear16 n) b is too =
+    let o = spelled_signed is.0 b (subst (λ t. Spells t b) is.1 too) in
+    ap slinear16 (one_number is.0 n o.0 is.2.writes o.1.writes) ∙ sym o.2
+one_saying text (vout n) b is too =
+    let o = spelled_vout is.0 b (subst (λ t. Spells t b) is.1 too) in
+    ap vout (one_mode is.0 n o.0 is.2 o.1) ∙ sym o.2
+one_saying text (direct m k r) b is too =
+    let numbers : List ℕ = comma is.0 (comma is.1 is.2) in
+    let left = spelled_direct numbers (direct m k r) (is.0, is.1, is.2, sym (direct_text is.0 is.1 is.2), is.4, is.5, is.6) in
+    one_direct numbers (direct m k r) b left (spelled_direct numbers b (subst (λ t. Spells t b) (is.3 ∙ direct_text is.0 is.1 is.2) too))
+
+-- and has one answer
+pub one_answer : (text : List ℕ) (a b : Result NamedFormat FormatFault) → Names text a → Names text b → a ≡ b
+one_answer text a b (spelled s says a_is) (spelled t says' b_is) = a_is ∙ ap said (one_saying text s t says says') ∙ sym b_is
+one_answer text a b (spelled s says a_is) (other none b_is) = absurd (none s says)
+one_answer text a b (other none a_is) (spelled t says' b_is) = absurd (none t says')
+one_answer text a b (other none a_is) (other none' b_is) = a_is ∙ sym b_is

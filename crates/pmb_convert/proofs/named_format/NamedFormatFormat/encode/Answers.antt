@@ -1,0 +1,19 @@
+use Rattle.pmb_convert.proofs.named_format.NamedFormatFormat.encode.Goals as goal
+
+pub returns-in-Linear11-clause-in_range : goal.returns-in-Linear11-clause-in_range
+returns-in-Linear11-clause-in_range c = rw c.in-Linear11.is c.encode.ensures.in_range
+
+pub returns-in-Linear11-clause-below : goal.returns-in-Linear11-clause-below
+returns-in-Linear11-clause-below c = rw c.in-Linear11.is c.encode.ensures.below
+
+pub returns-in-Linear11-clause-above : goal.returns-in-Linear11-clause-above
+returns-in-Linear11-clause-above c = rw c.in-Linear11.is c.encode.ensures.above
+
+pub returns-in-Word-clause-in_range : goal.returns-in-Word-clause-in_range
+returns-in-Word-clause-in_range c = rw c.in-Word.is c.encode-in-Word.ensures.in_range
+
+pub returns-in-Word-clause-below : goal.returns-in-Word-clause-below
+returns-in-Word-clause-below c = rw c.in-Word.is c.encode-in-Word.ensures.below
+
+pub returns-in-Word-clause-above : goal.returns-in-Word-clause-above
+returns-in-Word-clause-above c = rw c.in-Word.is c.encode-in-Word.ensures.above

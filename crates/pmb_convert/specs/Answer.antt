@@ -1,0 +1,97 @@
+-- What is answered to a line.
+use Rattle.std.specs.Prelude.{◌≡◌, ℕ, Option, Some, None, Result, Ok, Err, List, [], ◌∷◌, ◌++◌, codes}
+use Rattle.std.specs.Int.{from_be_bytes, to_be_bytes, w16}
+use Rattle.hex.specs.Hex.{decode_sized, encode_lower}
+use Rattle.hex.specs.declared.error.FromHexError.{FromHexError}
+use Rattle.pmb_quantity.specs.declared.quantity.QuantityFault.{QuantityFault}
+use Rattle.pmb_quantity.specs.declared.quantity.QuantityFault.TheVariants as quantity
+use Rattle.pmb_value.specs.Coding.{Coding, IsAbove, IsBelow, IsInRange, IsNearest, value_of}
+use Rattle.pmb_value.specs.Fraction.{Fraction}
+use Rattle.pmb_value.specs.QuantityText.{spelling}
+use Rattle.pmb_value.specs.Reading.{reading}
+use Rattle.pmb_io.specs.Lines as lines
+use Rattle.pmb_convert.specs.declared.conversion.Conversion.{Conversion}
+use Rattle.pmb_convert.specs.declared.conversion.Conversion.TheVariants.{Encode, Decode}
+use Rattle.pmb_convert.specs.declared.line_fault.LineFault.{LineFault}
+use Rattle.pmb_convert.specs.declared.line_fault.LineFault.TheVariants.{TooLong, Empty, BadDigit, ZeroDenominator, TooLarge, Below, Above, BadCode}
+use Rattle.pmb_convert.specs.Format.{coding_of}
+
+-- a text, or why there is none
+abbrev pub Answer : Type 0
+Answer = Result (List ℕ) LineFault
+
+-- the name of a fault
+abbrev pub fault_name : LineFault → List ℕ
+fault_name TooLong = codes "TooLong"
+fault_name Empty = codes "Empty"
+fault_name BadDigit = codes "BadDigit"
+fault_name ZeroDenominator = codes "ZeroDenominator"
+fault_name TooLarge = codes "TooLarge"
+fault_name Below = codes "Below"
+fault_name Above = codes "Above"
+fault_name BadCode = codes "BadCode"
+
+-- the line of an answer
+abbrev pub answer_line : Answer → List ℕ
+answer_line (Ok text) = text ++ codes "\n"
+answer_line (Err fault) = codes "! " ++ (fault_name fault ++ codes "\n")
+
+-- ---- codes
+
+-- a code in four digits, in lower case
+abbrev pub code_text : ℕ → List ℕ
+code_text code = encode_lower (to_be_bytes w16 code)
+
+-- the code that four digits write, in either case
+abbrev pub word_of : Result (List ℕ) FromHexError → Option ℕ
+word_of (Ok bytes) = Some (from_be_bytes w16 bytes)
+word_of (Err error) = None
+
+unfoldable pub code_of : List ℕ → Option ℕ
+code_of text = word_of (decode_sized text 2)
+
+-- ---- encode
+
+abbrev pub fault_of : QuantityFault → LineFault
+fault_of quantity.Empty = Empty
+fault_of quantity.BadDigit = BadDigit
+fault_of quantity.ZeroDenominator = ZeroDenominator
+fault_of quantity.TooLarge = TooLarge
+
+-- A quantity in range is answered by the nearest code, another by the side of the range on which it lies.
+pub data EncodesQuantity (f : Coding) (q : Fraction) (answer : Answer) : Type 0 where
+  nearest : (code : ℕ) → IsNearest f q code → IsInRange f q → answer ≡ Ok (code_text code) → EncodesQuantity f q answer
+  below : IsBelow f q → answer ≡ Err Below → EncodesQuantity f q answer
+  above : IsAbove f q → answer ≡ Err Above → EncodesQuantity f q answer
+
+-- and a text that spells none by its fault
+abbrev pub EncodesRead : Coding → Result Fraction QuantityFault → Answer → Type 0
+EncodesRead f (Ok q) answer = EncodesQuantity f q answer
+EncodesRead f (Err fault) answer = answer ≡ Err (fault_of fault)
+
+-- ---- decode
+
+-- a code is answered by its exact value
+abbrev pub value_text : Coding → Option ℕ → Answer
+value_text f None = Err BadCode
+value_text f (Some code) = Ok (spelling (value_of f code))
+
+-- ---- lines
+
+-- what is answered to what a line says
+abbrev pub AnswersText : Conversion → List ℕ → Answer → Type 0
+AnswersText (Encode format) text answer = EncodesRead (coding_of format) (reading text) answer
+AnswersText (Decode format) text answer = answer ≡ value_text (coding_of format) (code_of text)
+
+-- what is answered to a line
+abbrev pub AnswersLine : Conversion → lines.TextLine → Answer → Type 0
+AnswersLine conversion (lines.Ended text) answer = AnswersText conversion text answer
+AnswersLine conversion (lines.Last text) answer = AnswersText conversion text answer
+AnswersLine conversion lines.TooLong answer = answer ≡ Err TooLong
+
+-- each line has its answer, in their order
+abbrev pub AnswersEach : Conversion → List lines.TextLine → List Answer → Type 0
+AnswersEach conversion [] [] = Unit {0}
+AnswersEach conversion [] (answer ∷ answers) = ⊥
+AnswersEach conversion (line ∷ rest) [] = ⊥
+AnswersEach conversion (line ∷ rest) (answer ∷ answers) = AnswersLine conversion line answer × AnswersEach conversion rest answers

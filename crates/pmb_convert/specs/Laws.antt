@@ -1,0 +1,23 @@
+-- Laws over the definitions alone.
+use Rattle.std.specs.Prelude.{◌≡◌, ◌≢◌, ℕ, pos, negsuc, ◌≤ℤ◌, List}
+use Rattle.pmb_io.specs.declared.tally.Tally.{Tally}
+use Rattle.pmb_value.specs.Linear.{IsExponent}
+use Rattle.pmb_value.specs.declared.vout.VoutFormat.TheVariants.{Unsigned, Signed, Direct}
+use Rattle.pmb_convert.specs.declared.conversion.Conversion.{Conversion}
+use Rattle.pmb_convert.specs.declared.named_format.NamedFormat.{NamedFormat}
+use Rattle.pmb_convert.specs.declared.named_format.NamedFormat.TheVariants.{Linear11, Word}
+use Rattle.pmb_convert.specs.Lines.{AnswersEnded, AnswersInput}
+
+-- the numbers that a format's type allows
+abbrev pub IsFormat : NamedFormat → Type 0
+IsFormat Linear11 = Unit {0}
+IsFormat (Word (Unsigned exponent)) = IsExponent exponent
+IsFormat (Word (Signed exponent)) = IsExponent exponent
+IsFormat (Word (Direct d)) = (d.m ≢ pos 0) × (negsuc 8 ≤ℤ d.r) × (d.r ≤ℤ pos 9)
+
+-- The text that answers an input, and its tally, are those of its bytes alone; so is the text that answers the lines that
+-- have ended in it.
+pub record IsDetermined (conversion : Conversion) : Type 0 where
+  pub text : (bytes text other : List ℕ) (tally count : Tally) → AnswersInput conversion tally bytes text → AnswersInput conversion count bytes other → text ≡ other
+  pub tally : (bytes text other : List ℕ) (tally count : Tally) → AnswersInput conversion tally bytes text → AnswersInput conversion count bytes other → tally ≡ count
+  pub ended : (bytes text other : List ℕ) → AnswersEnded conversion bytes text → AnswersEnded conversion bytes other → text ≡ other

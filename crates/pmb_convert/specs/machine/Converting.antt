@@ -1,0 +1,29 @@
+-- What is kept while lines are answered.
+use Rattle.std.specs.Prelude.{◌≡◌, ℕ, Result, Ok, Err, List}
+use Rattle.arrayvec.specs.ArrayVec.{ArrayVec}
+use Rattle.pmb_io.specs.Lines.{TextLine}
+use Rattle.pmb_io.specs.Tally.{with_packet, with_refusal}
+use Rattle.pmb_convert.specs.declared.conversion.Conversion.{Conversion}
+use Rattle.pmb_convert.specs.declared.converter.Converter.{Converter}
+use Rattle.pmb_convert.specs.declared.line_fault.LineFault.{LineFault}
+use Rattle.pmb_convert.specs.Answer.{Answer}
+use Rattle.pmb_convert.specs.Lines.{AnswersCounted}
+
+-- an answer as it is kept
+abbrev pub answer_of : Result (ArrayVec ℕ) LineFault → Answer
+answer_of (Ok text) = Ok text.items
+answer_of (Err fault) = Err fault
+
+-- nothing was counted yet
+abbrev pub fresh : Conversion → Converter
+fresh conversion = record { conversion = conversion; tally = record { packets = 0; refusals = 0 } }
+
+-- an answer more
+abbrev pub with_answer : Converter → Answer → Converter
+with_answer converter (Ok text) = record converter { tally = with_packet converter.tally }
+with_answer converter (Err fault) = record converter { tally = with_refusal converter.tally }
+
+-- the conversion stays, and the text is the answers to the lines, which are counted
+pub record Stands (start now : Converter) (lines : List TextLine) (text : List ℕ) : Type 0 where
+  pub same : now.conversion ≡ start.conversion
+  pub answered : AnswersCounted start.conversion now.tally lines text

@@ -1,0 +1,62 @@
+//! The lines of an input, answered one after the other.
+
+ghost use Rattle.std.specs.Prelude.{◌≡◌, ◌++◌, ◌∷◌, []};
+ghost use Rattle.pmb_convert.specs.Answer.{Answer};
+ghost use Rattle.pmb_convert.specs.machine.Converting.{Stands, answer_of, fresh, with_answer};
+
+use crate::answer::{AnswerText, answer_line};
+use crate::conversion::Conversion;
+use crate::line_fault::LineFault;
+use pmb_io::{Line, LineTask, Sink, Tally, ToolFault, Waiting, put};
+
+/// What is done with each line, and what was counted so far.
+#[derive(Clone, Copy, Debug)]
+pub(crate) struct Converter {
+    conversion: Conversion,
+    tally: Tally,
+}
+
+impl Converter {
+    /// Nothing was answered yet.
+    pub(crate) fn new(conversion: Conversion) -> Converter
+        ensures { result ≡ fresh conversion }
+    {
+        Converter {
+            conversion,
+            tally: Tally::new(),
+        }
+    }
+
+    /// How many lines were answered by a text, and how many by a fault.
+    pub(crate) fn tally(&self) -> Tally
+        ensures { result ≡ self.now.tally }
+    {
+        self.tally
+    }
+
+    /// Counts an answer.
+    fn count(&mut self, answer: &Result<AnswerText, LineFault>)
+        ensures { self.new ≡ with_answer self.old (answer_of answer.now) }
+    {
+        match answer {
+            Ok(_) => self.tally.count_packet(),
+            Err(_) => self.tally.count_refusal(),
+        }
+    }
+}
+
+impl LineTask for Converter {
+    ghost Stands = { Stands };
+
+    fn take_line<W: Sink>(
+        &mut self,
+        line: Line<'_>,
+        waiting: &mut Waiting,
+        writer: &mut W,
+    ) -> Result<(), ToolFault> {
+        let answer = self.conversion.answer(line);
+        self.count(&answer);
+        let line = answer_line(&answer);
+        put(waiting, line.as_slice(), writer)
+    }
+}

@@ -1,0 +1,34 @@
+//! Laws over the definitions alone.
+
+ghost use Rattle.std.specs.Prelude.{◌≡◌, ℕ, List, Result, Ok};
+ghost use Rattle.pmb_convert.specs.declared.conversion.Conversion.TheVariants.{Encode, Decode};
+ghost use Rattle.pmb_convert.specs.declared.format_fault.FormatFault.{FormatFault};
+ghost use Rattle.pmb_convert.specs.declared.named_format.NamedFormat.{NamedFormat};
+ghost use Rattle.pmb_convert.specs.Laws.{IsDetermined, IsFormat};
+ghost use Rattle.pmb_convert.specs.Spelling.{Names, Saying, Spells};
+
+use pmb_quantity::laws::lowest_terms;
+use pmb_value::laws::{
+    direct_has_one_nearest, linear11_has_one_nearest, slinear16_has_one_nearest,
+    ulinear16_has_one_nearest,
+};
+
+/// A text spells at most one FORMAT, so that it names one format or has one fault. The format's
+/// numbers are in the range of its type.
+pub fn one_format()
+    ensures spelled { (text : List ℕ) (a b : Saying) → Spells text a → Spells text b → a ≡ b }
+    ensures named { (text : List ℕ) (a b : Result NamedFormat FormatFault) → Names text a → Names text b → a ≡ b }
+    ensures in_range { (text : List ℕ) (format : NamedFormat) → Names text (Ok format) → IsFormat format }
+{}
+
+/// What `encode_lines` and `decode_lines` write is a function of the bytes of their input.
+pub fn one_text()
+    ensures encode { (format : NamedFormat) → IsFormat format → IsDetermined (Encode format) }
+    ensures decode { (format : NamedFormat) → IsDetermined (Decode format) }
+{
+    lowest_terms();
+    linear11_has_one_nearest();
+    ulinear16_has_one_nearest();
+    slinear16_has_one_nearest();
+    direct_has_one_nearest();
+}

@@ -1,0 +1,32 @@
+//! Quantities to codes and codes to quantities, line by line.
+//!
+//! A FORMAT, such as `linear11` or `direct:3,2,1`, names a [`NamedFormat`]. [`encode_lines`] answers
+//! each line of an input by the code nearest to its quantity, and [`decode_lines`] by the exact value
+//! of its code; a line that has none is answered by `! ` and a [`LineFault`].
+//!
+//! ```rust
+//! let format = NamedFormat::parse("linear11")?;
+//! let mut reader = Io::new(b"12\nx\n".as_slice());
+//! let mut writer = Io::new(Vec::new(rt.alloc()));
+//! let tally = encode_lines(format, b"", &mut reader, &mut writer)?;
+//! assert_eq!(rt; (tally.packets, tally.refusals), (1, 1));
+//! assert_eq!(rt; writer.into_inner().as_slice(), b"d300\n! BadDigit\n".as_slice());
+//! ```
+#![tactic(auto)]
+
+mod answer;
+mod conversion;
+mod converter;
+mod format_fault;
+pub mod laws;
+mod line_fault;
+mod lines;
+mod named_format;
+mod numbers;
+mod spelling;
+
+pub use conversion::Conversion;
+pub use format_fault::FormatFault;
+pub use line_fault::LineFault;
+pub use lines::{convert_lines, decode_lines, encode_lines};
+pub use named_format::NamedFormat;

@@ -1,0 +1,41 @@
+ghost use Rattle.std.specs.Prelude.{◌≡◌};
+ghost use Rattle.pmb_convert.specs.Answer.{fault_name};
+
+/// Why a line is answered by no text.
+#[derive(Clone, Copy, Debug, PartialEq, Eq)]
+pub enum LineFault {
+    /// It is over 256 bytes long.
+    TooLong,
+    /// Nothing stands where a quantity is to.
+    Empty,
+    /// The text is not a quantity's.
+    BadDigit,
+    /// The denominator of the quantity is 0.
+    ZeroDenominator,
+    /// The quantity is out of range of all quantities.
+    TooLarge,
+    /// The quantity is under the least value of the format.
+    Below,
+    /// The quantity is over the greatest value of the format.
+    Above,
+    /// The text is not four hexadecimal digits.
+    BadCode,
+}
+
+impl LineFault {
+    /// The fault's name, as it is written.
+    pub(crate) fn name(self) -> &'static [u8]
+        ensures { result.now ≡ fault_name self }
+    {
+        match self {
+            LineFault::TooLong => b"TooLong",
+            LineFault::Empty => b"Empty",
+            LineFault::BadDigit => b"BadDigit",
+            LineFault::ZeroDenominator => b"ZeroDenominator",
+            LineFault::TooLarge => b"TooLarge",
+            LineFault::Below => b"Below",
+            LineFault::Above => b"Above",
+            LineFault::BadCode => b"BadCode",
+        }
+    }
+}

@@ -1,0 +1,53 @@
+//! The number format of a kind and its numbers.
+
+ghost use Rattle.std.specs.Prelude.{◌≡◌};
+ghost use Rattle.pmb_value.specs.declared.vout.VoutFormat.TheVariants.{Unsigned, Signed};
+ghost use Rattle.pmb_convert.specs.Spelling.{direct_of, linear_of, vout_of};
+
+use crate::format_fault::FormatFault;
+use crate::named_format::NamedFormat;
+use pmb_value::{Direct, DirectFault, ModeFault, Slinear16, Ulinear16, VoutFormat, vout_format};
+
+/// ULINEAR16 with an exponent.
+pub(crate) fn unsigned(exponent: i8) -> Result<NamedFormat, FormatFault>
+    ensures { result ≡ linear_of Unsigned exponent }
+{
+    match Ulinear16::new(exponent) {
+        Ok(format) => Ok(NamedFormat::Word(VoutFormat::Unsigned(format))),
+        Err(_) => Err(FormatFault::BadExponent),
+    }
+}
+
+/// SLINEAR16 with an exponent.
+pub(crate) fn signed(exponent: i8) -> Result<NamedFormat, FormatFault>
+    ensures { result ≡ linear_of Signed exponent }
+{
+    match Slinear16::new(exponent) {
+        Ok(format) => Ok(NamedFormat::Word(VoutFormat::Signed(format))),
+        Err(_) => Err(FormatFault::BadExponent),
+    }
+}
+
+/// The format that a VOUT_MODE names for unsigned words, without coefficients.
+pub(crate) fn of_mode(mode: u8) -> Result<NamedFormat, FormatFault>
+    ensures { result ≡ vout_of mode }
+{
+    match vout_format(mode, false, None) {
+        Ok(format) => Ok(NamedFormat::Word(format)),
+        Err(ModeFault::Relative) => Err(FormatFault::Relative),
+        Err(ModeFault::Vid) => Err(FormatFault::Vid),
+        Err(ModeFault::Ieee) => Err(FormatFault::Ieee),
+        Err(ModeFault::NoCoefficients) => Err(FormatFault::NoCoefficients),
+    }
+}
+
+/// The DIRECT format of three coefficients.
+pub(crate) fn of_coefficients(m: i16, b: i16, r: i8) -> Result<NamedFormat, FormatFault>
+    ensures { result ≡ direct_of m b r }
+{
+    match Direct::new(m, b, r) {
+        Ok(direct) => Ok(NamedFormat::Word(VoutFormat::Direct(direct))),
+        Err(DirectFault::ZeroSlope) => Err(FormatFault::ZeroSlope),
+        Err(DirectFault::BadScale) => Err(FormatFault::BadScale),
+    }
+}

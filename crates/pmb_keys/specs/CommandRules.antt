@@ -1,0 +1,168 @@
+-- What a table of a profile says of one command.
+use Rattle.std.specs.Prelude.{ℕ, ℤ, pos, negsuc, Bool, false, not, ◌&&◌, ◌||◌, is_some, Option, Some, None, Result, Ok, Err, List, [], ◌∷◌, codes, length, nat_eq, int_le}
+use Rattle.std.specs.List.{list_any}
+use Rattle.std.specs.Option.{option_and_then}
+use Rattle.std.specs.Ordering.{int_eq}
+use Rattle.std.specs.Result.{result_ok}
+use Rattle.toml.specs.Data.{Data, Members, as_str, as_integer, as_bool, as_table, get_member}
+use Rattle.hex.specs.Hex.{decode_of}
+use Rattle.pmb_value.specs.Direct.{Coefficients}
+use Rattle.pmb_keys.specs.declared.fault.FaultKind.{FaultKind}
+use Rattle.pmb_keys.specs.declared.fault.FaultKind.TheVariants as faults
+use Rattle.pmb_command.specs.declared.form.Form.{Form}
+use Rattle.pmb_command.specs.declared.form.Form.TheVariants.{Zero, One, Two, Block}
+use Rattle.pmb_command.specs.declared.form.Shape.{Shape}
+use Rattle.pmb_command.specs.declared.entry.Kind.{Kind}
+use Rattle.pmb_command.specs.declared.entry.Kind.TheVariants.{Raw, Linear11, Vout, VoutSigned, Direct, Status}
+use Rattle.pmb_command.specs.Entry.{EntryParts}
+use Rattle.pmb_command.specs.Commands.{standard_entry, code_of_name}
+use Rattle.pmb_command.specs.Parts.{CommandParts}
+use Rattle.pmb_command.specs.Names.{code_name, is_name}
+use Rattle.pmb_command.specs.Fitting.{register_form, is_length, is_fitting}
+use Rattle.pmb_keys.specs.Rules.{bind, or_fault, unless, named, natural_within, only, typed, required, optional, defaulted}
+
+-- the keys of a command's table
+abbrev pub command_key_names : List (List ℕ)
+command_key_names =
+    codes "code" ∷ codes "name" ∷ codes "write" ∷ codes "read" ∷ codes "call" ∷ codes "kind" ∷ codes "m" ∷ codes "b" ∷ codes "r"
+    ∷ codes "paged" ∷ codes "initial" ∷ []
+
+-- the words for the forms in which a command is written, read and called
+abbrev pub write_forms : List (List ℕ × Option Form)
+write_forms = (codes "none", None) ∷ (codes "zero", Some Zero) ∷ (codes "one", Some One) ∷ (codes "two", Some Two) ∷ (codes "block", Some Block) ∷ []
+
+abbrev pub read_forms : List (List ℕ × Option Form)
+read_forms = (codes "none", None) ∷ (codes "one", Some One) ∷ (codes "two", Some Two) ∷ (codes "block", Some Block) ∷ []
+
+abbrev pub call_forms : List (List ℕ × Option Form)
+call_forms = (codes "none", None) ∷ (codes "two", Some Two) ∷ (codes "block", Some Block) ∷ []
+
+-- a whole number from 0 to 255
+abbrev pub byte_rule : Data → Result ℕ FaultKind
+byte_rule d = bind (typed as_integer d) (λ z. or_fault faults.BadValue (natural_within 0 255 z))
+
+-- one of some words, or else a fault
+abbrev pub word_rule : {X : Type 0} → FaultKind → List (List ℕ × X) → Data → Result X FaultKind
+word_rule fault words d = bind (typed as_str d) (λ text. or_fault fault (named words text))
+
+-- a command that only its code tells: no forms, raw, not paged
+abbrev pub bare_entry : ℕ → List ℕ → EntryParts
+bare_entry code name = record { code = code; name = name; shape = record { write = None; read = None; call = None }; kind = Raw; paged = false }
+
+-- What the other keys change: without a code the standard command of the name; else a bare one,
+-- with the name or one made of the code.
+abbrev pub base_of : Option ℕ → Option Data → Result EntryParts FaultKind
+base_of None None = Err faults.MissingKey
+base_of None (Some d) = bind (typed as_str d) (λ name. or_fault faults.UnknownName (option_and_then standard_entry (code_of_name name)))
+base_of (Some code) None = Ok (bare_entry code (code_name code))
+base_of (Some code) (Some d) =
+    bind (typed as_str d) (λ name. bind (unless faults.BadName (is_name name)) (λ _. Ok (bare_entry code name)))
+
+-- the ranges of m, b and r
+abbrev pub is_slope : ℤ → Bool
+is_slope z = (int_le (negsuc 32767) z && int_le z (pos 32767)) && not (int_eq z (pos 0))
+
+abbrev pub is_offset : ℤ → Bool
+is_offset z = int_le (negsuc 32767) z && int_le z (pos 32767)
+
+abbrev pub is_scale : ℤ → Bool
+is_scale z = int_le (negsuc 8) z && int_le z (pos 9)
+
+-- a coefficient that has to be there
+abbrev pub coefficient : (ℤ → Bool) → List ℕ → Members → Result ℤ FaultKind
+coefficient fits key ms = required (λ d. bind (typed as_integer d) (λ z. bind (unless faults.BadCoefficients (fits z)) (λ _. Ok z))) key ms
+
+-- m, b and r, which have to be there
+abbrev pub coefficients : Members → Result Coefficients FaultKind
+coefficients ms =
+    bind (coefficient is_slope (codes "m") ms) (λ m.
+    bind (coefficient is_offset (codes "b") ms) (λ b.
+    bind (coefficient is_scale (codes "r") ms) (λ r.
+    Ok (record { m = m; b = b; r = r }))))
+
+-- an integer that may not be there; its type is looked at first
+abbrev pub absent_of : Option Data → Result Unit FaultKind
+absent_of None = Ok tt
+absent_of (Some d) = bind (typed as_integer d) (λ _. Err faults.UnknownKey)
+
+abbrev pub no_coefficients : Members → Result Unit FaultKind
+no_coefficients ms =
+    bind (absent_of (get_member (codes "m") ms)) (λ _.
+    bind (absent_of (get_member (codes "b") ms)) (λ _.
+    absent_of (get_member (codes "r") ms)))
+
+-- the command that the other keys change, as `code` and `name` tell it
+abbrev pub base_rule : Members → Result EntryParts FaultKind
+base_rule ms = bind (optional byte_rule (codes "code") ms) (λ code. base_of code (get_member (codes "name") ms))
+
+-- the forms, where those of the base stay without a key
+abbrev pub shape_rule : Shape → Members → Result Shape FaultKind
+shape_rule base ms =
+    bind (defaulted (word_rule faults.BadForm write_forms) base.write (codes "write") ms) (λ write.
+    bind (defaulted (word_rule faults.BadForm read_forms) base.read (codes "read") ms) (λ read.
+    bind (defaulted (word_rule faults.BadForm call_forms) base.call (codes "call") ms) (λ call.
+    Ok (record { write = write; read = read; call = call }))))
+
+-- what further keys make of a word for a kind
+abbrev pub KindRule : Type 0
+KindRule = Members → Result Kind FaultKind
+
+-- a kind with which no coefficients may be there
+abbrev pub plain_kind : Kind → KindRule
+plain_kind kind ms = bind (no_coefficients ms) (λ _. Ok kind)
+
+-- DIRECT, with which they have to be there
+abbrev pub direct_kind : KindRule
+direct_kind ms = bind (coefficients ms) (λ d. Ok (Direct d))
+
+abbrev pub kind_words : List (List ℕ × KindRule)
+kind_words =
+    (codes "raw", plain_kind Raw) ∷ (codes "linear11", plain_kind Linear11) ∷ (codes "vout", plain_kind Vout)
+    ∷ (codes "vout_signed", plain_kind VoutSigned) ∷ (codes "direct", direct_kind) ∷ (codes "status", plain_kind Status) ∷ []
+
+-- the kind, where that of the base stays without a key, and then its coefficients
+abbrev pub kind_rule : Kind → Members → Result Kind FaultKind
+kind_rule base ms = bind (defaulted (word_rule faults.BadValue kind_words) (plain_kind base) (codes "kind") ms) (λ rule. rule ms)
+
+-- What the keys but for `initial` say, each ruled in its turn.
+abbrev pub entry_rule : Members → Result EntryParts FaultKind
+entry_rule ms =
+    bind (only command_key_names ms) (λ _.
+    bind (base_rule ms) (λ base.
+    bind (shape_rule base.shape ms) (λ shape.
+    bind (kind_rule base.kind ms) (λ kind.
+    bind (defaulted (typed as_bool) base.paged (codes "paged") ms) (λ paged.
+    Ok (record { code = base.code; name = base.name; shape = shape; kind = kind; paged = paged }))))))
+
+-- the text of `initial`
+abbrev pub initial_text : Members → Result (Option (List ℕ)) FaultKind
+initial_text ms = optional (typed as_str) (codes "initial") ms
+
+-- the bytes that a text of hexadecimal digits spells
+abbrev pub hex_bytes : List ℕ → Option (List ℕ)
+hex_bytes text = result_ok (decode_of text)
+
+-- the bytes that a register begins with; PAGE begins as 0, and VOUT_MODE as the device's key says
+abbrev pub initial_bytes : EntryParts → List ℕ → Result (List ℕ) FaultKind
+initial_bytes e text =
+    bind (unless faults.BadInitial (not (nat_eq e.code 0x00 || nat_eq e.code 0x20))) (λ _.
+    bind (unless faults.BadInitial (is_some (register_form e.shape))) (λ _.
+    bind (or_fault faults.BadInitial (hex_bytes text)) (λ bytes.
+    bind (unless faults.BadInitial (is_length (register_form e.shape) (length bytes))) (λ _.
+    Ok bytes))))
+
+abbrev pub initial_of : EntryParts → Option (List ℕ) → Result (Option (List ℕ)) FaultKind
+initial_of e None = Ok None
+initial_of e (Some text) = bind (initial_bytes e text) (λ bytes. Ok (Some bytes))
+
+-- A command of a device in which earlier tables have these codes: the keys, then CodeTwice, then
+-- BadForm, then BadInitial.
+abbrev pub command_of : List ℕ → Data → Result CommandParts FaultKind
+command_of taken d =
+    bind (typed as_table d) (λ ms.
+    bind (entry_rule ms) (λ entry.
+    bind (initial_text ms) (λ text.
+    bind (unless faults.CodeTwice (not (list_any (nat_eq entry.code) taken))) (λ _.
+    bind (unless faults.BadForm (is_fitting entry)) (λ _.
+    bind (initial_of entry text) (λ initial.
+    Ok (record { entry = entry; initial = initial })))))))

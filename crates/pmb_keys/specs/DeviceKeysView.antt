@@ -1,0 +1,15 @@
+-- What contracts see of the keys of a device.
+use Rattle.toml.specs.View.{items_view}
+use Rattle.pmb_keys.specs.declared.device_keys.DeviceKeys.{DeviceKeys as CodeKeys}
+use Rattle.pmb_keys.specs.DeviceKeys.{DeviceKeys}
+
+abbrev pub keys_parts : CodeKeys → DeviceKeys
+keys_parts k = record {
+  address = k.address;
+  pec = k.pec;
+  pages = k.pages;
+  vout_mode = k.vout_mode;
+  standard = k.standard;
+  vout_direct = k.vout_direct;
+  commands = items_view k.commands.now;
+}

@@ -1,0 +1,6 @@
+pub mod Rules
+pub mod CommandRules
+pub mod CommandView
+pub mod DeviceKeys
+pub mod DeviceKeysView
+pub mod machine

@@ -1,0 +1,128 @@
+//! What a table of a profile says of one command.
+
+ghost use Rattle.std.specs.Prelude.{◌≡◌, ◌⊎◌, Ok, Err, IfOk, IfSome, not, option_map, map, codes, nat_eq};
+ghost use Rattle.std.specs.List.{list_any};
+ghost use Rattle.toml.specs.Data.{as_bool};
+ghost use Rattle.toml.specs.View.{view, table_view};
+ghost use Rattle.pmb_command.specs.Entry.{entry_parts};
+ghost use Rattle.pmb_command.specs.Bus.{IsCommand, IsFitting, IsInitial};
+ghost use Rattle.pmb_command.specs.Names.{IsNameOf};
+ghost use Rattle.pmb_command.specs.Parts.{IsNew};
+ghost use Rattle.pmb_keys.specs.CommandView.{command_parts};
+ghost use Rattle.pmb_keys.specs.Rules.{bind, unless, only, typed, defaulted};
+ghost use Rattle.pmb_keys.specs.CommandRules.{command_key_names, entry_rule, initial_text, initial_of, command_of};
+ghost use Rattle.pmb_command.specs.Fitting.{is_fitting};
+
+use crate::base::read_base;
+use crate::command::Command;
+use crate::fault::FaultKind;
+use crate::initial::initial_bytes;
+use crate::kind_keys::read_kind;
+use crate::rules::{find, flag_of, only, table_of, text_of};
+use crate::shape_keys::read_shape;
+use pmb_command::{Entry, is_fitting};
+use std::alloc::Global;
+use toml::{Table, Value};
+
+/// Refuses a table with another key than a command's.
+fn only_command_keys(table: &Table) -> Result<(), FaultKind>
+    ensures { result ≡ only command_key_names (table_view table.now) }
+{
+    only(
+        table,
+        &[
+            "code", "name", "write", "read", "call", "kind", "m", "b", "r", "paged", "initial",
+        ],
+    )
+}
+
+/// Whether a command has a value for each page.
+fn read_paged(base: bool, table: &Table) -> Result<bool, FaultKind>
+    ensures { result ≡ defaulted (typed as_bool) base (codes "paged") (table_view table.now) }
+{
+    match find(table, "paged") {
+        Some(value) => flag_of(value),
+        None => Ok(base),
+    }
+}
+
+/// What the keys of a table but for `initial` say, each ruled in its turn.
+fn read_entry(table: &Table) -> Result<Entry, FaultKind>
+    ensures read { bind result (λ entry. Ok (entry_parts entry)) ≡ entry_rule (table_view table.now) }
+    ensures named { IfOk result (λ e. IsNameOf e.code e.name.bytes) }
+{
+    only_command_keys(table)?;
+    let base = read_base(table)?;
+    let shape = read_shape(base.shape, table)?;
+    let kind = read_kind(base.kind, table)?;
+    let paged = read_paged(base.paged, table)?;
+    Ok(Entry {
+        code: base.code,
+        name: base.name,
+        shape,
+        kind,
+        paged,
+    })
+}
+
+/// The text of the bytes that a command begins with.
+fn initial_text(table: &Table) -> Result<Option<&str>, FaultKind>
+    ensures { bind result (λ text. Ok (option_map (λ t. t.now) text)) ≡ initial_text (table_view table.now) }
+{
+    match find(table, "initial") {
+        Some(value) => Ok(Some(text_of(value)?)),
+        None => Ok(None),
+    }
+}
+
+/// Refuses a code that an earlier command has.
+fn check_code(code: u8, taken: &[u8]) -> Result<(), FaultKind>
+    ensures read { result ≡ unless FaultKind.CodeTwice (not (list_any (nat_eq code) taken.now)) }
+    ensures own_code { IfOk result (λ _. IsNew code taken.now) }
+{
+    if taken.contains(&code) {
+        return Err(FaultKind::CodeTwice);
+    }
+    Ok(())
+}
+
+/// Refuses parts of a command that do not go together.
+fn check_form(entry: &Entry) -> Result<(), FaultKind>
+    ensures read { result ≡ unless FaultKind.BadForm (is_fitting (entry_parts entry.now)) }
+    ensures fits { IfOk result (λ _. IsFitting (entry_parts entry.now)) }
+{
+    if !is_fitting(entry) {
+        return Err(FaultKind::BadForm);
+    }
+    Ok(())
+}
+
+/// The bytes that a command begins with, where a text gives some.
+fn initial_of(
+    alloc: Global,
+    entry: &Entry,
+    text: Option<&str>,
+) -> Result<Option<Vec<u8>>, FaultKind>
+    ensures read { (result ≡ Err FaultKind.OutOfMemory) ⊎ (bind result (λ o. Ok (option_map (λ v. v.items) o)) ≡ initial_of (entry_parts entry.now) (option_map (λ t. t.now) text.entry)) }
+    ensures fits { IfOk result (λ o. IfSome (option_map (λ v. v.items) o) (IsInitial (entry_parts entry.now))) }
+{
+    match text {
+        Some(text) => Ok(Some(initial_bytes(alloc, entry, text)?)),
+        None => Ok(None),
+    }
+}
+
+/// The command of a value, where earlier commands of the device have the codes `taken`.
+pub fn read_command(alloc: Global, value: &Value, taken: &[u8]) -> Result<Command, FaultKind>
+    ensures read { (result ≡ Err FaultKind.OutOfMemory) ⊎ (bind result (λ c. Ok (command_parts c)) ≡ command_of taken.now (view value.now)) }
+    ensures accepted { IfOk result (λ c. IsCommand (command_parts c)) }
+    ensures own_code { IfOk result (λ c. IsNew c.entry.code taken.now) }
+{
+    let table = table_of(value)?;
+    let entry = read_entry(table)?;
+    let text = initial_text(table)?;
+    check_code(entry.code, taken)?;
+    check_form(&entry)?;
+    let initial = initial_of(alloc, &entry, text)?;
+    Ok(Command { entry, initial })
+}

@@ -1,0 +1,231 @@
+//! What a table of a profile says of one device, apart from its commands.
+
+ghost use Rattle.std.specs.Prelude.{◌≡◌, ◌≤◌, true, Ok, IfOk, codes, nat_eq};
+ghost use Rattle.pmb_command.specs.Bus.{IsDeviceAddress};
+ghost use Rattle.pmb_command.specs.Parts.{IsNew};
+ghost use Rattle.std.specs.List.{list_any};
+ghost use Rattle.toml.specs.Data.{no_items, as_bool, as_array, as_table};
+ghost use Rattle.toml.specs.View.{view, items_view, table_view};
+ghost use Rattle.pmb_keys.specs.Rules.{bind, named, typed, required, optional, defaulted};
+ghost use Rattle.pmb_keys.specs.CommandRules.{byte_rule, word_rule};
+ghost use Rattle.pmb_keys.specs.DeviceKeys.{address_rule, pec_words, pages_rule, coefficients_rule, device_keys, other_keys};
+ghost use Rattle.pmb_keys.specs.DeviceKeysView.{keys_parts};
+
+use crate::fault::FaultKind;
+use crate::rules;
+use pmb_command::PecMode;
+use pmb_value::Direct;
+use toml::{Table, Value};
+
+/// The Alert Response Address (SMBus 3.0 appendix C), which no device has as its own.
+const ALERT_RESPONSE_ADDRESS: u8 = 0x0c;
+
+/// What the keys of a device say.
+#[derive(Drop)]
+pub struct DeviceKeys<'a> {
+    pub address: u8,
+    pub pec: PecMode,
+    pub pages: u8,
+    pub vout_mode: u8,
+    /// Whether the device has the standard commands.
+    pub standard: bool,
+    pub vout_direct: Option<Direct>,
+    /// The values of its commands.
+    pub commands: &'a [Value],
+}
+
+/// The keys of a value's table, where earlier devices have the addresses `taken`.
+pub fn read_device_keys<'a>(value: &'a Value, taken: &[u8]) -> Result<DeviceKeys<'a>, FaultKind>
+    ensures read { bind result (λ k. Ok (keys_parts k)) ≡ bind (typed as_table (view value.entry.now)) (device_keys taken.now) }
+    ensures address { IfOk result (λ k. IsDeviceAddress k.address) }
+    ensures own_address { IfOk result (λ k. IsNew k.address taken.now) }
+    ensures pages { IfOk result (λ k. (1 ≤ k.pages) × (k.pages ≤ 32)) }
+{
+    device_keys(rules::table_of(value)?, taken)
+}
+
+/// The keys of a device's table, each ruled in its turn.
+fn device_keys<'a>(table: &'a Table, taken: &[u8]) -> Result<DeviceKeys<'a>, FaultKind>
+    ensures read { bind result (λ k. Ok (keys_parts k)) ≡ device_keys taken.now (table_view table.now) }
+    ensures address { IfOk result (λ k. IsDeviceAddress k.address) }
+    ensures own_address { IfOk result (λ k. IsNew k.address taken.now) }
+    ensures pages { IfOk result (λ k. (1 ≤ k.pages) × (k.pages ≤ 32)) }
+{
+    let known = [
+        "address",
+        "pec",
+        "pages",
+        "vout_mode",
+        "standard",
+        "vout_direct",
+        "command",
+    ];
+    rules::only(table, &known)?;
+    let address = address(table, taken)?;
+    let pec = pec(table)?;
+    other_keys(table, address, pec)
+}
+
+/// The keys of a device's table that may be there, each ruled in its turn, behind those that have
+/// to be.
+fn other_keys(table: &Table, address: u8, pec: PecMode) -> Result<DeviceKeys<'_>, FaultKind>
+    ensures read { bind result (λ k. Ok (keys_parts k)) ≡ other_keys address pec (table_view table.now) }
+    ensures address { IfOk result (λ k. k.address ≡ address) }
+    ensures pages { IfOk result (λ k. (1 ≤ k.pages) × (k.pages ≤ 32)) }
+{
+    let pages = pages(table)?;
+    let vout_mode = vout_mode(table)?;
+    let standard = standard(table)?;
+    let vout_direct = vout_direct(table)?;
+    let commands = commands(table)?;
+    Ok(DeviceKeys {
+        address,
+        pec,
+        pages,
+        vout_mode,
+        standard,
+        vout_direct,
+        commands,
+    })
+}
+
+/// The address of a device, which has to give it.
+fn address(table: &Table, taken: &[u8]) -> Result<u8, FaultKind>
+    ensures read { result ≡ required (address_rule taken.now) (codes "address") (table_view table.now) }
+    ensures address { IfOk result IsDeviceAddress }
+    ensures own_address { IfOk result (λ a. IsNew a taken.now) }
+{
+    address_rule(rules::present(table, "address")?, taken)
+}
+
+/// An address of 7 bits that is not reserved (SMBus 3.0 appendix C), or BadAddress; and no earlier
+/// device's, or AddressTwice.
+fn address_rule(value: &Value, taken: &[u8]) -> Result<u8, FaultKind>
+    ensures read { result ≡ address_rule taken.now (view value.now) }
+    ensures address { IfOk result IsDeviceAddress }
+    ensures own_address { IfOk result (λ a. IsNew a taken.now) }
+{
+    let address = match rules::natural_within(0x08, 0x77, rules::integer_of(value)?) {
+        Some(address) => address,
+        None => return Err(FaultKind::BadAddress),
+    };
+    if address == ALERT_RESPONSE_ADDRESS {
+        return Err(FaultKind::BadAddress);
+    }
+    if is_taken(address, taken) {
+        return Err(FaultKind::AddressTwice);
+    }
+    Ok(address)
+}
+
+/// Whether an earlier device has an address.
+fn is_taken(address: u8, taken: &[u8]) -> bool
+    ensures { result ≡ list_any (nat_eq address) taken.now }
+{
+    for other in taken {
+        if address == *other {
+            return true;
+        }
+    }
+    false
+}
+
+/// Whether packets carry a packet error code, which a device has to say.
+fn pec(table: &Table) -> Result<PecMode, FaultKind>
+    ensures { result ≡ required (word_rule FaultKind.BadValue pec_words) (codes "pec") (table_view table.now) }
+{
+    pec_rule(rules::present(table, "pec")?)
+}
+
+/// One of the words, or BadValue.
+fn pec_rule(value: &Value) -> Result<PecMode, FaultKind>
+    ensures { result ≡ word_rule FaultKind.BadValue pec_words (view value.now) }
+{
+    match pec_word(rules::text_of(value)?) {
+        Some(pec) => Ok(pec),
+        None => Err(FaultKind::BadValue),
+    }
+}
+
+/// The words for [`PecMode`].
+fn pec_word(text: &str) -> Option<PecMode>
+    ensures { result ≡ named pec_words text.now }
+{
+    match text {
+        "off" => Some(PecMode::Off),
+        "on" => Some(PecMode::On),
+        "optional" => Some(PecMode::Optional),
+        _ => None,
+    }
+}
+
+/// The number of pages: 1 unless the device says another.
+fn pages(table: &Table) -> Result<u8, FaultKind>
+    ensures read { result ≡ defaulted pages_rule 1 (codes "pages") (table_view table.now) }
+    ensures within { IfOk result (λ p. (1 ≤ p) × (p ≤ 32)) }
+{
+    match rules::find(table, "pages") {
+        Some(value) => pages_rule(value),
+        None => Ok(1),
+    }
+}
+
+/// A number of pages: 1 to 32, or BadPages.
+fn pages_rule(value: &Value) -> Result<u8, FaultKind>
+    ensures read { result ≡ pages_rule (view value.now) }
+    ensures within { IfOk result (λ p. (1 ≤ p) × (p ≤ 32)) }
+{
+    match rules::natural_within(1, 32, rules::integer_of(value)?) {
+        Some(pages) => Ok(pages),
+        None => Err(FaultKind::BadPages),
+    }
+}
+
+/// VOUT_MODE at first: linear with the exponent -9, unless the device says another.
+fn vout_mode(table: &Table) -> Result<u8, FaultKind>
+    ensures { result ≡ defaulted byte_rule 0x17 (codes "vout_mode") (table_view table.now) }
+{
+    match rules::find(table, "vout_mode") {
+        Some(value) => rules::byte_rule(value),
+        None => Ok(0x17),
+    }
+}
+
+/// Whether the device has the standard commands: it has, unless it says no.
+fn standard(table: &Table) -> Result<bool, FaultKind>
+    ensures { result ≡ defaulted (typed as_bool) true (codes "standard") (table_view table.now) }
+{
+    match rules::find(table, "standard") {
+        Some(value) => rules::flag_of(value),
+        None => Ok(true),
+    }
+}
+
+/// The coefficients for a VOUT_MODE that is DIRECT, where the device gives them.
+fn vout_direct(table: &Table) -> Result<Option<Direct>, FaultKind>
+    ensures { result ≡ optional coefficients_rule (codes "vout_direct") (table_view table.now) }
+{
+    match rules::find(table, "vout_direct") {
+        Some(value) => Ok(Some(coefficients_rule(value)?)),
+        None => Ok(None),
+    }
+}
+
+/// The coefficients of a table that has nothing else.
+fn coefficients_rule(value: &Value) -> Result<Direct, FaultKind>
+    ensures { result ≡ coefficients_rule (view value.now) }
+{
+    let table = rules::table_of(value)?;
+    rules::only(table, &["m", "b", "r"])?;
+    rules::coefficients(table)
+}
+
+/// The values of the commands: none unless the device has some.
+fn commands(table: &Table) -> Result<&[Value], FaultKind>
+    ensures { bind result (λ commands. Ok (items_view commands.now)) ≡ defaulted (typed as_array) no_items (codes "command") (table_view table.now) }
+{
+    match rules::find(table, "command") {
+        Some(value) => rules::array_of(value),
+        None => Ok(&[]),
+    }
+}

@@ -1,0 +1,43 @@
+//! The bytes that a register begins with.
+
+ghost use Rattle.std.specs.Prelude.{◌≡◌, ◌⊎◌, Ok, Err, IfOk};
+ghost use Rattle.pmb_command.specs.Bus.{IsInitial};
+ghost use Rattle.pmb_command.specs.Entry.{entry_parts};
+ghost use Rattle.pmb_keys.specs.Rules.{bind, or_fault};
+ghost use Rattle.pmb_command.specs.Fitting.{register_form, is_length};
+ghost use Rattle.pmb_keys.specs.CommandRules.{hex_bytes, initial_bytes};
+
+use crate::fault::FaultKind;
+use hex::FromHexError;
+use pmb_command::{Entry, is_length, register_form};
+use std::alloc::Global;
+
+/// The bytes that a text of hexadecimal digits spells.
+fn hex_bytes(alloc: Global, text: &str) -> Result<Vec<u8>, FaultKind>
+    ensures { (result ≡ Err FaultKind.OutOfMemory) ⊎ (bind result (λ v. Ok v.items) ≡ or_fault FaultKind.BadInitial (hex_bytes text.now)) }
+{
+    match hex::decode(alloc, text) {
+        Ok(bytes) => Ok(bytes),
+        Err(FromHexError::OutOfMemory) => Err(FaultKind::OutOfMemory),
+        Err(_) => Err(FaultKind::BadInitial),
+    }
+}
+
+/// The bytes that a command's register begins with; PAGE and VOUT_MODE begin as the device says.
+pub(crate) fn initial_bytes(alloc: Global, entry: &Entry, text: &str) -> Result<Vec<u8>, FaultKind>
+    ensures read { (result ≡ Err FaultKind.OutOfMemory) ⊎ (bind result (λ v. Ok v.items) ≡ initial_bytes (entry_parts entry.now) text.now) }
+    ensures fits { IfOk result (λ v. IsInitial (entry_parts entry.now) v.items) }
+{
+    if entry.code == 0x00 || entry.code == 0x20 {
+        return Err(FaultKind::BadInitial);
+    }
+    let form = register_form(entry.shape);
+    if form.is_none() {
+        return Err(FaultKind::BadInitial);
+    }
+    let bytes = hex_bytes(alloc, text)?;
+    if !is_length(form, bytes.len()) {
+        return Err(FaultKind::BadInitial);
+    }
+    Ok(bytes)
+}

@@ -1,0 +1,69 @@
+//! The words for forms and kinds.
+
+ghost use Rattle.std.specs.Prelude.{◌≡◌, option_map};
+ghost use Rattle.pmb_keys.specs.Rules.{named};
+ghost use Rattle.pmb_keys.specs.CommandRules.{write_forms, read_forms, call_forms, kind_words};
+ghost use Rattle.pmb_keys.specs.machine.KindWords.{rule_of};
+
+use pmb_command::{Form, Kind};
+
+/// What a kind's word says: a kind, or that coefficients tell the rest.
+#[derive(Clone, Copy)]
+pub(crate) enum KindWord {
+    Plain(Kind),
+    ByCoefficients,
+}
+
+/// The form that a word of `write` names.
+pub(crate) fn write_form(text: &str) -> Option<Option<Form>>
+    ensures { result ≡ named write_forms text.now }
+{
+    match text {
+        "none" => Some(None),
+        "zero" => Some(Some(Form::Zero)),
+        "one" => Some(Some(Form::One)),
+        "two" => Some(Some(Form::Two)),
+        "block" => Some(Some(Form::Block)),
+        _ => None,
+    }
+}
+
+/// The form that a word of `read` names.
+pub(crate) fn read_form(text: &str) -> Option<Option<Form>>
+    ensures { result ≡ named read_forms text.now }
+{
+    match text {
+        "none" => Some(None),
+        "one" => Some(Some(Form::One)),
+        "two" => Some(Some(Form::Two)),
+        "block" => Some(Some(Form::Block)),
+        _ => None,
+    }
+}
+
+/// The form that a word of `call` names.
+pub(crate) fn call_form(text: &str) -> Option<Option<Form>>
+    ensures { result ≡ named call_forms text.now }
+{
+    match text {
+        "none" => Some(None),
+        "two" => Some(Some(Form::Two)),
+        "block" => Some(Some(Form::Block)),
+        _ => None,
+    }
+}
+
+/// What a word of `kind` says.
+pub(crate) fn kind_word(text: &str) -> Option<KindWord>
+    ensures { option_map rule_of result ≡ named kind_words text.now }
+{
+    match text {
+        "raw" => Some(KindWord::Plain(Kind::Raw)),
+        "linear11" => Some(KindWord::Plain(Kind::Linear11)),
+        "vout" => Some(KindWord::Plain(Kind::Vout)),
+        "vout_signed" => Some(KindWord::Plain(Kind::VoutSigned)),
+        "direct" => Some(KindWord::ByCoefficients),
+        "status" => Some(KindWord::Plain(Kind::Status)),
+        _ => None,
+    }
+}

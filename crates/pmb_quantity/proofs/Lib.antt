@@ -1,0 +1,10 @@
+pub mod Scaling
+pub mod FractionLemmas
+pub mod Fitted
+pub mod LawLemmas
+pub mod Quotient
+pub mod TextLemmas
+pub mod DigitLemmas
+pub mod ReadingLemmas
+pub mod RoundTrip
+pub mod Shortest

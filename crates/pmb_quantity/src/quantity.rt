@@ -1,0 +1,130 @@
+//! Quantities: exact fractions.
+ghost use Rattle.std.specs.Prelude.{◌≡◌, ℕ, ◌^◌, ◌<◌, pos, unsigned_abs, IfOk};
+ghost use Rattle.pmb_quantity.specs.Fraction.{Fraction, HasValue, IsQuantity, gcd, lowest_terms};
+
+use std::marker::Model;
+
+/// Both numbers of a quantity are below this one.
+pub(crate) const LIMIT: u128 = 1 << 62;
+
+/// Why two numbers or a text make no [`Quantity`].
+#[derive(Clone, Copy, Debug, PartialEq, Eq)]
+pub enum QuantityFault {
+    /// The text has no byte.
+    Empty,
+    /// The text is not a quantity's.
+    BadDigit,
+    /// The denominator is 0.
+    ZeroDenominator,
+    /// The quantity, or a number that it is written with, is out of range.
+    TooLarge,
+}
+
+/// A fraction in lowest terms: the numerator is above -2^62 and below 2^62, the denominator from 1 to 2^62 - 1.
+#[derive(Clone, Copy, Debug, PartialEq, Eq)]
+pub struct Quantity {
+    numerator: i64,
+    denominator: u64,
+}
+
+impl Model for Quantity {
+    ghost use Rattle.pmb_quantity.specs.Fraction.{Fraction, IsQuantity};
+
+    ghost Value = { Fraction };
+
+    ghost view = { λ q. record { numerator = q.numerator; denominator = q.denominator } };
+
+    ghost invariant = { λ q. IsQuantity (record { numerator = q.numerator; denominator = q.denominator }) };
+
+    ghost inverse = { λ q. record { numerator = q.numerator; denominator = q.denominator } };
+}
+
+impl Quantity {
+    ghost use Rattle.pmb_quantity.specs.Quantity.{fitted, negative, quotient};
+
+    /// `numerator / denominator`. The fault is `ZeroDenominator`, or else `TooLarge` where a number of the fraction in
+    /// lowest terms, with the sign in its numerator, is out of range. Two numbers in range always make a quantity.
+    pub fn new(numerator: i64, denominator: i64) -> Result<Quantity, QuantityFault>
+        ensures value { result ≡ quotient numerator denominator }
+        ensures same_value { IfOk result (HasValue numerator denominator) }
+        ensures too_large { result ≡ Err QuantityFault.TooLarge → (q : Fraction) → IsQuantity q →
+            HasValue numerator denominator q → ⊥ }
+        ensures in_range { (d : ℕ) → denominator ≡ pos d → 0 < d → d < 2 ^ 62 → unsigned_abs numerator < 2 ^ 62 →
+            result ≡ Ok (lowest_terms numerator d) }
+    {
+        Quantity::divided(numerator, denominator)
+    }
+
+    /// The numerator in lowest terms, negative for a negative quantity.
+    pub const fn num(&self) -> i64
+        ensures value { result ≡ self.now.numerator }
+        ensures holds { IsQuantity self.now }
+    {
+        self.numerator
+    }
+
+    /// The denominator in lowest terms, 1 or more.
+    pub const fn den(&self) -> i64
+        ensures value { result ≡ pos self.now.denominator }
+        ensures holds { IsQuantity self.now }
+    {
+        self.denominator as i64
+    }
+
+    /// One number by another.
+    fn divided(numerator: i64, denominator: i64) -> Result<Quantity, QuantityFault>
+        ensures { result ≡ quotient numerator denominator }
+    {
+        if denominator == 0 {
+            return Err(QuantityFault::ZeroDenominator);
+        }
+        let magnitude = Quantity::from_parts(
+            u128::from(numerator.unsigned_abs()),
+            u128::from(denominator.unsigned_abs()),
+        )?;
+        if (numerator < 0) == (denominator < 0) {
+            Ok(magnitude)
+        } else {
+            Ok(magnitude.negated())
+        }
+    }
+
+    /// A fraction, or `TooLarge`.
+    pub(crate) fn from_parts(numerator: u128, denominator: u128) -> Result<Quantity, QuantityFault>
+        requires { 0 < denominator }
+        ensures { result ≡ fitted (lowest_terms (pos numerator) denominator) }
+    {
+        let divisor = gcd(numerator, denominator);
+        let numerator = numerator / divisor;
+        let denominator = denominator / divisor;
+        if numerator >= LIMIT || denominator >= LIMIT {
+            return Err(QuantityFault::TooLarge);
+        }
+        Ok(Quantity {
+            numerator: numerator as i64,
+            denominator: denominator as u64,
+        })
+    }
+
+    /// The quantity with the other sign.
+    pub(crate) fn negated(self) -> Quantity
+        ensures { result ≡ negative self }
+    {
+        Quantity {
+            numerator: -self.numerator,
+            denominator: self.denominator,
+        }
+    }
+}
+
+/// The greatest common divisor.
+pub(crate) fn gcd(mut a: u128, mut b: u128) -> u128
+    ensures { result ≡ gcd a b }
+{
+    while b != 0 {
+        let rest = a % b;
+        a = b;
+        b = rest;
+    }
+    a
+}

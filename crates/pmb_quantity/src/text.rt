@@ -1,0 +1,125 @@
+//! How a quantity is written.
+ghost use Rattle.std.specs.Prelude.{◌≡◌, ◌+◌, ◌^◌, ◌<◌, ◌≤◌, [], ◌∷◌, ◌++◌, length, IfSome};
+ghost use Rattle.std.specs.Fmt.{decimal};
+ghost use Rattle.arrayvec.specs.ArrayString.{array_string_len};
+ghost use Rattle.pmb_quantity.specs.QuantityText.{after_point, magnitude_text, padded, places_of, spelling};
+
+use crate::quantity::Quantity;
+use arrayvec::ArrayString;
+
+/// The text of a quantity: a sign, 19 digits, a point and 24 digits at most.
+pub type QuantityText = ArrayString<45>;
+
+/// The most digits after a point.
+pub(crate) const PLACES: u32 = 24;
+
+impl Quantity {
+    /// The shortest exact decimal, as `-1.5`, where one has at most 24 digits after the point; else numerator and
+    /// denominator, as `-2/3`.
+    pub fn text(&self) -> QuantityText
+        ensures { result.bytes ≡ spelling self.now }
+    {
+        let mut text = QuantityText::new();
+        if self.num() < 0 {
+            push_ascii(&mut text, b'-');
+        }
+        push_magnitude(
+            &mut text,
+            self.num().unsigned_abs(),
+            self.den().unsigned_abs(),
+        );
+        text
+    }
+}
+
+/// Appends a fraction without its sign.
+fn push_magnitude(text: &mut QuantityText, numerator: u64, denominator: u64)
+    requires numerator_fits { numerator < 2 ^ 62 }
+    requires denominator_fits { denominator < 2 ^ 62 }
+    requires positive { 0 < denominator }
+    requires room { array_string_len text.old ≤ 1 }
+    ensures { text.new.bytes
+        ≡ text.old.bytes ++ magnitude_text numerator denominator (places_of denominator) }
+{
+    match places_of(denominator) {
+        Some(places) => {
+            push_number(text, numerator / denominator);
+            let unit = power_of_ten(places) / u128::from(denominator);
+            push_after_point(text, places, u128::from(numerator % denominator) * unit);
+        }
+        None => {
+            push_number(text, numerator);
+            push_ascii(text, b'/');
+            push_number(text, denominator);
+        }
+    }
+}
+
+/// The fewest digits after a point, up to 24, that write a fraction of this denominator.
+fn places_of(denominator: u64) -> Option<u32>
+    requires { 0 < denominator }
+    ensures value { result ≡ places_of denominator }
+    ensures few { IfSome result (λ places. places ≤ 24) }
+{
+    for places in 0..PLACES + 1 {
+        if power_of_ten(places) % u128::from(denominator) == 0 {
+            return Some(places);
+        }
+    }
+    None
+}
+
+/// Ten to so many places.
+pub(crate) fn power_of_ten(places: u32) -> u128
+    requires { places ≤ 24 }
+    ensures value { result ≡ 10 ^ places }
+    ensures small { result < 2 ^ 80 }
+    ensures positive { 0 < result }
+{
+    10u128.pow(places)
+}
+
+/// Appends a number.
+fn push_number(text: &mut QuantityText, number: u64)
+    requires { array_string_len text.old + length (decimal number) ≤ 45 }
+    ensures { text.new.bytes ≡ text.old.bytes ++ decimal number }
+{
+    if number < 10 {
+        push_ascii(text, b'0' + number as u8);
+        return;
+    }
+    push_number(text, number / 10);
+    push_ascii(text, b'0' + (number % 10) as u8);
+}
+
+/// Appends a point and so many digits, or nothing for none.
+fn push_after_point(text: &mut QuantityText, places: u32, number: u128)
+    requires few { places ≤ 24 }
+    requires room { array_string_len text.old + places + 1 ≤ 45 }
+    ensures { text.new.bytes ≡ text.old.bytes ++ after_point places number }
+{
+    if places > 0 {
+        push_ascii(text, b'.');
+        push_padded(text, places, number);
+    }
+}
+
+/// Appends the last digits of a number, so many.
+fn push_padded(text: &mut QuantityText, places: u32, number: u128)
+    requires { array_string_len text.old + places ≤ 45 }
+    ensures { text.new.bytes ≡ text.old.bytes ++ padded places number }
+{
+    if places > 0 {
+        push_padded(text, places - 1, number / 10);
+        push_ascii(text, b'0' + (number % 10) as u8);
+    }
+}
+
+/// Appends an ASCII character.
+fn push_ascii(text: &mut QuantityText, character: u8)
+    requires is_ascii { character < 128 }
+    requires room { array_string_len text.old < 45 }
+    ensures { text.new.bytes ≡ text.old.bytes ++ character ∷ [] }
+{
+    text.push(char::from(character));
+}

@@ -1,8 +1,0 @@
-use Rattle.std.proofs.Common.{refl}
-use Rattle.pmb_table.specs.Commands.{standard_entries, standard_rows}
-use Rattle.pmb_table.proofs.commands.rows.Goals as goal
-
--- the whole table, computed
-pub returns : goal.returns
-unfolding standard_entries standard_rows
-returns c = refl

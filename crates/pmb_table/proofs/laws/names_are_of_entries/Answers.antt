@@ -1,5 +1,0 @@
-use Rattle.pmb_table.proofs.StandardLemmas.{code_of_name_at}
-use Rattle.pmb_table.proofs.laws.names_are_of_entries.Goals as goal
-
-pub returns : goal.returns
-returns c = code_of_name_at

@@ -1,0 +1,2 @@
+-- What the code keeps while it reads a profile.
+pub mod CommandMap

@@ -1,0 +1,31 @@
+-- What is true of the commands of a device, and what contracts see of the map that holds them.
+use Rattle.std.specs.Prelude.{◌≡◌, ℕ, ◌<◌, List, [], ◌∷◌, ◌++◌, length, map, nat_eq, Result, Ok}
+use Rattle.std.specs.List.{AllByRecursion, IsDistinct}
+use Rattle.pmb_keys.specs.declared.command.Command.{Command}
+use Rattle.pmb_command.specs.Parts.{CommandParts}
+use Rattle.pmb_keys.specs.CommandView.{command_parts}
+use Rattle.toml.specs.Data.{Data}
+use Rattle.pmb_table.specs.declared.fault.ProfileFault.{ProfileFault}
+use Rattle.pmb_keys.specs.Rules.{bind}
+use Rattle.pmb_keys.specs.CommandRules.{command_of}
+use Rattle.pmb_table.specs.Profile.{at_command, placed, put}
+
+-- the commands of a map's entries, in order
+abbrev pub commands_view : List (ℕ × Command) → List CommandParts
+commands_view es = map (λ e. command_parts e.1) es
+
+-- each command is held at its code
+abbrev pub AreAtTheirCodes : List (ℕ × Command) → Type 0
+AreAtTheirCodes es = AllByRecursion (λ e. e.1.entry.code ≡ e.0) es
+
+-- codes of commands, none of them twice
+abbrev pub AreTaken : List ℕ → Type 0
+AreTaken codes = IsDistinct nat_eq codes × AllByRecursion (λ code. code < 256) codes
+
+-- the codes of the tables of a device so far, and its commands
+abbrev pub Taken : Type 0
+Taken = List ℕ × List CommandParts
+
+-- those after one more table
+abbrev pub after_one : ℕ → Taken → Data → Result Taken ProfileFault
+after_one n t d = bind (placed (at_command n (length t.0)) (command_of t.0 d)) (λ c. Ok (t.0 ++ c.entry.code ∷ [], put c t.1))

@@ -1,5 +1,0 @@
-use Rattle.pmb_value.proofs.LawLemmas.{are_lowest_terms}
-use Rattle.pmb_value.proofs.laws.lowest_terms.Goals as goal
-
-pub returns : goal.returns
-returns c = are_lowest_terms

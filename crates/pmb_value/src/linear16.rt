@@ -1,0 +1,141 @@
+//! The linear formats of VOUT: ULINEAR16 and SLINEAR16.
+//!
+//! One body stands for both. What differs is which number a word is, and that is what a [`Word`] tells.
+ghost use Rattle.std.specs.Prelude.{◌≡◌, ◌↔◌, ◌^◌, ◌<◌, ℕ, ℤ, pos, unsigned_abs, IfOk, IsOk};
+ghost use Rattle.pmb_value.specs.Linear.{IsExponent, linear16, twos_complement};
+ghost use Rattle.pmb_value.specs.machine.Spaced.{HasBetween};
+
+use crate::codes::{self, Codes};
+use crate::format::{Format, RangeFault};
+use crate::linear::{self, BadExponent, DENOMINATOR, GREATEST_EXPONENT, LEAST_EXPONENT};
+use crate::plain;
+use crate::steps::Steps;
+use pmb_quantity::Quantity;
+use std::marker::{Model, PhantomData};
+
+/// ULINEAR16: an unsigned word, times two to an exponent that VOUT_MODE gives.
+pub type Ulinear16 = Linear16<UnsignedWord>;
+
+/// SLINEAR16: a signed word, times two to an exponent that VOUT_MODE gives.
+pub type Slinear16 = Linear16<SignedWord>;
+
+/// Which number a word of two bytes is.
+pub trait Word {
+    /// The number of each word.
+    ghost number: { ℕ → ℤ };
+
+    /// The number of a word.
+    fn number(code: u16) -> i32
+        ensures value { result ≡ number code }
+        ensures small { unsigned_abs result < 2 ^ 16 };
+
+    /// A law: between two words of one parity lies another.
+    fn between()
+        ensures { HasBetween number };
+}
+
+/// A word counts from 0 to 65535.
+#[derive(Clone, Copy, Debug, PartialEq, Eq)]
+pub struct UnsignedWord;
+
+impl Word for UnsignedWord {
+    ghost number = { λ code. pos code };
+
+    fn number(code: u16) -> i32 {
+        i32::from(code)
+    }
+
+    fn between() {}
+}
+
+/// A word counts from -32768 to 32767, in two's complement.
+#[derive(Clone, Copy, Debug, PartialEq, Eq)]
+pub struct SignedWord;
+
+impl Word for SignedWord {
+    ghost number = { twos_complement 16 };
+
+    fn number(code: u16) -> i32 {
+        linear::twos_complement(16, code)
+    }
+
+    fn between() {}
+}
+
+/// A word, times two to an exponent.
+#[derive(Clone, Copy, Debug, PartialEq, Eq)]
+pub struct Linear16<W: Word> {
+    exponent: i8,
+    word: PhantomData<W>,
+}
+
+impl<W: Word> Model for Linear16<W> {
+    ghost use Rattle.std.specs.Prelude.{ℤ};
+    ghost use Rattle.pmb_value.specs.Linear.{IsExponent};
+
+    ghost Value = { ℤ };
+
+    ghost view = { λ f. f.exponent };
+
+    ghost invariant = { λ f. IsExponent f.exponent };
+
+    ghost inverse = { λ e. record { exponent = e; word = record {} } };
+}
+
+impl<W: Word> Linear16<W> {
+    /// The format with this exponent, from -16 to 15. ULINEAR16 has the values from 0 to `65535 * 2^exponent`, and
+    /// SLINEAR16 those from `-32768 * 2^exponent` to `32767 * 2^exponent`.
+    pub fn new(exponent: i8) -> Result<Linear16<W>, BadExponent>
+        ensures in_range { IsOk result ↔ IsExponent exponent }
+        ensures value { IfOk result (λ f. f ≡ exponent) }
+    {
+        if exponent < LEAST_EXPONENT || exponent > GREATEST_EXPONENT {
+            return Err(BadExponent);
+        }
+        Ok(Linear16::of(exponent))
+    }
+
+    /// The format with an exponent in range.
+    pub(crate) fn of(exponent: i8) -> Linear16<W>
+        requires { IsExponent exponent }
+        ensures { result ≡ exponent }
+    {
+        Linear16 {
+            exponent,
+            word: PhantomData,
+        }
+    }
+}
+
+impl<W: Word> Codes for Linear16<W> {
+    ghost coding = { linear16 W.number };
+
+    fn numerator(&self, code: u16) -> i64 {
+        i64::from(W::number(code)) * i64::from(linear::power(self.exponent))
+    }
+
+    fn denominator(&self) -> u64 {
+        W::between();
+        DENOMINATOR
+    }
+
+    fn is_code(&self, _code: u16) -> bool {
+        true
+    }
+
+    fn is_written(&self, _code: u16) -> bool {
+        true
+    }
+}
+
+impl<W: Word> Format for Linear16<W> {
+    ghost coding = { linear16 W.number };
+
+    fn decode(&self, code: u16) -> Quantity {
+        codes::decode(self, code)
+    }
+
+    fn encode(&self, quantity: &Quantity, steps: &mut Steps) -> Result<u16, RangeFault> {
+        plain::encode(self, quantity, steps)
+    }
+}

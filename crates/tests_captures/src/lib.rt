@@ -1,0 +1,17 @@
+//! Captures with what is shown of them, and events with what they read as, worked out by hand.
+//!
+//! Each subject is one loop over a table; a row that fails prints its name.
+#![tactic(auto)]
+
+#[cfg(test)]
+mod events;
+#[cfg(test)]
+mod example;
+#[cfg(test)]
+mod profiles;
+#[cfg(test)]
+mod rows;
+#[cfg(test)]
+mod senseless;
+#[cfg(test)]
+mod shows;

@@ -1,0 +1,109 @@
+//! A million bytes that make no sense, and what is shown of them.
+
+use pmb_capture::show;
+use pmb_io::{Io, Tally};
+use pmb_table::{Profile, SAMPLE};
+use std::alloc::{AllocError, Global};
+use std::test::Fail;
+
+/// Bytes by name.
+#[derive(Clone, Copy)]
+enum Senseless {
+    /// These first, and then one byte over and over.
+    Repeated(&'static [u8], u8),
+    /// This first, and then bytes that follow no pattern, from a fixed seed.
+    Unordered(u8),
+}
+
+const COUNT: u32 = 1_000_000;
+
+fn bytes_of(alloc: Global, senseless: &Senseless) -> Result<Vec<u8>, AllocError> {
+    match senseless {
+        Senseless::Repeated(first, byte) => {
+            let mut bytes = Vec::from_slice(alloc, first)?;
+            for _ in 0..COUNT {
+                bytes.push(*byte)?;
+            }
+            Ok(bytes)
+        }
+        Senseless::Unordered(first) => {
+            let mut bytes = Vec::new(alloc);
+            bytes.push(*first)?;
+            let mut state = 0x2545_f491u32;
+            for _ in 0..COUNT {
+                state = state.wrapping_mul(1_664_525).wrapping_add(1_013_904_223);
+                bytes.push((state >> 24) as u8)?;
+            }
+            Ok(bytes)
+        }
+    }
+}
+
+/// Words that are tokens but follow no pattern.
+fn senseless_words(alloc: Global, count: u32) -> Result<Vec<u8>, AllocError> {
+    let mut bytes = Vec::new(alloc);
+    let mut state = 0x2545_f491u32;
+    for _ in 0..count {
+        state = state.wrapping_mul(1_664_525).wrapping_add(1_013_904_223);
+        let word: &[u8] = match state >> 29 {
+            0 => b"S ",
+            1 => b"P\n",
+            2 => b"N ",
+            3 => b"b0 ",
+            4 => b"21 ",
+            _ => b"A ",
+        };
+        bytes.extend_from_slice(word)?;
+    }
+    Ok(bytes)
+}
+
+#[test]
+fn ends_on_each(rt: HostRuntime) -> Result<(), Fail> {
+    let alloc = rt.alloc();
+    let rows: [(&str, Senseless, &str); 3] = [
+        (
+            "one long word",
+            Senseless::Repeated(b"", b'0'),
+            "# bad token at byte 0\n",
+        ),
+        (
+            "one long comment",
+            Senseless::Repeated(b"S b0 # ", b'x'),
+            "# refusal at 2\n",
+        ),
+        (
+            "bytes of all kinds",
+            Senseless::Unordered(0xff),
+            "# bad token at byte 0\n",
+        ),
+    ];
+    let profile = Profile::from_toml(alloc, SAMPLE.as_bytes())?;
+    for (name, senseless, shown) in &rows {
+        let bytes = bytes_of(alloc, senseless)?;
+        let mut writer = Io::new(Vec::new(alloc));
+        let tally = show(&profile, b"", &mut Io::new(bytes.as_slice()), &mut writer);
+        let one = Tally {
+            packets: 0,
+            refusals: 1,
+        };
+        assert_eq!(rt; tally, Ok(one), "{name}");
+        assert_eq!(rt; writer.into_inner().as_slice(), shown.as_bytes(), "{name}");
+    }
+    Ok(())
+}
+
+#[test]
+fn refuses_senseless_words(rt: HostRuntime) -> Result<(), Fail> {
+    let alloc = rt.alloc();
+    let profile = Profile::from_toml(alloc, SAMPLE.as_bytes())?;
+    let words = senseless_words(alloc, 400_000)?;
+    let mut writer = Io::new(Vec::new(alloc));
+    let tally = show(&profile, b"", &mut Io::new(words.as_slice()), &mut writer)?;
+    assert_eq!(rt; tally.packets, 0);
+    assert!(rt; 0 < tally.refusals);
+    for line in writer.into_inner().as_slice().split(|byte| *byte == b'\n') {
+        assert!(rt; line.is_empty() || line.starts_with(b"# refusal at "));
+    }
+    Ok(())
+}

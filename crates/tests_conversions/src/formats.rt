@@ -1,0 +1,138 @@
+//! FORMATs that name a format, and those that don't.
+use pmb_convert::{FormatFault, NamedFormat, laws};
+use pmb_value::{Direct, Format, Quantity, Slinear16, Steps, Ulinear16, VoutFormat};
+
+// A name, a FORMAT, and what is wrong with it.
+const FAULTS: [(&str, &str, FormatFault); 38] = [
+    ("nothing", "", FormatFault::BadFormat),
+    ("a word cut short", "linear", FormatFault::BadFormat),
+    ("upper case", "LINEAR11", FormatFault::BadFormat),
+    ("a colon behind it", "linear11:", FormatFault::BadFormat),
+    ("a blank behind it", "linear11 ", FormatFault::BadFormat),
+    ("no colon", "ulinear16", FormatFault::BadFormat),
+    ("no exponent", "ulinear16:", FormatFault::BadFormat),
+    ("a plus", "ulinear16:+1", FormatFault::BadFormat),
+    ("a blank", "ulinear16: 1", FormatFault::BadFormat),
+    ("a minus alone", "ulinear16:-", FormatFault::BadFormat),
+    ("two minuses", "ulinear16:--1", FormatFault::BadFormat),
+    ("two exponents", "ulinear16:1,1", FormatFault::BadFormat),
+    ("over an i8", "ulinear16:128", FormatFault::BadFormat),
+    ("under an i8", "ulinear16:-129", FormatFault::BadFormat),
+    (
+        "over the exponents",
+        "ulinear16:16",
+        FormatFault::BadExponent,
+    ),
+    (
+        "under the exponents",
+        "ulinear16:-17",
+        FormatFault::BadExponent,
+    ),
+    ("greatest i8", "slinear16:127", FormatFault::BadExponent),
+    ("least i8", "slinear16:-128", FormatFault::BadExponent),
+    ("far over an i8", "slinear16:256", FormatFault::BadFormat),
+    ("two coefficients", "direct:1,0", FormatFault::BadFormat),
+    (
+        "four coefficients",
+        "direct:1,0,0,0",
+        FormatFault::BadFormat,
+    ),
+    (
+        "an empty coefficient",
+        "direct:1,,0",
+        FormatFault::BadFormat,
+    ),
+    ("over an i16", "direct:32768,0,0", FormatFault::BadFormat),
+    (
+        "range before slope",
+        "direct:0,-32769,10",
+        FormatFault::BadFormat,
+    ),
+    ("scale over an i8", "direct:0,0,128", FormatFault::BadFormat),
+    ("a scale in letters", "direct:0,0,x", FormatFault::BadFormat),
+    (
+        "slope before scale",
+        "direct:0,0,10",
+        FormatFault::ZeroSlope,
+    ),
+    ("minus zero", "direct:-0,-32768,0", FormatFault::ZeroSlope),
+    ("over the scales", "direct:1,0,10", FormatFault::BadScale),
+    (
+        "under the scales",
+        "direct:-32768,32767,-10",
+        FormatFault::BadScale,
+    ),
+    ("one digit", "vout:1", FormatFault::BadFormat),
+    ("three digits", "vout:170", FormatFault::BadFormat),
+    ("no digit", "vout:g7", FormatFault::BadFormat),
+    ("relative, linear", "vout:97", FormatFault::Relative),
+    ("relative before VID", "vout:a0", FormatFault::Relative),
+    ("VID", "vout:20", FormatFault::Vid),
+    ("IEEE half precision", "vout:60", FormatFault::Ieee),
+    ("DIRECT", "vout:40", FormatFault::NoCoefficients),
+];
+
+#[test]
+fn faults_of_formats(rt: HostRuntime) {
+    for (name, format, fault) in FAULTS {
+        assert_eq!(rt; NamedFormat::parse(format), Err(fault), "{name}");
+    }
+}
+
+#[test]
+fn named_formats(rt: HostRuntime) {
+    let unsigned = VoutFormat::Unsigned(Ulinear16::new(-9).expect(&rt, "an exponent"));
+    let greatest = VoutFormat::Unsigned(Ulinear16::new(15).expect(&rt, "an exponent"));
+    let signed = VoutFormat::Signed(Slinear16::new(-16).expect(&rt, "an exponent"));
+    let direct = VoutFormat::Direct(Direct::new(-32768, 32767, -9).expect(&rt, "coefficients"));
+    let rows: [(&str, &str, NamedFormat); 7] = [
+        ("LINEAR11", "linear11", NamedFormat::Linear11),
+        ("ULINEAR16", "ulinear16:-9", NamedFormat::Word(unsigned)),
+        (
+            "zeros in front",
+            "ulinear16:-009",
+            NamedFormat::Word(unsigned),
+        ),
+        ("SLINEAR16", "slinear16:-16", NamedFormat::Word(signed)),
+        ("VOUT_MODE", "vout:17", NamedFormat::Word(unsigned)),
+        (
+            "VOUT_MODE in upper case",
+            "vout:0F",
+            NamedFormat::Word(greatest),
+        ),
+        (
+            "DIRECT",
+            "direct:-32768,32767,-9",
+            NamedFormat::Word(direct),
+        ),
+    ];
+    for (name, format, wanted) in rows {
+        assert_eq!(rt; NamedFormat::parse(format), Ok(wanted), "{name}");
+    }
+    laws::one_format();
+    laws::one_text();
+}
+
+// A generic caller knows a named format by the trait alone.
+fn code_of<F: Format>(format: &F, quantity: &Quantity) -> Option<u16> {
+    format.encode(quantity, &mut Steps::new()).ok()
+}
+
+fn text_is<F: Format>(format: &F, code: u16, wanted: &str) -> bool {
+    format.decode(code).text().as_str() == wanted
+}
+
+#[test]
+fn codes_of_named_formats(rt: HostRuntime) {
+    let rows: [(&str, &str, &str, u16); 3] = [
+        ("LINEAR11", "linear11", "12", 0xd300),
+        ("ULINEAR16", "ulinear16:-9", "12", 0x1800),
+        ("DIRECT", "direct:3,2,1", "1", 0x0032),
+    ];
+    for (name, format, text, code) in rows {
+        let format = NamedFormat::parse(format).expect(&rt, "a format");
+        let quantity = Quantity::parse(text.as_bytes()).expect(&rt, "a quantity");
+        assert_eq!(rt; code_of(&format, &quantity), Some(code), "{name}");
+        assert!(rt; text_is(&format, code, text), "{name}");
+    }
+}

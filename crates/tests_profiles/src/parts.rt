@@ -1,0 +1,207 @@
+//! What an accepted profile says of a command, by hand from the rules in `docs/profiles.md`.
+use crate::rows::Meaning::{Direct, Linear11, Raw, Status, Vout, VoutSigned};
+use crate::rows::{Meaning, kind_of};
+use pmb_table::{Entry, Form, Profile, Shape};
+use std::alloc::Global;
+use std::process::Abort;
+
+/// The profile of a text.
+pub(crate) fn profile_of(rt: &impl Abort, alloc: Global, text: &str) -> Profile {
+    Profile::from_toml(alloc, text.as_bytes()).expect(rt, "a profile")
+}
+
+/// The code of an entry.
+pub(crate) fn code_of(entry: Option<&Entry>) -> Option<u8> {
+    match entry {
+        Some(entry) => Some(entry.code),
+        None => None,
+    }
+}
+
+/// What a row tells of a command: its code, its name, its forms, what its data stand for, and
+/// whether each page has a value.
+#[derive(Clone, Copy)]
+pub(crate) struct Parts(pub u8, pub &'static str, pub Shape, pub Meaning, pub bool);
+
+/// Whether the entry of a row has these parts.
+pub(crate) fn check_entry(rt: &impl Abort, row: &str, entry: Option<&Entry>, parts: &Parts) {
+    let Parts(code, name, shape, meaning, paged) = *parts;
+    let entry = entry.expect(rt, row);
+    assert_eq!(rt; entry.code, code, "at {row}");
+    assert_eq!(rt; entry.name.as_str(), name, "at {row}");
+    assert_eq!(rt; entry.shape, shape, "at {row}");
+    assert_eq!(rt; entry.kind, kind_of(rt, meaning), "at {row}");
+    assert_eq!(rt; entry.paged, paged, "at {row}");
+}
+
+const ONE: Option<Form> = Some(Form::One);
+
+const TWO: Option<Form> = Some(Form::Two);
+
+const BLOCK: Option<Form> = Some(Form::Block);
+
+const READ_ONE: Shape = Shape {
+    write: None,
+    read: ONE,
+    call: None,
+};
+
+const READ_TWO: Shape = Shape {
+    write: None,
+    read: TWO,
+    call: None,
+};
+
+const READ_BLOCK: Shape = Shape {
+    write: None,
+    read: BLOCK,
+    call: None,
+};
+
+const WRITE_TWO: Shape = Shape {
+    write: TWO,
+    read: None,
+    call: None,
+};
+
+const WRITE_BLOCK: Shape = Shape {
+    write: BLOCK,
+    read: None,
+    call: None,
+};
+
+const WRITE_TWO_CALL_BLOCK: Shape = Shape {
+    write: TWO,
+    read: None,
+    call: BLOCK,
+};
+
+const BYTE: Shape = Shape {
+    write: ONE,
+    read: ONE,
+    call: None,
+};
+
+pub(crate) const WORD: Shape = Shape {
+    write: TWO,
+    read: TWO,
+    call: None,
+};
+
+const BLOCKS: Shape = Shape {
+    write: BLOCK,
+    read: BLOCK,
+    call: None,
+};
+
+const CALL_TWO: Shape = Shape {
+    write: None,
+    read: None,
+    call: TWO,
+};
+
+const ZERO_READ_ONE: Shape = Shape {
+    write: Some(Form::Zero),
+    read: ONE,
+    call: None,
+};
+
+/// PAGE and READ_VIN as the standard has them.
+pub(crate) const PAGE: Parts = Parts(0x00, "PAGE", BYTE, Raw, false);
+
+pub(crate) const READ_VIN: Parts = Parts(0x88, "READ_VIN", READ_TWO, Linear11, true);
+
+/// The keys of a command, which name the row, and the parts and the first bytes that they give it.
+struct Row(&'static str, Parts, Option<&'static [u8]>);
+
+// With a name a key replaces a part of the standard command; with a code nothing is taken from it,
+// not even where it has one.
+static COMMANDS: [Row; 16] = [
+    Row("name = 'READ_VIN'", READ_VIN, None),
+    Row("name = 'PAGE'", PAGE, None),
+    Row(
+        "name = 'READ_VIN', write = 'two', initial = 'Ff0a'",
+        Parts(0x88, "READ_VIN", WORD, Linear11, true),
+        Some(b"\xff\x0a"),
+    ),
+    Row(
+        "name = 'READ_VIN', kind = 'direct', m = -32768, b = 32767, r = 9, paged = false",
+        Parts(0x88, "READ_VIN", READ_TWO, Direct(-32768, 32767, 9), false),
+        None,
+    ),
+    Row(
+        "name = 'VOUT_COMMAND', kind = 'vout_signed', read = 'none', call = 'block'",
+        Parts(0x21, "VOUT_COMMAND", WRITE_TWO_CALL_BLOCK, VoutSigned, true),
+        None,
+    ),
+    Row(
+        "name = 'SMBALERT_MASK', call = 'none'",
+        Parts(0x1b, "SMBALERT_MASK", WRITE_TWO, Raw, false),
+        None,
+    ),
+    Row(
+        "name = 'MFR_ID', initial = '504d42'",
+        Parts(0x99, "MFR_ID", BLOCKS, Raw, false),
+        Some(b"PMB"),
+    ),
+    Row(
+        "name = 'STATUS_WORD', paged = false, initial = '4088'",
+        Parts(0x79, "STATUS_WORD", WORD, Status, false),
+        Some(b"\x40\x88"),
+    ),
+    Row(
+        "code = 0x20, read = 'one'",
+        Parts(0x20, "CMD_20", READ_ONE, Raw, false),
+        None,
+    ),
+    Row(
+        "code = 0x88, name = 'READ_VIN', read = 'one'",
+        Parts(0x88, "READ_VIN", READ_ONE, Raw, false),
+        None,
+    ),
+    Row(
+        "code = 10, call = 'two'",
+        Parts(0x0a, "CMD_0a", CALL_TWO, Raw, false),
+        None,
+    ),
+    Row(
+        "code = 255, read = 'block', kind = 'raw', paged = true, initial = ''",
+        Parts(0xff, "CMD_ff", READ_BLOCK, Raw, true),
+        Some(b""),
+    ),
+    Row(
+        "initial = 'a5', kind = 'status', read = 'one', write = 'zero', name = 'A_1', code = 0xd0",
+        Parts(0xd0, "A_1", ZERO_READ_ONE, Status, false),
+        Some(b"\xa5"),
+    ),
+    Row(
+        "code = 0xd0, write = 'two', call = 'block', kind = 'vout'",
+        Parts(0xd0, "CMD_d0", WRITE_TWO_CALL_BLOCK, Vout, false),
+        None,
+    ),
+    Row(
+        "code = 0xaf, write = 'block'",
+        Parts(0xaf, "CMD_af", WRITE_BLOCK, Raw, false),
+        None,
+    ),
+    Row(
+        "code = 0xd0, name = 'RATIO', write = 'two', read = 'two', kind = 'direct', m = 3, b = 2, r = 1, paged = true, initial = '0102'",
+        Parts(0xd0, "RATIO", WORD, Direct(3, 2, 1), true),
+        Some(b"\x01\x02"),
+    ),
+];
+
+#[test]
+fn commands(rt: HostRuntime) {
+    for Row(keys, parts, initial) in &COMMANDS {
+        let text = format!(in rt.alloc();
+            "device = [{{ address = 0x10, pec = 'off', standard = false, command = [{{ {keys} }}] }}]"
+        ).expect(&rt, "memory");
+        let profile = profile_of(&rt, rt.alloc(), text.as_str());
+        let device = profile.device(0x10).expect(&rt, "a device");
+        assert_eq!(rt; device.len(), 1, "at {keys}");
+        check_entry(&rt, keys, device.entry(parts.0), parts);
+        check_entry(&rt, keys, device.entry_at(0), parts);
+        assert_eq!(rt; device.initial(parts.0), *initial, "at {keys}");
+    }
+}

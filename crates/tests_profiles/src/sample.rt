@@ -1,0 +1,232 @@
+//! What the sample and other accepted profiles say of their devices, by hand from the rules in
+//! `docs/profiles.md`.
+use crate::parts::{PAGE, Parts, READ_VIN, WORD, check_entry, code_of, profile_of};
+use crate::rows::Meaning::Direct;
+use pmb_table::{DeviceProfile, PecMode, SAMPLE, laws};
+
+/// The number of commands that the standard has.
+const STANDARD: usize = 156;
+
+/// The address of a device.
+fn address_of(device: Option<&DeviceProfile>) -> Option<u8> {
+    match device {
+        Some(device) => Some(device.address()),
+        None => None,
+    }
+}
+
+/// RATIO as the sample has it.
+const RATIO: Parts = Parts(0xd0, "RATIO", WORD, Direct(3, 2, 1), false);
+
+/// Two devices, the one with each key at its greatest or its least, and the other with as few keys
+/// as may be.
+const TWO_DEVICES: &str = "device = [{ address = 0x08, pec = 'on', pages = 32, vout_mode = 255, \
+     vout_direct = { m = -5, b = 7, r = -9 } }, { address = 0x77, pec = 'optional', standard = false }]";
+
+/// The name of a row, a text, the place of a device in it, its address, pec, pages, vout_mode, m, b
+/// and r, and how many commands it has.
+struct Device(
+    &'static str,
+    &'static str,
+    usize,
+    u8,
+    PecMode,
+    u8,
+    u8,
+    Option<(i16, i16, i8)>,
+    usize,
+);
+
+static DEVICES: [Device; 5] = [
+    Device(
+        "the sample's first",
+        SAMPLE,
+        0,
+        0x58,
+        PecMode::Optional,
+        2,
+        0x17,
+        None,
+        STANDARD + 1,
+    ),
+    Device(
+        "the sample's second",
+        SAMPLE,
+        1,
+        0x59,
+        PecMode::Off,
+        1,
+        0x17,
+        None,
+        STANDARD,
+    ),
+    Device(
+        "the sample's last",
+        SAMPLE,
+        2,
+        0x5a,
+        PecMode::On,
+        1,
+        0x17,
+        None,
+        STANDARD,
+    ),
+    Device(
+        "each key",
+        TWO_DEVICES,
+        0,
+        0x08,
+        PecMode::On,
+        32,
+        0xff,
+        Some((-5, 7, -9)),
+        STANDARD,
+    ),
+    Device(
+        "few keys",
+        TWO_DEVICES,
+        1,
+        0x77,
+        PecMode::Optional,
+        1,
+        0x17,
+        None,
+        0,
+    ),
+];
+
+#[test]
+fn devices(rt: HostRuntime) {
+    for Device(name, text, index, address, pec, pages, vout_mode, direct, len) in &DEVICES {
+        let profile = profile_of(&rt, rt.alloc(), text);
+        assert_eq!(rt;
+            address_of(profile.device_at(*index)),
+            Some(*address),
+            "{name}"
+        );
+        laws::accepted_bus(&profile);
+        let device = profile.device(*address).expect(&rt, name);
+        laws::accepted_device(device);
+        assert_eq!(rt; device.address(), *address, "{name}");
+        assert_eq!(rt; device.pec(), *pec, "{name}");
+        assert_eq!(rt; device.pages(), *pages, "{name}");
+        assert_eq!(rt; device.vout_mode(), *vout_mode, "{name}");
+        let coefficients = match direct {
+            Some((m, b, r)) => Some(pmb_value::Direct::new(*m, *b, *r).expect(&rt, name)),
+            None => None,
+        };
+        assert_eq!(rt; device.vout_direct(), coefficients, "{name}");
+        assert_eq!(rt; device.len(), *len, "{name}");
+        assert_eq!(rt; code_of(device.entry_at(*len)), None, "{name}");
+        assert_eq!(rt; code_of(device.entry(0xc8)), None, "{name}");
+    }
+}
+
+/// Addresses of no device of the sample.
+static NO_ADDRESSES: [u8; 5] = [0x00, 0x20, 0x57, 0x5b, 0xff];
+
+#[test]
+fn no_device(rt: HostRuntime) {
+    let profile = profile_of(&rt, rt.alloc(), SAMPLE);
+    assert_eq!(rt; profile.len(), 3);
+    assert_eq!(rt; address_of(profile.device_at(3)), None);
+    for address in &NO_ADDRESSES {
+        assert_eq!(rt; address_of(profile.device(*address)), None, "{address:02x}");
+    }
+}
+
+/// The name of a row, a device of the sample, the place of a command in it, and its parts and first
+/// bytes.
+struct SampleRow(&'static str, u8, usize, Parts, Option<&'static [u8]>);
+
+static SAMPLE_COMMANDS: [SampleRow; 7] = [
+    SampleRow("PAGE of the first", 0x58, 0, PAGE, None),
+    SampleRow("PAGE of the second", 0x59, 0, PAGE, None),
+    SampleRow("PAGE of the last", 0x5a, 0, PAGE, None),
+    SampleRow(
+        "READ_VIN of the first",
+        0x58,
+        100,
+        READ_VIN,
+        Some(b"\x00\xd3"),
+    ),
+    SampleRow("READ_VIN of the second", 0x59, 100, READ_VIN, None),
+    SampleRow("READ_VIN of the last", 0x5a, 100, READ_VIN, None),
+    SampleRow("RATIO of the first", 0x58, STANDARD, RATIO, None),
+];
+
+#[test]
+fn sample_commands(rt: HostRuntime) {
+    let profile = profile_of(&rt, rt.alloc(), SAMPLE);
+    for SampleRow(name, address, index, parts, initial) in &SAMPLE_COMMANDS {
+        let device = profile.device(*address).expect(&rt, name);
+        check_entry(&rt, name, device.entry_at(*index), parts);
+        check_entry(&rt, name, device.entry(parts.0), parts);
+        assert_eq!(rt; device.initial(parts.0), *initial, "{name}");
+        assert_eq!(rt;
+            code_of(device.entry_at(STANDARD - 1)),
+            Some(0xc2),
+            "{name}"
+        );
+        assert_eq!(rt; device.initial(0x21), None, "{name}");
+        assert_eq!(rt; device.initial(0xc8), None, "{name}");
+    }
+}
+
+// READ_VIN keeps its place among the standard commands, and RATIO goes last.
+#[test]
+fn order_of_the_sample(rt: HostRuntime) {
+    let profile = profile_of(&rt, rt.alloc(), SAMPLE);
+    let first = profile.device(0x58).expect(&rt, "a device");
+    let last = profile.device(0x5a).expect(&rt, "a device");
+    for index in 0..STANDARD {
+        let code = code_of(first.entry_at(index));
+        assert_eq!(rt; code, code_of(last.entry_at(index)), "at {index}");
+    }
+    assert_eq!(rt; code_of(last.entry(0xd0)), None);
+}
+
+/// Two devices whose commands are tables in the order d1h, 88h, d0h.
+const ORDER: &str = "device = [{ address = 0x10, pec = 'off', command = [ \
+     { code = 0xd1, read = 'one' }, { name = 'READ_VIN', initial = '0102' }, { code = 0xd0, read = 'two' }] }, \
+     { address = 0x11, pec = 'off', standard = false, command = [ \
+     { code = 0xd1, read = 'one' }, { name = 'READ_VIN', initial = '0304' }, { code = 0xd0, read = 'two' }] }]";
+
+/// The name of a row, a device, the place of a command in it, and the command's code if there is
+/// one.
+static PLACES: [(&str, u8, usize, Option<u8>); 9] = [
+    ("READ_VIN keeps its place", 0x10, 100, Some(0x88)),
+    ("the last standard command", 0x10, STANDARD - 1, Some(0xc2)),
+    ("the first new one", 0x10, STANDARD, Some(0xd1)),
+    ("the second new one", 0x10, STANDARD + 1, Some(0xd0)),
+    ("behind the last", 0x10, STANDARD + 2, None),
+    ("without the standard, the first", 0x11, 0, Some(0xd1)),
+    ("without the standard, the second", 0x11, 1, Some(0x88)),
+    ("without the standard, the last", 0x11, 2, Some(0xd0)),
+    ("without the standard, behind the last", 0x11, 3, None),
+];
+
+#[test]
+fn order_of_commands(rt: HostRuntime) {
+    let profile = profile_of(&rt, rt.alloc(), ORDER);
+    for (name, address, index, code) in &PLACES {
+        let device = profile.device(*address).expect(&rt, name);
+        assert_eq!(rt; code_of(device.entry_at(*index)), *code, "{name}");
+    }
+}
+
+/// The name of a row, a device, how many commands it has, and what READ_VIN begins with.
+static ORDERED: [(&str, u8, usize, &[u8]); 2] = [
+    ("with the standard", 0x10, STANDARD + 2, b"\x01\x02"),
+    ("without the standard", 0x11, 3, b"\x03\x04"),
+];
+
+#[test]
+fn ordered_devices(rt: HostRuntime) {
+    let profile = profile_of(&rt, rt.alloc(), ORDER);
+    for (name, address, len, initial) in &ORDERED {
+        let device = profile.device(*address).expect(&rt, name);
+        assert_eq!(rt; device.len(), *len, "{name}");
+        assert_eq!(rt; device.initial(0x88), Some(*initial), "{name}");
+    }
+}
