@@ -79,13 +79,16 @@ known_digest() (
 
 # Where a program that was built here from the sources with the digest stands.
 built() {
-    echo "$root/release/out/pmb-$1"
+    echo "$root/release/out/$1/pmb"
 }
 
 # Keeps what stands in crates/pmb/out as the program built from the sources with the digest: whole,
-# or not at all.
+# or not at all. Those of other sources go.
 keep() {
     new=$root/release/out/new.$$
-    mkdir -p "$root/release/out" && cp "$root/crates/pmb/out/pmb" "$new" && chmod 755 "$new" &&
-        rm -f "$root"/release/out/pmb-* && mv -f "$new" "$(built "$1")"
+    mkdir -p "$root/release/out/$1" && cp "$root/crates/pmb/out/pmb" "$new" && chmod 755 "$new" &&
+        mv -f "$new" "$(built "$1")" || return
+    for other in "$root"/release/out/*/; do
+        [ "$other" = "$root/release/out/$1/" ] || rm -rf "$other"
+    done
 }

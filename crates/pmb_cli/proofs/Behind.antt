@@ -16,16 +16,16 @@ use Rattle.pmb_cli.specs.Shown.{ShowedBehind}
 use Rattle.pmb_cli.proofs.Fronts.{stays}
 
 -- where a line `%%` was met
-at_mark : (read : List ℕ) (parts : Parts) (new : front.Told) (has_ended : Bool) → EndsAtMark read parts ⊎ EndsWithReader read parts new has_ended → parts.marked ≡ true
+at_mark : (read : List ℕ) (parts : Parts) (left : Option (List ℕ)) (has_ended : Bool) → EndsAtMark read parts ⊎ EndsWithReader read parts left has_ended → parts.marked ≡ true
     → FirstMark read parts.profile parts.rest
-at_mark read parts new has_ended (inl mark) marked = mark.first
-at_mark read parts new has_ended (inr ends) marked = absurd (let contrary : true ≡ false = sym marked ∙ ends.unmarked in cc)
+at_mark read parts left has_ended (inl mark) marked = mark.first
+at_mark read parts left has_ended (inr ends) marked = absurd (let contrary : true ≡ false = sym marked ∙ ends.unmarked in cc)
 
 -- where none was
-at_end : (read : List ℕ) (parts : Parts) (new : front.Told) (has_ended : Bool) → EndsAtMark read parts ⊎ EndsWithReader read parts new has_ended → parts.marked ≡ false
-    → EndsWithReader read parts new has_ended
-at_end read parts new has_ended (inl mark) unmarked = absurd (let contrary : true ≡ false = sym mark.marked ∙ unmarked in cc)
-at_end read parts new has_ended (inr ends) unmarked = ends
+at_end : (read : List ℕ) (parts : Parts) (left : Option (List ℕ)) (has_ended : Bool) → EndsAtMark read parts ⊎ EndsWithReader read parts left has_ended → parts.marked ≡ false
+    → EndsWithReader read parts left has_ended
+at_end read parts left has_ended (inl mark) unmarked = absurd (let contrary : true ≡ false = sym mark.marked ∙ unmarked in cc)
+at_end read parts left has_ended (inr ends) unmarked = ends
 
 module _ (devices : List DeviceParts) (tally : Tally) where
   abbrev pub Whole : List ℕ → List ℕ → Type 0
@@ -38,35 +38,35 @@ module _ (devices : List DeviceParts) (tally : Tally) where
   Showed rest old new has_ended = Ended Whole rest old new has_ended ⊎ Stopped Cut BeginsText rest old new
 
   -- the profile was read, and then the capture
-  behind : (Holds : List ℕ → List ℕ → Type 0) (l0 l1 l2 : Option (List ℕ)) (g0 g1 g2 : ℕ) (h0 h1 : Option (List ℕ)) (ended_before has_ended : Bool) (parts : Parts)
-      → (before : ReadFront (record { left = l0; given = g0 }) (record { left = l1; given = g1 }) ended_before parts) → parts.marked ≡ true → Says parts.profile (Ok devices)
-      → (through : Through Holds parts.rest (record { left = l1; given = g1; held = h0 }) (record { left = l2; given = g2; held = h1 }))
+  behind : {R : Type 0} (told : R → front.Told) (old mid : R) (Holds : List ℕ → List ℕ → Type 0) (l2 : Option (List ℕ)) (g2 : ℕ) (h0 h1 : Option (List ℕ)) (ended_before has_ended : Bool) (parts : Parts)
+      → (before : ReadFront told old mid ended_before parts) → parts.marked ≡ true → Says parts.profile (Ok devices)
+      → (through : Through Holds parts.rest (record { left = (told mid).left; given = (told mid).given; held = h0 }) (record { left = l2; given = g2; held = h1 }))
       → ((bytes text : List ℕ) → Holds bytes text → (Whole bytes text × (has_ended ≡ true) × IsAtEnd l2) ⊎ Cut bytes text)
-      → ShowedBehind (record { left = l0; given = g0; held = h0 }) (record { left = l2; given = g2; held = h1 }) has_ended tally
-  behind Holds l0 l1 l2 g0 g1 g2 h0 h1 ended_before has_ended parts before marked says through holds = record {
+      → ShowedBehind (record { left = (told old).left; given = (told old).given; held = h0 }) (record { left = l2; given = g2; held = h1 }) has_ended tally
+  behind told old mid Holds l2 g2 h0 h1 ended_before has_ended parts before marked says through holds = record {
     read = before.read ++ through.read;
     text = through.text;
     profile = parts.profile;
     capture = parts.rest ++ through.read;
     devices = devices;
-    consumed = consumes_then l0 l1 l2 before.read through.read before.reads.gave.consumed through.consumed;
+    consumed = consumes_then (told old).left (told mid).left l2 before.read through.read before.reads.gave.consumed through.consumed;
     given = through.given ∙ (ap (λ n. raised n (length through.read)) before.reads.gave.given
-        ∙ (raised_twice g0 (length before.read) (length through.read) ∙ ap (raised g0) (sym (length-append before.read through.read))));
+        ∙ (raised_twice (told old).given (length before.read) (length through.read) ∙ ap (raised (told old).given) (sym (length-append before.read through.read))));
     appended = through.appended;
     front = inl (stays before.read parts.profile parts.rest through.read (at_mark before.read parts _ ended_before before.ends marked));
     says = says;
     shows = holds (parts.rest ++ through.read) through.text through.holds;
   }
 
-  pub behind_mark : (l0 l1 l2 : Option (List ℕ)) (g0 g1 g2 : ℕ) (h0 h1 : Option (List ℕ)) (ended_before has_ended : Bool) (parts : Parts)
-      → ReadFront (record { left = l0; given = g0 }) (record { left = l1; given = g1 }) ended_before parts → parts.marked ≡ true → Says parts.profile (Ok devices)
-      → Ended Whole parts.rest (record { left = l1; given = g1; held = h0 }) (record { left = l2; given = g2; held = h1 }) has_ended
-      ⊎ Stopped Cut BeginsText parts.rest (record { left = l1; given = g1; held = h0 }) (record { left = l2; given = g2; held = h1 })
-      → ShowedBehind (record { left = l0; given = g0; held = h0 }) (record { left = l2; given = g2; held = h1 }) has_ended tally
-  behind_mark l0 l1 l2 g0 g1 g2 h0 h1 ended_before has_ended parts before marked says (inl ended) =
-      behind Whole l0 l1 l2 g0 g1 g2 h0 h1 ended_before has_ended parts before marked says ended.through (λ bytes text holds. inl (holds, ended.ended, ended.at_end))
-  behind_mark l0 l1 l2 g0 g1 g2 h0 h1 ended_before has_ended parts before marked says (inr stopped) =
-      behind Cut l0 l1 l2 g0 g1 g2 h0 h1 ended_before has_ended parts before marked says stopped.through (λ bytes text holds. inr holds)
+  pub behind_mark : {R : Type 0} (told : R → front.Told) (old mid : R) (l2 : Option (List ℕ)) (g2 : ℕ) (h0 h1 : Option (List ℕ)) (ended_before has_ended : Bool) (parts : Parts)
+      → ReadFront told old mid ended_before parts → parts.marked ≡ true → Says parts.profile (Ok devices)
+      → Ended Whole parts.rest (record { left = (told mid).left; given = (told mid).given; held = h0 }) (record { left = l2; given = g2; held = h1 }) has_ended
+      ⊎ Stopped Cut BeginsText parts.rest (record { left = (told mid).left; given = (told mid).given; held = h0 }) (record { left = l2; given = g2; held = h1 })
+      → ShowedBehind (record { left = (told old).left; given = (told old).given; held = h0 }) (record { left = l2; given = g2; held = h1 }) has_ended tally
+  behind_mark told old mid l2 g2 h0 h1 ended_before has_ended parts before marked says (inl ended) =
+      behind told old mid Whole l2 g2 h0 h1 ended_before has_ended parts before marked says ended.through (λ bytes text holds. inl (holds, ended.ended, ended.at_end))
+  behind_mark told old mid l2 g2 h0 h1 ended_before has_ended parts before marked says (inr stopped) =
+      behind told old mid Cut l2 g2 h0 h1 ended_before has_ended parts before marked says stopped.through (λ bytes text holds. inr holds)
 
   -- nothing is read of what has nothing
   none_read : (new : Option (List ℕ)) (read : List ℕ) → Consumes (Some []) new read → read ≡ []
@@ -75,13 +75,13 @@ module _ (devices : List DeviceParts) (tally : Tally) where
   none_read None read consumed = absurd consumed
 
   -- all was profile, and no capture follows
-  pub behind_all : (l0 l1 : Option (List ℕ)) (g0 g1 : ℕ) (e0 e1 : Option (List ℕ)) (n0 n1 : ℕ) (h0 h1 : Option (List ℕ)) (has_ended empty_ended : Bool) (parts : Parts)
-      → ReadFront (record { left = l0; given = g0 }) (record { left = l1; given = g1 }) has_ended parts → parts.marked ≡ false → Says parts.profile (Ok devices)
+  pub behind_all : {R : Type 0} (told : R → front.Told) (old new : R) (e0 e1 : Option (List ℕ)) (n0 n1 : ℕ) (h0 h1 : Option (List ℕ)) (has_ended empty_ended : Bool) (parts : Parts)
+      → ReadFront told old new has_ended parts → parts.marked ≡ false → Says parts.profile (Ok devices)
       → e0 ≡ Some []
       → Ended Whole [] (record { left = e0; given = n0; held = h0 }) (record { left = e1; given = n1; held = h1 }) empty_ended
       ⊎ Stopped Cut BeginsText [] (record { left = e0; given = n0; held = h0 }) (record { left = e1; given = n1; held = h1 })
-      → ShowedBehind (record { left = l0; given = g0; held = h0 }) (record { left = l1; given = g1; held = h1 }) has_ended tally
-  behind_all l0 l1 g0 g1 e0 e1 n0 n1 h0 h1 has_ended empty_ended parts before unmarked says empty (inl ended) =
+      → ShowedBehind (record { left = (told old).left; given = (told old).given; held = h0 }) (record { left = (told new).left; given = (told new).given; held = h1 }) has_ended tally
+  behind_all told old new e0 e1 n0 n1 h0 h1 has_ended empty_ended parts before unmarked says empty (inl ended) =
       let ends = at_end before.read parts _ has_ended before.ends unmarked in
       let none = none_read e1 ended.through.read (subst (λ (e : Option (List ℕ)). Consumes e e1 ended.through.read) empty ended.through.consumed) in record {
         read = before.read;
@@ -96,7 +96,7 @@ module _ (devices : List DeviceParts) (tally : Tally) where
         says = says;
         shows = inl (subst (λ (b : List ℕ). Whole b ended.through.text) (none ∙ sym ends.all.nothing) ended.through.holds, ends.ended, ends.at_end);
       }
-  behind_all l0 l1 g0 g1 e0 e1 n0 n1 h0 h1 has_ended empty_ended parts before unmarked says empty (inr stopped) =
+  behind_all told old new e0 e1 n0 n1 h0 h1 has_ended empty_ended parts before unmarked says empty (inr stopped) =
       let ends = at_end before.read parts _ has_ended before.ends unmarked in
       let none = none_read e1 stopped.through.read (subst (λ (e : Option (List ℕ)). Consumes e e1 stopped.through.read) empty stopped.through.consumed) in record {
         read = before.read;

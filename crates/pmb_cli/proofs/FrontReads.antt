@@ -1,5 +1,5 @@
 -- A run of `front` over a reader, piece by piece.
-use Rattle.std.proofs.Common.{◌≡◌, ◌≢◌, ◌↔◌, IsTrue, ℕ, ◌+◌, ◌<◌, ◌≤◌, min, Bool, true, false, Result, Ok, Err, IfOk, OnErr, List, [], ◌++◌, length, take, drop, inl, inr, refl, sym, ap, ◌∙◌, subst, arith}
+use Rattle.std.proofs.Common.{◌≡◌, ◌≢◌, ◌↔◌, IsTrue, ℕ, ◌+◌, ◌<◌, ◌≤◌, min, Bool, true, false, Result, Ok, Err, IfOk, OnErr, ◌⊎◌, List, [], ◌++◌, length, take, drop, inl, inr, refl, sym, ap, ◌∙◌, subst, arith}
 use Rattle.std.specs.Prelude.{if◌then◌else◌}
 use Rattle.std.specs.Result.{is_ok, is_err}
 use Rattle.std.specs.declared.alloc.AllocError.{AllocError}
@@ -11,9 +11,8 @@ use Rattle.pmb_io.specs.declared.fault.ToolFault.{ToolFault}
 use Rattle.pmb_io.specs.declared.fault.ToolFault.TheVariants.{ProfileTooLong}
 use Rattle.pmb_io.proofs.Running.{bytes_more, one_read_more, raised_by_none, raised_twice}
 use Rattle.pmb_io.proofs.Writing.{consumes_then, consumes_nothing, keeps_consumes}
-use Rattle.pmb_cli.specs.Front.{FirstMark, Gave, MayFit, NoMark, Parts, ReadFront, ReadTooMuch, Reads, Told, Undecided, most_profile}
-use Rattle.pmb_cli.proofs.Limits.{late_cannot_fit, short_fits}
-use Rattle.pmb_cli.proofs.Marks.{none_in_nothing}
+use Rattle.pmb_cli.specs.Front.{FirstMark, Gave, InTime, MayFit, NoMark, Parts, ReadFront, ReadTooMuch, Reads, Told, most_profile}
+use Rattle.pmb_cli.proofs.Limits.{late_cannot_fit}
 
 -- ---- what a reader gave
 
@@ -49,44 +48,52 @@ gave_no_bytes old mid new read first kept same =
 -- ---- what was read
 
 -- nothing is read
-pub reads_nothing : (told : Told) → Reads told told []
-reads_nothing told = record {
-  gave = gave_nothing told;
-  before = [];
-  piece = [];
-  whole = refl;
-  small = omega arith;
-  undecided = record { none = none_in_nothing; may_fit = short_fits [] none_in_nothing (omega arith) };
-}
+pub reads_nothing : {R : Type 0} (told : R → Told) (reader : R) → Reads told reader reader []
+reads_nothing told reader = record { gave = gave_nothing (told reader); in_time = inl refl }
 
--- a piece more is read, where nothing was decided
-pub reads_more : (old mid new : Told) (read piece : List ℕ) → Reads old mid read → Undecided read → Gave mid new piece → length piece ≤ most_piece → Reads old new (read ++ piece)
-reads_more old mid new read piece reads undecided gave small = record {
-  gave = gave_then old mid new read piece reads.gave gave;
-  before = read;
-  piece = piece;
-  whole = refl;
-  small = small;
-  undecided = undecided;
-}
-
--- the bytes of one read more
-pub reads_piece : (old mid new : Told) (read : List ℕ) (count : ℕ) (buffer : List ℕ) → Reads old mid read → NoMark read → MayFit read
-    → count ≤ length buffer → length buffer ≤ most_piece → Consumes mid.left new.left (take count buffer) → new.given ≡ raised mid.given count
-    → Reads old new (read ++ take count buffer)
-reads_piece old mid new read count buffer reads none fit within small consumed given =
-    reads_more old mid new read (take count buffer) reads (record { none = none; may_fit = fit }) (gave_piece mid new count buffer within consumed given)
-    (omega (arith, length-take-le count buffer within, within, small))
+-- the bytes of one read more, where nothing was decided
+pub reads_piece : {R : Type 0} (told : R → Told) (old mid new : R) (read : List ℕ) (count : ℕ) (buffer : List ℕ) → Reads told old mid read → NoMark read → MayFit read
+    → count ≤ length buffer → length buffer ≤ most_piece → count ≢ 0
+    → Consumes (told mid).left (told new).left (take count buffer) → (told new).given ≡ raised (told mid).given count → (told new).reads ≡ raised (told mid).reads (min count 1)
+    → Reads told old new (read ++ take count buffer)
+reads_piece told old mid new read count buffer reads none fit within small some consumed given counted =
+    let gave = gave_piece (told mid) (told new) count buffer within consumed given in
+    let one : min count 1 ≡ 1 = omega (arith, some) in record {
+      gave = gave_then (told old) (told mid) (told new) read (take count buffer) reads.gave gave;
+      in_time = inr (record {
+        before = read;
+        piece = take count buffer;
+        whole = refl;
+        undecided = record { none = none; may_fit = fit };
+        middle = mid;
+        gave_before = reads.gave;
+        gave_piece = gave;
+        one_read = counted ∙ ap (raised (told mid).reads) one;
+        small = omega (arith, length-take-le count buffer within, within, small);
+      });
+    }
 
 -- a read that gives nothing
-pub reads_no_more : (old mid new : Told) (read : List ℕ) → Reads old mid read → Gave mid new [] → Reads old new read
-reads_no_more old mid new read reads gave = record {
-  gave = gave_no_more old mid new read reads.gave gave;
-  before = reads.before;
-  piece = reads.piece;
-  whole = reads.whole;
-  small = reads.small;
-  undecided = reads.undecided;
+still_in_time : {R : Type 0} (told : R → Told) (old mid new : R) (read : List ℕ) → (read ≡ []) ⊎ InTime told old mid read → Gave (told mid) (told new) [] → (told new).reads ≡ (told mid).reads
+    → (read ≡ []) ⊎ InTime told old new read
+still_in_time told old mid new read (inl nothing) gave same = inl nothing
+still_in_time told old mid new read (inr last) gave same = inr (record {
+  before = last.before;
+  piece = last.piece;
+  whole = last.whole;
+  undecided = last.undecided;
+  middle = last.middle;
+  gave_before = last.gave_before;
+  gave_piece = gave_no_more (told last.middle) (told mid) (told new) last.piece last.gave_piece gave;
+  one_read = same ∙ last.one_read;
+  small = last.small;
+})
+
+pub reads_no_more : {R : Type 0} (told : R → Told) (old mid new : R) (read : List ℕ) (count : ℕ) → Reads told old mid read → Gave (told mid) (told new) []
+    → (told new).reads ≡ raised (told mid).reads (min count 1) → count ≡ 0 → Reads told old new read
+reads_no_more told old mid new read count reads gave counted none = record {
+  gave = gave_no_more (told old) (told mid) (told new) read reads.gave gave;
+  in_time = still_in_time told old mid new read reads.in_time gave (counted ∙ (ap (λ n. raised (told mid).reads (min n 1)) none ∙ raised_by_none (told mid).reads));
 }
 
 -- ---- how often
@@ -111,45 +118,45 @@ same_reads most more old mid new few is room = (few.0, omega (arith, few.1), is 
 -- ---- what it comes to
 
 -- the reader ended, and all is profile
-pub all_within : (result : Result Parts ToolFault) (old new : Told) (ended : Bool) (read : List ℕ) → Reads old new read → NoMark read → ended ≡ true → IsAtEnd new.left
+pub all_within : {R : Type 0} (result : Result Parts ToolFault) (told : R → Told) (old new : R) (ended : Bool) (read : List ℕ) → Reads told old new read → NoMark read → ended ≡ true → IsAtEnd (told new).left
     → IfOk result (λ front. front.profile ≡ read) → IfOk result (λ front. front.rest ≡ []) → IfOk result (λ front. front.marked ≡ false) → IfOk result (λ _. length read ≤ most_profile)
-    → IfOk result (ReadFront old new ended)
-all_within (Ok front) old new ended read reads none is_ended at_end profile rest unmarked within = record {
+    → IfOk result (ReadFront told old new ended)
+all_within (Ok front) told old new ended read reads none is_ended at_end profile rest unmarked within = record {
   read = read;
   reads = reads;
   ends = inr (record { unmarked = unmarked; all = record { none = none; all = profile; nothing = rest }; ended = is_ended; at_end = at_end });
   within = omega (arith, ap length profile, within);
 }
-all_within (Err fault) old new ended read reads none is_ended at_end profile rest unmarked within = tt
+all_within (Err fault) told old new ended read reads none is_ended at_end profile rest unmarked within = tt
 
 -- or is too long
-pub all_past_limit : (result : Result Parts ToolFault) (old new : Told) (ended : Bool) (read : List ℕ) → Reads old new read → NoMark read → ended ≡ true → IsAtEnd new.left
-    → OnErr result (most_profile < length read) → result ≡ Err ProfileTooLong → ReadTooMuch old new ended
-all_past_limit (Ok front) old new ended read reads none is_ended at_end long is = absurd (cc)
-all_past_limit (Err fault) old new ended read reads none is_ended at_end long is = record {
+pub all_past_limit : {R : Type 0} (result : Result Parts ToolFault) (told : R → Told) (old new : R) (ended : Bool) (read : List ℕ) → Reads told old new read → NoMark read → ended ≡ true → IsAtEnd (told new).left
+    → OnErr result (most_profile < length read) → result ≡ Err ProfileTooLong → ReadTooMuch told old new ended
+all_past_limit (Ok front) told old new ended read reads none is_ended at_end long is = absurd (cc)
+all_past_limit (Err fault) told old new ended read reads none is_ended at_end long is = record {
   read = read;
   reads = reads;
   too_long = inr (record { none = none; long = long; ended = is_ended; at_end = at_end });
 }
 
 -- what `cut` leaves at `Ok`
-pub cut_within : (result : Result Parts ToolFault) (old new : Told) (ended : Bool) (read : List ℕ) (start end : ℕ) → Reads old new read
+pub cut_within : {R : Type 0} (result : Result Parts ToolFault) (told : R → Told) (old new : R) (ended : Bool) (read : List ℕ) (start end : ℕ) → Reads told old new read
     → FirstMark read (take start read) (drop end read) → start ≤ length read
     → IfOk result (λ front. front.profile ≡ take start read) → IfOk result (λ front. front.rest ≡ drop end read) → IfOk result (λ front. front.marked ≡ true) → IfOk result (λ _. start ≤ most_profile)
-    → IfOk result (ReadFront old new ended)
-cut_within (Ok front) old new ended read start end reads first inside profile rest marked within = record {
+    → IfOk result (ReadFront told old new ended)
+cut_within (Ok front) told old new ended read start end reads first inside profile rest marked within = record {
   read = read;
   reads = reads;
   ends = inl (record { marked = marked; first = subst (λ (p : List ℕ). FirstMark read p front.rest) (sym profile) (subst (λ (r : List ℕ). FirstMark read (take start read) r) (sym rest) first) });
   within = omega (arith, ap length profile, length-take-le start read inside, within);
 }
-cut_within (Err fault) old new ended read start end reads first inside profile rest marked within = tt
+cut_within (Err fault) told old new ended read start end reads first inside profile rest marked within = tt
 
 -- what `cut` refuses
-pub cut_past_limit : (result : Result Parts ToolFault) (old new : Told) (ended : Bool) (read : List ℕ) (start end : ℕ) → Reads old new read
-    → FirstMark read (take start read) (drop end read) → start ≤ length read → OnErr result (most_profile < start) → result ≡ Err ProfileTooLong → ReadTooMuch old new ended
-cut_past_limit (Ok front) old new ended read start end reads first inside long is = absurd (cc)
-cut_past_limit (Err fault) old new ended read start end reads first inside long is = record {
+pub cut_past_limit : {R : Type 0} (result : Result Parts ToolFault) (told : R → Told) (old new : R) (ended : Bool) (read : List ℕ) (start end : ℕ) → Reads told old new read
+    → FirstMark read (take start read) (drop end read) → start ≤ length read → OnErr result (most_profile < start) → result ≡ Err ProfileTooLong → ReadTooMuch told old new ended
+cut_past_limit (Ok front) told old new ended read start end reads first inside long is = absurd (cc)
+cut_past_limit (Err fault) told old new ended read start end reads first inside long is = record {
   read = read;
   reads = reads;
   too_long = inl (late_cannot_fit read (take start read) (drop end read) first (omega (arith, length-take-le start read inside, long)));

@@ -77,24 +77,33 @@ pub record Undecided (text : List ℕ) : Type 0 where
 
 -- ---- what `front` read
 
--- what a reader tells: the bytes that it has left, and how many it has given
+-- what a reader tells: the bytes that it has left, how many it has given, and in how many reads
 pub record Told : Type 0 where
   pub left : Option (List ℕ)
   pub given : ℕ
+  pub reads : ℕ
 
 -- these bytes were read
 pub record Gave (old new : Told) (read : List ℕ) : Type 0 where
   pub consumed : Consumes old.left new.left read
   pub given : new.given ≡ raised old.given (length read)
 
--- these bytes were read, and nothing was decided before the last piece
-pub record Reads (old new : Told) (read : List ℕ) : Type 0 where
-  pub gave : Gave old new read
+-- one read gave the last of the bytes, and nothing was decided before it
+pub record InTime {R : Type 0} (told : R → Told) (old new : R) (read : List ℕ) : Type 0 where
   pub before : List ℕ
   pub piece : List ℕ
   pub whole : read ≡ before ++ piece
-  pub small : length piece ≤ most_piece
   pub undecided : Undecided before
+  pub middle : R
+  pub gave_before : Gave (told old) (told middle) before
+  pub gave_piece : Gave (told middle) (told new) piece
+  pub one_read : (told new).reads ≡ raised (told middle).reads 1
+  pub small : length piece ≤ most_piece
+
+-- these bytes were read, if any
+pub record Reads {R : Type 0} (told : R → Told) (old new : R) (read : List ℕ) : Type 0 where
+  pub gave : Gave (told old) (told new) read
+  pub in_time : (read ≡ []) ⊎ InTime told old new read
 
 -- the profile has ended at a line `%%`
 pub record EndsAtMark (read : List ℕ) (front : Parts) : Type 0 where
@@ -102,41 +111,41 @@ pub record EndsAtMark (read : List ℕ) (front : Parts) : Type 0 where
   pub first : FirstMark read front.profile front.rest
 
 -- it has ended with the reader
-pub record EndsWithReader (read : List ℕ) (front : Parts) (new : Told) (has_ended : Bool) : Type 0 where
+pub record EndsWithReader (read : List ℕ) (front : Parts) (left : Option (List ℕ)) (has_ended : Bool) : Type 0 where
   pub unmarked : front.marked ≡ false
   pub all : AllProfile read front.profile front.rest
   pub ended : has_ended ≡ true
-  pub at_end : IsAtEnd new.left
+  pub at_end : IsAtEnd left
 
 -- `Ok`
-pub record ReadFront (old new : Told) (has_ended : Bool) (front : Parts) : Type 0 where
+pub record ReadFront {R : Type 0} (told : R → Told) (old new : R) (has_ended : Bool) (front : Parts) : Type 0 where
   pub read : List ℕ
-  pub reads : Reads old new read
-  pub ends : EndsAtMark read front ⊎ EndsWithReader read front new has_ended
+  pub reads : Reads told old new read
+  pub ends : EndsAtMark read front ⊎ EndsWithReader read front (told new).left has_ended
   pub within : length front.profile ≤ most_profile
 
 -- the reader has ended, and all is profile, past the limit
-pub record EndsPastLimit (read : List ℕ) (new : Told) (has_ended : Bool) : Type 0 where
+pub record EndsPastLimit (read : List ℕ) (left : Option (List ℕ)) (has_ended : Bool) : Type 0 where
   pub none : NoMark read
   pub long : most_profile < length read
   pub ended : has_ended ≡ true
-  pub at_end : IsAtEnd new.left
+  pub at_end : IsAtEnd left
 
 -- `ProfileTooLong`
-pub record ReadTooMuch (old new : Told) (has_ended : Bool) : Type 0 where
+pub record ReadTooMuch {R : Type 0} (told : R → Told) (old new : R) (has_ended : Bool) : Type 0 where
   pub read : List ℕ
-  pub reads : Reads old new read
-  pub too_long : (MayFit read → ⊥) ⊎ EndsPastLimit read new has_ended
+  pub reads : Reads told old new read
+  pub too_long : (MayFit read → ⊥) ⊎ EndsPastLimit read (told new).left has_ended
 
 -- `Memory`: nothing was decided before the last piece
-pub record ReadSome (old new : Told) : Type 0 where
+pub record ReadSome {R : Type 0} (told : R → Told) (old new : R) : Type 0 where
   pub read : List ℕ
-  pub reads : Reads old new read
+  pub reads : Reads told old new read
 
 -- `Read`: nothing was decided
-pub record ReadUndecided (old new : Told) : Type 0 where
+pub record ReadUndecided {R : Type 0} (told : R → Told) (old new : R) : Type 0 where
   pub read : List ℕ
-  pub gave : Gave old new read
+  pub gave : Gave (told old) (told new) read
   pub undecided : Undecided read
 
 -- how many reads gave bytes: each gave one or more, and the last came before the text could not fit

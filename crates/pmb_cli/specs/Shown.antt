@@ -40,12 +40,12 @@ pub record ShowedBehind (old new : Told) (has_ended : Bool) (tally : Tally) : Ty
   pub shows : (Shows devices capture text tally × (has_ended ≡ true) × IsAtEnd new.left) ⊎ StopsAtBadWord devices capture text tally
 
 -- What was read is the front of a capture, and what stands there as a profile has this fault.
-pub record HasFault (old new : front.Told) (has_ended : Bool) : Type 0 where
+pub record HasFault {R : Type 0} (told : R → front.Told) (old new : R) (has_ended : Bool) : Type 0 where
   pub parts : Parts
   pub fault : ProfileFault
-  pub reads : ReadFront old new has_ended parts
+  pub reads : ReadFront told old new has_ended parts
   pub says : Says parts.profile (Err fault)
 
 -- the profile is too long, or has a fault
-abbrev pub HasBadProfile : front.Told → front.Told → Bool → Type 0
-HasBadProfile old new has_ended = ReadTooMuch old new has_ended ⊎ HasFault old new has_ended
+abbrev pub HasBadProfile : {R : Type 0} → (R → front.Told) → R → R → Bool → Type 0
+HasBadProfile told old new has_ended = ReadTooMuch told old new has_ended ⊎ HasFault told old new has_ended

@@ -40,25 +40,19 @@ struct Mark {
 pub fn front<R: Source>(alloc: Global, reader: &mut R) -> Result<Front, ToolFault>
     // The first line `%%` was read, or the reader ended.
     ensures ok { IfOk result (ReadFront
-        (record { left = R.remaining reader.old; given = R.given reader.old })
-        (record { left = R.remaining reader.new; given = R.given reader.new })
-        (R.has_ended reader.new)) }
+        (λ reader. record { left = R.remaining reader; given = R.given reader; reads = R.reads reader }) reader.old reader.new (R.has_ended reader.new)) }
 
     // The profile passes the limit, whatever follows, or the reader ended.
     ensures too_long { result ≡ Err ToolFault.ProfileTooLong → ReadTooMuch
-        (record { left = R.remaining reader.old; given = R.given reader.old })
-        (record { left = R.remaining reader.new; given = R.given reader.new })
-        (R.has_ended reader.new) }
+        (λ reader. record { left = R.remaining reader; given = R.given reader; reads = R.reads reader }) reader.old reader.new (R.has_ended reader.new) }
 
     // The reader failed in this call exactly where it answers `Read`, and before that nothing was decided.
     ensures read { result ≡ Err ToolFault.Read → R.failures reader.new ≡ raised (R.failures reader.old) 1 }
     ensures no_read { result ≢ Err ToolFault.Read → R.failures reader.new ≡ R.failures reader.old }
     ensures before_read { result ≡ Err ToolFault.Read → ReadUndecided
-        (record { left = R.remaining reader.old; given = R.given reader.old })
-        (record { left = R.remaining reader.new; given = R.given reader.new }) }
+        (λ reader. record { left = R.remaining reader; given = R.given reader; reads = R.reads reader }) reader.old reader.new }
     ensures before_memory { result ≡ Err ToolFault.Memory → ReadSome
-        (record { left = R.remaining reader.old; given = R.given reader.old })
-        (record { left = R.remaining reader.new; given = R.given reader.new }) }
+        (λ reader. record { left = R.remaining reader; given = R.given reader; reads = R.reads reader }) reader.old reader.new }
 
     // The reads that gave bytes are few, and it writes nothing.
     ensures reads { MadeReads (R.reads reader.old) (R.reads reader.new) }

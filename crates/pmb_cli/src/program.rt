@@ -52,9 +52,8 @@ pub fn tool<S: AsStr, R: Source, W: Sink, E: Sink>(
     ensures refused { AreRefused (map S.text words.now) → (result ≡ 2) ⊎ (result ≡ 4) }
     ensures told { result ≡ 2 → MayBeRefused (map S.text words.now) ⊎ (HasBadFormat (map S.text words.now)
         ⊎ (AskFor (map S.text words.now) (Show false) × HasBadProfile
-        (record { left = R.remaining reader.old; given = R.given reader.old })
-        (record { left = R.remaining reader.new; given = R.given reader.new })
-        (R.has_ended reader.new))) }
+        (λ reader. record { left = R.remaining reader; given = R.given reader; reads = R.reads reader })
+        reader.old reader.new (R.has_ended reader.new))) }
     ensures helped { AskToTell (map S.text words.now) → (result ≡ 0) ⊎ (result ≡ 3) ⊎ (result ≡ 4) }
     ensures helped_on_out { AskToTell (map S.text words.now) → result ≡ 0 → err.new ≡ err.old }
     ensures unread { faults_of (map S.text words.now) ≢ [] → reader.new ≡ reader.old }

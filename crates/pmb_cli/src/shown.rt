@@ -47,9 +47,8 @@ pub(crate) fn show_behind<R: Source, W: Sink, E: Sink>(
 ) -> u8
     ensures within { result ≤ 4 }
     ensures told { result ≡ 2 → HasBadProfile
-        (record { left = R.remaining reader.old; given = R.given reader.old })
-        (record { left = R.remaining reader.new; given = R.given reader.new })
-        (R.has_ended reader.new) }
+        (λ reader. record { left = R.remaining reader; given = R.given reader; reads = R.reads reader })
+        reader.old reader.new (R.has_ended reader.new) }
     ensures showed { result ≤ 1 → (tally : TallyOf) × (result ≡ run_status (Ok tally)) × ShowedBehind
         (record { left = R.remaining reader.old; given = R.given reader.old; held = W.contents out.old })
         (record { left = R.remaining reader.new; given = R.given reader.new; held = W.contents out.new })

@@ -29,7 +29,7 @@ fn pmb_command<'a>(alloc: Global) -> Result<Command<'a>, AllocError>
     Command::new(alloc, "pmb")
         .version("0.1.0")
         .about("Reads PMBus traffic, and converts between codes and quantities")
-        .after_help("Example:\n  echo 'S b0 A 21 A 00 A 18 A P' | pmb show --sample")
+        .after_help("Example:\n  echo 'S b0 A 21 A 00 A 18 A P' | ./pmb show --sample")
         .subcommand_required(true)
         .arg_required_else_help(true)
         .subcommand(show_command(alloc)?)?
@@ -37,13 +37,13 @@ fn pmb_command<'a>(alloc: Global) -> Result<Command<'a>, AllocError>
             alloc,
             "encode",
             "Writes the code of each quantity, one a line",
-            "Example:\n  echo 12 | pmb encode linear11",
+            "Example:\n  echo 12 | ./pmb encode linear11",
         )?)?
         .subcommand(lines_command(
             alloc,
             "decode",
             "Writes the quantity of each code, one a line",
-            "Example:\n  echo d300 | pmb decode linear11",
+            "Example:\n  echo d300 | ./pmb decode linear11",
         )?)
 }
 
@@ -58,7 +58,7 @@ fn show_command<'a>(alloc: Global) -> Result<Command<'a>, AllocError>
         .help("Take the sample profile, and not one from the front of the input");
     Command::new(alloc, "show")
         .about("Shows the transactions of a capture, one a line")
-        .after_help("Example:\n  echo 'S b0 A 21 A 00 A 18 A P' | pmb show --sample")
+        .after_help("Example:\n  echo 'S b0 A 21 A 00 A 18 A P' | ./pmb show --sample")
         .arg(sample)
 }
 

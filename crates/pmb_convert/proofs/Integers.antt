@@ -1,4 +1,5 @@
--- What std reads of decimal numbers and of the parts round a comma, in the words of a FORMAT's spelling.
+-- What std reads of decimal numbers and of the parts round a comma, in the words of a FORMAT's
+-- spelling.
 use Rattle.std.proofs.Common.{◌≡◌, ◌≢◌, ℕ, suc, ◌<◌, ◌≤◌, true, false, eqb, ◌⊎◌, Option, Some, None, Result, Ok, Err, ℤ, pos, neg_ℤ, List, [], ◌∷◌, ◌++◌, length, get_or, inl, inr, refl, sym, ap, ◌∙◌, subst, arith, eq-eqb, length-append}
 use mir.Syntax.{Width}
 use Rattle.std.specs.Borrow.{Bor}

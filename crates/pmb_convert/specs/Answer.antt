@@ -58,7 +58,8 @@ fault_of quantity.BadDigit = BadDigit
 fault_of quantity.ZeroDenominator = ZeroDenominator
 fault_of quantity.TooLarge = TooLarge
 
--- A quantity in range is answered by the nearest code, another by the side of the range on which it lies.
+-- A quantity in range is answered by the nearest code, another by the side of the range on which it
+-- lies.
 pub data EncodesQuantity (f : Coding) (q : Fraction) (answer : Answer) : Type 0 where
   nearest : (code : ℕ) → IsNearest f q code → IsInRange f q → answer ≡ Ok (code_text code) → EncodesQuantity f q answer
   below : IsBelow f q → answer ≡ Err Below → EncodesQuantity f q answer

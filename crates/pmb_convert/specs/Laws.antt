@@ -15,8 +15,8 @@ IsFormat (Word (Unsigned exponent)) = IsExponent exponent
 IsFormat (Word (Signed exponent)) = IsExponent exponent
 IsFormat (Word (Direct d)) = (d.m ≢ pos 0) × (negsuc 8 ≤ℤ d.r) × (d.r ≤ℤ pos 9)
 
--- The text that answers an input, and its tally, are those of its bytes alone; so is the text that answers the lines that
--- have ended in it.
+-- The text that answers an input, and its tally, are those of its bytes alone; so is the text that
+-- answers the lines that have ended in it.
 pub record IsDetermined (conversion : Conversion) : Type 0 where
   pub text : (bytes text other : List ℕ) (tally count : Tally) → AnswersInput conversion tally bytes text → AnswersInput conversion count bytes other → text ≡ other
   pub tally : (bytes text other : List ℕ) (tally count : Tally) → AnswersInput conversion tally bytes text → AnswersInput conversion count bytes other → tally ≡ count

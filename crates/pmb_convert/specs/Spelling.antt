@@ -106,7 +106,8 @@ said (direct m b r) = direct_of m b r
 
 -- ---- the answer to a text
 
--- What a text says decides: its format, or the first fault of its numbers. `BadFormat` where it says nothing.
+-- What a text says decides: its format, or the first fault of its numbers. `BadFormat` where it says
+-- nothing.
 pub data Answers (Says : Saying → Type 0) (answer : Result NamedFormat FormatFault) : Type 0 where
   spelled : (saying : Saying) → Says saying → answer ≡ said saying → Answers Says answer
   other : ((saying : Saying) → ¬ (Says saying)) → answer ≡ Err BadFormat → Answers Says answer

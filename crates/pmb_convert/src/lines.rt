@@ -34,13 +34,15 @@ pub fn encode_lines<R: Source, W: Sink>(
     reader: &mut R,
     writer: &mut W,
 ) -> Result<Tally, ToolFault>
-    // What was written is the answers to the lines of `first` and the bytes read, however the reader cut them.
+    // What was written is the answers to the lines of `first` and the bytes read, however the
+    // reader cut them.
     ensures ok { IfOk result (λ tally. Ended (AnswersInput (Encode format) tally) first.now
         (record { left = R.remaining reader.old; given = R.given reader.old; held = W.contents writer.old })
         (record { left = R.remaining reader.new; given = R.given reader.new; held = W.contents writer.new })
         (R.has_ended reader.new)) }
 
-    // The reader failed in this call exactly where it answers `Read`, the writer where it answers `Write`.
+    // The reader failed in this call exactly where it answers `Read`, the writer where it answers
+    // `Write`.
     ensures read { result ≡ Err ToolFault.Read → R.failures reader.new ≡ raised (R.failures reader.old) 1 }
     ensures no_read { result ≢ Err ToolFault.Read → R.failures reader.new ≡ R.failures reader.old }
     ensures write { result ≡ Err ToolFault.Write → W.failures writer.new ≡ raised (W.failures writer.old) 1 }
@@ -53,7 +55,8 @@ pub fn encode_lines<R: Source, W: Sink>(
     ensures too_many { result ≡ Err ToolFault.TooManyReads → R.reads reader.new ≡ raised (R.reads reader.old) most_reads }
     ensures not_ended { result ≡ Err ToolFault.TooManyReads → R.has_ended reader.new ≡ R.has_ended reader.old }
 
-    // What was written before reading failed, or before too many reads, is the answers to the lines that had ended.
+    // What was written before reading failed, or before too many reads, is the answers to the lines
+    // that had ended.
     ensures before { (result ≡ Err ToolFault.Read) ⊎ (result ≡ Err ToolFault.TooManyReads)
         → Through (AnswersEnded (Encode format)) first.now
         (record { left = R.remaining reader.old; given = R.given reader.old; held = W.contents writer.old })
@@ -87,13 +90,15 @@ pub fn decode_lines<R: Source, W: Sink>(
     reader: &mut R,
     writer: &mut W,
 ) -> Result<Tally, ToolFault>
-    // What was written is the answers to the lines of `first` and the bytes read, however the reader cut them.
+    // What was written is the answers to the lines of `first` and the bytes read, however the
+    // reader cut them.
     ensures ok { IfOk result (λ tally. Ended (AnswersInput (Decode format) tally) first.now
         (record { left = R.remaining reader.old; given = R.given reader.old; held = W.contents writer.old })
         (record { left = R.remaining reader.new; given = R.given reader.new; held = W.contents writer.new })
         (R.has_ended reader.new)) }
 
-    // The reader failed in this call exactly where it answers `Read`, the writer where it answers `Write`.
+    // The reader failed in this call exactly where it answers `Read`, the writer where it answers
+    // `Write`.
     ensures read { result ≡ Err ToolFault.Read → R.failures reader.new ≡ raised (R.failures reader.old) 1 }
     ensures no_read { result ≢ Err ToolFault.Read → R.failures reader.new ≡ R.failures reader.old }
     ensures write { result ≡ Err ToolFault.Write → W.failures writer.new ≡ raised (W.failures writer.old) 1 }
@@ -106,7 +111,8 @@ pub fn decode_lines<R: Source, W: Sink>(
     ensures too_many { result ≡ Err ToolFault.TooManyReads → R.reads reader.new ≡ raised (R.reads reader.old) most_reads }
     ensures not_ended { result ≡ Err ToolFault.TooManyReads → R.has_ended reader.new ≡ R.has_ended reader.old }
 
-    // What was written before reading failed, or before too many reads, is the answers to the lines that had ended.
+    // What was written before reading failed, or before too many reads, is the answers to the lines
+    // that had ended.
     ensures before { (result ≡ Err ToolFault.Read) ⊎ (result ≡ Err ToolFault.TooManyReads)
         → Through (AnswersEnded (Decode format)) first.now
         (record { left = R.remaining reader.old; given = R.given reader.old; held = W.contents writer.old })
@@ -132,13 +138,15 @@ pub fn convert_lines<R: Source, W: Sink>(
     reader: &mut R,
     writer: &mut W,
 ) -> Result<Tally, ToolFault>
-    // What was written is the answers to the lines of `first` and the bytes read, however the reader cut them.
+    // What was written is the answers to the lines of `first` and the bytes read, however the
+    // reader cut them.
     ensures ok { IfOk result (λ tally. Ended (AnswersInput conversion tally) first.now
         (record { left = R.remaining reader.old; given = R.given reader.old; held = W.contents writer.old })
         (record { left = R.remaining reader.new; given = R.given reader.new; held = W.contents writer.new })
         (R.has_ended reader.new)) }
 
-    // The reader failed in this call exactly where it answers `Read`, the writer where it answers `Write`.
+    // The reader failed in this call exactly where it answers `Read`, the writer where it answers
+    // `Write`.
     ensures read { result ≡ Err ToolFault.Read → R.failures reader.new ≡ raised (R.failures reader.old) 1 }
     ensures no_read { result ≢ Err ToolFault.Read → R.failures reader.new ≡ R.failures reader.old }
     ensures write { result ≡ Err ToolFault.Write → W.failures writer.new ≡ raised (W.failures writer.old) 1 }
@@ -151,7 +159,8 @@ pub fn convert_lines<R: Source, W: Sink>(
     ensures too_many { result ≡ Err ToolFault.TooManyReads → R.reads reader.new ≡ raised (R.reads reader.old) most_reads }
     ensures not_ended { result ≡ Err ToolFault.TooManyReads → R.has_ended reader.new ≡ R.has_ended reader.old }
 
-    // What was written before reading failed, or before too many reads, is the answers to the lines that had ended.
+    // What was written before reading failed, or before too many reads, is the answers to the lines
+    // that had ended.
     ensures before { (result ≡ Err ToolFault.Read) ⊎ (result ≡ Err ToolFault.TooManyReads)
         → Through (AnswersEnded conversion) first.now
         (record { left = R.remaining reader.old; given = R.given reader.old; held = W.contents writer.old })

@@ -84,8 +84,8 @@ parts-whole : (front : List ℕ) → 0 < length front → numeral_parts front []
 parts-whole [] some = absurd (omega arith)
 parts-whole (d ∷ ds) some = refl
 
--- ---- zeros at the end
--- Both the number of the digits and its power of ten are a factor more than those of the digits that are kept.
+-- ---- zeros at the end Both the number of the digits and its power of ten are a factor more than
+-- those of the digits that are kept.
 record Shortened (ds kept : List ℕ) : Type 0 where
   factor : ℕ
   positive : 0 < factor

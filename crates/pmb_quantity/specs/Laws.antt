@@ -4,7 +4,8 @@ use Rattle.pmb_quantity.specs.Fraction.{Fraction, HasValue, IsLowest, lowest_ter
 use Rattle.pmb_quantity.specs.QuantityText.{spelling}
 use Rattle.pmb_quantity.specs.Reading.{reading}
 
--- lowest terms are the same fraction, each number that divides both is 1, and no other fraction is so
+-- lowest terms are the same fraction, each number that divides both is 1, and no other fraction is
+-- so
 pub record AreLowestTerms (n : ℤ) (d : ℕ) : Type 0 where
   pub same_value : HasValue n (pos d) (lowest_terms n d)
   pub positive : 0 < (lowest_terms n d).denominator

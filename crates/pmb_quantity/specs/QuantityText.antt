@@ -9,7 +9,8 @@ unfoldable pub first_of : (ℕ → Bool) → ℕ → ℕ → Option ℕ
 first_of test from zero = None
 first_of test from (suc count) = if test from then Some from else first_of test (from + 1) count
 
--- the fewest digits after a point, up to 24, that write a fraction of this denominator exactly: it divides 10^places
+-- the fewest digits after a point, up to 24, that write a fraction of this denominator exactly: it
+-- divides 10^places
 unfoldable pub places_of : ℕ → Option ℕ
 places_of d = first_of (λ places. 10 ^ places % d == 0) 0 25
 
@@ -28,7 +29,8 @@ abbrev pub after_point : ℕ → ℕ → List ℕ
 after_point zero n = []
 after_point (suc places) n = codes "." ++ padded (suc places) n
 
--- n over d: with a point where so many digits after it write the fraction exactly, and else with a slash
+-- n over d: with a point where so many digits after it write the fraction exactly, and else with a
+-- slash
 abbrev pub magnitude_text : ℕ → ℕ → Option ℕ → List ℕ
 magnitude_text n d (Some places) = decimal (n / d) ++ after_point places (n % d * (10 ^ places / d))
 magnitude_text n d None = decimal n ++ (codes "/" ++ decimal d)

@@ -9,7 +9,8 @@ use Rattle.pmb_quantity.specs.Character.{minus_sign, decimal_point, slash_mark, 
 use Rattle.pmb_quantity.specs.Fraction.{Fraction, lowest_terms}
 use Rattle.pmb_quantity.specs.Quantity.{fitted, negated}
 
--- digits before and after a point (none after it where there is no point), or before and after a slash
+-- digits before and after a point (none after it where there is no point), or before and after a
+-- slash
 pub data Numeral : Type 0 where
   point : List ℕ → List ℕ → Numeral
   slash : List ℕ → List ℕ → Numeral

@@ -1,4 +1,5 @@
-//! Laws over the definitions that the contracts cite: each is the contract of a function that does nothing.
+//! Laws over the definitions that the contracts cite: each is the contract of a function that does
+//! nothing.
 ghost use Rattle.std.specs.Prelude.{ℕ, ℤ, ◌<◌};
 ghost use Rattle.pmb_quantity.specs.Fraction.{Fraction, IsQuantity};
 ghost use Rattle.pmb_quantity.specs.Laws.{AreLowestTerms, IsShortest, ReadsBack};

@@ -1,7 +1,8 @@
 //! Quantities as exact fractions, and their texts.
 //!
-//! A [`Quantity`] is a fraction in lowest terms. [`Quantity::new`] makes one of two numbers, [`Quantity::parse`] reads
-//! one and [`Quantity::text`] writes it, with nothing lost: its text reads back as exactly that quantity.
+//! A [`Quantity`] is a fraction in lowest terms. [`Quantity::new`] makes one of two numbers,
+//! [`Quantity::parse`] reads one and [`Quantity::text`] writes it, with nothing lost: its text
+//! reads back as exactly that quantity.
 //!
 //! ```rust
 //! let wanted = Quantity::parse(b"-6/4")?;

@@ -15,10 +15,10 @@ use crate::text::{PLACES, power_of_ten};
 const SLASH_LIMIT: u128 = 1 << 63;
 
 impl Quantity {
-    /// Reads an optional `-`, digits, and then nothing, a point and digits, or a slash and digits. The fault is the
-    /// first of `Empty`, `BadDigit` (any other text), `ZeroDenominator` and `TooLarge` (more than 24 digits after a
-    /// point, zeros at the end not counted; a number before or after a slash of 2^63 or more; or lowest terms that are
-    /// out of range).
+    /// Reads an optional `-`, digits, and then nothing, a point and digits, or a slash and digits.
+    /// The fault is the first of `Empty`, `BadDigit` (any other text), `ZeroDenominator` and
+    /// `TooLarge` (more than 24 digits after a point, zeros at the end not counted; a number before
+    /// or after a slash of 2^63 or more; or lowest terms that are out of range).
     pub fn parse(text: &[u8]) -> Result<Quantity, QuantityFault>
         ensures { result ≡ reading text.now }
     {

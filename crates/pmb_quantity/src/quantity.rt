@@ -20,7 +20,8 @@ pub enum QuantityFault {
     TooLarge,
 }
 
-/// A fraction in lowest terms: the numerator is above -2^62 and below 2^62, the denominator from 1 to 2^62 - 1.
+/// A fraction in lowest terms: the numerator is above -2^62 and below 2^62, the denominator from 1
+/// to 2^62 - 1.
 #[derive(Clone, Copy, Debug, PartialEq, Eq)]
 pub struct Quantity {
     numerator: i64,
@@ -42,8 +43,9 @@ impl Model for Quantity {
 impl Quantity {
     ghost use Rattle.pmb_quantity.specs.Quantity.{fitted, negative, quotient};
 
-    /// `numerator / denominator`. The fault is `ZeroDenominator`, or else `TooLarge` where a number of the fraction in
-    /// lowest terms, with the sign in its numerator, is out of range. Two numbers in range always make a quantity.
+    /// `numerator / denominator`. The fault is `ZeroDenominator`, or else `TooLarge` where a number
+    /// of the fraction in lowest terms, with the sign in its numerator, is out of range. Two
+    /// numbers in range always make a quantity.
     pub fn new(numerator: i64, denominator: i64) -> Result<Quantity, QuantityFault>
         ensures value { result ≡ quotient numerator denominator }
         ensures same_value { IfOk result (HasValue numerator denominator) }

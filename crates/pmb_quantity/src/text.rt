@@ -14,8 +14,8 @@ pub type QuantityText = ArrayString<45>;
 pub(crate) const PLACES: u32 = 24;
 
 impl Quantity {
-    /// The shortest exact decimal, as `-1.5`, where one has at most 24 digits after the point; else numerator and
-    /// denominator, as `-2/3`.
+    /// The shortest exact decimal, as `-1.5`, where one has at most 24 digits after the point; else
+    /// numerator and denominator, as `-2/3`.
     pub fn text(&self) -> QuantityText
         ensures { result.bytes ≡ spelling self.now }
     {

@@ -2,7 +2,8 @@
 use Rattle.std.specs.Prelude.{◌≡◌, ◌≢◌, ℕ, ◌%◌, ◌^◌, ◌<◌, ◌≤◌, ℤ, pos, ◌-ℤ◌, ◌*ℤ◌, ◌<ℤ◌, ◌≤ℤ◌, unsigned_abs}
 use Rattle.pmb_quantity.specs.Fraction.{Fraction, lowest_terms}
 
--- which words are codes, the value of each as a whole number over one denominator, and the codes that an encoder writes
+-- which words are codes, the value of each as a whole number over one denominator, and the codes
+-- that an encoder writes
 pub record Coding : Type 1 where
   pub IsCode : ℕ → Type 0
   pub numerator : ℕ → ℤ

@@ -18,8 +18,8 @@ abbrev pub direct_of : Option Coefficients → Result VoutFormat ModeFault
 direct_of None = Err NoCoefficients
 direct_of (Some d) = Ok (Direct d)
 
--- Bit 7 is 1 for relative values. Bits 6:5 are 00 for a linear format, 01 for VID, 10 for DIRECT, 11 for IEEE half
--- precision. Bits 4:0 are the exponent of a linear format.
+-- Bit 7 is 1 for relative values. Bits 6:5 are 00 for a linear format, 01 for VID, 10 for DIRECT,
+-- 11 for IEEE half precision. Bits 4:0 are the exponent of a linear format.
 abbrev pub format_of : ℕ → Bool → Option Coefficients → Result VoutFormat ModeFault
 format_of mode signed coefficients =
     let kind = mode / 2 ^ 5 % 2 ^ 2 in

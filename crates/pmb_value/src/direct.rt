@@ -43,7 +43,8 @@ impl Model for Direct {
 impl Direct {
     ghost use Rattle.pmb_value.specs.Direct.{Coefficients};
 
-    /// The format of these coefficients. `m` must not be 0, which is tested first, and `r` must be from -9 to 9.
+    /// The format of these coefficients. `m` must not be 0, which is tested first, and `r` must be
+    /// from -9 to 9.
     pub fn new(m: i16, b: i16, r: i8) -> Result<Direct, DirectFault>
         ensures ok { IfOk result (λ d. d ≡ record { m = m; b = b; r = r }) }
         ensures zero_slope { (result ≡ Err DirectFault.ZeroSlope) ↔ (m ≡ pos 0) }

@@ -25,8 +25,8 @@ pub trait Format {
     fn decode(&self, code: u16) -> Quantity
         ensures { result ≡ value_of (coding self.now) code };
 
-    /// The code nearest to a quantity, the even one at a tie. A quantity outside the range is refused, however
-    /// little it is outside.
+    /// The code nearest to a quantity, the even one at a tie. A quantity outside the range is
+    /// refused, however little it is outside.
     fn encode(&self, quantity: &Quantity, steps: &mut Steps) -> Result<u16, RangeFault>
         ensures nearest { IfOk result (IsNearest (coding self.now) quantity.now) }
         ensures in_range { IsOk result ↔ IsInRange (coding self.now) quantity.now }

@@ -1,4 +1,5 @@
-//! Laws over the definitions that the contracts cite: each is the contract of a function that does nothing.
+//! Laws over the definitions that the contracts cite: each is the contract of a function that does
+//! nothing.
 ghost use Rattle.std.specs.Prelude.{◌≢◌, ℤ, pos};
 ghost use Rattle.pmb_value.specs.Direct.{Coefficients, direct};
 ghost use Rattle.pmb_value.specs.Laws.{HasOneNearest, KeepsValues};
@@ -9,12 +10,14 @@ pub fn linear11_keeps_values()
     ensures { KeepsValues linear11 }
 {}
 
-/// ULINEAR16, at every exponent from -16 to 15: a code nearest to the value of a code has that value.
+/// ULINEAR16, at every exponent from -16 to 15: a code nearest to the value of a code has that
+/// value.
 pub fn ulinear16_keeps_values()
     ensures { (exponent : ℤ) → IsExponent exponent → KeepsValues (ulinear16 exponent) }
 {}
 
-/// SLINEAR16, at every exponent from -16 to 15: a code nearest to the value of a code has that value.
+/// SLINEAR16, at every exponent from -16 to 15: a code nearest to the value of a code has that
+/// value.
 pub fn slinear16_keeps_values()
     ensures { (exponent : ℤ) → IsExponent exponent → KeepsValues (slinear16 exponent) }
 {}

@@ -1,10 +1,10 @@
 //! Quantities as exact fractions, and the number formats of PMBus.
 //!
-//! A [`Format`] of two bytes (LINEAR11, ULINEAR16, SLINEAR16 or DIRECT) says which [`Quantity`] a code
-//! is worth, exactly, and which code is nearest to a quantity: the even one at a tie, and none for a
-//! quantity outside the range. [`vout_format`] answers the format that a VOUT_MODE names.
-//! [`Quantity::parse`] reads a quantity and [`Quantity::text`] writes it, with nothing lost: its text
-//! reads back as exactly that quantity.
+//! A [`Format`] of two bytes (LINEAR11, ULINEAR16, SLINEAR16 or DIRECT) says which [`Quantity`] a
+//! code is worth, exactly, and which code is nearest to a quantity: the even one at a tie, and none
+//! for a quantity outside the range. [`vout_format`] answers the format that a VOUT_MODE names.
+//! [`Quantity::parse`] reads a quantity and [`Quantity::text`] writes it, with nothing lost: its
+//! text reads back as exactly that quantity.
 //!
 //! ```rust
 //! let format = vout_format(0x17, false, None)?;

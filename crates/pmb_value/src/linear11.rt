@@ -10,8 +10,8 @@ use crate::plain;
 use crate::steps::Steps;
 use pmb_quantity::Quantity;
 
-/// LINEAR11: bits 15:11 are the exponent of two, bits 10:0 the mantissa, both in two's complement. Zero is written as
-/// 0000h, and every other value with the least exponent that holds it.
+/// LINEAR11: bits 15:11 are the exponent of two, bits 10:0 the mantissa, both in two's complement.
+/// Zero is written as 0000h, and every other value with the least exponent that holds it.
 #[derive(Clone, Copy, Debug, PartialEq, Eq)]
 pub struct Linear11;
 

@@ -1,6 +1,7 @@
 //! The linear formats of VOUT: ULINEAR16 and SLINEAR16.
 //!
-//! One body stands for both. What differs is which number a word is, and that is what a [`Word`] tells.
+//! One body stands for both. What differs is which number a word is, and that is what a [`Word`]
+//! tells.
 ghost use Rattle.std.specs.Prelude.{◌≡◌, ◌↔◌, ◌^◌, ◌<◌, ℕ, ℤ, pos, unsigned_abs, IfOk, IsOk};
 ghost use Rattle.pmb_value.specs.Linear.{IsExponent, linear16, twos_complement};
 ghost use Rattle.pmb_value.specs.machine.Spaced.{HasBetween};
@@ -83,8 +84,8 @@ impl<W: Word> Model for Linear16<W> {
 }
 
 impl<W: Word> Linear16<W> {
-    /// The format with this exponent, from -16 to 15. ULINEAR16 has the values from 0 to `65535 * 2^exponent`, and
-    /// SLINEAR16 those from `-32768 * 2^exponent` to `32767 * 2^exponent`.
+    /// The format with this exponent, from -16 to 15. ULINEAR16 has the values from 0 to `65535 *
+    /// 2^exponent`, and SLINEAR16 those from `-32768 * 2^exponent` to `32767 * 2^exponent`.
     pub fn new(exponent: i8) -> Result<Linear16<W>, BadExponent>
         ensures in_range { IsOk result ↔ IsExponent exponent }
         ensures value { IfOk result (λ f. f ≡ exponent) }

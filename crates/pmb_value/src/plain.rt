@@ -42,7 +42,8 @@ impl Candidate {
     }
 }
 
-/// The code nearest to a quantity, or the fault of one outside the range. Each turn of a loop ticks.
+/// The code nearest to a quantity, or the fault of one outside the range. Each turn of a loop
+/// ticks.
 pub(crate) fn encode<C: Codes>(
     codes: &C,
     quantity: &Quantity,

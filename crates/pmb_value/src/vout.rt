@@ -34,8 +34,8 @@ pub enum VoutFormat {
     Direct(Direct),
 }
 
-/// The format that a VOUT_MODE names, for a command whose linear words are signed or not. The coefficients are those
-/// of DIRECT. The first fault in the order of [`ModeFault`] is answered.
+/// The format that a VOUT_MODE names, for a command whose linear words are signed or not. The
+/// coefficients are those of DIRECT. The first fault in the order of [`ModeFault`] is answered.
 pub fn vout_format(
     mode: u8,
     signed: bool,

@@ -1,13 +1,25 @@
 //! The program of the crate's documentation.
 use pmb_convert::{NamedFormat, encode_lines};
-use pmb_io::Io;
+use pmb_io::{Io, Tally};
 
 #[test]
 fn example(rt: HostRuntime) {
-    let format = NamedFormat::parse("linear11").expect(&rt, "a format");
     let mut reader = Io::new(b"12\nx\n".as_slice());
     let mut writer = Io::new(Vec::new(rt.alloc()));
-    let tally = encode_lines(format, b"", &mut reader, &mut writer).expect(&rt, "a run");
-    assert_eq!(rt; (tally.packets, tally.refusals), (1, 1));
-    assert_eq!(rt; writer.into_inner().as_slice(), b"d300\n! BadDigit\n".as_slice());
+    let format = NamedFormat::parse("linear11");
+    assert_eq!(rt; format, Ok(NamedFormat::Linear11), "a format");
+    let ran = encode_lines(NamedFormat::Linear11, b"", &mut reader, &mut writer);
+    assert_eq!(rt;
+        ran,
+        Ok(Tally {
+            packets: 1,
+            refusals: 1
+        }),
+        "a run"
+    );
+    assert_eq!(rt;
+        writer.into_inner().as_slice(),
+        b"d300\n! BadDigit\n".as_slice(),
+        "answers"
+    );
 }

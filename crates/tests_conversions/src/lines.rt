@@ -1,5 +1,5 @@
 //! Lines and their answers. Expected values are worked out by hand from the formats' definitions.
-use crate::runs::Task;
+use crate::runs::{Task, over};
 use pmb_convert::{Conversion, NamedFormat, convert_lines};
 use pmb_io::{Failing, Io, Tally};
 use std::alloc::{AllocError, Global};
@@ -262,21 +262,24 @@ impl Row {
 fn answers_whole_and_byte_by_byte(rt: HostRuntime) -> Result<(), Fail> {
     for row in ROWS {
         let name = row.name;
-        let format = NamedFormat::parse(row.format).expect(&rt, name);
         let bytes = row.bytes(rt.alloc())?;
-        for most in [usize::MAX, 1] {
-            let mut reader = Failing::new(Io::new(bytes.as_slice()));
-            reader.give_at_most(most);
-            let mut writer = Io::new(Vec::new(rt.alloc()));
-            let ran = row.task.run(format, b"", &mut reader, &mut writer);
-            assert_eq!(rt; ran, Ok(row.tally()), "{name}, {most} bytes a read");
-            let written = writer.into_inner();
-            assert_eq!(rt;
-                written.as_slice(),
-                row.written.as_bytes(),
-                "{name}, {most} bytes a read"
-            );
-        }
+        let mut whole = Io::new(bytes.as_slice());
+        let ran = over(rt.alloc(), &row, b"", &mut whole);
+        assert_eq!(rt; ran.answer, Some(Ok(row.tally())), "{name}, whole");
+        assert_eq!(rt;
+            ran.written.as_slice(),
+            row.written.as_bytes(),
+            "{name}, whole"
+        );
+        let mut pieces = Failing::new(Io::new(bytes.as_slice()));
+        pieces.give_at_most(1);
+        let ran = over(rt.alloc(), &row, b"", &mut pieces);
+        assert_eq!(rt; ran.answer, Some(Ok(row.tally())), "{name}, byte by byte");
+        assert_eq!(rt;
+            ran.written.as_slice(),
+            row.written.as_bytes(),
+            "{name}, byte by byte"
+        );
     }
     Ok(())
 }
@@ -286,18 +289,13 @@ fn answers_whole_and_byte_by_byte(rt: HostRuntime) -> Result<(), Fail> {
 fn answers_the_same_cut_at_each_place(rt: HostRuntime) -> Result<(), Fail> {
     for row in ROWS {
         let name = row.name;
-        let format = NamedFormat::parse(row.format).expect(&rt, name);
         let bytes = row.bytes(rt.alloc())?;
         for cut in row.zeros.saturating_sub(4)..bytes.len() + 1 {
             let mut reader = Io::new(&bytes[cut..]);
-            let mut writer = Io::new(Vec::new(rt.alloc()));
-            let ran = row
-                .task
-                .run(format, &bytes[..cut], &mut reader, &mut writer);
-            assert_eq!(rt; ran, Ok(row.tally()), "{name}, cut at {cut}");
-            let written = writer.into_inner();
+            let ran = over(rt.alloc(), &row, &bytes[..cut], &mut reader);
+            assert_eq!(rt; ran.answer, Some(Ok(row.tally())), "{name}, cut at {cut}");
             assert_eq!(rt;
-                written.as_slice(),
+                ran.written.as_slice(),
                 row.written.as_bytes(),
                 "{name}, cut at {cut}"
             );

@@ -1,6 +1,8 @@
 //! What a run over lines comes to.
+use crate::lines::Row;
 use pmb_convert::{NamedFormat, decode_lines, encode_lines};
-use pmb_io::{Sink, Source, Tally, ToolFault};
+use pmb_io::{Failing, Io, Sink, Source, Tally, ToolFault};
+use std::alloc::Global;
 
 /// What is done with the lines of a row.
 #[derive(Clone, Copy, Debug, PartialEq, Eq)]
@@ -9,20 +11,48 @@ pub(crate) enum Task {
     Decode,
 }
 
-impl Task {
-    /// Runs it over the bytes `first` and those that a reader gives.
-    pub(crate) fn run<R: Source, W: Sink>(
-        self,
-        format: NamedFormat,
-        first: &[u8],
-        reader: &mut R,
-        writer: &mut W,
-    ) -> Result<Tally, ToolFault> {
-        match self {
-            Task::Encode => encode_lines(format, first, reader, writer),
-            Task::Decode => decode_lines(format, first, reader, writer),
-        }
+/// What a run answered, nothing for a FORMAT that names no format, and what was written.
+#[derive(Drop)]
+pub(crate) struct Ran {
+    pub(crate) answer: Option<Result<Tally, ToolFault>>,
+    pub(crate) written: Vec<u8>,
+}
+
+/// Runs a task over the bytes `first` and those that a reader gives.
+fn run<R: Source, W: Sink>(
+    task: Task,
+    format: &str,
+    first: &[u8],
+    reader: &mut R,
+    writer: &mut W,
+) -> Option<Result<Tally, ToolFault>> {
+    match (task, NamedFormat::parse(format)) {
+        (Task::Encode, Ok(format)) => Some(encode_lines(format, first, reader, writer)),
+        (Task::Decode, Ok(format)) => Some(decode_lines(format, first, reader, writer)),
+        (_, Err(_)) => None,
     }
+}
+
+/// Runs a row's task over some bytes and a reader of others.
+pub(crate) fn over<R: Source>(alloc: Global, row: &Row, first: &[u8], reader: &mut R) -> Ran {
+    let mut writer = Io::new(Vec::new(alloc));
+    let answer = run(row.task, row.format, first, reader, &mut writer);
+    Ran {
+        answer,
+        written: writer.into_inner(),
+    }
+}
+
+/// Runs a row's task over a reader, with a writer whose call behind so many others fails.
+pub(crate) fn to_failing<R: Source>(
+    alloc: Global,
+    row: &Row,
+    reader: &mut R,
+    calls: u64,
+) -> Option<Result<Tally, ToolFault>> {
+    let mut writer = Failing::new(Io::new(Vec::new(alloc)));
+    writer.fail_after(calls);
+    run(row.task, row.format, b"", reader, &mut writer)
 }
 
 /// How many LFs a text has.

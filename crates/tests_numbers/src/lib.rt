@@ -1,4 +1,5 @@
-//! Rows from data sheets and worked examples, against the number formats and the texts of quantities.
+//! Rows from data sheets and worked examples, against the number formats and the texts of
+//! quantities.
 //!
 //! Each subject is one loop over a table; a row that fails prints its name.
 #![tactic(auto)]

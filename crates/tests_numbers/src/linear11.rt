@@ -45,8 +45,8 @@ fn linear11_texts(rt: HostRuntime) {
     }
 }
 
-/// The middle between two neighbouring values, which is the row's name too: at each change of exponent, and around
-/// zero.
+/// The middle between two neighbouring values, which is the row's name too: at each change of
+/// exponent, and around zero.
 const TIES: [(&str, u16); 66] = [
     ("-16793600", 0x7400),
     ("-8396800", 0x6c00),

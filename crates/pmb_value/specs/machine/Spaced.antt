@@ -14,8 +14,9 @@ AreWords f = (k : ℕ) → f.IsCode k → IsWord k
 unfoldable pub HasCode : Coding → Type 0
 HasCode f = (c : ℕ) × f.IsCode c
 
--- What lets every quantity in range have a nearest code: the codes are words, there is one, each value has a canonical code, and between
--- two values whose canonical codes are both odd lies another, so no tie is between two odd ones.
+-- What lets every quantity in range have a nearest code: the codes are words, there is one, each
+-- value has a canonical code, and between two values whose canonical codes are both odd lies
+-- another, so no tie is between two odd ones.
 pub record IsSpaced (f : Coding) : Type 0 where
   pub positive : 0 < f.denominator
   pub words : AreWords f

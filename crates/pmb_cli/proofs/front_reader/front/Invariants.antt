@@ -10,9 +10,7 @@ invariant-loop-piece g l = record {
   failures : g.R.Source.failures l.reader ≡ g.R.Source.failures l.fn.reader;
   counted : vec_len l.bytes ≡ length l.bytes.items;
   few : FewReads (min (length l.bytes.items) (most_profile + 4)) (g.R.Source.reads l.fn.reader) (g.R.Source.reads l.reader);
-  reads : Reads
-      (record { left = g.R.Source.remaining l.fn.reader; given = g.R.Source.given l.fn.reader })
-      (record { left = g.R.Source.remaining l.reader; given = g.R.Source.given l.reader }) l.bytes.items;
+  reads : Reads (λ reader. record { left = g.R.Source.remaining reader; given = g.R.Source.given reader; reads = g.R.Source.reads reader }) l.fn.reader l.reader l.bytes.items;
   none : NoMark l.bytes.items;
 }
 

@@ -19,7 +19,7 @@ returns-in-Ok-from_toml-clause-showed g c done =
     ] in (
       well.0,
       c.ended.ensures ∙ ap run_status well.1,
-      behind_mark devices well.0 _ _ _ _ _ _ _ _ _ (g.R.Source.has_ended c.show.new.reader) c.in-Ok.front c.in-Ok.ensures.ok (sym c.has_capture.ensures ∙ c.if-has_capture.true)
+      behind_mark devices well.0 (λ reader. record { left = g.R.Source.remaining reader; given = g.R.Source.given reader; reads = g.R.Source.reads reader }) c.args.reader.now c.front.new.reader _ _ _ _ _ (g.R.Source.has_ended c.show.new.reader) c.in-Ok.front c.in-Ok.ensures.ok (sym c.has_capture.ensures ∙ c.if-has_capture.true)
           (subst (λ (text : List ℕ). Says text (Ok devices)) c.profile.ensures says)
           (subst (λ (rest : List ℕ). Showed devices well.0 rest (record { left = g.R.Source.remaining c.front.new.reader; given = g.R.Source.given c.front.new.reader; held = g.W.Sink.contents c.args.out.now })
           (record { left = g.R.Source.remaining c.show.new.reader; given = g.R.Source.given c.show.new.reader; held = g.W.Sink.contents c.show.new.writer }) (g.R.Source.has_ended c.show.new.reader)) c.rest.ensures shown),
@@ -48,7 +48,7 @@ returns-in-Ok-2-clause-showed g c done =
     ] in (
       well.0,
       c.ended-in-Ok-2.ensures ∙ ap run_status well.1,
-      behind_all devices well.0 _ _ _ _ _ _ _ _ _ _ _ _ c.in-Ok.front c.in-Ok.ensures.ok (sym c.has_capture.ensures ∙ c.if-has_capture.false)
+      behind_all devices well.0 (λ reader. record { left = g.R.Source.remaining reader; given = g.R.Source.given reader; reads = g.R.Source.reads reader }) c.args.reader.now c.front.new.reader _ _ _ _ _ _ _ _ c.in-Ok.front c.in-Ok.ensures.ok (sym c.has_capture.ensures ∙ c.if-has_capture.false)
           (subst (λ (text : List ℕ). Says text (Ok devices)) c.profile.ensures says) refl shown,
     )
 

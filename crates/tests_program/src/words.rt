@@ -1,0 +1,123 @@
+//! The words of the command: those that are no command, help, the version, and none at all.
+
+use crate::run::{check_refused, run, run_to_write, unreadable};
+use pmb_cli::laws::words_ask;
+use pmb_cli::{Failing, Io, no_words};
+use std::io::ErrorKind;
+use std::test::Fail;
+
+/// A name, words that are no command, and what is told of them first.
+static REFUSED: [(&str, &[&str], &str); 5] = [
+    (
+        "no words",
+        &[],
+        "Reads PMBus traffic, and converts between codes and quantities\n",
+    ),
+    (
+        "no subcommand",
+        &["pmb"],
+        "Reads PMBus traffic, and converts between codes and quantities\n",
+    ),
+    (
+        "another subcommand",
+        &["pmb", "shw", "--sample"],
+        "error: unrecognized subcommand 'shw'\n",
+    ),
+    (
+        "a word more",
+        &["pmb", "show", "--sample", "x"],
+        "error: unexpected argument 'x' found\n",
+    ),
+    (
+        "another flag",
+        &["pmb", "show", "--sampel"],
+        "error: unexpected argument '--sampel' found\n",
+    ),
+];
+
+#[test]
+fn refuses_words_that_are_no_command(rt: HostRuntime) {
+    for (name, words, told) in &REFUSED {
+        check_refused(&rt, rt.alloc(), name, words, told);
+    }
+    words_ask();
+}
+
+const ABOUT: &str =
+    "Reads PMBus traffic, and converts between codes and quantities\n\nUsage: pmb <COMMAND>\n";
+
+const SHOW_EXAMPLE: &str = "Example:\n  echo 'S b0 A 21 A 00 A 18 A P' | ./pmb show --sample\n";
+
+/// A name, words that ask to be told of the program, and what is printed first and last.
+static ASKING: [(&str, &[&str], &str, &str); 6] = [
+    ("help", &["pmb", "--help"], ABOUT, SHOW_EXAMPLE),
+    ("the subcommand help", &["pmb", "help"], ABOUT, SHOW_EXAMPLE),
+    (
+        "help on show",
+        &["pmb", "show", "--help"],
+        "Shows the transactions of a capture, one a line\n\nUsage: pmb show [OPTIONS]\n",
+        SHOW_EXAMPLE,
+    ),
+    (
+        "help on encode",
+        &["pmb", "encode", "--help"],
+        "Writes the code of each quantity, one a line\n\nUsage: pmb encode <FORMAT>\n",
+        "Example:\n  echo 12 | ./pmb encode linear11\n",
+    ),
+    (
+        "help on decode",
+        &["pmb", "decode", "--help"],
+        "Writes the quantity of each code, one a line\n\nUsage: pmb decode <FORMAT>\n",
+        "Example:\n  echo d300 | ./pmb decode linear11\n",
+    ),
+    (
+        "the version",
+        &["pmb", "--version"],
+        "pmb 0.1.0\n",
+        "pmb 0.1.0\n",
+    ),
+];
+
+#[test]
+fn tells_of_the_program_where_asked(rt: HostRuntime) -> Result<(), Fail> {
+    for (name, words, first, last) in &ASKING {
+        let ran = run(rt.alloc(), words, &mut unreadable());
+        assert_eq!(rt; ran.status, 0, "{name}");
+        assert!(rt; ran.printed.starts_with(first.as_bytes()), "{name}");
+        assert!(rt; ran.printed.ends_with(last.as_bytes()), "{name}");
+        assert!(rt; ran.told.is_empty(), "{name}");
+        let unwritten = run_to_write(rt.alloc(), words, "", 0)?;
+        unwritten.check(&rt, name, "unwritten", ("", "pmb: write failed\n", 3));
+    }
+    Ok(())
+}
+
+#[test]
+fn prints_the_version_alone(rt: HostRuntime) {
+    let ran = run(rt.alloc(), &["pmb", "--version"], &mut unreadable());
+    ran.check(&rt, "the version", "alone", ("pmb 0.1.0\n", "", 0));
+}
+
+/// A name, why there are no words, what is told, and the status.
+static NO_WORDS: [(&str, ErrorKind, &str, u8); 2] = [
+    (
+        "not UTF-8",
+        ErrorKind::InvalidData,
+        "error: the words of the command are not UTF-8\n",
+        2,
+    ),
+    ("no memory", ErrorKind::OutOfMemory, "pmb: no memory\n", 4),
+];
+
+#[test]
+fn answers_where_there_are_no_words(rt: HostRuntime) {
+    for row in &NO_WORDS {
+        let (name, kind, told, status) = *row;
+        let mut err = Io::new(Vec::new(rt.alloc()));
+        assert_eq!(rt; no_words(kind, &mut err), status, "{name}");
+        assert_eq!(rt; err.into_inner().as_slice(), told.as_bytes(), "{name}");
+        let mut failing = Failing::new(Io::new(Vec::new(rt.alloc())));
+        failing.fail_after(0);
+        assert_eq!(rt; no_words(kind, &mut failing), status, "{name}, untold");
+    }
+}
