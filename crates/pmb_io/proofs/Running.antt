@@ -99,3 +99,9 @@ bytes_more before after n buffer within is = is ∙ ap (raised before) (sym (len
 -- a read gives a byte or more
 pub reads_some : (read piece : List ℕ) (count : ℕ) → count ≤ length read → 0 < length piece → count + 1 ≤ length (read ++ piece)
 reads_some read piece count many some = omega (arith, length-append read piece)
+
+-- a read that gives nothing is not counted
+pub no_read_more : (start before after count n : ℕ) → before ≡ raised start count → after ≡ raised before (min n 1) → n ≡ 0 → after ≡ raised start count
+no_read_more start before after count n was is none =
+    let no_one : min n 1 ≡ 0 = omega arith in
+    is ∙ (ap (raised before) no_one ∙ (raised_by_none before ∙ was))

@@ -1,8 +1,6 @@
 //! `pmb show --sample`: captures with what is printed of them, and calls that fail.
 
-use crate::run::{
-    Failure, check_reads, check_text, check_writes, repeated, run, run_untold, unreadable,
-};
+use crate::run::{Failure, check_reads, check_text, check_writes, run, run_untold, unreadable};
 use pmb_cli::Io;
 use std::alloc::{AllocError, Global};
 use std::test::Fail;
@@ -196,16 +194,16 @@ fn keeps_its_status_where_standard_error_fails(rt: HostRuntime) {
     }
 }
 
-const COUNT: usize = 1_000_000;
+const COUNT: u32 = 1_000_000;
 
-/// This byte, and bytes behind it that follow no pattern, from a fixed seed.
-fn senseless(alloc: Global, first: u8) -> Result<Vec<u8>, AllocError> {
-    let mut bytes = Vec::new(alloc);
-    bytes.push(first)?;
+/// These bytes first, and then one byte over and over, or bytes that follow no pattern, from a
+/// fixed seed.
+fn long_bytes(alloc: Global, first: &[u8], byte: Option<u8>) -> Result<Vec<u8>, AllocError> {
+    let mut bytes = Vec::from_slice(alloc, first)?;
     let mut state = 0x2545_f491u32;
     for _ in 0..COUNT {
         state = state.wrapping_mul(1_664_525).wrapping_add(1_013_904_223);
-        bytes.push((state >> 24) as u8)?;
+        bytes.push(byte.unwrap_or((state >> 24) as u8))?;
     }
     Ok(bytes)
 }
@@ -229,28 +227,28 @@ fn senseless_words(alloc: Global) -> Result<Vec<u8>, AllocError> {
     Ok(bytes)
 }
 
+/// A name, the first bytes, the byte behind them if it is always the same, and what is printed.
+static SENSELESS: [(&str, &[u8], Option<u8>, &str); 3] = [
+    ("one long word", b"", Some(b'0'), "# bad token at byte 0\n"),
+    (
+        "one long comment",
+        b"S b0 # ",
+        Some(b'x'),
+        "# refusal at 2\n",
+    ),
+    (
+        "bytes of all kinds",
+        b"\xff",
+        None,
+        "# bad token at byte 0\n",
+    ),
+];
+
 #[test]
 fn ends_on_senseless_bytes(rt: HostRuntime) -> Result<(), Fail> {
-    let alloc = rt.alloc();
-    let rows: [(&str, Vec<u8>, &str); 3] = [
-        (
-            "one long word",
-            repeated(alloc, b"", b'0', COUNT)?,
-            "# bad token at byte 0\n",
-        ),
-        (
-            "one long comment",
-            repeated(alloc, b"S b0 # ", b'x', COUNT)?,
-            "# refusal at 2\n",
-        ),
-        (
-            "bytes of all kinds",
-            senseless(alloc, 0xff)?,
-            "# bad token at byte 0\n",
-        ),
-    ];
-    for (name, bytes, printed) in &rows {
-        let ran = run(alloc, &SHOW, &mut Io::new(bytes.as_slice()));
+    for (name, first, byte, printed) in &SENSELESS {
+        let bytes = long_bytes(rt.alloc(), first, *byte)?;
+        let ran = run(rt.alloc(), &SHOW, &mut Io::new(bytes.as_slice()));
         ran.check(&rt, name, "whole", (printed, "", 1));
     }
     Ok(())

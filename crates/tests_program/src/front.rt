@@ -88,14 +88,14 @@ fn check_front<R: Source>(
 ) -> usize {
     let (name, _, profile, rest) = *row;
     let read = front(alloc, reader).expect(rt, "a short text");
-    assert_eq!(rt; read.profile(), profile.as_bytes(), "{name}, {way}");
-    assert_eq!(rt; read.has_capture(), rest.is_some(), "{name}, {way}");
     let behind = followed(alloc, read.rest(), reader).expect(rt, "memory");
-    assert_eq!(rt;
-        behind.as_slice(),
+    let found = (read.profile(), read.has_capture(), behind.as_slice());
+    let expected = (
+        profile.as_bytes(),
+        rest.is_some(),
         rest.unwrap_or("").as_bytes(),
-        "{name}, {way}"
     );
+    assert_eq!(rt; found, expected, "{name}, {way}");
     read.rest().len()
 }
 
@@ -112,9 +112,12 @@ fn check_failures(rt: &impl Abort, alloc: Global, row: &Row) {
         reader.give_at_most(1);
         reader.fail_after(call as u64);
         let read = front(alloc, &mut reader);
-        let failed = matches!(&read, Err(ToolFault::Read));
-        assert_eq!(rt; failed, call < calls, "{name}, read {call}");
-        assert_eq!(rt; read.is_ok(), call == calls, "{name}, read {call}");
+        let answers = (matches!(&read, Err(ToolFault::Read)), read.is_ok());
+        assert_eq!(rt;
+            answers,
+            (call < calls, call == calls),
+            "{name}, read {call}"
+        );
     }
 }
 
@@ -282,19 +285,23 @@ fn keeps_the_limit(rt: HostRuntime) -> Result<(), Fail> {
     Ok(())
 }
 
+/// A name, how many reads go through, and what a front comes to with a line `%%` at the limit.
+static MOST_READS: [(&str, u64, Lengths); 2] = [
+    ("all reads", 1_048_580, Ok((LIMIT, Some(0)))),
+    ("the last fails", 1_048_579, Err(ToolFault::Read)),
+];
+
 #[test]
 fn makes_as_many_reads_as_may_be(rt: HostRuntime) -> Result<(), Fail> {
     let alloc = rt.alloc();
     let text = spaced(alloc, LIMIT - 1, "\n%%\r\nS")?;
-    for (reads, expected) in [
-        (1_048_580, Ok((LIMIT, Some(0)))),
-        (1_048_579, Err(ToolFault::Read)),
-    ] {
+    for row in &MOST_READS {
+        let (name, reads, expected) = *row;
         let mut reader = Failing::new(Io::new(text.as_slice()));
         reader.give_at_most(1);
         reader.fail_after(reads);
         let read = front(alloc, &mut reader);
-        assert_eq!(rt; lengths(&read), expected, "{reads}");
+        check_lengths(&rt, name, "byte by byte", lengths(&read), expected);
     }
     Ok(())
 }

@@ -18,8 +18,8 @@ impl Ran {
         (self.printed.as_slice(), self.told.as_slice(), self.status)
     }
 
-    /// Whether it came to what a row says in one of its ways: what is printed, what is told, and the
-    /// status.
+    /// Whether it came to what a row says in one of its ways: what is printed, what is told, and
+    /// the status.
     pub(crate) fn check(&self, rt: &impl Abort, name: &str, way: &str, expected: (&str, &str, u8)) {
         let (printed, told, status) = expected;
         let parts = (printed.as_bytes(), told.as_bytes(), status);

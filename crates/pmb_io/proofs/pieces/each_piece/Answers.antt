@@ -1,8 +1,9 @@
-use Rattle.std.proofs.Common.{◌∙◌, ◌++◌, ◌+◌, ◌≤◌, ◌≢◌, [], subst, take, length, inr, sym, refl, length-take-le, arith}
+use Rattle.std.proofs.Common.{ap, ◌≡◌, ◌∙◌, ◌++◌, ◌+◌, ◌≤◌, ◌≢◌, [], subst, take, length, inr, sym, refl, length-take-le, arith}
 use Rattle.std.proofs.lemmas.Bool.Decides.{nat_tests}
 use Rattle.pmb_io.specs.Engines.{Either, WritesOut}
-use Rattle.pmb_io.specs.Runs.{most_piece}
-use Rattle.pmb_io.proofs.Running.{bytes_more, one_read_more, raised_by_none, reads_some, stops_behind, stops_in_first, takes_first, takes_more}
+use Rattle.pmb_io.specs.Count.{raised}
+use Rattle.pmb_io.specs.Runs.{most_piece, most_reads}
+use Rattle.pmb_io.proofs.Running.{bytes_more, no_read_more, one_read_more, raised_by_none, reads_some, stops_behind, stops_in_first, takes_first, takes_more}
 use Rattle.pmb_io.proofs.Writing.{told_no_end}
 use Rattle.pmb_io.proofs.pieces.each_piece.Goals as goal
 
@@ -73,3 +74,19 @@ returns-in-Stop-2-clause-reads g c =
 
 pub returns-clause-many : goal.returns-clause-many
 returns-clause-many g c is = (c.reads.invariant.so_far, omega (arith, c.reads.invariant.many))
+
+-- The reads that were made, wherever it returns.
+pub returns-in-Err-clause-reads : goal.returns-in-Err-clause-reads
+returns-in-Err-clause-reads g c = (c.reads.counter, omega arith, c.in-Err.ensures.read ∙ c.reads.invariant.reads)
+
+pub returns-then-count-eq0-clause-reads : goal.returns-then-count-eq0-clause-reads
+returns-then-count-eq0-clause-reads g c =
+    (c.reads.counter, omega arith, no_read_more _ _ _ c.reads.counter c.in-Ok.count c.reads.invariant.reads c.in-Ok.ensures.read c.if-count-eq0.true)
+
+pub returns-clause-reads : goal.returns-clause-reads
+returns-clause-reads g c = (c.reads.counter, omega arith, c.reads.invariant.reads)
+
+pub returns-clause-too_many : goal.returns-clause-too_many
+returns-clause-too_many g c is =
+    let all : c.reads.counter ≡ most_reads = omega arith in
+    c.reads.invariant.reads ∙ ap (raised (g.R.Source.reads c.args.reader.now)) all
