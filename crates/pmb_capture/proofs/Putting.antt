@@ -34,5 +34,8 @@ pub puts_end : (start before after : Showing) (bytes text : List ℕ) (h0 h1 : O
 puts_end start before after bytes text h0 h1 w0 w1 shown ends = record {
   text = ends.text;
   writes = ends.writes;
-  holds = subst (λ (t : List ℕ). Shows (profile_of start) bytes (t ++ ends.text) after.tally) (sym shown.lines) ends.shows;
+  holds = record {
+    begins = shown.stands.lexer.begins;
+    shows = subst (λ (t : List ℕ). Shows (profile_of start) bytes (t ++ ends.text) after.tally) (sym shown.lines) ends.shows;
+  };
 }

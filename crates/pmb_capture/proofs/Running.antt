@@ -13,7 +13,7 @@ use Rattle.pmb_io.specs.Tally.{Counts}
 use Rattle.pmb_capture.specs.declared.showing.Showing.{Showing}
 use Rattle.pmb_capture.specs.Lines.{bad_token_line}
 use Rattle.pmb_capture.specs.Reading.{Outcome}
-use Rattle.pmb_capture.specs.Show.{line_of, lines_of, is_truncation, but_truncation, packets_in, refusals_in, Shows, ShowsFront, StopsAtBadWord}
+use Rattle.pmb_capture.specs.Show.{line_of, lines_of, is_truncation, but_truncation, packets_in, refusals_in, Shows, ShowsFront, StopsAtBadWord, ShowsAtEnd}
 use Rattle.pmb_capture.specs.machine.Showing.{Stands, HasShown, HasStopped, HasEnded, profile_of}
 use Rattle.pmb_capture.proofs.Endings.{shows_so_far}
 use Rattle.pmb_capture.proofs.Reporting.{reads_from_place_exists}
@@ -122,9 +122,9 @@ module _ (profile : List DeviceParts) where
 
   -- the reader ended
   shown_ended : (start now : Showing) (first : List ℕ) (old new : Told) (ended : Bool)
-      → profile_of start ≡ profile → Ended (HasEnded start now) first old new ended → Ended (λ bytes text. Shows profile bytes text now.tally) first old new ended
+      → profile_of start ≡ profile → Ended (HasEnded start now) first old new ended → Ended (λ bytes text. ShowsAtEnd profile bytes text now.tally) first old new ended
   shown_ended start now first old new ended same whole =
-      subst (λ (p : List DeviceParts). Ended (λ bytes text. Shows p bytes text now.tally) first old new ended) same whole
+      subst (λ (p : List DeviceParts). Ended (λ bytes text. ShowsAtEnd p bytes text now.tally) first old new ended) same whole
 
   -- what was shown was so of a text that goes on
   begins_text : (start : Showing) (first read : List ℕ) → OpenBefore (λ bytes. (middle : Showing) × (text : List ℕ) × HasShown start middle bytes text) first read
@@ -146,9 +146,9 @@ module _ (profile : List DeviceParts) where
   pub shown_whole : (start now : Showing) (tally : Tally) (first : List ℕ) (old new : Told) (ended : Bool) → profile_of start ≡ profile → tally ≡ now.tally
       → Ended (HasEnded start now) first old new ended
       ⊎ Stopped (HasStopped start now) (λ bytes. (middle : Showing) × (text : List ℕ) × HasShown start middle bytes text) first old new
-      → Ended (λ bytes text. Shows profile bytes text tally) first old new ended
+      → Ended (λ bytes text. ShowsAtEnd profile bytes text tally) first old new ended
       ⊎ Stopped (λ bytes text. StopsAtBadWord profile bytes text tally) BeginsText first old new
   shown_whole start now tally first old new ended same told (inl whole) =
-      inl (subst (λ (t : Tally). Ended (λ bytes text. Shows profile bytes text t) first old new ended) (sym told) (shown_ended start now first old new ended same whole))
+      inl (subst (λ (t : Tally). Ended (λ bytes text. ShowsAtEnd profile bytes text t) first old new ended) (sym told) (shown_ended start now first old new ended same whole))
   shown_whole start now tally first old new ended same told (inr stopped) =
       inr (subst (λ (t : Tally). Stopped (λ bytes text. StopsAtBadWord profile bytes text t) BeginsText first old new) (sym told) (shown_stopped start now first old new same stopped))

@@ -65,6 +65,11 @@ module _ (profile : List DeviceParts) where
   abbrev pub Shows : List ℕ → List ℕ → Tally → Type 0
   Shows bytes text tally = ShowsAll bytes text tally ⊎ ShowsUpToBadWord bytes text tally
 
+  -- What is shown of bytes that have ended, and of which at most the last word is no token.
+  pub record ShowsAtEnd (bytes : List ℕ) (text : List ℕ) (tally : Tally) : Type 0 where
+    pub begins : BeginsText bytes
+    pub shows : Shows bytes text tally
+
   -- What is shown of bytes that more may follow, and that begin some text that spells events: a
   -- line for each packet and each refusal of the words that have ended.
   pub record ShowsSoFar (bytes : List ℕ) (text : List ℕ) : Type 0 where

@@ -1,18 +1,18 @@
 -- A capture that is shown behind its profile.
-use Rattle.std.proofs.Common.{◌≡◌, ◌∙◌, ◌⊎◌, ℕ, Bool, true, false, Option, Some, None, Ok, List, [], ◌∷◌, ◌++◌, length, inl, inr, refl, sym, ap, subst, length-append}
+use Rattle.std.proofs.Common.{◌≡◌, ◌∙◌, ◌⊎◌, ℕ, Bool, true, false, Option, Some, None, Ok, List, [], ◌∷◌, ◌++◌, length, inl, inr, refl, sym, ap, subst, length-append, append-nil, append_assoc}
 use Rattle.std.specs.Io.KnownBytes.{Consumes, IsAtEnd}
 use Rattle.pmb_bus.specs.Text.{BeginsText}
 use Rattle.pmb_command.specs.Parts.{DeviceParts}
 use Rattle.pmb_io.specs.Count.{raised}
-use Rattle.pmb_io.specs.Runs.{Ended, Stopped, Through, Told}
+use Rattle.pmb_io.specs.Runs.{Ended, OpenBefore, Stopped, Through, Told}
 use Rattle.pmb_io.specs.declared.tally.Tally.{Tally}
 use Rattle.pmb_io.proofs.Running.{raised_twice}
 use Rattle.pmb_io.proofs.Writing.{consumes_then}
 use Rattle.pmb_table.specs.Profile.{Says}
-use Rattle.pmb_capture.specs.Show.{Shows, StopsAtBadWord}
-use Rattle.pmb_cli.specs.Front.{EndsAtMark, EndsWithReader, FirstMark, Parts, ReadFront}
+use Rattle.pmb_capture.specs.Show.{ShowsAtEnd, StopsAtBadWord}
+use Rattle.pmb_cli.specs.Front.{EndsAtMark, EndsWithReader, FirstMark, InTime, Parts, ReadFront}
 use Rattle.pmb_cli.specs.Front as front
-use Rattle.pmb_cli.specs.Shown.{ShowedBehind}
+use Rattle.pmb_cli.specs.Shown.{OpenBehind, ShowedBehind}
 use Rattle.pmb_cli.proofs.Fronts.{stays}
 
 -- where a line `%%` was met
@@ -29,7 +29,7 @@ at_end read parts left has_ended (inr ends) unmarked = ends
 
 module _ (devices : List DeviceParts) (tally : Tally) where
   abbrev pub Whole : List ℕ → List ℕ → Type 0
-  Whole bytes text = Shows devices bytes text tally
+  Whole bytes text = ShowsAtEnd devices bytes text tally
 
   abbrev pub Cut : List ℕ → List ℕ → Type 0
   Cut bytes text = StopsAtBadWord devices bytes text tally
@@ -37,11 +37,29 @@ module _ (devices : List DeviceParts) (tally : Tally) where
   abbrev pub Showed : List ℕ → Told → Told → Bool → Type 0
   Showed rest old new has_ended = Ended Whole rest old new has_ended ⊎ Stopped Cut BeginsText rest old new
 
+  -- a word that is no token was met with the last piece of all that was read
+  stopped_in_time : {R : Type 0} (told : R → front.Told) (old mid : R) (ended_before : Bool) (parts : Parts) (before : ReadFront told old mid ended_before parts)
+      → parts.marked ≡ true → (read : List ℕ) → OpenBefore BeginsText parts.rest read → OpenBefore OpenBehind [] (before.read ++ read)
+  stopped_in_time told old mid ended_before parts before marked read (inl none) =
+      subst (λ (t : List ℕ). OpenBefore OpenBehind [] t) (sym (ap (λ (t : List ℕ). before.read ++ t) none ∙ append-nil before.read))
+      (elim before.reads.in_time [
+        | inl nothing ↦ inl nothing
+        | inr time ↦ inr (time.before, time.piece, time.whole, time.small, inl time.undecided)
+      ])
+  stopped_in_time told old mid ended_before parts before marked read (inr one) = inr (
+    before.read ++ one.0,
+    one.1,
+    ap (λ (t : List ℕ). before.read ++ t) one.2 ∙ sym (append_assoc before.read one.0 one.1),
+    one.3,
+    inr (parts.profile, parts.rest ++ one.0, stays before.read parts.profile parts.rest one.0 (at_mark before.read parts _ ended_before before.ends marked), one.4),
+  )
+
   -- the profile was read, and then the capture
   behind : {R : Type 0} (told : R → front.Told) (old mid : R) (Holds : List ℕ → List ℕ → Type 0) (l2 : Option (List ℕ)) (g2 : ℕ) (h0 h1 : Option (List ℕ)) (ended_before has_ended : Bool) (parts : Parts)
       → (before : ReadFront told old mid ended_before parts) → parts.marked ≡ true → Says parts.profile (Ok devices)
       → (through : Through Holds parts.rest (record { left = (told mid).left; given = (told mid).given; held = h0 }) (record { left = l2; given = g2; held = h1 }))
-      → ((bytes text : List ℕ) → Holds bytes text → (Whole bytes text × (has_ended ≡ true) × IsAtEnd l2) ⊎ Cut bytes text)
+      → (Holds (parts.rest ++ through.read) through.text → (Whole (parts.rest ++ through.read) through.text × (has_ended ≡ true) × IsAtEnd l2)
+      ⊎ (Cut (parts.rest ++ through.read) through.text × OpenBefore OpenBehind [] (before.read ++ through.read)))
       → ShowedBehind (record { left = (told old).left; given = (told old).given; held = h0 }) (record { left = l2; given = g2; held = h1 }) has_ended tally
   behind told old mid Holds l2 g2 h0 h1 ended_before has_ended parts before marked says through holds = record {
     read = before.read ++ through.read;
@@ -55,7 +73,8 @@ module _ (devices : List DeviceParts) (tally : Tally) where
     appended = through.appended;
     front = inl (stays before.read parts.profile parts.rest through.read (at_mark before.read parts _ ended_before before.ends marked));
     says = says;
-    shows = holds (parts.rest ++ through.read) through.text through.holds;
+    within = before.within;
+    shows = holds through.holds;
   }
 
   pub behind_mark : {R : Type 0} (told : R → front.Told) (old mid : R) (l2 : Option (List ℕ)) (g2 : ℕ) (h0 h1 : Option (List ℕ)) (ended_before has_ended : Bool) (parts : Parts)
@@ -64,9 +83,9 @@ module _ (devices : List DeviceParts) (tally : Tally) where
       ⊎ Stopped Cut BeginsText parts.rest (record { left = (told mid).left; given = (told mid).given; held = h0 }) (record { left = l2; given = g2; held = h1 })
       → ShowedBehind (record { left = (told old).left; given = (told old).given; held = h0 }) (record { left = l2; given = g2; held = h1 }) has_ended tally
   behind_mark told old mid l2 g2 h0 h1 ended_before has_ended parts before marked says (inl ended) =
-      behind told old mid Whole l2 g2 h0 h1 ended_before has_ended parts before marked says ended.through (λ bytes text holds. inl (holds, ended.ended, ended.at_end))
+      behind told old mid Whole l2 g2 h0 h1 ended_before has_ended parts before marked says ended.through (λ holds. inl (holds, ended.ended, ended.at_end))
   behind_mark told old mid l2 g2 h0 h1 ended_before has_ended parts before marked says (inr stopped) =
-      behind told old mid Cut l2 g2 h0 h1 ended_before has_ended parts before marked says stopped.through (λ bytes text holds. inr holds)
+      behind told old mid Cut l2 g2 h0 h1 ended_before has_ended parts before marked says stopped.through (λ holds. inr (holds, stopped_in_time told old mid ended_before parts before marked stopped.through.read stopped.in_time))
 
   -- nothing is read of what has nothing
   none_read : (new : Option (List ℕ)) (read : List ℕ) → Consumes (Some []) new read → read ≡ []
@@ -93,6 +112,7 @@ module _ (devices : List DeviceParts) (tally : Tally) where
         given = before.reads.gave.given;
         appended = ended.through.appended;
         front = inr ends.all;
+        within = before.within;
         says = says;
         shows = inl (subst (λ (b : List ℕ). Whole b ended.through.text) (none ∙ sym ends.all.nothing) ended.through.holds, ends.ended, ends.at_end);
       }
@@ -108,6 +128,13 @@ module _ (devices : List DeviceParts) (tally : Tally) where
         given = before.reads.gave.given;
         appended = stopped.through.appended;
         front = inr ends.all;
+        within = before.within;
         says = says;
-        shows = inr (subst (λ (b : List ℕ). Cut b stopped.through.text) (none ∙ sym ends.all.nothing) stopped.through.holds);
+        shows = inr (
+          subst (λ (b : List ℕ). Cut b stopped.through.text) (none ∙ sym ends.all.nothing) stopped.through.holds,
+          elim before.reads.in_time [
+            | inl nothing ↦ inl nothing
+            | inr time ↦ inr (time.before, time.piece, time.whole, time.small, inl time.undecided)
+          ],
+        );
       }

@@ -1,21 +1,21 @@
 -- What `pmb show` writes of what it reads.
-use Rattle.std.specs.Prelude.{◌≡◌, ◌⊎◌, ℕ, Bool, true, Ok, Err, List, [], length}
+use Rattle.std.specs.Prelude.{◌≡◌, ◌≤◌, ◌⊎◌, ℕ, Bool, true, Ok, Err, List, [], length}
 use Rattle.std.specs.Io.KnownBytes.{Appends, Consumes, IsAtEnd}
 use Rattle.pmb_bus.specs.Text.{BeginsText}
 use Rattle.pmb_command.specs.Parts.{DeviceParts}
 use Rattle.pmb_io.specs.Count.{raised}
-use Rattle.pmb_io.specs.Runs.{Ended, Stopped, Told}
+use Rattle.pmb_io.specs.Runs.{Ended, OpenBefore, Stopped, Told}
 use Rattle.pmb_io.specs.declared.tally.Tally.{Tally}
 use Rattle.pmb_table.specs.Profile.{Says}
 use Rattle.pmb_table.specs.declared.fault.ProfileFault.{ProfileFault}
-use Rattle.pmb_capture.specs.Show.{Shows, StopsAtBadWord}
-use Rattle.pmb_cli.specs.Front.{IsFront, Parts, ReadFront, ReadTooMuch}
+use Rattle.pmb_capture.specs.Show.{ShowsAtEnd, StopsAtBadWord}
+use Rattle.pmb_cli.specs.Front.{FirstMark, IsFront, Parts, ReadFront, ReadTooMuch, Undecided, most_profile}
 use Rattle.pmb_cli.specs.Front as front
 
 -- a capture was shown under a profile
 abbrev pub Showed : List DeviceParts → Told → Told → Bool → Tally → Type 0
 Showed profile old new has_ended tally =
-    Ended (λ bytes text. Shows profile bytes text tally) [] old new has_ended
+    Ended (λ bytes text. ShowsAtEnd profile bytes text tally) [] old new has_ended
     ⊎ Stopped (λ bytes text. StopsAtBadWord profile bytes text tally) BeginsText [] old new
 
 -- The sample profile, as it is read.
@@ -24,8 +24,13 @@ pub record ShowedSample (sample : List ℕ) (old new : Told) (has_ended : Bool) 
   pub says : Says sample (Ok profile)
   pub showed : Showed profile old new has_ended tally
 
--- What was read is a profile, and behind its line `%%` a capture, of which the text that was written is what is shown under
--- the profile: the reader ended, or a word of the capture is no token.
+-- What was read but for a last piece left something open: nothing was decided of the profile, or a capture behind it
+-- begins a text of events.
+abbrev pub OpenBehind : List ℕ → Type 0
+OpenBehind read = Undecided read ⊎ ((profile : List ℕ) × (capture : List ℕ) × FirstMark read profile capture × BeginsText capture)
+
+-- What was read is a profile within the limit, and behind its line `%%` a capture, of which the text that was written is
+-- what is shown under the profile: the reader ended, or a word of the capture is no token, from the last piece on.
 pub record ShowedBehind (old new : Told) (has_ended : Bool) (tally : Tally) : Type 0 where
   pub read : List ℕ
   pub text : List ℕ
@@ -36,8 +41,10 @@ pub record ShowedBehind (old new : Told) (has_ended : Bool) (tally : Tally) : Ty
   pub given : new.given ≡ raised old.given (length read)
   pub appended : Appends old.held new.held text
   pub front : IsFront read profile capture
+  pub within : length profile ≤ most_profile
   pub says : Says profile (Ok devices)
-  pub shows : (Shows devices capture text tally × (has_ended ≡ true) × IsAtEnd new.left) ⊎ StopsAtBadWord devices capture text tally
+  pub shows : (ShowsAtEnd devices capture text tally × (has_ended ≡ true) × IsAtEnd new.left)
+      ⊎ (StopsAtBadWord devices capture text tally × OpenBefore OpenBehind [] read)
 
 -- What was read is the front of a capture, and what stands there as a profile has this fault.
 pub record HasFault {R : Type 0} (told : R → front.Told) (old new : R) (has_ended : Bool) : Type 0 where

@@ -1,5 +1,6 @@
 -- The exit statuses.
-use Rattle.std.specs.Prelude.{◌≡◌, ◌≤◌, ℕ, ◌==◌, if◌then◌else◌, Result, Ok, Err}
+use Rattle.std.specs.Prelude.{◌≡◌, ◌≤◌, ℕ, ◌==◌, if◌then◌else◌, length, List, Option, Result, Ok, Err}
+use Rattle.std.specs.Io.KnownBytes.{Consumes}
 use Rattle.pmb_io.specs.Count.{raised}
 use Rattle.pmb_io.specs.Runs.{most_reads}
 use Rattle.pmb_io.specs.declared.fault.ToolFault.{ToolFault}
@@ -19,6 +20,11 @@ abbrev pub run_status : Result Tally ToolFault → ℕ
 run_status (Ok tally) = if tally.refusals == 0 then 0 else 1
 run_status (Err fault) = status_of fault
 
--- a reader gave bytes in 2^32 reads or more
-abbrev pub ReadOften : ℕ → ℕ → Type 0
-ReadOften old new = (count : ℕ) × (most_reads ≤ count) × (new ≡ raised old count)
+-- a reader gave bytes in 2^32 reads or more, and so as many bytes
+pub record ReadOften (reads_old reads_new : ℕ) (left_old left_new : Option (List ℕ)) : Type 0 where
+  pub count : ℕ
+  pub often : most_reads ≤ count
+  pub counted : reads_new ≡ raised reads_old count
+  pub read : List ℕ
+  pub consumed : Consumes left_old left_new read
+  pub many : most_reads ≤ length read

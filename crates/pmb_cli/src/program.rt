@@ -55,9 +55,12 @@ pub fn tool<S: AsStr, R: Source, W: Sink, E: Sink>(
         (λ reader. record { left = R.remaining reader; given = R.given reader; reads = R.reads reader })
         reader.old reader.new (R.has_ended reader.new))) }
     ensures helped { AskToTell (map S.text words.now) → (result ≡ 0) ⊎ (result ≡ 3) ⊎ (result ≡ 4) }
-    ensures helped_on_out { AskToTell (map S.text words.now) → result ≡ 0 → err.new ≡ err.old }
     ensures unread { faults_of (map S.text words.now) ≢ [] → reader.new ≡ reader.old }
     ensures unwritten { AreRefused (map S.text words.now) → out.new ≡ out.old }
+
+    // Standard error stays as it is where all went well, and standard output where anything was refused at the start.
+    ensures quiet { result ≤ 1 → err.new ≡ err.old }
+    ensures refused_unwritten { (result ≡ 2) ⊎ (result ≡ 4) → out.new ≡ out.old }
 
     // Then the format is looked at.
     ensures bad_format { HasBadFormat (map S.text words.now) → (result ≡ 2) ⊎ (result ≡ 4) }
@@ -92,7 +95,7 @@ pub fn tool<S: AsStr, R: Source, W: Sink, E: Sink>(
     // No read and no write on `out` failed where it answers 0 or 1, and one did, or there were too many reads, where 3.
     ensures done { result ≤ 1 → (R.failures reader.new ≡ R.failures reader.old) × (W.failures out.new ≡ W.failures out.old) }
     ensures io_failed { result ≡ 3 → (R.failures reader.new ≡ raised (R.failures reader.old) 1)
-        ⊎ ((W.failures out.new ≡ raised (W.failures out.old) 1) ⊎ ReadOften (R.reads reader.old) (R.reads reader.new)) }
+        ⊎ ((W.failures out.new ≡ raised (W.failures out.old) 1) ⊎ ReadOften (R.reads reader.old) (R.reads reader.new) (R.remaining reader.old) (R.remaining reader.new)) }
 {
     // A text names one format at most.
     one_format();

@@ -26,9 +26,11 @@ pub(crate) fn show_sample<R: Source, W: Sink, E: Sink>(
         (record { left = R.remaining reader.old; given = R.given reader.old; held = W.contents out.old })
         (record { left = R.remaining reader.new; given = R.given reader.new; held = W.contents out.new })
         (R.has_ended reader.new) tally }
+    ensures quiet { result ≤ 1 → err.new ≡ err.old }
+    ensures unwritten { (result ≡ 2) ⊎ (result ≡ 4) → out.new ≡ out.old }
     ensures done { result ≤ 1 → (R.failures reader.new ≡ R.failures reader.old) × (W.failures out.new ≡ W.failures out.old) }
     ensures io_failed { result ≡ 3 → (R.failures reader.new ≡ raised (R.failures reader.old) 1)
-        ⊎ ((W.failures out.new ≡ raised (W.failures out.old) 1) ⊎ ReadOften (R.reads reader.old) (R.reads reader.new)) }
+        ⊎ ((W.failures out.new ≡ raised (W.failures out.old) 1) ⊎ ReadOften (R.reads reader.old) (R.reads reader.new) (R.remaining reader.old) (R.remaining reader.new)) }
 {
     match Profile::from_toml(alloc, SAMPLE.as_bytes()) {
         Ok(profile) => ended(show(&profile, &[], reader, out), err),
@@ -53,9 +55,11 @@ pub(crate) fn show_behind<R: Source, W: Sink, E: Sink>(
         (record { left = R.remaining reader.old; given = R.given reader.old; held = W.contents out.old })
         (record { left = R.remaining reader.new; given = R.given reader.new; held = W.contents out.new })
         (R.has_ended reader.new) tally }
+    ensures quiet { result ≤ 1 → err.new ≡ err.old }
+    ensures unwritten { (result ≡ 2) ⊎ (result ≡ 4) → out.new ≡ out.old }
     ensures done { result ≤ 1 → (R.failures reader.new ≡ R.failures reader.old) × (W.failures out.new ≡ W.failures out.old) }
     ensures io_failed { result ≡ 3 → (R.failures reader.new ≡ raised (R.failures reader.old) 1)
-        ⊎ ((W.failures out.new ≡ raised (W.failures out.old) 1) ⊎ ReadOften (R.reads reader.old) (R.reads reader.new)) }
+        ⊎ ((W.failures out.new ≡ raised (W.failures out.old) 1) ⊎ ReadOften (R.reads reader.old) (R.reads reader.new) (R.remaining reader.old) (R.remaining reader.new)) }
 {
     let front = match front(alloc, reader) {
         Ok(front) => front,

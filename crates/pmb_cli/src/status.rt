@@ -1,6 +1,6 @@
 //! The exit statuses, and what is told of them on standard error.
 
-ghost use Rattle.std.specs.Prelude.{◌≡◌, ◌≢◌};
+ghost use Rattle.std.specs.Prelude.{◌≡◌, ◌≢◌, ◌≤◌};
 ghost use Rattle.pmb_keys.specs.declared.fault.FaultKind.TheVariants.{OutOfMemory};
 ghost use Rattle.pmb_cli.specs.Status.{run_status, status_of};
 
@@ -27,7 +27,8 @@ pub(crate) const NO_MEMORY: u8 = 4;
 
 /// The status of a run that ended, of which a fault is told on `err`.
 pub(crate) fn ended<E: Sink>(outcome: Result<Tally, ToolFault>, err: &mut E) -> u8
-    ensures { result ≡ run_status outcome }
+    ensures status { result ≡ run_status outcome }
+    ensures quiet { result ≤ 1 → err.new ≡ err.old }
 {
     match outcome {
         Ok(tally) if tally.refusals == 0 => DONE,

@@ -109,6 +109,7 @@ pub(crate) fn tell_words<S: AsStr, W: Sink, E: Sink>(
     ensures refused { (¬ IsTelling (kind_of error.now)) → (result ≡ 2) ⊎ (result ≡ 4) }
     ensures told { IsTelling (kind_of error.now) → (result ≡ 0) ⊎ (result ≡ 3) ⊎ (result ≡ 4) }
     ensures memory { kind_of error.now ≡ ErrorKind.OutOfMemory → result ≡ 4 }
+    ensures refused_unwritten { (result ≡ 2) ⊎ (result ≡ 4) → out.new ≡ out.old }
     ensures unwritten { (¬ IsTelling (kind_of error.now)) → out.new ≡ out.old }
 
     // What is told goes to `out` alone.

@@ -13,7 +13,7 @@ use Rattle.pmb_capture.specs.declared.reported.Reported.TheVariants as reports
 use Rattle.pmb_capture.specs.declared.showing.Showing.{Showing}
 use Rattle.pmb_capture.specs.Place.{Place}
 use Rattle.pmb_capture.specs.Reading.{Outcome, Reading}
-use Rattle.pmb_capture.specs.Show.{lines_of, but_truncation, packets_in, refusals_in, Shows, StopsAtBadWord}
+use Rattle.pmb_capture.specs.Show.{lines_of, but_truncation, packets_in, refusals_in, Shows, StopsAtBadWord, ShowsAtEnd}
 use Rattle.pmb_capture.specs.machine.Reported.{IsReading, ReadsFromPlace}
 use Rattle.pmb_capture.specs.machine.Thin.{StandsAt}
 
@@ -91,4 +91,4 @@ abbrev pub HasStopped : Showing → Showing → List ℕ → List ℕ → Type 0
 HasStopped start now bytes text = StopsAtBadWord (profile_of start) bytes text now.tally
 
 abbrev pub HasEnded : Showing → Showing → List ℕ → List ℕ → Type 0
-HasEnded start now bytes text = Shows (profile_of start) bytes text now.tally
+HasEnded start now bytes text = ShowsAtEnd (profile_of start) bytes text now.tally

@@ -4,7 +4,7 @@ ghost use Rattle.std.specs.Prelude.{◌≡◌, ◌≢◌, ◌≤◌, ◌⊎◌, 
 ghost use Rattle.pmb_bus.specs.Text.{BeginsText};
 ghost use Rattle.pmb_io.specs.Count.{raised};
 ghost use Rattle.pmb_io.specs.Runs.{Ended, MadeReads, Stopped, Through, most_reads};
-ghost use Rattle.pmb_capture.specs.Show.{Shows, ShowsFront, StopsAtBadWord};
+ghost use Rattle.pmb_capture.specs.Show.{ShowsAtEnd, ShowsFront, StopsAtBadWord};
 
 use crate::showing::Showing;
 use pmb_bus::laws::ended_words_lead_on;
@@ -30,7 +30,7 @@ pub fn show<R: Source, W: Sink>(
     // What was written is what is shown of `first` and the bytes read, however the reader cut them:
     // they ended, or a word is no token.
     ensures ok { IfOk result (λ tally.
-        Ended (λ bytes text. Shows profile.now bytes text tally) first.now
+        Ended (λ bytes text. ShowsAtEnd profile.now bytes text tally) first.now
         (record { left = R.remaining reader.old; given = R.given reader.old; held = W.contents writer.old })
         (record { left = R.remaining reader.new; given = R.given reader.new; held = W.contents writer.new })
         (R.has_ended reader.new)

@@ -1,9 +1,8 @@
 use Rattle.std.proofs.Common.{◌≡◌, ◌∙◌, inl, inr, sym, ap, arith}
 use Rattle.clap.specs.Words.{kind_of}
-use Rattle.pmb_io.specs.Runs.{most_reads}
 use Rattle.pmb_cli.specs.Asked.{asked_of}
 use Rattle.pmb_cli.specs.Status.{run_status}
-use Rattle.pmb_cli.proofs.Statuses.{io_fault}
+use Rattle.pmb_cli.proofs.Statuses.{io_fault, read_often}
 use Rattle.pmb_cli.proofs.program.tool.Goals as goal
 
 -- Status 2 is neither that of help nor that of memory, so the error's kind is among the faults.
@@ -19,20 +18,20 @@ returns-in-Err-clause-told g c two = inl (record {
 
 pub returns-in-Ok-parse-clause-io_failed : goal.returns-in-Ok-parse-clause-io_failed
 returns-in-Ok-parse-clause-io_failed g c three =
-    let status : run_status c.encode_lines.result ≡ 3 = sym c.ended.ensures ∙ three in
+    let status : run_status c.encode_lines.result ≡ 3 = sym c.ended.ensures.status ∙ three in
     elim (io_fault c.encode_lines.result status) [
       | inl read ↦ inl (c.encode_lines.ensures.read read)
       | inr (inl write) ↦ inr (inl (c.encode_lines.ensures.write write))
-      | inr (inr often) ↦ inr (inr (most_reads, omega arith, c.encode_lines.ensures.too_many often))
+      | inr (inr often) ↦ inr (inr (read_often _ _ _ _ (c.encode_lines.ensures.many often).0.read (c.encode_lines.ensures.too_many often) (c.encode_lines.ensures.many often).0.consumed (c.encode_lines.ensures.many often).1))
     ]
 
 pub returns-in-Ok-parse-2-clause-io_failed : goal.returns-in-Ok-parse-2-clause-io_failed
 returns-in-Ok-parse-2-clause-io_failed g c three =
-    let status : run_status c.decode_lines.result ≡ 3 = sym c.ended-in-Ok-parse-2.ensures ∙ three in
+    let status : run_status c.decode_lines.result ≡ 3 = sym c.ended-in-Ok-parse-2.ensures.status ∙ three in
     elim (io_fault c.decode_lines.result status) [
       | inl read ↦ inl (c.decode_lines.ensures.read read)
       | inr (inl write) ↦ inr (inl (c.decode_lines.ensures.write write))
-      | inr (inr often) ↦ inr (inr (most_reads, omega arith, c.decode_lines.ensures.too_many often))
+      | inr (inr often) ↦ inr (inr (read_often _ _ _ _ (c.decode_lines.ensures.many often).0.read (c.decode_lines.ensures.too_many often) (c.decode_lines.ensures.many often).0.consumed (c.decode_lines.ensures.many often).1))
     ]
 
 -- A FORMAT that names none is what status 2 tells.

@@ -9,7 +9,7 @@ use Rattle.pmb_cli.proofs.shown.show_behind.Goals as goal
 
 pub returns-in-Ok-from_toml-clause-showed : goal.returns-in-Ok-from_toml-clause-showed
 returns-in-Ok-from_toml-clause-showed g c done =
-    let status : run_status c.show.result ≤ 1 = subst (λ (n : ℕ). n ≤ 1) c.ended.ensures done in
+    let status : run_status c.show.result ≤ 1 = subst (λ (n : ℕ). n ≤ 1) c.ended.ensures.status done in
     let well = ended_well c.show.result status in
     let devices = c.in-Ok-from_toml.profile in
     let shown = at_ok _ c.show.result well.0 well.1 c.show.ensures.ok in
@@ -18,7 +18,7 @@ returns-in-Ok-from_toml-clause-showed g c done =
       | inr says ↦ says
     ] in (
       well.0,
-      c.ended.ensures ∙ ap run_status well.1,
+      c.ended.ensures.status ∙ ap run_status well.1,
       behind_mark devices well.0 (λ reader. record { left = g.R.Source.remaining reader; given = g.R.Source.given reader; reads = g.R.Source.reads reader }) c.args.reader.now c.front.new.reader _ _ _ _ _ (g.R.Source.has_ended c.show.new.reader) c.in-Ok.front c.in-Ok.ensures.ok (sym c.has_capture.ensures ∙ c.if-has_capture.true)
           (subst (λ (text : List ℕ). Says text (Ok devices)) c.profile.ensures says)
           (subst (λ (rest : List ℕ). Showed devices well.0 rest (record { left = g.R.Source.remaining c.front.new.reader; given = g.R.Source.given c.front.new.reader; held = g.W.Sink.contents c.args.out.now })
@@ -28,16 +28,17 @@ returns-in-Ok-from_toml-clause-showed g c done =
 -- Nothing failed in front of the capture, so what failed did so within it.
 pub returns-in-Ok-from_toml-clause-io_failed : goal.returns-in-Ok-from_toml-clause-io_failed
 returns-in-Ok-from_toml-clause-io_failed g c three =
-    let status : run_status c.show.result ≡ 3 = sym c.ended.ensures ∙ three in
+    let status : run_status c.show.result ≡ 3 = sym c.ended.ensures.status ∙ three in
     elim (io_fault c.show.result status) [
       | inl read ↦ inl (c.show.ensures.read read ∙ ap (λ n. raised n 1) (c.in-Ok.ensures.no_read (λ is. cc)))
       | inr (inl write) ↦ inr (inl (c.show.ensures.write write))
-      | inr (inr often) ↦ inr (inr (read_often_behind _ _ _ c.in-Ok.ensures.reads (c.show.ensures.too_many often)))
+      | inr (inr often) ↦ inr (inr (read_often_behind _ _ _ _ _ _ c.in-Ok.ensures.ok.read (c.show.ensures.many often).0.read c.in-Ok.ensures.reads (c.show.ensures.too_many often)
+          c.in-Ok.ensures.ok.reads.gave.consumed (c.show.ensures.many often).0.consumed (c.show.ensures.many often).1))
     ]
 
 pub returns-in-Ok-2-clause-showed : goal.returns-in-Ok-2-clause-showed
 returns-in-Ok-2-clause-showed g c done =
-    let status : run_status c.show-in-Ok-2.result ≤ 1 = subst (λ (n : ℕ). n ≤ 1) c.ended-in-Ok-2.ensures done in
+    let status : run_status c.show-in-Ok-2.result ≤ 1 = subst (λ (n : ℕ). n ≤ 1) c.ended-in-Ok-2.ensures.status done in
     let well = ended_well c.show-in-Ok-2.result status in
     let devices = c.in-Ok-from_toml.profile in
     let shown = at_ok (λ tally. Showed devices tally [] (record { left = Some []; given = 0; held = g.W.Sink.contents c.args.out.now }) (record { left = Some []; given = 0; held = g.W.Sink.contents c.show-in-Ok-2.new.writer }) true)
@@ -47,7 +48,7 @@ returns-in-Ok-2-clause-showed g c done =
       | inr says ↦ says
     ] in (
       well.0,
-      c.ended-in-Ok-2.ensures ∙ ap run_status well.1,
+      c.ended-in-Ok-2.ensures.status ∙ ap run_status well.1,
       behind_all devices well.0 (λ reader. record { left = g.R.Source.remaining reader; given = g.R.Source.given reader; reads = g.R.Source.reads reader }) c.args.reader.now c.front.new.reader _ _ _ _ _ _ _ _ c.in-Ok.front c.in-Ok.ensures.ok (sym c.has_capture.ensures ∙ c.if-has_capture.false)
           (subst (λ (text : List ℕ). Says text (Ok devices)) c.profile.ensures says) refl shown,
     )
