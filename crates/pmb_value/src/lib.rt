@@ -1,4 +1,4 @@
-//! Quantities as exact fractions, and the number formats of PMBus.
+//! The number formats of PMBus.
 //!
 //! A [`Format`] of two bytes (LINEAR11, ULINEAR16, SLINEAR16 or DIRECT) says which [`Quantity`] a
 //! code is worth, exactly, and which code is nearest to a quantity: the even one at a tie, and none
