@@ -10,3 +10,7 @@ pub mod Lengthens
 pub mod Classes
 pub mod FrontTokens
 pub mod Feeds
+pub mod Division
+pub mod Codes
+pub mod Remainders
+pub mod KindSets

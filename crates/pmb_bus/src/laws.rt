@@ -1,9 +1,14 @@
 //! The laws of spelling, which the contracts of [`Lexer`](crate::Lexer) and
-//! [`event_text`](crate::event_text) rest on: each function is its contract, and does nothing.
+//! [`event_text`](crate::event_text) rest on, and of packet error codes, which those of
+//! [`pec_next`](crate::pec_next) and [`pec_of`](crate::pec_of) do; and that [`Kinds`](crate::Kinds)
+//! are told by the events whose kinds they are. Each function is its contract, and does nothing.
 
-ghost use Rattle.std.specs.Prelude.{◌≡◌, ◌⊎◌, ℕ, List, [], ◌∷◌, ◌++◌};
+ghost use Rattle.std.specs.Prelude.{◌≡◌, ◌<◌, ◌⊎◌, ◌↔◌, ℕ, List, [], ◌∷◌, ◌++◌, bit_xor, codes};
 ghost use Rattle.pmb_bus.specs.declared.event.Event.{Event};
+ghost use Rattle.pmb_bus.specs.declared.kinds.Kinds.{Kinds};
 ghost use Rattle.pmb_bus.specs.Event.{AreBytes, canonical_text};
+ghost use Rattle.pmb_bus.specs.Kinds.{bits, holds};
+ghost use Rattle.pmb_bus.specs.Pec.{bits_of, message, pec, IsRemainder};
 ghost use Rattle.pmb_bus.specs.Text.{Spells, EndedWordsSpell, FirstBadWord};
 
 /// The canonical text of events spells them.
@@ -33,4 +38,43 @@ pub fn one_bad_word()
 /// A text that spells events has no bad word.
 pub fn spelled_has_no_bad_word()
     ensures { (text : List ℕ) (a b : List Event) (i : ℕ) → Spells text a → FirstBadWord text b i → ⊥ }
+{}
+
+/// A packet error code is a byte.
+pub fn pec_is_a_byte()
+    ensures { (bytes : List ℕ) → pec bytes < 256 }
+{}
+
+/// The code of no bytes, and the check value by which a CRC is known: that of the ASCII digits 1
+/// to 9.
+pub fn worked_pecs()
+    ensures nothing { pec [] ≡ 0 }
+    ensures digits { pec (codes "123456789") ≡ 0xf4 }
+{}
+
+/// With one more byte, the code is that of the one byte which is the code so far, xor that byte.
+pub fn pec_goes_on()
+    ensures { (bytes : List ℕ) (byte : ℕ) → pec (bytes ++ byte ∷ []) ≡ pec (bit_xor (pec bytes) byte ∷ []) }
+{}
+
+/// Bytes count by their code alone for what follows them.
+pub fn pec_is_all_that_counts()
+    ensures { (a b more : List ℕ) → pec a ≡ pec b → pec (a ++ more) ≡ pec (b ++ more) }
+{}
+
+/// Bytes and their own code behind them leave no remainder.
+pub fn pec_leaves_no_remainder()
+    ensures { (bytes : List ℕ) → pec (bytes ++ pec bytes ∷ []) ≡ 0 }
+{}
+
+/// The code is the one byte whose bits, behind some multiple of the generator, make the message
+/// times x^8: the remainder, told without a division.
+pub fn pec_is_the_remainder()
+    ensures { (bytes : List ℕ) (code : ℕ) → code < 256
+        → (code ≡ pec bytes) ↔ IsRemainder (message bytes) (bits_of code) }
+{}
+
+/// A set of kinds is told by the events whose kinds it has.
+pub fn kinds_are_told_by_events()
+    ensures { (a b : Kinds) → bits a < 32 → bits b < 32 → ((event : Event) → holds a event ≡ holds b event) → a ≡ b }
 {}

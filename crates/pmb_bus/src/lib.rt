@@ -1,8 +1,10 @@
-//! Bus events and their capture text.
+//! Bus events, their capture text, sets of their kinds, and packet error codes.
 //!
 //! A capture of PMBus traffic is a list of [`Event`]s: START, a byte, ACK, NACK, STOP. As text each
-//! of them is a word. [`Lexer`] reads that text in pieces of any size and answers each event as soon
-//! as its word has ended; [`event_text`] writes it.
+//! of them is a word. [`Lexer`] reads that text in pieces of any size and answers each event as
+//! soon as its word has ended; [`event_text`] writes it. [`Kinds`] is a set of kinds of events.
+//! Packets may end in a packet error code over their bytes: [`pec_of`] gives it, [`pec_next`] a
+//! byte at a time.
 //!
 //! ```rust
 //! let mut lexer = Lexer::new();
@@ -11,13 +13,20 @@
 //! let lexed = lexer.feed(b"b0 ");
 //! assert_eq!(rt; lexed, Lexed { used: 3, step: Step::Event(Event::Byte(0xb0)) });
 //! assert_eq!(rt; event_text(Event::Byte(0xb0)).as_str(), "b0 ");
+//! assert!(rt; Kinds::all().contains(Kinds::of(Event::Byte(0xb0))));
+//! assert_eq!(rt; pec_of(&[0xb0, 0x03]), 0x46);
+//! assert_eq!(rt; pec_next(pec_of(&[0xb0]), 0x03), 0x46);
 //! ```
 #![tactic(auto)]
 
 mod alphabet;
 mod event;
+mod kinds;
 pub mod laws;
 mod lexer;
+mod pec;
 
 pub use event::{Event, Token, event_text};
+pub use kinds::Kinds;
 pub use lexer::{LexFault, Lexed, Lexer, Step};
+pub use pec::{pec_next, pec_of};

@@ -1,11 +1,18 @@
-//! Tests of capture text, both ways, over the public names of `pmb_bus`: tables of rows, each row
-//! with a name, its text and the events that it spells, all told by hand.
+//! Tests over the public names of `pmb_bus`. Of capture text, both ways: tables of rows, each row
+//! with a name, its text and the events that it spells, all told by hand. Of packet error codes:
+//! known vectors and the plain computation. Of the set of event kinds.
 #![tactic(auto)]
 
 #[cfg(test)]
 mod cuts;
 #[cfg(test)]
+mod doc;
+#[cfg(test)]
 mod event_text;
+#[cfg(test)]
+mod kinds;
+#[cfg(test)]
+mod packet_error_codes;
 #[cfg(test)]
 mod rows;
 #[cfg(test)]

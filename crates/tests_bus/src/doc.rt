@@ -1,0 +1,28 @@
+//! The program at the head of `pmb_bus`.
+
+use pmb_bus::{Event, Kinds, Lexed, Lexer, Step, event_text, pec_next, pec_of};
+
+#[test]
+fn the_program_of_the_doc(rt: HostRuntime) {
+    let mut lexer = Lexer::new();
+    let lexed = lexer.feed(b"S b0 ");
+    assert_eq!(rt;
+        lexed,
+        Lexed {
+            used: 2,
+            step: Step::Event(Event::Start)
+        }
+    );
+    let lexed = lexer.feed(b"b0 ");
+    assert_eq!(rt;
+        lexed,
+        Lexed {
+            used: 3,
+            step: Step::Event(Event::Byte(0xb0))
+        }
+    );
+    assert_eq!(rt; event_text(Event::Byte(0xb0)).as_str(), "b0 ");
+    assert!(rt; Kinds::all().contains(Kinds::of(Event::Byte(0xb0))));
+    assert_eq!(rt; pec_of(&[0xb0, 0x03]), 0x46);
+    assert_eq!(rt; pec_next(pec_of(&[0xb0]), 0x03), 0x46);
+}
