@@ -13,7 +13,7 @@ use Rattle.pmb_quantity.specs.Reading.{Numeral, point, slash, numeral_of, numera
 use Rattle.pmb_value.specs.Coding.{Coding, IsAbove, IsBelow, IsInRange}
 use Rattle.pmb_value.specs.Direct.{Coefficients, direct}
 use Rattle.pmb_value.specs.Laws.{HasOneNearest}
-use Rattle.pmb_value.specs.Linear.{IsExponent, linear11, ulinear16, slinear16}
+use Rattle.pmb_value.specs.Linear.{IsExponent, linear11, linear11_fixed, ulinear16, slinear16}
 use Rattle.pmb_value.specs.declared.vout.VoutFormat.TheVariants.{Unsigned, Signed, Direct}
 use Rattle.pmb_io.specs.Count.{counted}
 use Rattle.pmb_io.specs.Lines as lines
@@ -21,7 +21,7 @@ use Rattle.pmb_io.specs.declared.tally.Tally.{Tally}
 use Rattle.pmb_convert.specs.declared.conversion.Conversion.{Conversion}
 use Rattle.pmb_convert.specs.declared.conversion.Conversion.TheVariants.{Encode, Decode}
 use Rattle.pmb_convert.specs.declared.named_format.NamedFormat.{NamedFormat}
-use Rattle.pmb_convert.specs.declared.named_format.NamedFormat.TheVariants.{Linear11, Word}
+use Rattle.pmb_convert.specs.declared.named_format.NamedFormat.TheVariants.{Linear11, Linear11Fixed, Word}
 use Rattle.pmb_convert.specs.Answer.{Answer, AnswersEach, AnswersLine, AnswersText, EncodesQuantity, EncodesRead, nearest, below, above, answer_line, code_text}
 use Rattle.pmb_convert.specs.Format.{coding_of}
 use Rattle.pmb_convert.proofs.Choices.{picks}
@@ -178,9 +178,10 @@ decodes_one format = determined (Decode format) (decode_one format)
 encodes_one : (format : NamedFormat) (code : ℕ) → StaysPositive → HasOneNearest (coding_of format) → (coding_of format).IsCode code → IsDetermined (Encode format)
 encodes_one format code stays one is_code = determined (Encode format) (encode_one format code stays one is_code)
 
-pub encodes : StaysPositive → HasOneNearest linear11 → ((e : ℤ) → IsExponent e → HasOneNearest (ulinear16 e)) → ((e : ℤ) → IsExponent e → HasOneNearest (slinear16 e)) → ((d : Coefficients) → d.m ≢ pos 0 → HasOneNearest (direct d))
+pub encodes : StaysPositive → HasOneNearest linear11 → ((e : ℤ) → IsExponent e → HasOneNearest (linear11_fixed e)) → ((e : ℤ) → IsExponent e → (code : ℕ) × (linear11_fixed e).IsCode code) → ((e : ℤ) → IsExponent e → HasOneNearest (ulinear16 e)) → ((e : ℤ) → IsExponent e → HasOneNearest (slinear16 e)) → ((d : Coefficients) → d.m ≢ pos 0 → HasOneNearest (direct d))
     → (format : NamedFormat) → IsFormat format → IsDetermined (Encode format)
-encodes stays a b c d Linear11 is = encodes_one Linear11 0 stays a (omega arith)
-encodes stays a b c d (Word (Unsigned e)) is = encodes_one (Word (Unsigned e)) 0 stays (b e is) (omega arith)
-encodes stays a b c d (Word (Signed e)) is = encodes_one (Word (Signed e)) 0 stays (c e is) (omega arith)
-encodes stays a b c d (Word (Direct k)) is = encodes_one (Word (Direct k)) 0 stays (d k is.0) (omega arith)
+encodes stays a fixed some_code b c d Linear11 is = encodes_one Linear11 0 stays a (omega arith)
+encodes stays a fixed some_code b c d (Linear11Fixed e) is = let code = some_code e is in encodes_one (Linear11Fixed e) code.0 stays (fixed e is) code.1
+encodes stays a fixed some_code b c d (Word (Unsigned e)) is = encodes_one (Word (Unsigned e)) 0 stays (b e is) (omega arith)
+encodes stays a fixed some_code b c d (Word (Signed e)) is = encodes_one (Word (Signed e)) 0 stays (c e is) (omega arith)
+encodes stays a fixed some_code b c d (Word (Direct k)) is = encodes_one (Word (Direct k)) 0 stays (d k is.0) (omega arith)

@@ -9,10 +9,10 @@ use Rattle.pmb_value.specs.declared.vout.VoutFormat.TheVariants.{Unsigned, Signe
 use Rattle.pmb_convert.specs.declared.format_fault.FormatFault.{FormatFault}
 use Rattle.pmb_convert.specs.declared.format_fault.FormatFault.TheVariants.{BadExponent, BadScale, ZeroSlope}
 use Rattle.pmb_convert.specs.declared.named_format.NamedFormat.{NamedFormat}
-use Rattle.pmb_convert.specs.declared.named_format.NamedFormat.TheVariants.{Word}
+use Rattle.pmb_convert.specs.declared.named_format.NamedFormat.TheVariants.{Linear11Fixed, Word}
 use Rattle.pmb_convert.specs.Laws.{IsFormat}
 use Rattle.pmb_convert.proofs.Choices.{picks}
-use Rattle.pmb_convert.specs.Spelling.{Names, Saying, direct_of, is_from_to, is_zero, linear11, ulinear16, slinear16, vout, direct, linear_of, other, mode_format, said, spelled, vout_of}
+use Rattle.pmb_convert.specs.Spelling.{Names, Saying, direct_of, is_from_to, is_zero, linear11, linear11_fixed, ulinear16, slinear16, vout, direct, linear_of, other, mode_format, said, spelled, vout_of}
 
 -- a format, where there is one
 abbrev IsFormatIn : Result NamedFormat FormatFault → Type 0
@@ -27,10 +27,13 @@ scale : (e : ℤ) → is_from_to 9 9 e ≡ true → (negsuc 8 ≤ℤ e) × (e �
 scale (pos n) inside = let small : n < 10 = grind (arith, nat_tests) in (omega (arith, ints), omega (arith, ints))
 scale (negsuc n) inside = let small : n < 9 = grind (arith, nat_tests) in (omega (arith, ints), omega (arith, ints))
 
-unsigned : (e : ℤ) → IsFormatIn (linear_of Unsigned e)
+fixed : (e : ℤ) → IsFormatIn (linear_of Linear11Fixed e)
+fixed e = picks IsFormatIn (is_from_to 16 15 e) (Ok (Linear11Fixed e)) (Err BadExponent) (from_to e) (λ _. tt)
+
+unsigned : (e : ℤ) → IsFormatIn (linear_of (λ n. Word (Unsigned n)) e)
 unsigned e = picks IsFormatIn (is_from_to 16 15 e) (Ok (Word (Unsigned e))) (Err BadExponent) (from_to e) (λ _. tt)
 
-signed : (e : ℤ) → IsFormatIn (linear_of Signed e)
+signed : (e : ℤ) → IsFormatIn (linear_of (λ n. Word (Signed n)) e)
 signed e = picks IsFormatIn (is_from_to 16 15 e) (Ok (Word (Signed e))) (Err BadExponent) (from_to e) (λ _. tt)
 
 not_zero : (m : ℤ) → is_zero m ≡ false → m ≢ pos 0
@@ -66,6 +69,7 @@ mode m = by (m / 2 ^ 7 == 1) (m / 2 ^ 5 % 2 ^ 2 == 1) (m / 2 ^ 5 % 2 ^ 2 == 3) (
 
 pub said_in : (saying : Saying) → IsFormatIn (said saying)
 said_in linear11 = tt
+said_in (linear11_fixed e) = fixed e
 said_in (ulinear16 e) = unsigned e
 said_in (slinear16 e) = signed e
 said_in (vout m) = mode m

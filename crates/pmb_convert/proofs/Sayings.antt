@@ -8,8 +8,8 @@ use mir.Val.{to_z, of_z}
 use Rattle.pmb_convert.specs.declared.format_fault.FormatFault.{FormatFault}
 use Rattle.pmb_convert.specs.declared.format_fault.FormatFault.TheVariants.{BadFormat}
 use Rattle.pmb_convert.specs.declared.named_format.NamedFormat.{NamedFormat}
-use Rattle.pmb_convert.specs.Spelling.{Answers, Names, Saying, Spells, Writes, WritesByte, WritesMode, direct_of, said, spelled, other, linear11, ulinear16, slinear16, vout, direct}
-use Rattle.pmb_convert.specs.machine.Parts.{HasNoComma, comma, IsDirect, IsSigned, IsUnsigned, IsVout}
+use Rattle.pmb_convert.specs.Spelling.{Answers, Names, Saying, Spells, Writes, WritesByte, WritesMode, direct_of, said, spelled, other, linear11, linear11_fixed, ulinear16, slinear16, vout, direct}
+use Rattle.pmb_convert.specs.machine.Parts.{HasNoComma, comma, IsDirect, IsFixed, IsSigned, IsUnsigned, IsVout}
 use Rattle.pmb_convert.proofs.Integers.{number_has_no_comma, one_comma, one_number}
 use Rattle.pmb_convert.proofs.Modes.{one_mode}
 
@@ -28,11 +28,27 @@ differ a b front back test same = eqb-false a b test (ap (λ t. get_or t 0 0) sa
 direct_text : (M B R : List ℕ) → codes "direct:" ++ M ++ codes "," ++ B ++ codes "," ++ R ≡ codes "direct:" ++ comma M (comma B R)
 direct_text M B R = simp append_assoc
 
+-- a text without a colon and one with it
+no_colon : (E : List ℕ) → codes "linear11" ≡ codes "linear11:" ++ E → ⊥
+no_colon E same = eqb-false 0 58 refl (ap (λ t. get_or t 8 0) same)
+
+fixed_spells : (E : List ℕ) (s : Saying) → IsFixed E s → Spells (codes "linear11:" ++ E) s
+fixed_spells E s is = subst (Spells (codes "linear11:" ++ E)) (sym is.2) (E, refl, is.1)
+
+spelled_fixed : (E : List ℕ) (s : Saying) → Spells (codes "linear11:" ++ E) s → IsFixed E s
+spelled_fixed E linear11 is = absurd (no_colon E (sym is))
+spelled_fixed E (linear11_fixed n) is = (n, subst (λ t. WritesByte t n) (sym (ap (drop 9) is.1)) is.2, refl)
+spelled_fixed E (ulinear16 n) is = absurd (differ _ _ _ _ refl is.1)
+spelled_fixed E (slinear16 n) is = absurd (differ _ _ _ _ refl is.1)
+spelled_fixed E (vout n) is = absurd (differ _ _ _ _ refl is.1)
+spelled_fixed E (direct m b r) is = absurd (differ _ _ _ _ refl is.3)
+
 unsigned_spells : (E : List ℕ) (s : Saying) → IsUnsigned E s → Spells (codes "ulinear16:" ++ E) s
 unsigned_spells E s is = subst (Spells (codes "ulinear16:" ++ E)) (sym is.2) (E, refl, is.1)
 
 spelled_unsigned : (E : List ℕ) (s : Saying) → Spells (codes "ulinear16:" ++ E) s → IsUnsigned E s
 spelled_unsigned E linear11 is = absurd (differ _ _ _ _ refl is)
+spelled_unsigned E (linear11_fixed n) is = absurd (differ _ _ _ _ refl is.1)
 spelled_unsigned E (ulinear16 n) is = (n, subst (λ t. WritesByte t n) (sym (ap (drop 10) is.1)) is.2, refl)
 spelled_unsigned E (slinear16 n) is = absurd (differ _ _ _ _ refl is.1)
 spelled_unsigned E (vout n) is = absurd (differ _ _ _ _ refl is.1)
@@ -43,6 +59,7 @@ signed_spells E s is = subst (Spells (codes "slinear16:" ++ E)) (sym is.2) (E, r
 
 spelled_signed : (E : List ℕ) (s : Saying) → Spells (codes "slinear16:" ++ E) s → IsSigned E s
 spelled_signed E linear11 is = absurd (differ _ _ _ _ refl is)
+spelled_signed E (linear11_fixed n) is = absurd (differ _ _ _ _ refl is.1)
 spelled_signed E (ulinear16 n) is = absurd (differ _ _ _ _ refl is.1)
 spelled_signed E (slinear16 n) is = (n, subst (λ t. WritesByte t n) (sym (ap (drop 10) is.1)) is.2, refl)
 spelled_signed E (vout n) is = absurd (differ _ _ _ _ refl is.1)
@@ -53,6 +70,7 @@ vout_spells HH s is = subst (Spells (codes "vout:" ++ HH)) (sym is.2) (HH, refl,
 
 spelled_vout : (HH : List ℕ) (s : Saying) → Spells (codes "vout:" ++ HH) s → IsVout HH s
 spelled_vout HH linear11 is = absurd (differ _ _ _ _ refl is)
+spelled_vout HH (linear11_fixed n) is = absurd (differ _ _ _ _ refl is.1)
 spelled_vout HH (ulinear16 n) is = absurd (differ _ _ _ _ refl is.1)
 spelled_vout HH (slinear16 n) is = absurd (differ _ _ _ _ refl is.1)
 spelled_vout HH (vout n) is = (n, subst (λ t. WritesMode t n) (sym (ap (drop 5) is.1)) is.2, refl)
@@ -65,6 +83,7 @@ direct_spells numbers s d =
 
 spelled_direct : (numbers : List ℕ) (s : Saying) → Spells (codes "direct:" ++ numbers) s → IsDirect numbers s
 spelled_direct numbers linear11 is = absurd (differ _ _ _ _ refl is)
+spelled_direct numbers (linear11_fixed n) is = absurd (differ _ _ _ _ refl is.1)
 spelled_direct numbers (ulinear16 n) is = absurd (differ _ _ _ _ refl is.1)
 spelled_direct numbers (slinear16 n) is = absurd (differ _ _ _ _ refl is.1)
 spelled_direct numbers (vout n) is = absurd (differ _ _ _ _ refl is.1)
@@ -84,6 +103,10 @@ spelled_direct numbers (direct m b r) is = record {
 
 -- ---- the answers to a text of a kind
 
+pub names_fixed : (text E : List ℕ) (answer : Result NamedFormat FormatFault) → text ≡ codes "linear11:" ++ E → Answers (IsFixed E) answer → Names text answer
+names_fixed text E answer is answers =
+    subst (λ t. Names t answer) (sym is) (answers_too (IsFixed E) (Spells (codes "linear11:" ++ E)) answer (fixed_spells E) (spelled_fixed E) answers)
+
 pub names_unsigned : (text E : List ℕ) (answer : Result NamedFormat FormatFault) → text ≡ codes "ulinear16:" ++ E → Answers (IsUnsigned E) answer → Names text answer
 names_unsigned text E answer is answers =
     subst (λ t. Names t answer) (sym is) (answers_too (IsUnsigned E) (Spells (codes "ulinear16:" ++ E)) answer (unsigned_spells E) (spelled_unsigned E) answers)
@@ -99,18 +122,6 @@ names_vout text HH answer is answers =
 pub names_direct : (text numbers : List ℕ) (answer : Result NamedFormat FormatFault) → text ≡ codes "direct:" ++ numbers → Answers (IsDirect numbers) answer → Names text answer
 names_direct text numbers answer is answers =
     subst (λ t. Names t answer) (sym is) (answers_too (IsDirect numbers) (Spells (codes "direct:" ++ numbers)) answer (direct_spells numbers) (spelled_direct numbers) answers)
-
--- a text of no kind says nothing
-pub names_nothing : (text : List ℕ) → text ≢ codes "linear11" → ((t : List ℕ) → text ≢ codes "ulinear16:" ++ t) → ((t : List ℕ) → text ≢ codes "slinear16:" ++ t)
-    → ((t : List ℕ) → text ≢ codes "vout:" ++ t) → ((t : List ℕ) → text ≢ codes "direct:" ++ t) → Names text (Err BadFormat)
-names_nothing text no_1 no_2 no_3 no_4 no_5 = other none refl
-  where
-    none : (s : Saying) → ¬ (Spells text s)
-    none linear11 is = no_1 is
-    none (ulinear16 n) is = no_2 is.0 is.1
-    none (slinear16 n) is = no_3 is.0 is.1
-    none (vout n) is = no_4 is.0 is.1
-    none (direct m b r) is = no_5 (comma is.0 (comma is.1 is.2)) (is.3 ∙ direct_text is.0 is.1 is.2)
 
 -- ---- three numbers round two commas
 
@@ -195,10 +206,14 @@ one_saying text linear11 b is too = by b (subst (λ t. Spells t b) is too)
   where
     by : (b : Saying) → Spells (codes "linear11") b → linear11 ≡ b
     by linear11 o = refl
+    by (linear11_fixed n) o = absurd (no_colon o.0 o.1)
     by (ulinear16 n) o = absurd (differ _ _ _ _ refl o.1)
     by (slinear16 n) o = absurd (differ _ _ _ _ refl o.1)
     by (vout n) o = absurd (differ _ _ _ _ refl o.1)
     by (direct m b r) o = absurd (differ _ _ _ _ refl o.3)
+one_saying text (linear11_fixed n) b is too =
+    let o = spelled_fixed is.0 b (subst (λ t. Spells t b) is.1 too) in
+    ap linear11_fixed (one_number is.0 n o.0 is.2.writes o.1.writes) ∙ sym o.2
 one_saying text (ulinear16 n) b is too =
     let o = spelled_unsigned is.0 b (subst (λ t. Spells t b) is.1 too) in
     ap ulinear16 (one_number is.0 n o.0 is.2.writes o.1.writes) ∙ sym o.2

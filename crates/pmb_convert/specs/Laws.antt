@@ -5,12 +5,13 @@ use Rattle.pmb_value.specs.Linear.{IsExponent}
 use Rattle.pmb_value.specs.declared.vout.VoutFormat.TheVariants.{Unsigned, Signed, Direct}
 use Rattle.pmb_convert.specs.declared.conversion.Conversion.{Conversion}
 use Rattle.pmb_convert.specs.declared.named_format.NamedFormat.{NamedFormat}
-use Rattle.pmb_convert.specs.declared.named_format.NamedFormat.TheVariants.{Linear11, Word}
+use Rattle.pmb_convert.specs.declared.named_format.NamedFormat.TheVariants.{Linear11, Linear11Fixed, Word}
 use Rattle.pmb_convert.specs.Lines.{AnswersEnded, AnswersInput}
 
 -- the numbers that a format's type allows
 abbrev pub IsFormat : NamedFormat → Type 0
 IsFormat Linear11 = Unit {0}
+IsFormat (Linear11Fixed exponent) = IsExponent exponent
 IsFormat (Word (Unsigned exponent)) = IsExponent exponent
 IsFormat (Word (Signed exponent)) = IsExponent exponent
 IsFormat (Word (Direct d)) = (d.m ≢ pos 0) × (negsuc 8 ≤ℤ d.r) × (d.r ≤ℤ pos 9)

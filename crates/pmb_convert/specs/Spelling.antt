@@ -11,12 +11,13 @@ use Rattle.pmb_value.specs.declared.vout.VoutFormat.TheVariants.{Unsigned, Signe
 use Rattle.pmb_convert.specs.declared.format_fault.FormatFault.{FormatFault}
 use Rattle.pmb_convert.specs.declared.format_fault.FormatFault.TheVariants.{BadFormat, BadExponent, ZeroSlope, BadScale, Relative, Vid, Ieee, NoCoefficients}
 use Rattle.pmb_convert.specs.declared.named_format.NamedFormat.{NamedFormat}
-use Rattle.pmb_convert.specs.declared.named_format.NamedFormat.TheVariants.{Linear11, Word}
+use Rattle.pmb_convert.specs.declared.named_format.NamedFormat.TheVariants.{Linear11, Linear11Fixed, Word}
 
 -- ---- what a FORMAT says: a kind, and its numbers
 
 pub data Saying : Type 0 where
   linear11 : Saying
+  linear11_fixed : ℤ → Saying
   ulinear16 : ℤ → Saying
   slinear16 : ℤ → Saying
   vout : ℕ → Saying
@@ -53,6 +54,7 @@ pub record WritesMode (text : List ℕ) (mode : ℕ) : Type 0 where
 -- which texts spell it
 abbrev pub Spells : List ℕ → Saying → Type 0
 Spells text linear11 = text ≡ codes "linear11"
+Spells text (linear11_fixed exponent) = (E : List ℕ) × (text ≡ codes "linear11:" ++ E) × WritesByte E exponent
 Spells text (ulinear16 exponent) = (E : List ℕ) × (text ≡ codes "ulinear16:" ++ E) × WritesByte E exponent
 Spells text (slinear16 exponent) = (E : List ℕ) × (text ≡ codes "slinear16:" ++ E) × WritesByte E exponent
 Spells text (vout mode) = (HH : List ℕ) × (text ≡ codes "vout:" ++ HH) × WritesMode HH mode
@@ -67,9 +69,9 @@ abbrev pub is_from_to : ℕ → ℕ → ℤ → Bool
 is_from_to least most (pos n) = nat_lt n (most + 1)
 is_from_to least most (negsuc n) = nat_lt n least
 
--- a linear format, whose exponents are from -16 to 15
-abbrev pub linear_of : (ℤ → VoutFormat) → ℤ → Result NamedFormat FormatFault
-linear_of made exponent = if is_from_to 16 15 exponent then Ok (Word (made exponent)) else Err BadExponent
+-- a linear format of an exponent, which is from -16 to 15
+abbrev pub linear_of : (ℤ → NamedFormat) → ℤ → Result NamedFormat FormatFault
+linear_of made exponent = if is_from_to 16 15 exponent then Ok (made exponent) else Err BadExponent
 
 -- what is wrong with a VOUT_MODE
 abbrev pub mode_fault : ModeFault → FormatFault
@@ -99,8 +101,9 @@ direct_of m b r =
 
 abbrev pub said : Saying → Result NamedFormat FormatFault
 said linear11 = Ok Linear11
-said (ulinear16 exponent) = linear_of Unsigned exponent
-said (slinear16 exponent) = linear_of Signed exponent
+said (linear11_fixed exponent) = linear_of Linear11Fixed exponent
+said (ulinear16 exponent) = linear_of (λ e. Word (Unsigned e)) exponent
+said (slinear16 exponent) = linear_of (λ e. Word (Signed e)) exponent
 said (vout mode) = vout_of mode
 said (direct m b r) = direct_of m b r
 

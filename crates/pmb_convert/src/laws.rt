@@ -9,8 +9,8 @@ ghost use Rattle.pmb_convert.specs.Spelling.{Names, Saying, Spells};
 
 use pmb_quantity::laws::lowest_terms;
 use pmb_value::laws::{
-    direct_has_one_nearest, linear11_has_one_nearest, slinear16_has_one_nearest,
-    ulinear16_has_one_nearest,
+    direct_has_one_nearest, linear11_fixed_has_codes, linear11_fixed_has_one_nearest,
+    linear11_has_one_nearest, slinear16_has_one_nearest, ulinear16_has_one_nearest,
 };
 
 /// A text spells at most one FORMAT, so that it names one format or has one fault. The format's
@@ -28,6 +28,8 @@ pub fn one_text()
 {
     lowest_terms();
     linear11_has_one_nearest();
+    linear11_fixed_has_one_nearest();
+    linear11_fixed_has_codes();
     ulinear16_has_one_nearest();
     slinear16_has_one_nearest();
     direct_has_one_nearest();

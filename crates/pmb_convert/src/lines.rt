@@ -55,6 +55,9 @@ pub fn encode_lines<R: Source, W: Sink>(
     ensures too_many { result ≡ Err ToolFault.TooManyReads → R.reads reader.new ≡ raised (R.reads reader.old) most_reads }
     ensures not_ended { result ≡ Err ToolFault.TooManyReads → R.has_ended reader.new ≡ R.has_ended reader.old }
 
+    // A reader that ended in this call is not read again, so that no failed read is behind its end.
+    ensures read_not_ended { result ≡ Err ToolFault.Read → R.has_ended reader.new ≡ R.has_ended reader.old }
+
     // What was written before reading failed, or before too many reads, is the answers to the lines
     // that had ended.
     ensures before { (result ≡ Err ToolFault.Read) ⊎ (result ≡ Err ToolFault.TooManyReads)
@@ -111,6 +114,9 @@ pub fn decode_lines<R: Source, W: Sink>(
     ensures too_many { result ≡ Err ToolFault.TooManyReads → R.reads reader.new ≡ raised (R.reads reader.old) most_reads }
     ensures not_ended { result ≡ Err ToolFault.TooManyReads → R.has_ended reader.new ≡ R.has_ended reader.old }
 
+    // A reader that ended in this call is not read again, so that no failed read is behind its end.
+    ensures read_not_ended { result ≡ Err ToolFault.Read → R.has_ended reader.new ≡ R.has_ended reader.old }
+
     // What was written before reading failed, or before too many reads, is the answers to the lines
     // that had ended.
     ensures before { (result ≡ Err ToolFault.Read) ⊎ (result ≡ Err ToolFault.TooManyReads)
@@ -158,6 +164,9 @@ pub fn convert_lines<R: Source, W: Sink>(
     ensures reads { MadeReads (R.reads reader.old) (R.reads reader.new) }
     ensures too_many { result ≡ Err ToolFault.TooManyReads → R.reads reader.new ≡ raised (R.reads reader.old) most_reads }
     ensures not_ended { result ≡ Err ToolFault.TooManyReads → R.has_ended reader.new ≡ R.has_ended reader.old }
+
+    // A reader that ended in this call is not read again, so that no failed read is behind its end.
+    ensures read_not_ended { result ≡ Err ToolFault.Read → R.has_ended reader.new ≡ R.has_ended reader.old }
 
     // What was written before reading failed, or before too many reads, is the answers to the lines
     // that had ended.

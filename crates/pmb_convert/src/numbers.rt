@@ -2,15 +2,28 @@
 
 ghost use Rattle.std.specs.Prelude.{◌≡◌};
 ghost use Rattle.pmb_value.specs.declared.vout.VoutFormat.TheVariants.{Unsigned, Signed};
+ghost use Rattle.pmb_convert.specs.declared.named_format.NamedFormat.TheVariants.{Word};
 ghost use Rattle.pmb_convert.specs.Spelling.{direct_of, linear_of, vout_of};
 
 use crate::format_fault::FormatFault;
 use crate::named_format::NamedFormat;
-use pmb_value::{Direct, DirectFault, ModeFault, Slinear16, Ulinear16, VoutFormat, vout_format};
+use pmb_value::{
+    Direct, DirectFault, Linear11Fixed, ModeFault, Slinear16, Ulinear16, VoutFormat, vout_format,
+};
+
+/// LINEAR11 with one exponent.
+pub(crate) fn fixed(exponent: i8) -> Result<NamedFormat, FormatFault>
+    ensures { result ≡ linear_of (λ e. NamedFormat.Linear11Fixed e) exponent }
+{
+    match Linear11Fixed::new(exponent) {
+        Ok(format) => Ok(NamedFormat::Linear11Fixed(format)),
+        Err(_) => Err(FormatFault::BadExponent),
+    }
+}
 
 /// ULINEAR16 with an exponent.
 pub(crate) fn unsigned(exponent: i8) -> Result<NamedFormat, FormatFault>
-    ensures { result ≡ linear_of Unsigned exponent }
+    ensures { result ≡ linear_of (λ e. Word (Unsigned e)) exponent }
 {
     match Ulinear16::new(exponent) {
         Ok(format) => Ok(NamedFormat::Word(VoutFormat::Unsigned(format))),
@@ -20,7 +33,7 @@ pub(crate) fn unsigned(exponent: i8) -> Result<NamedFormat, FormatFault>
 
 /// SLINEAR16 with an exponent.
 pub(crate) fn signed(exponent: i8) -> Result<NamedFormat, FormatFault>
-    ensures { result ≡ linear_of Signed exponent }
+    ensures { result ≡ linear_of (λ e. Word (Signed e)) exponent }
 {
     match Slinear16::new(exponent) {
         Ok(format) => Ok(NamedFormat::Word(VoutFormat::Signed(format))),

@@ -2,17 +2,27 @@
 
 ghost use Rattle.std.specs.Int.{w8, w16};
 ghost use Rattle.pmb_convert.specs.Spelling.{Answers};
-ghost use Rattle.pmb_convert.specs.machine.Parts.{IsDirect, IsSigned, IsUnsigned, IsVout, ReadsInteger, ReadsMode, SplitsAtComma, StripsPrefix};
+ghost use Rattle.pmb_convert.specs.machine.Parts.{IsDirect, IsFixed, IsSigned, IsUnsigned, IsVout, ReadsInteger, ReadsMode, SplitsAtComma, StripsPrefix};
 
 use crate::format_fault::FormatFault;
 use crate::named_format::NamedFormat;
-use crate::numbers::{of_coefficients, of_mode, signed, unsigned};
+use crate::numbers::{fixed, of_coefficients, of_mode, signed, unsigned};
 
 /// What follows a prefix.
 pub(crate) fn without_prefix<'a>(text: &'a str, prefix: &str) -> Option<&'a str>
     ensures { StripsPrefix prefix.now text.now result }
 {
     text.strip_prefix(prefix)
+}
+
+/// LINEAR11 with the one exponent that a text writes.
+pub(crate) fn linear11_fixed(exponent: &str) -> Result<NamedFormat, FormatFault>
+    ensures { Answers (IsFixed exponent.now) result }
+{
+    match small_integer(exponent) {
+        Some(exponent) => fixed(exponent),
+        None => Err(FormatFault::BadFormat),
+    }
 }
 
 /// ULINEAR16 with the exponent that a text writes.

@@ -8,3 +8,4 @@ pub mod DigitLemmas
 pub mod ReadingLemmas
 pub mod RoundTrip
 pub mod Shortest
+pub mod Places

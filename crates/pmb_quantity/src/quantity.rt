@@ -119,8 +119,24 @@ impl Quantity {
     }
 }
 
-/// The greatest common divisor.
+/// The greatest common divisor. Numbers of 64 bits are divided as such, which is several times as
+/// fast.
 pub(crate) fn gcd(mut a: u128, mut b: u128) -> u128
+    ensures { result ≡ gcd a b }
+{
+    while b > u128::from(u64::MAX) {
+        let rest = a % b;
+        a = b;
+        b = rest;
+    }
+    if b == 0 {
+        return a;
+    }
+    u128::from(gcd_of_words(b as u64, (a % b) as u64))
+}
+
+/// The greatest common divisor of numbers of 64 bits.
+fn gcd_of_words(mut a: u64, mut b: u64) -> u64
     ensures { result ≡ gcd a b }
 {
     while b != 0 {

@@ -55,12 +55,29 @@ fn push_magnitude(text: &mut QuantityText, numerator: u64, denominator: u64)
     }
 }
 
-/// The fewest digits after a point, up to 24, that write a fraction of this denominator.
+/// The fewest digits after a point, up to 24, that write a fraction of this denominator. A power of
+/// two, as the denominators of the linear formats are, needs a digit for each factor.
 fn places_of(denominator: u64) -> Option<u32>
     requires { 0 < denominator }
     ensures value { result ≡ places_of denominator }
     ensures few { IfSome result (λ places. places ≤ 24) }
 {
+    let halvings = denominator.trailing_zeros();
+    if halvings <= PLACES && denominator == 1 << halvings {
+        return Some(halvings);
+    }
+    places_by_trial(denominator)
+}
+
+/// The same for any denominator: none, where 24 digits don't do, or the first number that does.
+fn places_by_trial(denominator: u64) -> Option<u32>
+    requires { 0 < denominator }
+    ensures value { result ≡ places_of denominator }
+    ensures few { IfSome result (λ places. places ≤ 24) }
+{
+    if power_of_ten(PLACES) % u128::from(denominator) != 0 {
+        return None;
+    }
     for places in 0..PLACES + 1 {
         if power_of_ten(places) % u128::from(denominator) == 0 {
             return Some(places);
@@ -100,7 +117,10 @@ fn push_after_point(text: &mut QuantityText, places: u32, number: u128)
 {
     if places > 0 {
         push_ascii(text, b'.');
-        push_padded(text, places, number);
+        match u64::try_from(number) {
+            Ok(number) => push_padded_word(text, places, number),
+            Err(_) => push_padded(text, places, number),
+        }
     }
 }
 
@@ -111,6 +131,17 @@ fn push_padded(text: &mut QuantityText, places: u32, number: u128)
 {
     if places > 0 {
         push_padded(text, places - 1, number / 10);
+        push_ascii(text, b'0' + (number % 10) as u8);
+    }
+}
+
+/// The same of a number of 64 bits, whose digits are told much faster.
+fn push_padded_word(text: &mut QuantityText, places: u32, number: u64)
+    requires { array_string_len text.old + places ≤ 45 }
+    ensures { text.new.bytes ≡ text.old.bytes ++ padded places number }
+{
+    if places > 0 {
+        push_padded_word(text, places - 1, number / 10);
         push_ascii(text, b'0' + (number % 10) as u8);
     }
 }

@@ -1,4 +1,3 @@
-pub mod Best
 pub mod Nearest
 pub mod Scaling
 pub mod Words
@@ -6,5 +5,16 @@ pub mod DirectLemmas
 pub mod Linear11Lemmas
 pub mod LawLemmas
 pub mod OneNearest
-pub mod OneDirect
 pub mod OneLinear11
+pub mod Products
+pub mod Neighbours
+pub mod Rounded
+pub mod Rows
+pub mod EvenFormats
+pub mod Range
+pub mod Linear11Ends
+pub mod Linear11Gap
+pub mod Linear11Codes
+pub mod Linear11Nearest
+pub mod StepLemmas
+pub mod FixedExponent

@@ -5,27 +5,15 @@ use Rattle.std.proofs.lemmas.Bool.{cases_lt, cases_eq}
 use Rattle.std.proofs.lemmas.Nat.{pow_pos, div-mul-add, mod-mul-add}
 use Rattle.std.proofs.Math.IntN.{zero-*ℤ, -ℤ-+ℤ_cancel}
 use Rattle.pmb_value.specs.Coding.{IsWord}
-use Rattle.pmb_value.specs.machine.Spaced.{IsSpaced}
-use Rattle.pmb_value.specs.Linear.{twos_complement, power, exponent, mantissa, linear11_numerator, IsCanonicalLinear11, linear11}
-use Rattle.pmb_value.specs.machine.LeastExponent.{IsLeastExponent}
+use Rattle.pmb_value.specs.Linear.{twos_complement, power, exponent, mantissa, linear11_numerator, IsCanonicalLinear11}
+use Rattle.pmb_value.specs.machine.Fields.{IsMantissa, Holds}
 use Rattle.pmb_quantity.proofs.Scaling.{scale_lt, unscale_lt, unscale_eq}
 use Rattle.pmb_value.proofs.Scaling.{power_splits, two_or_more, grows_up, grows_down}
-use Rattle.pmb_value.proofs.Words.{complement_low, complement_high, words_are_words, words_have_code}
+use Rattle.pmb_value.proofs.Words.{complement_low, complement_high}
 
 -- the exponent over -16
 abbrev pub steps : ℕ → ℕ
 steps code = unsigned_abs (exponent code +ℤ pos 16)
-
--- a mantissa in range
-abbrev pub IsMantissa : ℤ → Type 0
-IsMantissa y = (negsuc 1023 ≤ℤ y) × (y ≤ℤ pos 1023)
-
--- what the two fields of a code hold
-pub record Holds (code : ℕ) (y : ℤ) (b : ℕ) : Type 0 where
-  pub is_code : IsWord code
-  pub mantissa_is : mantissa code ≡ y
-  pub exponent_is : exponent code ≡ pos b -ℤ pos 16
-  pub value_is : linear11_numerator code ≡ y *ℤ pos (2 ^ b)
 
 -- both fields are in range
 field_11 : (f : ℕ) → f < 2048 → IsMantissa (twos_complement 11 f)
@@ -71,23 +59,45 @@ exponent_field b fits =
       | inr high ↦ let is = complement_low 5 (b - 16) (omega arith) in (b - 16, omega arith, omega (arith, ints))
     ]
 
+mantissa_at : (index : ℕ) → index < 2048 → twos_complement 11 ((index + 1024) % 2048) ≡ negsuc 1023 +ℤ pos index
+mantissa_at index fits =
+    elim (cases_lt index 1024) [
+      | inl low ↦ let is = complement_high 11 ((index + 1024) % 2048) (omega arith) in omega (arith, ints, is)
+      | inr high ↦ let is = complement_low 11 ((index + 1024) % 2048) (omega arith) in omega (arith, ints, is)
+    ]
+
+exponent_at : (b : ℕ) → b ≤ 31 → twos_complement 5 ((b + 16) % 32) ≡ pos b -ℤ pos 16
+exponent_at b fits =
+    elim (cases_lt b 16) [
+      | inl low ↦ let is = complement_high 5 ((b + 16) % 32) (omega arith) in omega (arith, ints, is)
+      | inr high ↦ let is = complement_low 5 ((b + 16) % 32) (omega arith) in omega (arith, ints, is)
+    ]
+
+-- the code of two fields
+pub holds_fields : (y : ℤ) (b high low : ℕ) → low < 2048 → high < 32 → twos_complement 11 low ≡ y → twos_complement 5 high ≡ pos b -ℤ pos 16 → Holds (high * 2048 + low) y b
+holds_fields y b high low low_fits high_fits low_is high_is =
+    let code = high * 2048 + low in
+    let mantissa_is : mantissa code ≡ y = ap (twos_complement 11) (mod-mul-add high 2048 low low_fits) ∙ low_is in
+    let exponent_is : exponent code ≡ pos b -ℤ pos 16 = ap (twos_complement 5) (div-mul-add high 2048 low low_fits) ∙ high_is in
+    let power_is : power (exponent code) ≡ 2 ^ b = ap power exponent_is ∙ ap (λ z. 2 ^ unsigned_abs z) (-ℤ-+ℤ_cancel (pos b) (pos 16)) in
+    record {
+      is_code = omega (arith, low_fits, high_fits);
+      mantissa_is = mantissa_is;
+      exponent_is = exponent_is;
+      value_is = ap (λ z. z *ℤ pos (power (exponent code))) mantissa_is ∙ ap (λ p. y *ℤ pos p) power_is;
+    }
+
 -- the code of a mantissa and an exponent
 pub code_of : (y : ℤ) (b : ℕ) → IsMantissa y → b ≤ 31 → (code : ℕ) × Holds code y b
 code_of y b y_fits b_fits =
     let low = mantissa_field y y_fits in
     let high = exponent_field b b_fits in
-    let code = high.0 * 2048 + low.0 in
-    let mantissa_is : mantissa code ≡ y = ap (twos_complement 11) (mod-mul-add high.0 2048 low.0 low.1) ∙ low.2 in
-    let exponent_is : exponent code ≡ pos b -ℤ pos 16 = ap (twos_complement 5) (div-mul-add high.0 2048 low.0 low.1) ∙ high.2 in
-    let power_is : power (exponent code) ≡ 2 ^ b = ap power exponent_is ∙ ap (λ z. 2 ^ unsigned_abs z) (-ℤ-+ℤ_cancel (pos b) (pos 16)) in (
-      code,
-      record {
-        is_code = omega (arith, low.1, high.1);
-        mantissa_is = mantissa_is;
-        exponent_is = exponent_is;
-        value_is = ap (λ z. z *ℤ pos (power (exponent code))) mantissa_is ∙ ap (λ p. y *ℤ pos p) power_is;
-      },
-    )
+    (high.0 * 2048 + low.0, holds_fields y b high.0 low.0 low.1 high.1 low.2 high.2)
+
+-- .. and of the mantissa index - 1024
+pub holds_word : (index b : ℕ) → index < 2048 → b ≤ 31 → Holds ((b + 16) % 32 * 2048 + (index + 1024) % 2048) (negsuc 1023 +ℤ pos index) b
+holds_word index b index_fits b_fits =
+    holds_fields (negsuc 1023 +ℤ pos index) b ((b + 16) % 32) ((index + 1024) % 2048) (omega arith) (omega arith) (mantissa_at index index_fits) (exponent_at b b_fits)
 
 -- the value is 0 only where the mantissa is
 zero_mantissa : (y : ℤ) (b : ℕ) → y *ℤ pos (2 ^ b) ≡ pos 0 → y ≡ pos 0
@@ -337,29 +347,3 @@ between c k c_code k_code c_canonical k_canonical parity less =
     let low = form_of c c_code c_canonical in
     let high = form_of k k_code k_canonical in
     middle_of_forms (linear11_numerator c) (linear11_numerator k) low.0 high.0 low.1 high.1 low.2 high.2 low.3 high.3 (low.4 ∙ parity ∙ sym high.4) less
-
-pub IsSpaced-linear11 : IsSpaced linear11
-IsSpaced-linear11 = record {
-  positive = omega arith;
-  words = words_are_words linear11_numerator (2 ^ 16) IsCanonicalLinear11;
-  some_code = words_have_code linear11_numerator (2 ^ 16) IsCanonicalLinear11;
-  canonical_code = λ k code. let c = canonical_code k code in (c.0, (c.1, c.2), c.3);
-  between = λ c k c_written k_written c_odd k_odd. between c k c_written.0 k_written.0 c_written.1 k_written.1 (c_odd ∙ sym k_odd);
-}
-
--- the test that the code makes
-to_least : (k : ℕ) → IsWord k → IsLeastExponent (exponent k) (mantissa k) → IsLeast (mantissa k) (steps k)
-to_least k code (inl least) = let is = holds_itself k code in inl (omega (arith, ints, is.exponent_is))
-to_least k code (inr large) = inr large
-
-from_least : (k : ℕ) → IsWord k → IsLeast (mantissa k) (steps k) → IsLeastExponent (exponent k) (mantissa k)
-from_least k code (inl none) = let is = holds_itself k code in inl (omega (arith, ints, is.exponent_is))
-from_least k code (inr large) = inr large
-
-pub canonical_by_test : (k : ℕ) → IsWord k → mantissa k ≢ pos 0 → IsLeastExponent (exponent k) (mantissa k) → IsCanonicalLinear11 k
-canonical_by_test k code some least = least_is_canonical k (mantissa k) (steps k) (holds_itself k code) some (to_least k code least)
-
-pub test_of_canonical : (k : ℕ) → IsWord k → k ≢ 0 → IsCanonicalLinear11 k → (mantissa k ≢ pos 0) × IsLeastExponent (exponent k) (mantissa k)
-test_of_canonical k code some canonical =
-    let is = canonical_is_least k (mantissa k) (steps k) (holds_itself k code) (steps_fit k code) canonical some in
-    (is.0, from_least k code is.1)

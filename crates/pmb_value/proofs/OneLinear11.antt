@@ -7,7 +7,7 @@ use Rattle.pmb_value.specs.Coding.{IsWord}
 use Rattle.pmb_value.specs.Linear.{twos_complement, exponent, mantissa, linear11_numerator, IsCanonicalLinear11, linear11}
 use Rattle.pmb_quantity.proofs.Scaling.{unscale_eq}
 use Rattle.pmb_value.proofs.Words.{complement_low, complement_high}
-use Rattle.pmb_value.proofs.Linear11Lemmas.{steps, zero_value, between}
+use Rattle.pmb_value.proofs.Linear11Lemmas.{steps, zero_value, canonical_code, between}
 use Rattle.pmb_value.proofs.OneNearest.{IsSeparated}
 
 -- two fields of one number are one
@@ -56,5 +56,6 @@ one_code a b a_code b_code a_canonical b_canonical same =
 pub IsSeparated-linear11 : IsSeparated linear11
 IsSeparated-linear11 = record {
   one_code = one_code;
-  between = λ a b a_code b_code a_canonical b_canonical a_even b_even. between a b a_code b_code a_canonical b_canonical (a_even ∙ sym b_even);
+  canonical_codes = canonical_code;
+  between = between;
 }

@@ -1,13 +1,8 @@
 -- DIRECT (PMBus Part II revision 1.3, section 7.4): X = (Y * 10^-R - b) / m.
 use Rattle.std.specs.Prelude.{ℕ, zero, suc, ◌*◌, ◌^◌, ℤ, pos, negsuc, ◌-ℤ◌, ◌*ℤ◌, unsigned_abs, neg_ℤ}
+pub use Rattle.pmb_coefficients.specs.Coefficients.{Coefficients}
 use Rattle.pmb_value.specs.Coding.{Coding, IsWord}
 use Rattle.pmb_value.specs.Linear.{twos_complement, IsAnyCode}
-
--- the coefficients m, b and R of a device
-pub record Coefficients : Type 0 where
-  pub m : ℤ
-  pub b : ℤ
-  pub r : ℤ
 
 -- z, or 0 where it is negative
 abbrev pub positive_part : ℤ → ℕ

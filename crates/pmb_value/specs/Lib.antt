@@ -7,4 +7,5 @@ pub mod Linear
 pub mod Direct
 pub mod Vout
 pub mod Laws
+pub mod Steps
 pub mod machine

@@ -1,14 +1,11 @@
 -- LINEAR11 (PMBus Part II revision 1.3, section 7) and the linear formats of VOUT (section 8).
-use Rattle.std.specs.Prelude.{◌≡◌, ◌≢◌, ℕ, ◌/◌, ◌-◌, ◌%◌, ◌^◌, ℤ, pos, negsuc, ◌+ℤ◌, ◌-ℤ◌, ◌*ℤ◌, ◌≤ℤ◌, unsigned_abs, nat_lt, if◌then◌else◌}
+use Rattle.std.specs.Prelude.{◌≡◌, ◌≢◌, ℕ, ◌/◌, ◌-◌, ◌%◌, ◌^◌, ℤ, pos, ◌+ℤ◌, ◌-ℤ◌, ◌*ℤ◌, ◌≤ℤ◌, unsigned_abs, nat_lt, if◌then◌else◌}
 use Rattle.pmb_value.specs.Coding.{Coding, IsWord}
+pub use Rattle.pmb_coefficients.specs.Exponent.{IsExponent}
 
 -- a field of so many bits, read as a two's complement number
 unfoldable pub twos_complement : ℕ → ℕ → ℤ
 twos_complement bits field = if nat_lt field (2 ^ (bits - 1)) then pos field else pos field -ℤ pos (2 ^ bits)
-
--- an exponent of five bits in two's complement
-abbrev pub IsExponent : ℤ → Type 0
-IsExponent exponent = (negsuc 15 ≤ℤ exponent) × (exponent ≤ℤ pos 15)
 
 -- 2^exponent, over 2^16: no exponent is below -16
 abbrev pub power : ℤ → ℕ
@@ -37,6 +34,16 @@ linear11 = record { IsCode = IsWord; numerator = linear11_numerator; denominator
 -- every code is canonical
 abbrev pub IsAnyCode : ℕ → Type 0
 IsAnyCode _ = Unit {0}
+
+-- LINEAR11 with one exponent: the words with that exponent. Each is canonical, zero's too. Any other
+-- word has LINEAR11's value, and is no code.
+abbrev pub linear11_fixed : ℤ → Coding
+linear11_fixed fixed = record {
+  IsCode = λ code. IsWord code × (exponent code ≡ fixed);
+  numerator = linear11_numerator;
+  denominator = 2 ^ 16;
+  IsCanonical = IsAnyCode;
+}
 
 -- the number of a word * 2^exponent, over 2^16
 abbrev pub linear16 : (ℕ → ℤ) → ℤ → Coding

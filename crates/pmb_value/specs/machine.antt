@@ -1,4 +1,5 @@
 -- What private parts of the code say. No public contract is understood by these.
-pub mod Candidate
-pub mod LeastExponent
-pub mod Spaced
+pub mod Fields
+pub mod Rounding
+pub mod Row
+pub mod Written

@@ -1,11 +1,14 @@
 //! The values of a format's codes as whole numbers over one denominator.
-ghost use Rattle.std.specs.Prelude.{◌≡◌, ◌↔◌, ◌^◌, ◌<◌, unsigned_abs, IsTrue};
-ghost use Rattle.pmb_value.specs.Coding.{Coding, value_of};
-ghost use Rattle.pmb_value.specs.machine.Spaced.{IsSpaced, IsWritten};
+ghost use Rattle.std.specs.Prelude.{◌≡◌, ◌↔◌, ◌^◌, ◌<◌, unsigned_abs, ◌-ℤ◌, IsNone, MatchBool};
+ghost use Rattle.pmb_value.specs.Coding.{Coding, value_of, scaled, scaled_code, distance, IsInRange, IsBelow, IsAbove, ReachesSome, IsReachedBySome};
+ghost use Rattle.pmb_value.specs.machine.Row.{IsLeast, IsGreatest};
+ghost use Rattle.pmb_value.specs.machine.Written.{HasCode};
+ghost use Rattle.pmb_value.specs.declared.format.RangeFault.TheVariants.{Below, Above};
 
+use crate::format::RangeFault;
 use pmb_quantity::Quantity;
 
-/// What the encoder asks of a format.
+/// What an encoder asks of a format.
 pub(crate) trait Codes {
     /// The values of its codes, and which code is written for each.
     ghost coding: { Self → Coding };
@@ -19,15 +22,15 @@ pub(crate) trait Codes {
     fn denominator(&self) -> u64
         ensures value { result ≡ (coding self.now).denominator }
         ensures small { result < 2 ^ 62 }
-        ensures spaced { IsSpaced (coding self.now) };
+        ensures positive { 0 < (coding self.now).denominator };
 
-    /// Whether a word is a code.
-    fn is_code(&self, code: u16) -> bool
-        ensures { IsTrue result ↔ (coding self.now).IsCode code };
+    /// A code of the least value.
+    fn least(&self) -> u16
+        ensures { IsLeast (coding self.now) result };
 
-    /// Whether an encoder writes this code.
-    fn is_written(&self, code: u16) -> bool
-        ensures { IsTrue result ↔ IsWritten (coding self.now) code };
+    /// A code of the greatest value.
+    fn greatest(&self) -> u16
+        ensures { IsGreatest (coding self.now) result };
 }
 
 /// The exact value of a code.
@@ -38,4 +41,62 @@ pub(crate) fn decode<C: Codes>(codes: &C, code: u16) -> Quantity
         Ok(quantity) => quantity,
         Err(_) => unreachable!(),
     }
+}
+
+/// The fault of a quantity that is outside the range.
+pub(crate) fn fault_of<C: Codes>(codes: &C, quantity: &Quantity) -> Option<RangeFault>
+    ensures in_range { IsNone result ↔ IsInRange (C.coding codes.now) quantity.now }
+    ensures below { (result ≡ Some Below) ↔ IsBelow (C.coding codes.now) quantity.now }
+    ensures above { (result ≡ Some Above) ↔ IsAbove (C.coding codes.now) quantity.now }
+{
+    if is_below(codes, quantity) {
+        Some(RangeFault::Below)
+    } else if is_above(codes, quantity) {
+        Some(RangeFault::Above)
+    } else {
+        None
+    }
+}
+
+/// Whether the quantity is under every value.
+fn is_below<C: Codes>(codes: &C, quantity: &Quantity) -> bool
+    ensures value { MatchBool result (IsBelow (C.coding codes.now) quantity.now)
+        (ReachesSome (C.coding codes.now) quantity.now) }
+    ensures some_code { HasCode (C.coding codes.now) }
+{
+    scaled(codes, quantity) < scaled_code(codes, quantity, codes.least())
+}
+
+/// Whether the quantity is over every value.
+fn is_above<C: Codes>(codes: &C, quantity: &Quantity) -> bool
+    ensures value { MatchBool result (IsAbove (C.coding codes.now) quantity.now)
+        (IsReachedBySome (C.coding codes.now) quantity.now) }
+    ensures some_code { HasCode (C.coding codes.now) }
+{
+    scaled_code(codes, quantity, codes.greatest()) < scaled(codes, quantity)
+}
+
+/// How far a quantity is from a code, times both denominators.
+pub(crate) fn distance<C: Codes>(codes: &C, quantity: &Quantity, code: u16) -> u128
+    ensures value { result ≡ distance (C.coding codes.now) quantity.now code }
+    ensures small { result < 2 ^ 126 }
+{
+    (scaled(codes, quantity) - scaled_code(codes, quantity, code)).unsigned_abs()
+}
+
+/// A quantity, times both denominators.
+pub(crate) fn scaled<C: Codes>(codes: &C, quantity: &Quantity) -> i128
+    ensures value { result ≡ scaled (C.coding codes.now) quantity.now }
+    ensures small { unsigned_abs result < 2 ^ 124 }
+    ensures positive { 0 < quantity.now.denominator }
+{
+    i128::from(quantity.num()) * i128::from(codes.denominator())
+}
+
+/// The value of a code, times both denominators.
+fn scaled_code<C: Codes>(codes: &C, quantity: &Quantity, code: u16) -> i128
+    ensures value { result ≡ scaled_code (C.coding codes.now) quantity.now code }
+    ensures small { unsigned_abs result < 2 ^ 124 }
+{
+    i128::from(quantity.den()) * i128::from(codes.numerator(code))
 }

@@ -1,85 +1,15 @@
 //! The DIRECT format.
-ghost use Rattle.std.specs.Prelude.{◌≡◌, ◌↔◌, ◌≢◌, ◌^◌, ◌*◌, ◌<◌, ◌≤◌, pos, negsuc, ◌*ℤ◌, ◌<ℤ◌, ◌≤ℤ◌, unsigned_abs, IfOk, ◌⊎◌};
+ghost use Rattle.std.specs.Prelude.{◌≡◌, ◌≢◌, ◌^◌, ◌*◌, ◌<◌, ◌≤◌, pos, ◌*ℤ◌, ◌≤ℤ◌, unsigned_abs};
 ghost use Rattle.pmb_value.specs.Direct.{positive_part, sign_of};
 
 use crate::codes::{self, Codes};
+use crate::evenly_spaced::{self, EvenlySpaced};
 use crate::format::{Format, RangeFault};
 use crate::linear::twos_complement;
-use crate::plain;
+use crate::linear16::{SignedWord, Word};
 use crate::steps::Steps;
+use pmb_coefficients::Direct;
 use pmb_quantity::Quantity;
-use std::marker::Model;
-
-/// Why coefficients make no DIRECT format.
-#[derive(Clone, Copy, Debug, PartialEq, Eq)]
-pub enum DirectFault {
-    /// `m` is 0.
-    ZeroSlope,
-    /// `r` is below -9 or above 9.
-    BadScale,
-}
-
-/// The DIRECT format of a device: a word `Y` is worth `(Y * 10^-r - b) / m`.
-#[derive(Clone, Copy, Debug, PartialEq, Eq)]
-pub struct Direct {
-    m: i16,
-    b: i16,
-    r: i8,
-}
-
-impl Model for Direct {
-    ghost use Rattle.std.specs.Prelude.{◌≢◌, pos, negsuc, ◌≤ℤ◌};
-    ghost use Rattle.pmb_value.specs.Direct.{Coefficients};
-
-    ghost Value = { Coefficients };
-
-    ghost view = { λ d. record { m = d.m; b = d.b; r = d.r } };
-
-    ghost invariant = { λ d. (d.m ≢ pos 0) × (negsuc 8 ≤ℤ d.r) × (d.r ≤ℤ pos 9) };
-
-    ghost inverse = { λ d. record { m = d.m; b = d.b; r = d.r } };
-}
-
-impl Direct {
-    ghost use Rattle.pmb_value.specs.Direct.{Coefficients};
-
-    /// The format of these coefficients. `m` must not be 0, which is tested first, and `r` must be
-    /// from -9 to 9.
-    pub fn new(m: i16, b: i16, r: i8) -> Result<Direct, DirectFault>
-        ensures ok { IfOk result (λ d. d ≡ record { m = m; b = b; r = r }) }
-        ensures zero_slope { (result ≡ Err DirectFault.ZeroSlope) ↔ (m ≡ pos 0) }
-        ensures bad_scale { (result ≡ Err DirectFault.BadScale) ↔ ((m ≢ pos 0) × ((r <ℤ negsuc 8) ⊎ (pos 9 <ℤ r))) }
-    {
-        if m == 0 {
-            return Err(DirectFault::ZeroSlope);
-        }
-        if r < -9 || r > 9 {
-            return Err(DirectFault::BadScale);
-        }
-        Ok(Direct { m, b, r })
-    }
-
-    /// The slope.
-    pub const fn m(&self) -> i16
-        ensures { result ≡ self.now.m }
-    {
-        self.m
-    }
-
-    /// The offset.
-    pub const fn b(&self) -> i16
-        ensures { result ≡ self.now.b }
-    {
-        self.b
-    }
-
-    /// The exponent of ten.
-    pub const fn r(&self) -> i8
-        ensures { result ≡ self.now.r }
-    {
-        self.r
-    }
-}
 
 impl Codes for Direct {
     ghost use Rattle.pmb_value.specs.Direct.{direct};
@@ -87,21 +17,35 @@ impl Codes for Direct {
     ghost coding = { direct };
 
     fn numerator(&self, code: u16) -> i64 {
-        let word = times(twos_complement(16, code), ten_to(-self.r));
-        let offset = times(i32::from(self.b), ten_to(self.r));
-        with_sign_of(self.m, word - offset)
+        let word = times(twos_complement(16, code), ten_to(-self.r()));
+        let offset = times(i32::from(self.b()), ten_to(self.r()));
+        with_sign_of(self.m(), word - offset)
     }
 
     fn denominator(&self) -> u64 {
-        u64::from(self.m.unsigned_abs()) * u64::from(ten_to(self.r))
+        u64::from(self.m().unsigned_abs()) * u64::from(ten_to(self.r()))
     }
 
-    fn is_code(&self, _code: u16) -> bool {
-        true
+    fn least(&self) -> u16 {
+        if self.m() < 0 { 0x7fff } else { 0x8000 }
     }
 
-    fn is_written(&self, _code: u16) -> bool {
-        true
+    fn greatest(&self) -> u16 {
+        if self.m() < 0 { 0x8000 } else { 0x7fff }
+    }
+}
+
+impl EvenlySpaced for Direct {
+    ghost use Rattle.pmb_value.specs.machine.Row.{direct_row};
+
+    ghost row = { direct_row };
+
+    fn spacing(&self) -> u64 {
+        u64::from(ten_to(-self.r()))
+    }
+
+    fn code_at(&self, index: u16) -> u16 {
+        SignedWord::at(index)
     }
 }
 
@@ -115,7 +59,11 @@ impl Format for Direct {
     }
 
     fn encode(&self, quantity: &Quantity, steps: &mut Steps) -> Result<u16, RangeFault> {
-        plain::encode(self, quantity, steps)
+        evenly_spaced::encode(self, quantity, steps)
+    }
+
+    fn obeys_laws(&self) {
+        evenly_spaced::obeys_laws(self);
     }
 }
 

@@ -1,13 +1,20 @@
 //! Laws over the definitions that the contracts cite: each is the contract of a function that does
 //! nothing.
-ghost use Rattle.std.specs.Prelude.{◌≢◌, ℤ, pos};
-ghost use Rattle.pmb_value.specs.Direct.{Coefficients, direct};
+ghost use Rattle.std.specs.Prelude.{◌≢◌, ℕ, ℤ, pos};
+ghost use Rattle.pmb_coefficients.specs.Coefficients.{Coefficients};
+ghost use Rattle.pmb_value.specs.Direct.{direct};
 ghost use Rattle.pmb_value.specs.Laws.{HasOneNearest, KeepsValues};
-ghost use Rattle.pmb_value.specs.Linear.{IsExponent, linear11, ulinear16, slinear16};
+ghost use Rattle.pmb_value.specs.Linear.{IsExponent, linear11, linear11_fixed, ulinear16, slinear16};
 
 /// LINEAR11: a code nearest to the value of a code has that value.
 pub fn linear11_keeps_values()
     ensures { KeepsValues linear11 }
+{}
+
+/// LINEAR11 with one exponent, from -16 to 15: a code nearest to the value of a code has that
+/// value.
+pub fn linear11_fixed_keeps_values()
+    ensures { (exponent : ℤ) → IsExponent exponent → KeepsValues (linear11_fixed exponent) }
 {}
 
 /// ULINEAR16, at every exponent from -16 to 15: a code nearest to the value of a code has that
@@ -30,6 +37,16 @@ pub fn direct_keeps_values()
 /// LINEAR11: only one code is nearest to a quantity.
 pub fn linear11_has_one_nearest()
     ensures { HasOneNearest linear11 }
+{}
+
+/// LINEAR11 with one exponent, from -16 to 15: only one code is nearest to a quantity.
+pub fn linear11_fixed_has_one_nearest()
+    ensures { (exponent : ℤ) → IsExponent exponent → HasOneNearest (linear11_fixed exponent) }
+{}
+
+/// LINEAR11 with one exponent, from -16 to 15: some word is a code.
+pub fn linear11_fixed_has_codes()
+    ensures { (exponent : ℤ) → IsExponent exponent → (code : ℕ) × (linear11_fixed exponent).IsCode code }
 {}
 
 /// ULINEAR16, at every exponent from -16 to 15: only one code is nearest to a quantity.

@@ -18,20 +18,23 @@
 
 mod codes;
 mod direct;
+mod evenly_spaced;
 mod format;
 pub mod laws;
 mod linear;
 mod linear11;
+mod linear11_fixed;
 mod linear16;
-mod plain;
+mod rounding;
 mod steps;
 mod vout;
 
-pub use direct::{Direct, DirectFault};
 pub use format::{Format, RangeFault};
 pub use linear::BadExponent;
 pub use linear11::Linear11;
+pub use linear11_fixed::Linear11Fixed;
 pub use linear16::{Slinear16, Ulinear16};
+pub use pmb_coefficients::{Direct, DirectFault};
 pub use pmb_quantity::{Quantity, QuantityFault, QuantityText};
 pub use steps::Steps;
 pub use vout::{ModeFault, VoutFormat, vout_format};

@@ -1,12 +1,15 @@
 //! The LINEAR11 format.
-ghost use Rattle.std.specs.Prelude.{◌≡◌, ◌↔◌, IsTrue, pos, negsuc, ◌≤ℤ◌};
-ghost use Rattle.pmb_value.specs.Linear.{exponent, mantissa, linear11};
-ghost use Rattle.pmb_value.specs.machine.LeastExponent.{IsLeastExponent};
+ghost use Rattle.std.specs.Prelude.{◌≡◌, ◌↔◌, ◌*◌, ◌-◌, ◌%◌, ◌^◌, ◌<◌, ◌≤◌, ◌⊎◌, IsTrue, MatchBool, pos, negsuc, ◌+ℤ◌, ◌*ℤ◌, ◌≤ℤ◌, unsigned_abs};
+ghost use Rattle.pmb_value.specs.Coding.{IsInRange, IsNearest};
+ghost use Rattle.pmb_value.specs.Linear.{exponent, mantissa, linear11, linear11_numerator};
+ghost use Rattle.pmb_value.specs.Steps.{TakesSteps};
+ghost use Rattle.pmb_value.specs.machine.Fields.{Holds, IsFarther, Reaches, word_at};
+ghost use Rattle.pmb_value.specs.machine.Written.{IsWritten};
 
 use crate::codes::{self, Codes};
 use crate::format::{Format, RangeFault};
-use crate::linear::{self, DENOMINATOR, LEAST_EXPONENT};
-use crate::plain;
+use crate::linear::{self, DENOMINATOR};
+use crate::rounding::rounded_quotient;
 use crate::steps::Steps;
 use pmb_quantity::Quantity;
 
@@ -15,33 +18,32 @@ use pmb_quantity::Quantity;
 #[derive(Clone, Copy, Debug, PartialEq, Eq)]
 pub struct Linear11;
 
-/// The least mantissa that a smaller exponent holds doubled.
-const LEAST_HALF: i32 = -512;
+/// The code of the least value, -1024 * 2^15.
+const LEAST_CODE: u16 = 0x7c00;
 
-/// The greatest mantissa that a smaller exponent holds doubled.
-const GREATEST_HALF: i32 = 511;
+/// The code of the greatest value, 1023 * 2^15.
+const GREATEST_CODE: u16 = 0x7bff;
+
+/// The greatest power of two of a value, over 2^16.
+const GREATEST_POWER: u32 = 31;
 
 impl Codes for Linear11 {
     ghost coding = { λ _. linear11 };
 
     fn numerator(&self, code: u16) -> i64 {
-        i64::from(mantissa(code)) * i64::from(linear::power(exponent(code)))
+        numerator(code)
     }
 
     fn denominator(&self) -> u64 {
         DENOMINATOR
     }
 
-    fn is_code(&self, _code: u16) -> bool {
-        true
+    fn least(&self) -> u16 {
+        LEAST_CODE
     }
 
-    fn is_written(&self, code: u16) -> bool {
-        if code == 0 {
-            return true;
-        }
-        let mantissa = mantissa(code);
-        mantissa != 0 && is_least(exponent(code), mantissa)
+    fn greatest(&self) -> u16 {
+        GREATEST_CODE
     }
 }
 
@@ -53,8 +55,115 @@ impl Format for Linear11 {
     }
 
     fn encode(&self, quantity: &Quantity, steps: &mut Steps) -> Result<u16, RangeFault> {
-        plain::encode(self, quantity, steps)
+        match codes::fault_of(self, quantity) {
+            Some(fault) => Err(fault),
+            None => Ok(nearest(quantity, steps)),
+        }
     }
+
+    fn obeys_laws(&self) {}
+}
+
+/// The code nearest to a quantity in range.
+fn nearest(quantity: &Quantity, steps: &mut Steps) -> u16
+    requires { IsInRange linear11 quantity.now }
+    ensures nearest { IsNearest linear11 quantity.now result }
+    ensures steps { TakesSteps 1 33 steps.old steps.new }
+{
+    let target = codes::scaled(&Linear11, quantity);
+    let denominator = u128::from(quantity.den().unsigned_abs());
+    let power = least_power(target, denominator, steps);
+    let spacing = spacing_at(denominator, power);
+    let index = rounded_quotient(from_least(target, spacing), spacing, steps);
+    code_at(index as u32, power)
+}
+
+/// The least power of two at which the mantissas reach the target, from -1024 of the spacings to
+/// less than 1024. Each turn ticks.
+fn least_power(target: i128, denominator: u128, steps: &mut Steps) -> u32
+    requires denominator_is_small { denominator < 2 ^ 62 }
+    requires in_range { Reaches target (denominator * 2 ^ 31) }
+    ensures power { result ≤ 31 }
+    ensures reaches { Reaches target (denominator * 2 ^ result) }
+    ensures least { 0 < result → IsFarther target (denominator * 2 ^ (result - 1)) }
+    ensures steps { TakesSteps 0 31 steps.old steps.new }
+{
+    for power in 0..GREATEST_POWER {
+        steps.tick();
+        if reaches(target, spacing_at(denominator, power)) {
+            return power;
+        }
+    }
+    GREATEST_POWER
+}
+
+/// How far neighbours are apart, times both denominators.
+fn spacing_at(denominator: u128, power: u32) -> u128
+    requires denominator_is_small { denominator < 2 ^ 62 }
+    requires power_is_small { power ≤ 31 }
+    ensures value { result ≡ denominator * 2 ^ power }
+    ensures small { result < 2 ^ 93 }
+{
+    denominator << power
+}
+
+/// Whether the target is from -1024 spacings to less than 1024.
+fn reaches(target: i128, spacing: u128) -> bool
+    requires { spacing < 2 ^ 93 }
+    ensures { MatchBool result (Reaches target spacing) (IsFarther target spacing) }
+{
+    let limit = 1024 * spacing as i128;
+    -limit <= target && target < limit
+}
+
+/// How far the target is from -1024 spacings.
+fn from_least(target: i128, spacing: u128) -> u128
+    requires small { spacing < 2 ^ 93 }
+    requires reached { Reaches target spacing }
+    ensures value { pos result ≡ target +ℤ pos (1024 * spacing) }
+    ensures below { result < 2048 * spacing }
+{
+    (target + 1024 * spacing as i128) as u128
+}
+
+/// The code of the mantissa `index - 1024`, from -1024 to 1024, at a power of two. Zero has a code
+/// of its own. 1024 is written 512 at the next power, and -512 is written -1024 at the one before.
+fn code_at(index: u32, power: u32) -> u16
+    requires index_fits { index ≤ 2048 }
+    requires power_fits { power ≤ 31 }
+    requires room { index ≡ 2048 → power < 31 }
+    requires large { 0 < power → (index ≤ 512) ⊎ (1536 ≤ index) }
+    ensures written { IsWritten linear11 result }
+    ensures value { linear11_numerator result ≡ (negsuc 1023 +ℤ pos index) *ℤ pos (2 ^ power) }
+    ensures parity { result % 2 ≡ index % 2 }
+{
+    match index {
+        1024 => 0,
+        2048 => word(1536, power + 1),
+        512 if power > 0 => word(0, power - 1),
+        _ => word(index, power),
+    }
+}
+
+/// The numerator of the value of a word, over 2^16.
+pub(crate) fn numerator(code: u16) -> i64
+    ensures value { result ≡ linear11_numerator code }
+    ensures small { unsigned_abs result < 2 ^ 62 }
+{
+    i64::from(mantissa(code)) * i64::from(linear::power(exponent(code)))
+}
+
+/// The word of the mantissa `index - 1024`, from -1024 to 1023, at a power of two.
+pub(crate) fn word(index: u32, power: u32) -> u16
+    requires index_fits { index < 2048 }
+    requires power_fits { power ≤ 31 }
+    ensures value { result ≡ word_at power index }
+    ensures holds { Holds result (negsuc 1023 +ℤ pos index) power }
+    ensures parity { result % 2 ≡ index % 2 }
+{
+    let exponent = (power + 16) & 0x1f;
+    let mantissa = (index + 1024) & 0x7ff;
+    (exponent * 2048 + mantissa) as u16
 }
 
 /// Bits 15:11.
@@ -73,11 +182,4 @@ fn mantissa(code: u16) -> i32
     ensures greatest { result ≤ℤ pos 1023 }
 {
     linear::twos_complement(11, code & 0x7ff)
-}
-
-/// Whether no smaller exponent holds the value.
-fn is_least(exponent: i8, mantissa: i32) -> bool
-    ensures { IsTrue result ↔ IsLeastExponent exponent mantissa }
-{
-    exponent == LEAST_EXPONENT || mantissa < LEAST_HALF || GREATEST_HALF < mantissa
 }

@@ -2,14 +2,14 @@
 //!
 //! One body stands for both. What differs is which number a word is, and that is what a [`Word`]
 //! tells.
-ghost use Rattle.std.specs.Prelude.{◌≡◌, ◌↔◌, ◌^◌, ◌<◌, ℕ, ℤ, pos, unsigned_abs, IfOk, IsOk};
+ghost use Rattle.std.specs.Prelude.{◌≡◌, ◌↔◌, ◌^◌, ◌<◌, ℕ, ℤ, pos, negsuc, unsigned_abs, IfOk, IsOk};
 ghost use Rattle.pmb_value.specs.Linear.{IsExponent, linear16, twos_complement};
-ghost use Rattle.pmb_value.specs.machine.Spaced.{HasBetween};
+ghost use Rattle.pmb_value.specs.machine.Row.{Counts, linear16_row, signed_at};
 
 use crate::codes::{self, Codes};
+use crate::evenly_spaced::{self, EvenlySpaced};
 use crate::format::{Format, RangeFault};
 use crate::linear::{self, BadExponent, DENOMINATOR, GREATEST_EXPONENT, LEAST_EXPONENT};
-use crate::plain;
 use crate::steps::Steps;
 use pmb_quantity::Quantity;
 use std::marker::{Model, PhantomData};
@@ -30,9 +30,19 @@ pub trait Word {
         ensures value { result ≡ number code }
         ensures small { unsigned_abs result < 2 ^ 16 };
 
-    /// A law: between two words of one parity lies another.
-    fn between()
-        ensures { HasBetween number };
+    /// The word of an index, from the least number upwards.
+    ghost at: { ℕ → ℕ };
+
+    /// The number at index 0.
+    ghost least_number: { ℤ };
+
+    /// The word of an index.
+    fn at(index: u16) -> u16
+        ensures { result ≡ at index };
+
+    /// A law: the numbers rise by one with the index. It does nothing.
+    fn counts()
+        ensures { Counts number at least_number };
 }
 
 /// A word counts from 0 to 65535.
@@ -46,7 +56,15 @@ impl Word for UnsignedWord {
         i32::from(code)
     }
 
-    fn between() {}
+    ghost at = { λ index. index };
+
+    ghost least_number = { pos 0 };
+
+    fn at(index: u16) -> u16 {
+        index
+    }
+
+    fn counts() {}
 }
 
 /// A word counts from -32768 to 32767, in two's complement.
@@ -60,7 +78,15 @@ impl Word for SignedWord {
         linear::twos_complement(16, code)
     }
 
-    fn between() {}
+    ghost at = { signed_at };
+
+    ghost least_number = { negsuc 32767 };
+
+    fn at(index: u16) -> u16 {
+        index ^ 0x8000
+    }
+
+    fn counts() {}
 }
 
 /// A word, times two to an exponent.
@@ -116,16 +142,30 @@ impl<W: Word> Codes for Linear16<W> {
     }
 
     fn denominator(&self) -> u64 {
-        W::between();
         DENOMINATOR
     }
 
-    fn is_code(&self, _code: u16) -> bool {
-        true
+    fn least(&self) -> u16 {
+        W::counts();
+        W::at(0)
     }
 
-    fn is_written(&self, _code: u16) -> bool {
-        true
+    fn greatest(&self) -> u16 {
+        W::counts();
+        W::at(u16::MAX)
+    }
+}
+
+impl<W: Word> EvenlySpaced for Linear16<W> {
+    ghost row = { λ exponent. linear16_row W.at W.least_number exponent };
+
+    fn spacing(&self) -> u64 {
+        W::counts();
+        u64::from(linear::power(self.exponent))
+    }
+
+    fn code_at(&self, index: u16) -> u16 {
+        W::at(index)
     }
 }
 
@@ -137,6 +177,10 @@ impl<W: Word> Format for Linear16<W> {
     }
 
     fn encode(&self, quantity: &Quantity, steps: &mut Steps) -> Result<u16, RangeFault> {
-        plain::encode(self, quantity, steps)
+        evenly_spaced::encode(self, quantity, steps)
+    }
+
+    fn obeys_laws(&self) {
+        evenly_spaced::obeys_laws(self);
     }
 }

@@ -3,11 +3,11 @@ ghost use Rattle.std.specs.Prelude.{◌≡◌, ◌%◌, ◌^◌, ◌<◌};
 ghost use Rattle.pmb_value.specs.Vout.{format_of, linear_of};
 ghost use Rattle.pmb_value.specs.Linear.{twos_complement};
 
-use crate::direct::Direct;
 use crate::format::{Format, RangeFault};
 use crate::linear::exponent_of;
 use crate::linear16::{Slinear16, Ulinear16};
 use crate::steps::Steps;
+use pmb_coefficients::Direct;
 use pmb_quantity::Quantity;
 
 /// Why a VOUT_MODE names no format.
@@ -87,6 +87,14 @@ impl Format for VoutFormat {
             VoutFormat::Unsigned(format) => format.encode(quantity, steps),
             VoutFormat::Signed(format) => format.encode(quantity, steps),
             VoutFormat::Direct(format) => format.encode(quantity, steps),
+        }
+    }
+
+    fn obeys_laws(&self) {
+        match self {
+            VoutFormat::Unsigned(format) => format.obeys_laws(),
+            VoutFormat::Signed(format) => format.obeys_laws(),
+            VoutFormat::Direct(format) => format.obeys_laws(),
         }
     }
 }

@@ -7,14 +7,14 @@ use std::test::Fail;
 // The reads before the failing one give a byte each: what ended in those is answered.
 #[test]
 fn each_read_fails(rt: HostRuntime) -> Result<(), Fail> {
-    for row in ROWS {
+    for row in &ROWS {
         let name = row.name;
         let bytes = row.bytes(rt.alloc())?;
         for call in 0..bytes.len() + 1 {
             let mut reader = Failing::new(Io::new(bytes.as_slice()));
             reader.give_at_most(1);
             reader.fail_after(call as u64);
-            let ran = over(rt.alloc(), &row, b"", &mut reader);
+            let ran = over(rt.alloc(), row, b"", &mut reader);
             assert_eq!(rt;
                 ran.answer,
                 Some(Err(ToolFault::Read)),
@@ -33,7 +33,7 @@ const MOST_ANSWERS: usize = 8;
 // Byte by byte, each answer is written by a call of its own.
 #[test]
 fn each_write_fails(rt: HostRuntime) -> Result<(), Fail> {
-    for row in ROWS {
+    for row in &ROWS {
         let name = row.name;
         let bytes = row.bytes(rt.alloc())?;
         let answers = line_feeds(row.written.as_bytes());
@@ -45,7 +45,7 @@ fn each_write_fails(rt: HostRuntime) -> Result<(), Fail> {
             } else {
                 Ok(row.tally())
             };
-            let answer = to_failing(rt.alloc(), &row, &mut reader, call as u64);
+            let answer = to_failing(rt.alloc(), row, &mut reader, call as u64);
             assert_eq!(rt; answer, Some(wanted), "{name}, write {call}");
         }
     }

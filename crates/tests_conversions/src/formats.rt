@@ -3,12 +3,38 @@ use pmb_convert::{FormatFault, NamedFormat, laws};
 use pmb_value::{Format, Quantity, Steps};
 
 // A name, a FORMAT, and what is wrong with it.
-const FAULTS: [(&str, &str, FormatFault); 38] = [
+static FAULTS: [(&str, &str, FormatFault); 44] = [
     ("nothing", "", FormatFault::BadFormat),
     ("a word cut short", "linear", FormatFault::BadFormat),
     ("upper case", "LINEAR11", FormatFault::BadFormat),
     ("a colon behind it", "linear11:", FormatFault::BadFormat),
     ("a blank behind it", "linear11 ", FormatFault::BadFormat),
+    (
+        "an exponent in letters",
+        "linear11:x",
+        FormatFault::BadFormat,
+    ),
+    (
+        "an exponent with a plus",
+        "linear11:+3",
+        FormatFault::BadFormat,
+    ),
+    (
+        "an exponent over an i8",
+        "linear11:128",
+        FormatFault::BadFormat,
+    ),
+    ("an exponent of 16", "linear11:16", FormatFault::BadExponent),
+    (
+        "an exponent of -17",
+        "linear11:-17",
+        FormatFault::BadExponent,
+    ),
+    (
+        "the least i8 as exponent",
+        "linear11:-128",
+        FormatFault::BadExponent,
+    ),
     ("no colon", "ulinear16", FormatFault::BadFormat),
     ("no exponent", "ulinear16:", FormatFault::BadFormat),
     ("a plus", "ulinear16:+1", FormatFault::BadFormat),
@@ -74,7 +100,7 @@ const FAULTS: [(&str, &str, FormatFault); 38] = [
 
 #[test]
 fn faults_of_formats(rt: HostRuntime) {
-    for (name, format, fault) in FAULTS {
+    for &(name, format, fault) in &FAULTS {
         assert_eq!(rt; NamedFormat::parse(format), Err(fault), "{name}");
     }
 }
@@ -110,8 +136,11 @@ fn both_ways(format: &str, text: &str, code: u16) -> bool {
 }
 
 // A name, a FORMAT, a quantity and its code.
-const CODES: [(&str, &str, &str, u16); 8] = [
+static CODES: [(&str, &str, &str, u16); 11] = [
     ("LINEAR11", "linear11", "12", 0xd300),
+    ("one exponent", "linear11:-3", "12", 0xe860),
+    ("the least one", "linear11:-16", "-0.015625", 0x8400),
+    ("the greatest one", "linear11:15", "33521664", 0x7bff),
     ("ULINEAR16", "ulinear16:-9", "12", 0x1800),
     ("zeros in front", "ulinear16:-009", "12", 0x1800),
     (
@@ -133,7 +162,7 @@ const CODES: [(&str, &str, &str, u16); 8] = [
 
 #[test]
 fn codes_of_named_formats(rt: HostRuntime) {
-    for (name, format, text, code) in CODES {
+    for &(name, format, text, code) in &CODES {
         assert!(rt; both_ways(format, text, code), "{name}");
     }
 }

@@ -6,7 +6,6 @@ use std::alloc::{AllocError, Global};
 use std::test::Fail;
 
 /// Lines of a text, and what is written for them.
-#[derive(Clone, Copy, Debug)]
 pub(crate) struct Row {
     pub(crate) name: &'static str,
     pub(crate) task: Task,
@@ -19,7 +18,7 @@ pub(crate) struct Row {
     pub(crate) tally: (u64, u64),
 }
 
-pub(crate) const ROWS: [Row; 24] = [
+pub(crate) static ROWS: [Row; 26] = [
     Row {
         name: "positive quantities",
         task: Task::Encode,
@@ -55,6 +54,24 @@ pub(crate) const ROWS: [Row; 24] = [
         text: "12\n1/1024\n3/1024\n127.998046875\n128\n-1",
         written: "1800\n0000\n0002\nffff\n! Above\n! Below\n",
         tally: (4, 2),
+    },
+    Row {
+        name: "LINEAR11 with one exponent",
+        task: Task::Encode,
+        format: "linear11:-3",
+        zeros: 0,
+        text: "12\n0\n1/16\n3/16\n127.875\n127.9\n-128\n-128.1\n",
+        written: "e860\ne800\ne800\ne802\nebff\n! Above\nec00\n! Below\n",
+        tally: (6, 2),
+    },
+    Row {
+        name: "codes with another exponent",
+        task: Task::Decode,
+        format: "linear11:-3",
+        zeros: 0,
+        text: "d300\ne801\ne80\n",
+        written: "12\n0.125\n! BadCode\n",
+        tally: (2, 1),
     },
     Row {
         name: "ULINEAR16",
@@ -260,11 +277,11 @@ impl Row {
 
 #[test]
 fn answers_whole_and_byte_by_byte(rt: HostRuntime) -> Result<(), Fail> {
-    for row in ROWS {
+    for row in &ROWS {
         let name = row.name;
         let bytes = row.bytes(rt.alloc())?;
         let mut whole = Io::new(bytes.as_slice());
-        let ran = over(rt.alloc(), &row, b"", &mut whole);
+        let ran = over(rt.alloc(), row, b"", &mut whole);
         assert_eq!(rt; ran.answer, Some(Ok(row.tally())), "{name}, whole");
         assert_eq!(rt;
             ran.written.as_slice(),
@@ -273,7 +290,7 @@ fn answers_whole_and_byte_by_byte(rt: HostRuntime) -> Result<(), Fail> {
         );
         let mut pieces = Failing::new(Io::new(bytes.as_slice()));
         pieces.give_at_most(1);
-        let ran = over(rt.alloc(), &row, b"", &mut pieces);
+        let ran = over(rt.alloc(), row, b"", &mut pieces);
         assert_eq!(rt; ran.answer, Some(Ok(row.tally())), "{name}, byte by byte");
         assert_eq!(rt;
             ran.written.as_slice(),
@@ -287,12 +304,12 @@ fn answers_whole_and_byte_by_byte(rt: HostRuntime) -> Result<(), Fail> {
 // Among zeros in front of a text, only the last places are tried.
 #[test]
 fn answers_the_same_cut_at_each_place(rt: HostRuntime) -> Result<(), Fail> {
-    for row in ROWS {
+    for row in &ROWS {
         let name = row.name;
         let bytes = row.bytes(rt.alloc())?;
         for cut in row.zeros.saturating_sub(4)..bytes.len() + 1 {
             let mut reader = Io::new(&bytes[cut..]);
-            let ran = over(rt.alloc(), &row, &bytes[..cut], &mut reader);
+            let ran = over(rt.alloc(), row, &bytes[..cut], &mut reader);
             assert_eq!(rt; ran.answer, Some(Ok(row.tally())), "{name}, cut at {cut}");
             assert_eq!(rt;
                 ran.written.as_slice(),

@@ -5,7 +5,7 @@ use pmb_io::{Failing, Io, Sink, Source, Tally, ToolFault};
 use std::alloc::Global;
 
 /// What is done with the lines of a row.
-#[derive(Clone, Copy, Debug, PartialEq, Eq)]
+#[derive(Clone, Copy)]
 pub(crate) enum Task {
     Encode,
     Decode,

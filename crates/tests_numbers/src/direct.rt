@@ -9,8 +9,15 @@ const RISING: Coefficients = (3, 2, 1);
 
 const FALLING: Coefficients = (-1, 0, -1);
 
+const FINEST: Coefficients = (-32768, 32767, 9);
+
+const COARSEST: Coefficients = (-32768, 32767, -9);
+
+/// A little over one, of numbers as long as they come.
+const NEAR_ONE: &str = "4611686018427387903/4611686018427387902";
+
 /// A name, coefficients, a text, and its code or fault.
-const CODES: [(&str, Coefficients, &str, Result<u16, RangeFault>); 11] = [
+static CODES: [(&str, Coefficients, &str, Result<u16, RangeFault>); 23] = [
     ("rising, exact", RISING, "1", Ok(0x0032)),
     (
         "rising, a tie goes to the even code",
@@ -26,6 +33,38 @@ const CODES: [(&str, Coefficients, &str, Result<u16, RangeFault>); 11] = [
         "5",
         Ok(0x0000),
     ),
+    ("rising, the next tie", RISING, "-37/60", Ok(0x0002)),
+    ("rising, a tie below zero", RISING, "-41/60", Ok(0x0000)),
+    ("rising, the next below", RISING, "-43/60", Ok(0xfffe)),
+    ("rising, 62 bits over 62 bits", RISING, NEAR_ONE, Ok(0x0032)),
+    ("falling, the next tie", FALLING, "15", Ok(0xfffe)),
+    ("falling, a tie below zero", FALLING, "-5", Ok(0x0000)),
+    ("falling, the next below", FALLING, "-15", Ok(0x0002)),
+    (
+        "least slope, a tie",
+        FINEST,
+        "65533999999999/65536000000000",
+        Ok(0x0000),
+    ),
+    (
+        "least slope, the next",
+        FINEST,
+        "13106800000001/13107200000000",
+        Ok(0xfffe),
+    ),
+    ("least slope, over", FINEST, "1", ABOVE),
+    (
+        "least slope, coarse",
+        COARSEST,
+        "-1499967233/32768",
+        Ok(0x0002),
+    ),
+    (
+        "coarse, 62 bits over 62 bits",
+        COARSEST,
+        NEAR_ONE,
+        Ok(0x0000),
+    ),
     ("falling, least", FALLING, "-327670", Ok(0x7fff)),
     ("falling, greatest", FALLING, "327680", Ok(0x8000)),
     ("falling, a step over", FALLING, "327690", ABOVE),
@@ -36,7 +75,7 @@ const CODES: [(&str, Coefficients, &str, Result<u16, RangeFault>); 11] = [
 
 #[test]
 fn direct_codes(rt: HostRuntime) {
-    for (name, (m, b, r), text, wanted) in CODES {
+    for &(name, (m, b, r), text, wanted) in &CODES {
         let format = Direct::new(m, b, r).expect(&rt, "coefficients");
         check_code(&rt, name, &format, text, wanted);
     }
@@ -49,7 +88,7 @@ fn direct_text(rt: HostRuntime) {
 }
 
 /// A name and coefficients.
-const FORMATS: [(&str, Coefficients); 4] = [
+static FORMATS: [(&str, Coefficients); 4] = [
     ("rising", RISING),
     ("falling", FALLING),
     ("least slope", (-32768, 32767, 9)),
@@ -58,7 +97,7 @@ const FORMATS: [(&str, Coefficients); 4] = [
 
 #[test]
 fn direct_round_trip(rt: HostRuntime) {
-    for (name, (m, b, r)) in FORMATS {
+    for &(name, (m, b, r)) in &FORMATS {
         let format = Direct::new(m, b, r).expect(&rt, "coefficients");
         assert_eq!(rt; (format.m(), format.b(), format.r()), (m, b, r), "{name}");
         check_round_trip(&rt, name, &format);
@@ -66,7 +105,7 @@ fn direct_round_trip(rt: HostRuntime) {
 }
 
 /// A name, coefficients, and their fault.
-const FAULTS: [(&str, Coefficients, DirectFault); 3] = [
+static FAULTS: [(&str, Coefficients, DirectFault); 3] = [
     (
         "no slope, before the scale",
         (0, 0, 10),
@@ -78,7 +117,7 @@ const FAULTS: [(&str, Coefficients, DirectFault); 3] = [
 
 #[test]
 fn direct_faults(rt: HostRuntime) {
-    for (name, (m, b, r), fault) in FAULTS {
+    for &(name, (m, b, r), fault) in &FAULTS {
         assert_eq!(rt; Direct::new(m, b, r), Err(fault), "{name}");
     }
 }

@@ -7,13 +7,21 @@
 #[cfg(test)]
 mod checks;
 #[cfg(test)]
+mod compared;
+#[cfg(test)]
 mod direct;
+#[cfg(test)]
+mod every_code;
 #[cfg(test)]
 mod example;
 #[cfg(test)]
 mod linear11;
 #[cfg(test)]
+mod linear11_fixed;
+#[cfg(test)]
 mod linear16;
+#[cfg(test)]
+mod plain;
 #[cfg(test)]
 mod quantity;
 #[cfg(test)]

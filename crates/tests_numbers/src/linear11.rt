@@ -3,7 +3,7 @@ use crate::checks::{ABOVE, BELOW, check_code, check_text};
 use pmb_value::{Format, Linear11, RangeFault, Steps};
 
 /// A name, a text, and its code or fault.
-const CODES: [(&str, &str, Result<u16, RangeFault>); 14] = [
+static CODES: [(&str, &str, Result<u16, RangeFault>); 18] = [
     ("exact", "12", Ok(0xd300)),
     ("one, at its least exponent", "1", Ok(0xba00)),
     ("a tie goes to the even code", "1023.5", Ok(0x0a00)),
@@ -18,6 +18,18 @@ const CODES: [(&str, &str, Result<u16, RangeFault>); 14] = [
     ("a tie at zero", "1/131072", Ok(0x0000)),
     ("a tie next to zero", "3/131072", Ok(0x8002)),
     ("zero", "0", Ok(0x0000)),
+    (
+        "62 bits over 62 bits",
+        "4611686018427387903/4611686018427387902",
+        Ok(0xba00),
+    ),
+    (
+        "62 bits over 62 bits, below zero",
+        "-4611686018427387903/4611686018427387902",
+        Ok(0xb400),
+    ),
+    ("least of all", "1/4611686018427387903", Ok(0x0000)),
+    ("a little beyond a tie", "-1048577/137438953472", Ok(0x87ff)),
     ("over by one", "33521665", ABOVE),
     ("a little over", "33521664.000001", ABOVE),
     ("under by one", "-33554433", BELOW),
@@ -26,13 +38,13 @@ const CODES: [(&str, &str, Result<u16, RangeFault>); 14] = [
 
 #[test]
 fn linear11_codes(rt: HostRuntime) {
-    for (name, text, wanted) in CODES {
+    for &(name, text, wanted) in &CODES {
         check_code(&rt, name, &Linear11, text, wanted);
     }
 }
 
 /// A name, a code, and the text of its value.
-const TEXTS: [(&str, u16, &str); 3] = [
+static TEXTS: [(&str, u16, &str); 3] = [
     ("one, not canonical", 0x0001, "1"),
     ("zero, not canonical", 0x8000, "0"),
     ("exact", 0xd300, "12"),
@@ -40,14 +52,14 @@ const TEXTS: [(&str, u16, &str); 3] = [
 
 #[test]
 fn linear11_texts(rt: HostRuntime) {
-    for (name, code, wanted) in TEXTS {
+    for &(name, code, wanted) in &TEXTS {
         check_text(&rt, name, &Linear11, code, wanted);
     }
 }
 
 /// The middle between two neighbouring values, which is the row's name too: at each change of
 /// exponent, and around zero.
-const TIES: [(&str, u16); 66] = [
+static TIES: [(&str, u16); 66] = [
     ("-16793600", 0x7400),
     ("-8396800", 0x6c00),
     ("-4198400", 0x6400),
@@ -118,7 +130,7 @@ const TIES: [(&str, u16); 66] = [
 
 #[test]
 fn linear11_ties(rt: HostRuntime) {
-    for (text, code) in TIES {
+    for &(text, code) in &TIES {
         check_code(&rt, text, &Linear11, text, Ok(code));
     }
 }

@@ -5,7 +5,7 @@ use pmb_value::{BadExponent, RangeFault, Slinear16, Ulinear16};
 /// A name, an exponent, a text, and its code or fault.
 type Row = (&'static str, i8, &'static str, Result<u16, RangeFault>);
 
-const UNSIGNED: [Row; 11] = [
+static UNSIGNED: [Row; 11] = [
     ("fine, greatest", -16, "0.9999847412109375", Ok(0xffff)),
     ("fine, least", -16, "0", Ok(0)),
     ("fine, a step over", -16, "1", ABOVE),
@@ -26,13 +26,13 @@ const UNSIGNED: [Row; 11] = [
 
 #[test]
 fn ulinear16_codes(rt: HostRuntime) {
-    for (name, exponent, text, wanted) in UNSIGNED {
+    for &(name, exponent, text, wanted) in &UNSIGNED {
         let format = Ulinear16::new(exponent).expect(&rt, "an exponent");
         check_code(&rt, name, &format, text, wanted);
     }
 }
 
-const SIGNED: [Row; 14] = [
+static SIGNED: [Row; 14] = [
     ("fine, greatest", -16, "0.4999847412109375", Ok(0x7fff)),
     ("fine, least", -16, "-0.5", Ok(0x8000)),
     ("fine, a tie goes up to zero", -16, "-1/131072", Ok(0)),
@@ -51,14 +51,14 @@ const SIGNED: [Row; 14] = [
 
 #[test]
 fn slinear16_codes(rt: HostRuntime) {
-    for (name, exponent, text, wanted) in SIGNED {
+    for &(name, exponent, text, wanted) in &SIGNED {
         let format = Slinear16::new(exponent).expect(&rt, "an exponent");
         check_code(&rt, name, &format, text, wanted);
     }
 }
 
 /// A name and an exponent.
-const EXPONENTS: [(&str, i8); 4] = [
+static EXPONENTS: [(&str, i8); 4] = [
     ("least", -16),
     ("below zero", -9),
     ("zero", 0),
@@ -67,7 +67,7 @@ const EXPONENTS: [(&str, i8); 4] = [
 
 #[test]
 fn ulinear16_round_trip(rt: HostRuntime) {
-    for (name, exponent) in EXPONENTS {
+    for &(name, exponent) in &EXPONENTS {
         check_round_trip(
             &rt,
             name,
@@ -78,7 +78,7 @@ fn ulinear16_round_trip(rt: HostRuntime) {
 
 #[test]
 fn slinear16_round_trip(rt: HostRuntime) {
-    for (name, exponent) in EXPONENTS {
+    for &(name, exponent) in &EXPONENTS {
         check_round_trip(
             &rt,
             name,

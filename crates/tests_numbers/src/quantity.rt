@@ -2,7 +2,7 @@
 use pmb_quantity::{Quantity, QuantityFault};
 
 /// A name, two numbers, and the numerator and denominator in lowest terms, or the fault.
-const QUOTIENTS: [(&str, i64, i64, Result<(i64, i64), QuantityFault>); 7] = [
+static QUOTIENTS: [(&str, i64, i64, Result<(i64, i64), QuantityFault>); 7] = [
     ("no denominator", 1, 0, Err(QuantityFault::ZeroDenominator)),
     (
         "halved, still too large",
@@ -34,14 +34,14 @@ const QUOTIENTS: [(&str, i64, i64, Result<(i64, i64), QuantityFault>); 7] = [
 
 #[test]
 fn quotients(rt: HostRuntime) {
-    for (name, numerator, denominator, wanted) in QUOTIENTS {
+    for &(name, numerator, denominator, wanted) in &QUOTIENTS {
         let found = Quantity::new(numerator, denominator).map(|it| (it.num(), it.den()));
         assert_eq!(rt; found, wanted, "{name}");
     }
 }
 
 /// A name, a text, and its fault.
-const FAULTS: [(&str, &str, QuantityFault); 29] = [
+static FAULTS: [(&str, &str, QuantityFault); 29] = [
     ("nothing", "", QuantityFault::Empty),
     ("no digit after the point", "1.", QuantityFault::BadDigit),
     ("no digit before the point", ".5", QuantityFault::BadDigit),
@@ -111,13 +111,13 @@ const FAULTS: [(&str, &str, QuantityFault); 29] = [
 
 #[test]
 fn faults_of_texts(rt: HostRuntime) {
-    for (name, text, fault) in FAULTS {
+    for &(name, text, fault) in &FAULTS {
         assert_eq!(rt; Quantity::parse(text.as_bytes()), Err(fault), "{name}");
     }
 }
 
 /// A name, a text, and how its quantity is written.
-const TEXTS: [(&str, &str, &str); 15] = [
+static TEXTS: [(&str, &str, &str); 15] = [
     ("a fraction with a decimal", "-6/4", "-1.5"),
     ("zero has no sign", "-0", "0"),
     ("zero has no places", "-0.000", "0"),
@@ -161,7 +161,7 @@ const TEXTS: [(&str, &str, &str); 15] = [
 
 #[test]
 fn texts(rt: HostRuntime) {
-    for (name, text, written) in TEXTS {
+    for &(name, text, written) in &TEXTS {
         let quantity = Quantity::parse(text.as_bytes()).expect(&rt, "a quantity");
         let again = quantity.text();
         assert_eq!(rt; again.as_str(), written, "{name}");

@@ -3,7 +3,7 @@ use crate::checks::{ABOVE, BELOW, check_code, check_text};
 use pmb_value::{Direct, ModeFault, RangeFault, VoutFormat, vout_format};
 
 /// A name, a text, and its code or fault under VOUT_MODE 17h: exponent -9.
-const CODES: [(&str, &str, Result<u16, RangeFault>); 6] = [
+static CODES: [(&str, &str, Result<u16, RangeFault>); 6] = [
     ("exact", "12", Ok(0x1800)),
     ("a tie goes down to an even code", "1/1024", Ok(0x0000)),
     ("a tie goes up to an even code", "3/1024", Ok(0x0002)),
@@ -15,7 +15,7 @@ const CODES: [(&str, &str, Result<u16, RangeFault>); 6] = [
 #[test]
 fn vout_codes(rt: HostRuntime) {
     let format = vout_format(0x17, false, None).expect(&rt, "a format");
-    for (name, text, wanted) in CODES {
+    for &(name, text, wanted) in &CODES {
         check_code(&rt, name, &format, text, wanted);
     }
 }
@@ -38,7 +38,7 @@ fn vout_direct(rt: HostRuntime) {
 }
 
 /// A name, a VOUT_MODE, and its fault where there are no coefficients.
-const FAULTS: [(&str, u8, ModeFault); 5] = [
+static FAULTS: [(&str, u8, ModeFault); 5] = [
     ("relative, linear", 0x97, ModeFault::Relative),
     ("relative before VID", 0xa0, ModeFault::Relative),
     ("VID", 0x20, ModeFault::Vid),
@@ -48,7 +48,7 @@ const FAULTS: [(&str, u8, ModeFault); 5] = [
 
 #[test]
 fn vout_faults(rt: HostRuntime) {
-    for (name, mode, fault) in FAULTS {
+    for &(name, mode, fault) in &FAULTS {
         assert_eq!(rt; vout_format(mode, false, None), Err(fault), "{name}");
     }
 }

@@ -2,7 +2,7 @@
 use Rattle.std.specs.Prelude.{◌≡◌, ◌≢◌, ℕ, Option, MatchOption, ℤ, List, [], ◌∷◌, ◌++◌, codes, FitsSigned}
 use mir.Syntax.{Width}
 use Rattle.std.specs.Borrow.{Bor}
-use Rattle.pmb_convert.specs.Spelling.{Saying, ulinear16, slinear16, vout, direct, Writes, WritesByte, WritesWord, WritesMode}
+use Rattle.pmb_convert.specs.Spelling.{Saying, linear11_fixed, ulinear16, slinear16, vout, direct, Writes, WritesByte, WritesWord, WritesMode}
 
 -- what a text has behind a prefix; nothing where it begins otherwise
 abbrev pub StripsPrefix : List ℕ → List ℕ → Option (Bor (List ℕ)) → Type 0
@@ -33,6 +33,9 @@ abbrev pub ReadsMode : List ℕ → Option ℕ → Type 0
 ReadsMode text mode = MatchOption mode ((n : ℕ) → ¬ (WritesMode text n)) (λ n. WritesMode text n)
 
 -- what a FORMAT says by its numbers, where its kind is known
+abbrev pub IsFixed : List ℕ → Saying → Type 0
+IsFixed E saying = (exponent : ℤ) × WritesByte E exponent × (saying ≡ linear11_fixed exponent)
+
 abbrev pub IsUnsigned : List ℕ → Saying → Type 0
 IsUnsigned E saying = (exponent : ℤ) × WritesByte E exponent × (saying ≡ ulinear16 exponent)
 

@@ -1,7 +1,7 @@
+use Rattle.std.proofs.Common.{arith}
 use Rattle.pmb_value.specs.Linear.{linear11}
-use Rattle.pmb_value.proofs.Linear11Lemmas.{IsSpaced-linear11}
 use Rattle.pmb_value.proofs.LawLemmas.{keeps_values}
 use Rattle.pmb_value.proofs.laws.linear11_keeps_values.Goals as goal
 
 pub returns : goal.returns
-returns c = keeps_values linear11 IsSpaced-linear11
+returns c = keeps_values linear11 (omega arith)

@@ -1,5 +1,6 @@
 use Rattle.pmb_value.specs.Linear.{ulinear16}
-use Rattle.pmb_value.proofs.OneNearest.{has_one_nearest, IsSeparated-ulinear16}
+use Rattle.pmb_value.proofs.OneNearest.{has_one_nearest}
+use Rattle.pmb_value.proofs.EvenFormats.{IsSeparated-ulinear16}
 use Rattle.pmb_value.proofs.laws.ulinear16_has_one_nearest.Goals as goal
 
 pub returns : goal.returns

@@ -1,5 +1,6 @@
-use Rattle.pmb_value.proofs.DirectLemmas.{IsSpaced-direct}
+use Rattle.pmb_value.specs.Direct.{positive_part}
+use Rattle.pmb_value.proofs.DirectLemmas.{denominator_positive}
 use Rattle.pmb_value.proofs.direct.DirectCodes.denominator.Goals as goal
 
-pub returns-clause-spaced : goal.returns-clause-spaced
-returns-clause-spaced c = rw (← c.self.view_is) (IsSpaced-direct (record { m = c.self.inside.m; b = c.self.inside.b; r = c.self.inside.r }) c.self.invariant.0)
+pub returns-clause-positive : goal.returns-clause-positive
+returns-clause-positive c = denominator_positive c.args.self.now.m (positive_part c.args.self.now.r) c.m.ensures.kept.slope

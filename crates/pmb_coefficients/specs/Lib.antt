@@ -1,0 +1,2 @@
+pub mod Coefficients
+pub mod Exponent

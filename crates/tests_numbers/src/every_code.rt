@@ -1,0 +1,69 @@
+//! Every code of the formats, decoded and encoded again: an encoder that tries all codes for each
+//! would take hours.
+use pmb_value::{Direct, Format, Linear11, Linear11Fixed, Slinear16, Steps, Ulinear16};
+use std::process::Abort;
+
+/// The codes of every format are among the numbers below this one.
+const WORDS: u32 = 0x1_0000;
+
+/// Checks that each word whose value is in range is encoded by a code of that value, in 1 to 33
+/// steps.
+fn check_every<F: Format>(rt: &impl Abort, name: &str, format: &F) {
+    for index in 0..WORDS {
+        let word = index as u16;
+        let quantity = format.decode(word);
+        let mut steps = Steps::new();
+        if let Ok(code) = format.encode(&quantity, &mut steps) {
+            let taken = steps.taken();
+            assert!(rt; taken >= 1 && taken <= 33, "{name} at {word}");
+            assert_eq!(rt; format.decode(code), quantity, "{name} at {word}");
+        }
+    }
+}
+
+/// The exponents that each linear format runs at.
+const EXPONENTS: [i8; 4] = [-16, -9, 0, 15];
+
+#[test]
+fn linear11_codes(rt: HostRuntime) {
+    check_every(&rt, "LINEAR11", &Linear11);
+}
+
+#[test]
+fn ulinear16_codes(rt: HostRuntime) {
+    for exponent in EXPONENTS {
+        let format = Ulinear16::new(exponent).expect(&rt, "an exponent");
+        check_every(&rt, "ULINEAR16", &format);
+    }
+}
+
+#[test]
+fn slinear16_codes(rt: HostRuntime) {
+    for exponent in EXPONENTS {
+        let format = Slinear16::new(exponent).expect(&rt, "an exponent");
+        check_every(&rt, "SLINEAR16", &format);
+    }
+}
+
+#[test]
+fn direct_codes(rt: HostRuntime) {
+    for (m, b, r) in [(3, 2, 1), (-1, 0, -1)] {
+        let format = Direct::new(m, b, r).expect(&rt, "coefficients");
+        check_every(&rt, "DIRECT", &format);
+    }
+}
+
+/// The 2,048 words with an exponent are the codes, and each is written for its value.
+#[test]
+fn linear11_fixed_codes(rt: HostRuntime) {
+    for exponent in EXPONENTS {
+        let format = Linear11Fixed::new(exponent).expect(&rt, "an exponent");
+        let field = (i32::from(exponent) + 32) % 32;
+        for index in 0..2048u16 {
+            let word = (field as u16) * 2048 + index;
+            let quantity = format.decode(word);
+            let code = format.encode(&quantity, &mut Steps::new());
+            assert_eq!(rt; code, Ok(word), "at {exponent}");
+        }
+    }
+}
