@@ -1,5 +1,6 @@
 pub mod Finding
 pub mod FittingLemmas
+pub mod FormLemmas
 pub mod NameLemmas
 pub mod RowLemmas
 pub mod StandardLemmas

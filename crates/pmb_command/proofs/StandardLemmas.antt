@@ -11,7 +11,7 @@ use Rattle.pmb_command.specs.Commands.{code_of_name, from_to, has_name, standard
 use Rattle.pmb_command.specs.Bus.{IsFitting}
 use Rattle.pmb_command.specs.Fitting.{is_fitting}
 use Rattle.pmb_command.specs.Names.{IsNameOf, is_name}
-use Rattle.pmb_command.specs.Standard.{IsNamed, IsStandardAt, needs_no_coefficients}
+use Rattle.pmb_command.specs.Standard.{IsNamed, IsStandardAt, is_general}
 use Rattle.pmb_command.proofs.FittingLemmas.{fitting_parts}
 use Rattle.pmb_command.proofs.NameLemmas.{fitting_name}
 use Rattle.pmb_command.proofs.Finding.{find_among, find_passes, option_map-cond}
@@ -58,10 +58,10 @@ every_entry_fits : list_all is_fitting standard_entries ≡ true
 unfolding standard_entry standard_entries standard_rows
 every_entry_fits = refl
 
--- no kind of the table is DIRECT
-no_kind_needs_coefficients : list_all (λ e. needs_no_coefficients e.kind) standard_entries ≡ true
+-- no kind of the table needs a device's numbers
+every_kind_is_general : list_all (λ e. is_general e.kind) standard_entries ≡ true
 unfolding standard_entries standard_rows
-no_kind_needs_coefficients = refl
+every_kind_is_general = refl
 
 -- each name of the table leads to the entry that has it
 every_name_is_found : list_all is_found_by_name standard_entries ≡ true
@@ -80,9 +80,9 @@ standard_name c e has = fitting_name e.name (of_each name_fits every_name_fits c
 standard_fits : (c : ℕ) (e : EntryParts) → standard_entry c ≡ Some e → IsFitting e
 standard_fits c e has = fitting_parts e (of_each is_fitting every_entry_fits c e has)
 
--- no standard command has a number in DIRECT
-pub standard_no_coefficients : (c : ℕ) (e : EntryParts) → standard_entry c ≡ Some e → needs_no_coefficients e.kind ≡ true
-standard_no_coefficients c e has = of_each (λ e. needs_no_coefficients e.kind) no_kind_needs_coefficients c e has
+-- no standard command has a kind that needs a device's numbers
+pub standard_is_general : (c : ℕ) (e : EntryParts) → standard_entry c ≡ Some e → is_general e.kind ≡ true
+standard_is_general c e has = of_each (λ e. is_general e.kind) every_kind_is_general c e has
 
 -- the entries of all codes, in order, are those of the table
 pub entries_of_all_codes : filter_map standard_entry (from_to 0x00 0xff) ≡ standard_entries
@@ -139,7 +139,7 @@ standard_entry_at c e has = record {
   same_code = standard_code c e has;
   byte = standard_below c e has;
   entry = record { byte = ltb-true e.code 256 (of_each is_byte every_code_is_a_byte c e has); name = standard_name c e has; fitting = standard_fits c e has };
-  no_coefficients = standard_no_coefficients c e has;
+  general = standard_is_general c e has;
   by_name = standard_by_name c e has;
 }
 

@@ -1,10 +1,11 @@
 -- What an accepted bus is.
-use Rattle.std.specs.Prelude.{◌≡◌, ◌≢◌, ℕ, ◌<◌, ◌≤◌, true, false, IfSome, List, length}
+use Rattle.std.specs.Prelude.{◌≡◌, ◌≢◌, ℕ, ℤ, ◌<◌, ◌≤◌, true, false, IfSome, List, length}
 use Rattle.std.specs.List.{AllByRecursion}
-use Rattle.pmb_command.specs.declared.entry.Kind.TheVariants.{Raw}
+use Rattle.pmb_coefficients.specs.Exponent.{IsExponent}
+use Rattle.pmb_command.specs.declared.entry.Kind.TheVariants.{Raw, Linear11Fixed}
 use Rattle.pmb_command.specs.Entry.{EntryParts}
 use Rattle.pmb_command.specs.Commands.{standard_entry}
-use Rattle.pmb_command.specs.Fitting.{are_kept, has_form, is_always_raw, is_fixed, is_length, kind_fits, register_form, value_form, ways_agree}
+use Rattle.pmb_command.specs.Fitting.{are_kept, calls_fit, has_form, is_always_raw, is_fixed, is_length, kind_fits, reads_data, register_form, value_form, ways_agree}
 use Rattle.pmb_command.specs.Names.{IsNameOf}
 use Rattle.pmb_command.specs.Parts.{CommandParts, DeviceParts, HaveOwnAddresses, HaveOwnCodes}
 
@@ -21,6 +22,10 @@ pub record IsFitting (e : EntryParts) : Type 0 where
   pub some_form : has_form e.shape ≡ true
   -- it is read in the form in which it is written, if with data
   pub one_form : ways_agree e.shape.write e.shape.read ≡ true
+  -- what is read has data
+  pub read_data : reads_data e.shape.read ≡ true
+  -- it is called with two bytes or a block
+  pub call_form : calls_fit e.shape.call ≡ true
   -- each form of PAGE, CLEAR_FAULTS, VOUT_MODE, COEFFICIENTS and STATUS_CML is the standard's, or
   -- there is none
   pub fixed : is_fixed e.code ≡ true → are_kept e.shape (standard_entry e.code) ≡ true
@@ -30,6 +35,8 @@ pub record IsFitting (e : EntryParts) : Type 0 where
   pub page : e.code ≡ 0x00 → e.paged ≡ false
   -- numbers have two bytes, status registers one or two
   pub kind : kind_fits e.kind (value_form e.shape) ≡ true
+  -- an exponent that is fixed is one of LINEAR11's, from -16 to 15
+  pub exponent : (exponent : ℤ) → e.kind ≡ Linear11Fixed exponent → IsExponent exponent
 
 -- The bytes that a command holds at first: PAGE and VOUT_MODE are given none, nor is a command
 -- without a register, and they are as many as its form has.

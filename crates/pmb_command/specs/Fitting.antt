@@ -1,32 +1,26 @@
 -- Whether the forms, the kind and the pages of a command go together.
-use Rattle.std.specs.Prelude.{ℕ, Bool, true, false, not, if◌then◌else◌, ◌&&◌, ◌||◌, is_some, Option, Some, None, [], ◌∷◌, nat_eq, nat_le}
+use Rattle.std.specs.Prelude.{ℕ, ℤ, pos, negsuc, Bool, true, false, not, if◌then◌else◌, ◌&&◌, ◌||◌, is_some, Option, Some, None, [], ◌∷◌, nat_eq, nat_le, int_le}
 use Rattle.std.specs.List.{list_any}
 use Rattle.pmb_command.specs.declared.form.Form.{Form}
-use Rattle.pmb_command.specs.declared.form.Form.TheVariants.{Zero, One, Two, Block}
+use Rattle.pmb_command.specs.declared.form.Form.TheVariants.{Zero, One, Two, Four, Eight, Block}
 use Rattle.pmb_command.specs.declared.form.Shape.{Shape}
 use Rattle.pmb_command.specs.declared.entry.Kind.{Kind}
-use Rattle.pmb_command.specs.declared.entry.Kind.TheVariants.{Raw, Linear11, Vout, VoutSigned, Direct, Status}
+use Rattle.pmb_command.specs.declared.entry.Kind.TheVariants.{Raw, Linear11, Linear11Fixed, Vout, VoutSigned, Direct, Status}
 use Rattle.pmb_command.specs.Entry.{EntryParts}
 use Rattle.pmb_command.specs.Commands.{standard_entry}
 
+-- a number of each form, by which forms are told apart
+abbrev pub form_number : Form → ℕ
+form_number Zero = 0
+form_number One = 1
+form_number Two = 2
+form_number Four = 3
+form_number Eight = 4
+form_number Block = 5
+
 -- the two forms are one
 abbrev pub same_form : Form → Form → Bool
-same_form Zero Zero = true
-same_form Zero One = false
-same_form Zero Two = false
-same_form Zero Block = false
-same_form One Zero = false
-same_form One One = true
-same_form One Two = false
-same_form One Block = false
-same_form Two Zero = false
-same_form Two One = false
-same_form Two Two = true
-same_form Two Block = false
-same_form Block Zero = false
-same_form Block One = false
-same_form Block Two = false
-same_form Block Block = true
+same_form form other = nat_eq (form_number form) (form_number other)
 
 -- the command can be written, read or called
 abbrev pub has_form : Shape → Bool
@@ -36,10 +30,18 @@ has_form s = is_some s.write || (is_some s.read || is_some s.call)
 abbrev pub ways_agree : Option Form → Option Form → Bool
 ways_agree None read = true
 ways_agree (Some write) None = true
-ways_agree (Some Zero) (Some read) = true
-ways_agree (Some One) (Some read) = same_form One read
-ways_agree (Some Two) (Some read) = same_form Two read
-ways_agree (Some Block) (Some read) = same_form Block read
+ways_agree (Some write) (Some read) = same_form write Zero || same_form write read
+
+-- what is read has data
+abbrev pub reads_data : Option Form → Bool
+reads_data None = true
+reads_data (Some read) = not (same_form read Zero)
+
+-- a call sends two bytes or a block, and is answered by as many or a block (Process Call, Block
+-- Write-Block Read Process Call)
+abbrev pub calls_fit : Option Form → Bool
+calls_fit None = true
+calls_fit (Some call) = same_form call Two || same_form call Block
 
 -- PAGE, CLEAR_FAULTS, VOUT_MODE, COEFFICIENTS and STATUS_CML, each of whose forms is the standard's
 -- or none
@@ -65,6 +67,7 @@ is_always_raw code = list_any (nat_eq code) (0x00 ∷ 0x03 ∷ 0x20 ∷ 0x30 ∷
 abbrev pub is_raw : Kind → Bool
 is_raw Raw = true
 is_raw Linear11 = false
+is_raw (Linear11Fixed exponent) = false
 is_raw Vout = false
 is_raw VoutSigned = false
 is_raw (Direct d) = false
@@ -83,20 +86,38 @@ is_form form (Some other) = same_form form other
 abbrev pub kind_fits : Kind → Option Form → Bool
 kind_fits Raw form = true
 kind_fits Linear11 form = is_form Two form
+kind_fits (Linear11Fixed exponent) form = is_form Two form
 kind_fits Vout form = is_form Two form
 kind_fits VoutSigned form = is_form Two form
 kind_fits (Direct d) form = is_form Two form
 kind_fits Status form = is_form One form || is_form Two form
+
+-- a whole number is an exponent of LINEAR11, of five bits in two's complement
+abbrev pub is_exponent : ℤ → Bool
+is_exponent exponent = int_le (negsuc 15) exponent && int_le exponent (pos 15)
+
+-- an exponent that is fixed is one
+abbrev pub exponent_fits : Kind → Bool
+exponent_fits Raw = true
+exponent_fits Linear11 = true
+exponent_fits (Linear11Fixed exponent) = is_exponent exponent
+exponent_fits Vout = true
+exponent_fits VoutSigned = true
+exponent_fits (Direct d) = true
+exponent_fits Status = true
 
 -- the forms, the kind and the pages of a command go together
 abbrev pub is_fitting : EntryParts → Bool
 is_fitting e =
     has_form e.shape
     && (ways_agree e.shape.write e.shape.read
+    && (reads_data e.shape.read
+    && (calls_fit e.shape.call
     && ((not (is_fixed e.code) || are_kept e.shape (standard_entry e.code))
     && ((not (is_always_raw e.code) || is_raw e.kind)
     && (not (nat_eq e.code 0x00 && e.paged)
-    && kind_fits e.kind (value_form e.shape)))))
+    && (kind_fits e.kind (value_form e.shape)
+    && exponent_fits e.kind)))))))
 
 -- the form of a command's register, which has a value to begin with: read, or written with data
 abbrev pub register_form : Shape → Option Form
@@ -108,4 +129,6 @@ is_length None n = false
 is_length (Some Zero) n = false
 is_length (Some One) n = nat_eq n 1
 is_length (Some Two) n = nat_eq n 2
+is_length (Some Four) n = nat_eq n 4
+is_length (Some Eight) n = nat_eq n 8
 is_length (Some Block) n = nat_le n 255

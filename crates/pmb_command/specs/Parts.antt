@@ -1,7 +1,7 @@
 -- What contracts see of a profile, as the list of its devices.
 use Rattle.std.specs.Prelude.{◌≡◌, ℕ, false, Option, List, map, nat_eq}
 use Rattle.std.specs.List.{IsDistinct, find, list_any}
-use Rattle.pmb_value.specs.Direct.{Coefficients}
+use Rattle.pmb_coefficients.specs.Coefficients.{Coefficients}
 use Rattle.pmb_command.specs.declared.pec_mode.PecMode.{PecMode}
 use Rattle.pmb_command.specs.Entry.{EntryParts}
 

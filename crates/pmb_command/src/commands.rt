@@ -16,7 +16,8 @@ use StandardKind::{Linear11, Raw, Status, Vout, VoutSigned};
 use arrayvec::ArrayString;
 
 /// What the data of a standard command stand for where no profile says otherwise; never a number in
-/// DIRECT, whose coefficients a device has to tell.
+/// DIRECT or in LINEAR11 with a fixed exponent, since a device has to tell the coefficients or the
+/// exponent.
 #[derive(Clone, Copy)]
 enum StandardKind {
     Raw,

@@ -2,7 +2,7 @@
 
 use crate::form::Shape;
 use arrayvec::ArrayString;
-use pmb_value::Direct;
+use pmb_coefficients::Direct;
 
 /// What the data of a command stand for.
 #[derive(Clone, Copy, Debug, PartialEq, Eq)]
@@ -11,6 +11,8 @@ pub enum Kind {
     Raw,
     /// A number in LINEAR11.
     Linear11,
+    /// A number in LINEAR11, always written with this exponent, -16 to 15.
+    Linear11Fixed(i8),
     /// An output voltage, unsigned in the linear format of VOUT_MODE.
     Vout,
     /// A correction of the output voltage, signed in the linear format of VOUT_MODE.

@@ -3,7 +3,7 @@
 ghost use Rattle.std.specs.Prelude.{◌≡◌, option_map, IsTrue};
 ghost use Rattle.pmb_command.specs.Bus.{IsFitting};
 ghost use Rattle.pmb_command.specs.Entry.{entry_parts};
-ghost use Rattle.pmb_command.specs.Fitting.{has_form, ways_agree, is_fixed, is_kept, are_kept, is_always_raw, is_raw, value_form, is_form, kind_fits, is_fitting, register_form, is_length};
+ghost use Rattle.pmb_command.specs.Fitting.{has_form, ways_agree, reads_data, calls_fit, is_fixed, is_kept, are_kept, is_always_raw, is_raw, value_form, is_form, kind_fits, exponent_fits, is_fitting, register_form, is_length};
 
 use crate::commands::standard;
 use crate::entry::{Entry, Kind};
@@ -23,9 +23,25 @@ fn ways_agree(write: Option<Form>, read: Option<Form>) -> bool
     match (write, read) {
         (None, _) => true,
         (Some(_), None) => true,
-        (Some(Form::Zero), Some(_)) => true,
-        (Some(write), Some(read)) => write == read,
+        (Some(write), Some(read)) => write == Form::Zero || write == read,
     }
+}
+
+/// Whether what is read has data.
+fn reads_data(read: Option<Form>) -> bool
+    ensures { result ≡ reads_data read }
+{
+    match read {
+        None => true,
+        Some(read) => read != Form::Zero,
+    }
+}
+
+/// Whether a call sends two bytes or a block, and is answered so.
+const fn calls_fit(call: Option<Form>) -> bool
+    ensures { result ≡ calls_fit call }
+{
+    matches!(call, None | Some(Form::Two | Form::Block))
 }
 
 /// Whether a profile may only drop the command's forms: PAGE, CLEAR_FAULTS, VOUT_MODE, COEFFICIENTS
@@ -103,10 +119,24 @@ fn kind_fits(kind: Kind, form: Option<Form>) -> bool
 {
     match kind {
         Kind::Raw => true,
-        Kind::Linear11 | Kind::Vout | Kind::VoutSigned | Kind::Direct(_) => {
-            is_form(Form::Two, form)
-        }
+        Kind::Linear11 | Kind::Linear11Fixed(_) | Kind::Vout | Kind::VoutSigned | Kind::Direct(_) =>
+            is_form(Form::Two, form),
         Kind::Status => is_form(Form::One, form) || is_form(Form::Two, form),
+    }
+}
+
+/// Whether a fixed exponent is one of LINEAR11's, of five bits.
+const fn exponent_fits(kind: Kind) -> bool
+    ensures { result ≡ exponent_fits kind }
+{
+    match kind {
+        Kind::Linear11Fixed(exponent) => -16 <= exponent && exponent <= 15,
+        Kind::Raw
+        | Kind::Linear11
+        | Kind::Vout
+        | Kind::VoutSigned
+        | Kind::Direct(_)
+        | Kind::Status => true,
     }
 }
 
@@ -117,10 +147,13 @@ pub fn is_fitting(entry: &Entry) -> bool
 {
     has_form(entry.shape)
         && ways_agree(entry.shape.write, entry.shape.read)
+        && reads_data(entry.shape.read)
+        && calls_fit(entry.shape.call)
         && (!is_fixed(entry.code) || are_kept(entry.shape, standard(entry.code)))
         && (!is_always_raw(entry.code) || is_raw(entry.kind))
         && !(entry.code == 0x00 && entry.paged)
         && kind_fits(entry.kind, value_form(entry.shape))
+        && exponent_fits(entry.kind)
 }
 
 /// The form of a command's register, which is read, or written with data.
@@ -143,6 +176,8 @@ pub const fn is_length(form: Option<Form>, length: usize) -> bool
         None | Some(Form::Zero) => false,
         Some(Form::One) => length == 1,
         Some(Form::Two) => length == 2,
+        Some(Form::Four) => length == 4,
+        Some(Form::Eight) => length == 8,
         Some(Form::Block) => length <= 255,
     }
 }

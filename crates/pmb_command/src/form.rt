@@ -10,6 +10,10 @@ pub enum Form {
     One,
     /// Two bytes, the low one first: Write Word, Read Word, Process Call.
     Two,
+    /// Four bytes, the lowest first: Write 32, Read 32.
+    Four,
+    /// Eight bytes, the lowest first: Write 64, Read 64.
+    Eight,
     /// A count and that many bytes: Block Write, Block Read, Block Write-Block Read Process Call.
     Block,
 }

@@ -1,12 +1,15 @@
 //! Laws over the definitions that the contracts cite: each is the contract of a function that does
 //! nothing.
 ghost use Rattle.std.specs.Prelude.{◌≡◌, ℕ, List, Some};
+ghost use Rattle.std.specs.Bool.{Decides};
+ghost use Rattle.pmb_command.specs.declared.form.Form.{Form};
 ghost use Rattle.pmb_command.specs.Entry.{EntryParts};
+ghost use Rattle.pmb_command.specs.Fitting.{same_form};
 ghost use Rattle.pmb_command.specs.Commands.{code_of_name, standard_entry};
 ghost use Rattle.pmb_command.specs.Standard.{IsNamed, IsStandardAt};
 
 /// The standard entry of a code has that code and a name of its own, of at most 32 bytes, and its
-/// data are no number in DIRECT.
+/// data are no number in DIRECT, and in LINEAR11 with no fixed exponent.
 pub fn standard_entries_are_sound()
     ensures { (code : ℕ) (e : EntryParts) → standard_entry code ≡ Some e → IsStandardAt code e }
 {}
@@ -14,4 +17,9 @@ pub fn standard_entries_are_sound()
 /// The code of a name is a byte, and has a standard entry with that name.
 pub fn names_are_of_entries()
     ensures { (name : List ℕ) (code : ℕ) → code_of_name name ≡ Some code → IsNamed name code }
+{}
+
+/// Forms are the same to the definitions exactly where they are equal.
+pub fn forms_are_told_apart()
+    ensures { (form : Form) (other : Form) → Decides (same_form form other) (form ≡ other) }
 {}

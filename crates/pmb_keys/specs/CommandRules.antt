@@ -1,38 +1,42 @@
 -- What a table of a profile says of one command.
-use Rattle.std.specs.Prelude.{ℕ, ℤ, pos, negsuc, Bool, false, not, ◌&&◌, ◌||◌, is_some, Option, Some, None, Result, Ok, Err, List, [], ◌∷◌, codes, length, nat_eq, int_le}
+use Rattle.std.specs.Prelude.{ℕ, ℤ, pos, negsuc, Bool, true, false, not, ◌&&◌, ◌||◌, is_some, Option, Some, None, Result, Ok, Err, List, [], ◌∷◌, codes, length, nat_eq, int_le}
 use Rattle.std.specs.List.{list_any}
 use Rattle.std.specs.Option.{option_and_then}
 use Rattle.std.specs.Ordering.{int_eq}
 use Rattle.std.specs.Result.{result_ok}
 use Rattle.toml.specs.Data.{Data, Members, as_str, as_integer, as_bool, as_table, get_member}
 use Rattle.hex.specs.Hex.{decode_of}
-use Rattle.pmb_value.specs.Direct.{Coefficients}
+use Rattle.pmb_coefficients.specs.Coefficients.{Coefficients}
 use Rattle.pmb_keys.specs.declared.fault.FaultKind.{FaultKind}
 use Rattle.pmb_keys.specs.declared.fault.FaultKind.TheVariants as faults
 use Rattle.pmb_command.specs.declared.form.Form.{Form}
-use Rattle.pmb_command.specs.declared.form.Form.TheVariants.{Zero, One, Two, Block}
+use Rattle.pmb_command.specs.declared.form.Form.TheVariants.{Zero, One, Two, Four, Eight, Block}
 use Rattle.pmb_command.specs.declared.form.Shape.{Shape}
 use Rattle.pmb_command.specs.declared.entry.Kind.{Kind}
-use Rattle.pmb_command.specs.declared.entry.Kind.TheVariants.{Raw, Linear11, Vout, VoutSigned, Direct, Status}
+use Rattle.pmb_command.specs.declared.entry.Kind.TheVariants.{Raw, Linear11, Linear11Fixed, Vout, VoutSigned, Direct, Status}
 use Rattle.pmb_command.specs.Entry.{EntryParts}
 use Rattle.pmb_command.specs.Commands.{standard_entry, code_of_name}
 use Rattle.pmb_command.specs.Parts.{CommandParts}
 use Rattle.pmb_command.specs.Names.{code_name, is_name}
-use Rattle.pmb_command.specs.Fitting.{register_form, is_length, is_fitting}
+use Rattle.pmb_command.specs.Fitting.{register_form, is_exponent, is_length, is_fitting}
 use Rattle.pmb_keys.specs.Rules.{bind, or_fault, unless, named, natural_within, only, typed, required, optional, defaulted}
 
 -- the keys of a command's table
 abbrev pub command_key_names : List (List ℕ)
 command_key_names =
     codes "code" ∷ codes "name" ∷ codes "write" ∷ codes "read" ∷ codes "call" ∷ codes "kind" ∷ codes "m" ∷ codes "b" ∷ codes "r"
-    ∷ codes "paged" ∷ codes "initial" ∷ []
+    ∷ codes "exponent" ∷ codes "paged" ∷ codes "initial" ∷ []
 
 -- the words for the forms in which a command is written, read and called
 abbrev pub write_forms : List (List ℕ × Option Form)
-write_forms = (codes "none", None) ∷ (codes "zero", Some Zero) ∷ (codes "one", Some One) ∷ (codes "two", Some Two) ∷ (codes "block", Some Block) ∷ []
+write_forms =
+    (codes "none", None) ∷ (codes "zero", Some Zero) ∷ (codes "one", Some One) ∷ (codes "two", Some Two) ∷ (codes "four", Some Four)
+    ∷ (codes "eight", Some Eight) ∷ (codes "block", Some Block) ∷ []
 
 abbrev pub read_forms : List (List ℕ × Option Form)
-read_forms = (codes "none", None) ∷ (codes "one", Some One) ∷ (codes "two", Some Two) ∷ (codes "block", Some Block) ∷ []
+read_forms =
+    (codes "none", None) ∷ (codes "one", Some One) ∷ (codes "two", Some Two) ∷ (codes "four", Some Four) ∷ (codes "eight", Some Eight)
+    ∷ (codes "block", Some Block) ∷ []
 
 abbrev pub call_forms : List (List ℕ × Option Form)
 call_forms = (codes "none", None) ∷ (codes "two", Some Two) ∷ (codes "block", Some Block) ∷ []
@@ -124,15 +128,39 @@ kind_words =
 abbrev pub kind_rule : Kind → Members → Result Kind FaultKind
 kind_rule base ms = bind (defaulted (word_rule faults.BadValue kind_words) (plain_kind base) (codes "kind") ms) (λ rule. rule ms)
 
+-- the data are numbers in LINEAR11
+abbrev pub is_linear11 : Kind → Bool
+is_linear11 Raw = false
+is_linear11 Linear11 = true
+is_linear11 (Linear11Fixed exponent) = true
+is_linear11 Vout = false
+is_linear11 VoutSigned = false
+is_linear11 (Direct d) = false
+is_linear11 Status = false
+
+-- the exponent that a key fixes; its type is looked at first, then that it goes with LINEAR11 alone
+abbrev pub exponent_of : Kind → Option Data → Result Kind FaultKind
+exponent_of kind None = Ok kind
+exponent_of kind (Some d) =
+    bind (typed as_integer d) (λ exponent.
+    bind (unless faults.UnknownKey (is_linear11 kind)) (λ _.
+    bind (unless faults.BadValue (is_exponent exponent)) (λ _.
+    Ok (Linear11Fixed exponent))))
+
+-- a kind, with the exponent where a key fixes one
+abbrev pub exponent_rule : Kind → Members → Result Kind FaultKind
+exponent_rule kind ms = exponent_of kind (get_member (codes "exponent") ms)
+
 -- What the keys but for `initial` say, each ruled in its turn.
 abbrev pub entry_rule : Members → Result EntryParts FaultKind
 entry_rule ms =
     bind (only command_key_names ms) (λ _.
     bind (base_rule ms) (λ base.
     bind (shape_rule base.shape ms) (λ shape.
-    bind (kind_rule base.kind ms) (λ kind.
+    bind (kind_rule base.kind ms) (λ worded.
+    bind (exponent_rule worded ms) (λ kind.
     bind (defaulted (typed as_bool) base.paged (codes "paged") ms) (λ paged.
-    Ok (record { code = base.code; name = base.name; shape = shape; kind = kind; paged = paged }))))))
+    Ok (record { code = base.code; name = base.name; shape = shape; kind = kind; paged = paged })))))))
 
 -- the text of `initial`
 abbrev pub initial_text : Members → Result (Option (List ℕ)) FaultKind

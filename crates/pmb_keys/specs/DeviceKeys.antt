@@ -2,7 +2,7 @@
 use Rattle.std.specs.Prelude.{ℕ, Bool, true, not, Option, Result, Ok, List, [], ◌∷◌, codes, nat_eq}
 use Rattle.std.specs.List.{list_any}
 use Rattle.toml.specs.Data.{Data, Items, no_items, Members, as_integer, as_bool, as_array, as_table}
-use Rattle.pmb_value.specs.Direct.{Coefficients}
+use Rattle.pmb_coefficients.specs.Coefficients.{Coefficients}
 use Rattle.pmb_keys.specs.declared.fault.FaultKind.{FaultKind}
 use Rattle.pmb_keys.specs.declared.fault.FaultKind.TheVariants as faults
 use Rattle.pmb_command.specs.declared.pec_mode.PecMode.{PecMode}

@@ -15,6 +15,7 @@ ghost use Rattle.pmb_command.specs.Fitting.{is_fitting};
 
 use crate::base::read_base;
 use crate::command::Command;
+use crate::exponent_key::read_exponent;
 use crate::fault::FaultKind;
 use crate::initial::initial_bytes;
 use crate::kind_keys::read_kind;
@@ -31,7 +32,8 @@ fn only_command_keys(table: &Table) -> Result<(), FaultKind>
     only(
         table,
         &[
-            "code", "name", "write", "read", "call", "kind", "m", "b", "r", "paged", "initial",
+            "code", "name", "write", "read", "call", "kind", "m", "b", "r", "exponent", "paged",
+            "initial",
         ],
     )
 }
@@ -54,7 +56,8 @@ fn read_entry(table: &Table) -> Result<Entry, FaultKind>
     only_command_keys(table)?;
     let base = read_base(table)?;
     let shape = read_shape(base.shape, table)?;
-    let kind = read_kind(base.kind, table)?;
+    let worded = read_kind(base.kind, table)?;
+    let kind = read_exponent(worded, table)?;
     let paged = read_paged(base.paged, table)?;
     Ok(Entry {
         code: base.code,

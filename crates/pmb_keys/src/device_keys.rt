@@ -13,8 +13,8 @@ ghost use Rattle.pmb_keys.specs.DeviceKeysView.{keys_parts};
 
 use crate::fault::FaultKind;
 use crate::rules;
+use pmb_coefficients::Direct;
 use pmb_command::PecMode;
-use pmb_value::Direct;
 use toml::{Table, Value};
 
 /// The Alert Response Address (SMBus 3.0 appendix C), which no device has as its own.

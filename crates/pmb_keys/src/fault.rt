@@ -18,7 +18,8 @@ pub enum FaultKind {
     BadAddress,
     /// An earlier device has the address.
     AddressTwice,
-    /// A number outside 0 to 255, or a word that its key does not know.
+    /// A code or VOUT_MODE outside 0 to 255, an exponent outside -16 to 15, or a word that its key
+    /// does not know.
     BadValue,
     /// A number of pages outside 1 to 32.
     BadPages,

@@ -15,6 +15,7 @@ mod base;
 mod command;
 mod command_keys;
 mod device_keys;
+mod exponent_key;
 mod fault;
 mod initial;
 mod kind_keys;

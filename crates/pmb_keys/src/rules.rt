@@ -9,7 +9,7 @@ ghost use Rattle.pmb_keys.specs.Rules.{bind, or_fault, unless, natural_within, k
 ghost use Rattle.pmb_keys.specs.CommandRules.{byte_rule, is_slope, is_offset, is_scale, coefficient, coefficients};
 
 use crate::fault::FaultKind;
-use pmb_value::Direct;
+use pmb_coefficients::Direct;
 use toml::{Table, Value};
 
 /// The number that a value is, or WrongType.

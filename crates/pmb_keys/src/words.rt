@@ -23,6 +23,8 @@ pub(crate) fn write_form(text: &str) -> Option<Option<Form>>
         "zero" => Some(Some(Form::Zero)),
         "one" => Some(Some(Form::One)),
         "two" => Some(Some(Form::Two)),
+        "four" => Some(Some(Form::Four)),
+        "eight" => Some(Some(Form::Eight)),
         "block" => Some(Some(Form::Block)),
         _ => None,
     }
@@ -36,6 +38,8 @@ pub(crate) fn read_form(text: &str) -> Option<Option<Form>>
         "none" => Some(None),
         "one" => Some(Some(Form::One)),
         "two" => Some(Some(Form::Two)),
+        "four" => Some(Some(Form::Four)),
+        "eight" => Some(Some(Form::Eight)),
         "block" => Some(Some(Form::Block)),
         _ => None,
     }

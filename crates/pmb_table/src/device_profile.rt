@@ -10,9 +10,9 @@ ghost use Rattle.pmb_table.specs.Profile.{device_parts};
 ghost use Rattle.pmb_keys.specs.DeviceKeysView.{keys_parts};
 
 use crate::command_map::CommandMap;
+use pmb_coefficients::Direct;
 use pmb_command::{Entry, PecMode};
 use pmb_keys::DeviceKeys;
-use pmb_value::Direct;
 use std::marker::Model;
 
 /// A device of a bus: its address, how it speaks, and its commands, no two of which have one code.

@@ -4,7 +4,9 @@ ghost use Rattle.pmb_command.specs.Bus.{IsBus, IsDevice};
 
 use crate::device_profile::DeviceProfile;
 use crate::profile::Profile;
-pub use pmb_command::laws::{names_are_of_entries, standard_entries_are_sound};
+pub use pmb_command::laws::{
+    forms_are_told_apart, names_are_of_entries, standard_entries_are_sound,
+};
 
 /// What was tested when a profile was accepted holds of it from then on.
 pub fn accepted_bus(profile: &Profile)

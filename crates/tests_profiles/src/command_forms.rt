@@ -1,10 +1,10 @@
 //! The forms, kinds and pages that go together and those that do not, by hand from the rules in
 //! `docs/profiles.md`.
-use crate::rows::{Row, check_command, check_commands};
+use crate::rows::{Row, check_commands, check_numbers};
 use pmb_table::FaultKind::BadForm;
 
-/// Commands whose parts go together, and others.
-static FORMS: [Row; 132] = [
+/// Forms that go together, and others.
+static FORMS: [Row; 42] = [
     ("code = 0xd0", Some(BadForm)),
     ("code = 0x88", Some(BadForm)),
     ("code = 0xd0, write = 'none'", Some(BadForm)),
@@ -54,6 +54,12 @@ static FORMS: [Row; 132] = [
     ("name = 'READ_VIN', write = 'zero'", None),
     ("name = 'READ_VIN', write = 'two'", None),
     ("name = 'OPERATION', write = 'two', read = 'two'", None),
+    ("code = 0xd0, call = 'one'", Some(BadForm)),
+    ("code = 0xd0, read = 'three', m = 1", Some(BadForm)),
+];
+
+/// Commands whose forms are fixed, with those and with others, and commands whose forms are not.
+static FIXED_FORMS: [Row; 41] = [
     ("name = 'PAGE', write = 'zero'", Some(BadForm)),
     ("name = 'PAGE', write = 'two', read = 'two'", Some(BadForm)),
     (
@@ -104,6 +110,10 @@ static FORMS: [Row; 132] = [
     ("name = 'VOUT_COMMAND', call = 'block'", None),
     ("name = 'QUERY', call = 'two'", None),
     ("name = 'STATUS_BYTE', write = 'two', read = 'two'", None),
+];
+
+/// The same of their kinds and pages.
+static FIXED_KINDS: [Row; 24] = [
     ("name = 'PAGE', kind = 'status'", Some(BadForm)),
     ("code = 0x00, write = 'one', kind = 'status'", Some(BadForm)),
     ("name = 'CLEAR_FAULTS', kind = 'status'", Some(BadForm)),
@@ -130,6 +140,11 @@ static FORMS: [Row; 132] = [
     ("name = 'COEFFICIENTS', paged = true", None),
     ("name = 'STATUS_CML', paged = false", None),
     ("name = 'OPERATION', paged = false", None),
+    ("code = 0x00, read = 'one', kind = 'status'", Some(BadForm)),
+];
+
+/// Kinds that fit the forms of a command, and others.
+static FITTING_KINDS: [Row; 25] = [
     ("name = 'READ_VIN', read = 'block'", Some(BadForm)),
     (
         "name = 'READ_VIN', read = 'none', write = 'one'",
@@ -187,13 +202,10 @@ static FORMS: [Row; 132] = [
         "code = 0xd0, write = 'one', call = 'block', kind = 'status'",
         None,
     ),
-    ("code = 0xd0, call = 'one'", Some(BadForm)),
     (
         "code = 0xd0, read = 'one', kind = 'linear11'",
         Some(BadForm),
     ),
-    ("code = 0x00, read = 'one', kind = 'status'", Some(BadForm)),
-    ("code = 0xd0, read = 'three', m = 1", Some(BadForm)),
 ];
 
 /// Numbers have two bytes, in the form in which they are read, or else written.
@@ -215,27 +227,29 @@ static NUMBERS: [Row; 15] = [
     ("write = 'two', call = 'block'", None),
 ];
 
-/// The kinds that are numbers.
-static KINDS: [&str; 4] = [
-    "'linear11'",
-    "'vout'",
-    "'vout_signed'",
-    "'direct', m = 1, b = 0, r = 0",
-];
-
 #[test]
 fn forms(rt: HostRuntime) {
     check_commands(&rt, rt.alloc(), &FORMS);
 }
 
 #[test]
+fn fixed_forms(rt: HostRuntime) {
+    check_commands(&rt, rt.alloc(), &FIXED_FORMS);
+}
+
+#[test]
+fn fixed_kinds(rt: HostRuntime) {
+    check_commands(&rt, rt.alloc(), &FIXED_KINDS);
+}
+
+#[test]
+fn fitting_kinds(rt: HostRuntime) {
+    check_commands(&rt, rt.alloc(), &FITTING_KINDS);
+}
+
+#[test]
 fn numbers(rt: HostRuntime) {
     for (forms, fault) in &NUMBERS {
-        for kind in &KINDS {
-            let keys = format!(in rt.alloc(); "code = 0xd0, {forms}, kind = {kind}").expect(
-                &rt, "memory",
-            );
-            check_command(&rt, rt.alloc(), keys.as_str(), *fault);
-        }
+        check_numbers(&rt, rt.alloc(), forms, *fault);
     }
 }

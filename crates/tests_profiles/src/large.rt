@@ -2,8 +2,9 @@
 use crate::rows::Answer::{Devices, Top};
 use crate::rows::{Answer, check_text};
 use pmb_table::FaultKind::{MissingKey, WrongType};
-use pmb_table::Profile;
+use pmb_table::{Entry, Profile};
 use std::alloc::{AllocError, Global};
+use std::process::Abort;
 use std::test::Fail;
 
 /// A form that the command with a code may have.
@@ -36,24 +37,32 @@ fn most_commands(alloc: Global) -> Result<String, AllocError> {
     Ok(text)
 }
 
+/// The place of a command in such a device, its code and its name. The standard commands keep their
+/// places, and the others come behind them.
+static PLACES: [(usize, u8, &str); 4] = [
+    (0, 0x00, "CMD_00"),
+    (155, 0xc2, "CMD_c2"),
+    (156, 0x07, "CMD_07"),
+    (255, 0xff, "CMD_ff"),
+];
+
+/// Whether an entry is that of a code.
+fn check_entry(rt: &impl Abort, name: &str, entry: Option<&Entry>, code: u8) {
+    let entry = entry.expect(rt, name);
+    assert_eq!(rt; (entry.code, entry.name.as_str()), (code, name), "{name}");
+}
+
 #[test]
 fn all_devices_with_all_commands(rt: HostRuntime) -> Result<(), Fail> {
     let text = most_commands(rt.alloc())?;
     let profile = Profile::from_toml(rt.alloc(), text.as_bytes())?;
     assert_eq!(rt; profile.len(), 64);
     let last = profile.device(0x4f).ok_or("no device")?;
-    assert_eq!(rt; last.address(), 0x4f);
-    assert_eq!(rt; last.len(), 256);
-    let entry = last.entry(0xff).ok_or("no entry")?;
-    assert_eq!(rt; entry.code, 0xff);
-    assert_eq!(rt; entry.name.as_str(), "CMD_ff");
-    // The standard commands keep their places, and the others come behind them.
-    let page = last.entry_at(0).ok_or("no entry")?;
-    assert_eq!(rt; page.name.as_str(), "CMD_00");
-    let first_new = last.entry_at(156).ok_or("no entry")?;
-    assert_eq!(rt; first_new.name.as_str(), "CMD_07");
-    let end = last.entry_at(255).ok_or("no entry")?;
-    assert_eq!(rt; end.code, 0xff);
+    assert_eq!(rt; (last.address(), last.len()), (0x4f, 256));
+    for &(place, code, name) in &PLACES {
+        check_entry(&rt, name, last.entry_at(place), code);
+        check_entry(&rt, name, last.entry(code), code);
+    }
     assert!(rt; last.entry_at(256).is_none());
     Ok(())
 }
@@ -81,10 +90,10 @@ static LONG: [(&str, &str, Answer); 2] = [
 
 #[test]
 fn a_mebibyte(rt: HostRuntime) -> Result<(), Fail> {
-    for (name, first, answer) in &LONG {
+    for &(name, first, answer) in &LONG {
         let text = longest(rt.alloc(), first)?;
-        assert_eq!(rt; text.len(), 1_048_576);
-        check_text(&rt, rt.alloc(), name, text.as_bytes(), *answer);
+        assert_eq!(rt; text.len(), 1_048_576, "{name}");
+        check_text(&rt, rt.alloc(), name, text.as_bytes(), answer);
     }
     let spaces = vec![in rt.alloc(); b' '; 1_048_576]?;
     check_text(

@@ -1,6 +1,5 @@
-//! Tests of profiles, of the standard's command table and of status bits: tables of rows by
-//! subject, each tried in one loop. A row is named by its first part, its keys or a name, and a row
-//! that fails prints it.
+//! Tests of profiles and their faults: tables of rows by subject, each tried in one loop. A row is
+//! named by its first part, its keys or a name, and a row that fails prints it.
 #![tactic(auto)]
 
 #[cfg(test)]
@@ -18,18 +17,14 @@ mod devices;
 #[cfg(test)]
 mod examples;
 #[cfg(test)]
+mod exponent;
+#[cfg(test)]
 mod large;
 #[cfg(test)]
-mod parts;
-#[cfg(test)]
 mod rows;
-#[cfg(test)]
-mod sample;
-#[cfg(test)]
-mod standard_commands;
-#[cfg(test)]
-mod status_bits;
 #[cfg(test)]
 mod texts;
 #[cfg(test)]
 mod value_types;
+#[cfg(test)]
+mod wide_forms;

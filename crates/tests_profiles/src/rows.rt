@@ -1,6 +1,5 @@
 //! How the rows of the profile tests are tried.
-use pmb_table::{FaultKind, Kind, Profile, ProfileFault};
-use pmb_value::Direct;
+use pmb_table::{FaultKind, Profile, ProfileFault};
 use std::alloc::Global;
 use std::process::Abort;
 
@@ -8,14 +7,14 @@ use std::process::Abort;
 pub(crate) type Row = (&'static str, Option<FaultKind>);
 
 /// The texts around the keys of a device, and its number: it stands alone, or behind another one.
-const DEVICES: [(&str, &str, u8); 2] = [
+static DEVICES: [(&str, &str, u8); 2] = [
     ("device = [{ ", " }]", 0),
     ("device = [{ address = 0x77, pec = 'on' }, { ", " }]", 1),
 ];
 
 /// The texts around the keys of a command, and the numbers of its device and its own: it stands
 /// alone, or both of them stand behind another one.
-const COMMANDS: [(&str, &str, u8, u16); 2] = [
+static COMMANDS: [(&str, &str, u8, u16); 2] = [
     (
         "device = [{ address = 0x10, pec = 'off', command = [{ ",
         " }] }]",
@@ -67,7 +66,7 @@ pub(crate) fn check_text(rt: &impl Abort, alloc: Global, name: &str, text: &[u8]
 
 /// Whether the keys of a device have a fault, or none.
 pub(crate) fn check_device(rt: &impl Abort, alloc: Global, keys: &str, fault: Option<FaultKind>) {
-    for (before, after, device) in DEVICES {
+    for &(before, after, device) in &DEVICES {
         let text = format!(in alloc; "{before}{keys}{after}").expect(rt, "memory");
         let answer = match fault {
             Some(what) => Answer::Device(device, what),
@@ -86,7 +85,7 @@ pub(crate) fn check_devices(rt: &impl Abort, alloc: Global, rows: &[Row]) {
 
 /// Whether the keys of a command have a fault, or none.
 pub(crate) fn check_command(rt: &impl Abort, alloc: Global, keys: &str, fault: Option<FaultKind>) {
-    for (before, after, device, command) in COMMANDS {
+    for &(before, after, device, command) in &COMMANDS {
         let text = format!(in alloc; "{before}{keys}{after}").expect(rt, "memory");
         let answer = match fault {
             Some(what) => Answer::Command(device, command, what),
@@ -103,25 +102,18 @@ pub(crate) fn check_commands(rt: &impl Abort, alloc: Global, rows: &[Row]) {
     }
 }
 
-/// What the data of a row's command stand for: a kind, where DIRECT has m, b and r.
-#[derive(Clone, Copy)]
-pub(crate) enum Meaning {
-    Raw,
-    Linear11,
-    Vout,
-    VoutSigned,
-    Direct(i16, i16, i8),
-    Status,
-}
+/// The kinds that are numbers.
+static NUMBERS: [&str; 4] = [
+    "'linear11'",
+    "'vout'",
+    "'vout_signed'",
+    "'direct', m = 1, b = 0, r = 0",
+];
 
-/// The kind of a row's command.
-pub(crate) fn kind_of(rt: &impl Abort, meaning: Meaning) -> Kind {
-    match meaning {
-        Meaning::Raw => Kind::Raw,
-        Meaning::Linear11 => Kind::Linear11,
-        Meaning::Vout => Kind::Vout,
-        Meaning::VoutSigned => Kind::VoutSigned,
-        Meaning::Direct(m, b, r) => Kind::Direct(Direct::new(m, b, r).expect(rt, "coefficients")),
-        Meaning::Status => Kind::Status,
+/// Whether a command of these forms has a fault, or none, with each kind that is a number.
+pub(crate) fn check_numbers(rt: &impl Abort, alloc: Global, forms: &str, fault: Option<FaultKind>) {
+    for kind in &NUMBERS {
+        let keys = format!(in alloc; "code = 0xd0, {forms}, kind = {kind}").expect(rt, "memory");
+        check_command(rt, alloc, keys.as_str(), fault);
     }
 }

@@ -68,7 +68,7 @@ static DEVICE_KEYS: [(&str, &str, Type); 10] = [
 ];
 
 /// The same of the keys of a command.
-static COMMAND_KEYS: [(&str, Type); 15] = [
+static COMMAND_KEYS: [(&str, Type); 18] = [
     ("read = 'one', code = ", Type::Integer),
     ("name = ", Type::Text),
     ("code = 0xd0, read = 'one', name = ", Type::Text),
@@ -93,6 +93,12 @@ static COMMAND_KEYS: [(&str, Type); 15] = [
     ("name = 'READ_VIN', r = ", Type::Integer),
     ("name = 'READ_VIN', paged = ", Type::Boolean),
     ("name = 'READ_VIN', initial = ", Type::Text),
+    ("name = 'VIN_ON', exponent = ", Type::Integer),
+    ("name = 'MFR_ID', exponent = ", Type::Integer),
+    (
+        "code = 0xd0, read = 'two', kind = 'linear11', exponent = ",
+        Type::Integer,
+    ),
 ];
 
 #[test]

@@ -1,7 +1,11 @@
 //! What an accepted profile says of a command, by hand from the rules in `docs/profiles.md`.
-use crate::rows::Meaning::{Direct, Linear11, Raw, Status, Vout, VoutSigned};
-use crate::rows::{Meaning, kind_of};
-use pmb_table::{Entry, Form, Profile, Shape};
+use crate::meanings::Meaning::{Direct, Linear11, Linear11Fixed, Raw, Status, Vout, VoutSigned};
+use crate::meanings::{Meaning, kind_of};
+use crate::shapes::{
+    BLOCK, BYTE, CALL_WORD, FOUR, MASK, READ_BLOCK, READ_BYTE, READ_EIGHT, READ_WORD,
+    SEND_AND_READ_BYTE, SNAPSHOT, WORD, WRITE_BLOCK, WRITE_EIGHT, WRITE_WORD,
+};
+use pmb_table::{Entry, Profile, Shape};
 use std::alloc::Global;
 use std::process::Abort;
 
@@ -18,8 +22,8 @@ pub(crate) fn code_of(entry: Option<&Entry>) -> Option<u8> {
     }
 }
 
-/// What a row tells of a command: its code, its name, its forms, what its data stand for, and
-/// whether each page has a value.
+/// What is told of a command: its code, its name, its forms, what its data stand for, and whether
+/// each page has a value.
 #[derive(Clone, Copy)]
 pub(crate) struct Parts(pub u8, pub &'static str, pub Shape, pub Meaning, pub bool);
 
@@ -27,96 +31,25 @@ pub(crate) struct Parts(pub u8, pub &'static str, pub Shape, pub Meaning, pub bo
 pub(crate) fn check_entry(rt: &impl Abort, row: &str, entry: Option<&Entry>, parts: &Parts) {
     let Parts(code, name, shape, meaning, paged) = *parts;
     let entry = entry.expect(rt, row);
-    assert_eq!(rt; entry.code, code, "at {row}");
-    assert_eq!(rt; entry.name.as_str(), name, "at {row}");
-    assert_eq!(rt; entry.shape, shape, "at {row}");
-    assert_eq!(rt; entry.kind, kind_of(rt, meaning), "at {row}");
-    assert_eq!(rt; entry.paged, paged, "at {row}");
+    assert_eq!(rt; (entry.code, entry.name.as_str()), (code, name), "at {row}");
+    assert_eq!(rt;
+        (entry.shape, entry.kind, entry.paged),
+        (shape, kind_of(rt, meaning), paged),
+        "at {row}"
+    );
 }
-
-const ONE: Option<Form> = Some(Form::One);
-
-const TWO: Option<Form> = Some(Form::Two);
-
-const BLOCK: Option<Form> = Some(Form::Block);
-
-const READ_ONE: Shape = Shape {
-    write: None,
-    read: ONE,
-    call: None,
-};
-
-const READ_TWO: Shape = Shape {
-    write: None,
-    read: TWO,
-    call: None,
-};
-
-const READ_BLOCK: Shape = Shape {
-    write: None,
-    read: BLOCK,
-    call: None,
-};
-
-const WRITE_TWO: Shape = Shape {
-    write: TWO,
-    read: None,
-    call: None,
-};
-
-const WRITE_BLOCK: Shape = Shape {
-    write: BLOCK,
-    read: None,
-    call: None,
-};
-
-const WRITE_TWO_CALL_BLOCK: Shape = Shape {
-    write: TWO,
-    read: None,
-    call: BLOCK,
-};
-
-const BYTE: Shape = Shape {
-    write: ONE,
-    read: ONE,
-    call: None,
-};
-
-pub(crate) const WORD: Shape = Shape {
-    write: TWO,
-    read: TWO,
-    call: None,
-};
-
-const BLOCKS: Shape = Shape {
-    write: BLOCK,
-    read: BLOCK,
-    call: None,
-};
-
-const CALL_TWO: Shape = Shape {
-    write: None,
-    read: None,
-    call: TWO,
-};
-
-const ZERO_READ_ONE: Shape = Shape {
-    write: Some(Form::Zero),
-    read: ONE,
-    call: None,
-};
 
 /// PAGE and READ_VIN as the standard has them.
 pub(crate) const PAGE: Parts = Parts(0x00, "PAGE", BYTE, Raw, false);
 
-pub(crate) const READ_VIN: Parts = Parts(0x88, "READ_VIN", READ_TWO, Linear11, true);
+pub(crate) const READ_VIN: Parts = Parts(0x88, "READ_VIN", READ_WORD, Linear11, true);
 
 /// The keys of a command, which name the row, and the parts and the first bytes that they give it.
 struct Row(&'static str, Parts, Option<&'static [u8]>);
 
 // With a name a key replaces a part of the standard command; with a code nothing is taken from it,
 // not even where it has one.
-static COMMANDS: [Row; 16] = [
+static COMMANDS: [Row; 24] = [
     Row("name = 'READ_VIN'", READ_VIN, None),
     Row("name = 'PAGE'", PAGE, None),
     Row(
@@ -126,22 +59,22 @@ static COMMANDS: [Row; 16] = [
     ),
     Row(
         "name = 'READ_VIN', kind = 'direct', m = -32768, b = 32767, r = 9, paged = false",
-        Parts(0x88, "READ_VIN", READ_TWO, Direct(-32768, 32767, 9), false),
+        Parts(0x88, "READ_VIN", READ_WORD, Direct(-32768, 32767, 9), false),
         None,
     ),
     Row(
         "name = 'VOUT_COMMAND', kind = 'vout_signed', read = 'none', call = 'block'",
-        Parts(0x21, "VOUT_COMMAND", WRITE_TWO_CALL_BLOCK, VoutSigned, true),
+        Parts(0x21, "VOUT_COMMAND", MASK, VoutSigned, true),
         None,
     ),
     Row(
         "name = 'SMBALERT_MASK', call = 'none'",
-        Parts(0x1b, "SMBALERT_MASK", WRITE_TWO, Raw, false),
+        Parts(0x1b, "SMBALERT_MASK", WRITE_WORD, Raw, false),
         None,
     ),
     Row(
         "name = 'MFR_ID', initial = '504d42'",
-        Parts(0x99, "MFR_ID", BLOCKS, Raw, false),
+        Parts(0x99, "MFR_ID", BLOCK, Raw, false),
         Some(b"PMB"),
     ),
     Row(
@@ -151,17 +84,17 @@ static COMMANDS: [Row; 16] = [
     ),
     Row(
         "code = 0x20, read = 'one'",
-        Parts(0x20, "CMD_20", READ_ONE, Raw, false),
+        Parts(0x20, "CMD_20", READ_BYTE, Raw, false),
         None,
     ),
     Row(
         "code = 0x88, name = 'READ_VIN', read = 'one'",
-        Parts(0x88, "READ_VIN", READ_ONE, Raw, false),
+        Parts(0x88, "READ_VIN", READ_BYTE, Raw, false),
         None,
     ),
     Row(
         "code = 10, call = 'two'",
-        Parts(0x0a, "CMD_0a", CALL_TWO, Raw, false),
+        Parts(0x0a, "CMD_0a", CALL_WORD, Raw, false),
         None,
     ),
     Row(
@@ -171,12 +104,12 @@ static COMMANDS: [Row; 16] = [
     ),
     Row(
         "initial = 'a5', kind = 'status', read = 'one', write = 'zero', name = 'A_1', code = 0xd0",
-        Parts(0xd0, "A_1", ZERO_READ_ONE, Status, false),
+        Parts(0xd0, "A_1", SEND_AND_READ_BYTE, Status, false),
         Some(b"\xa5"),
     ),
     Row(
         "code = 0xd0, write = 'two', call = 'block', kind = 'vout'",
-        Parts(0xd0, "CMD_d0", WRITE_TWO_CALL_BLOCK, Vout, false),
+        Parts(0xd0, "CMD_d0", MASK, Vout, false),
         None,
     ),
     Row(
@@ -189,6 +122,46 @@ static COMMANDS: [Row; 16] = [
         Parts(0xd0, "RATIO", WORD, Direct(3, 2, 1), true),
         Some(b"\x01\x02"),
     ),
+    Row(
+        "code = 0xe0, write = 'four', read = 'four', initial = '01020304'",
+        Parts(0xe0, "CMD_e0", FOUR, Raw, false),
+        Some(b"\x01\x02\x03\x04"),
+    ),
+    Row(
+        "code = 0xe1, read = 'eight', paged = true, initial = '0102030405060708'",
+        Parts(0xe1, "CMD_e1", READ_EIGHT, Raw, true),
+        Some(b"\x01\x02\x03\x04\x05\x06\x07\x08"),
+    ),
+    Row(
+        "code = 0xe2, name = 'SNAPSHOT', write = 'zero', read = 'four', call = 'block'",
+        Parts(0xe2, "SNAPSHOT", SNAPSHOT, Raw, false),
+        None,
+    ),
+    Row(
+        "name = 'READ_VIN', write = 'eight', read = 'none', kind = 'raw'",
+        Parts(0x88, "READ_VIN", WRITE_EIGHT, Raw, true),
+        None,
+    ),
+    Row(
+        "name = 'VIN_ON', exponent = -3",
+        Parts(0x35, "VIN_ON", WORD, Linear11Fixed(-3), true),
+        None,
+    ),
+    Row(
+        "name = 'VIN_ON', exponent = -16, paged = false, initial = '0080'",
+        Parts(0x35, "VIN_ON", WORD, Linear11Fixed(-16), false),
+        Some(b"\x00\x80"),
+    ),
+    Row(
+        "code = 0xd0, read = 'two', kind = 'linear11', exponent = 15",
+        Parts(0xd0, "CMD_d0", READ_WORD, Linear11Fixed(15), false),
+        None,
+    ),
+    Row(
+        "exponent = 0, name = 'VOUT_COMMAND', kind = 'linear11'",
+        Parts(0x21, "VOUT_COMMAND", WORD, Linear11Fixed(0), true),
+        None,
+    ),
 ];
 
 #[test]
@@ -199,9 +172,9 @@ fn commands(rt: HostRuntime) {
         ).expect(&rt, "memory");
         let profile = profile_of(&rt, rt.alloc(), text.as_str());
         let device = profile.device(0x10).expect(&rt, "a device");
-        assert_eq!(rt; device.len(), 1, "at {keys}");
         check_entry(&rt, keys, device.entry(parts.0), parts);
         check_entry(&rt, keys, device.entry_at(0), parts);
-        assert_eq!(rt; device.initial(parts.0), *initial, "at {keys}");
+        let found = (device.len(), device.initial(parts.0));
+        assert_eq!(rt; found, (1, *initial), "at {keys}");
     }
 }

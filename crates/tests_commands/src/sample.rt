@@ -1,7 +1,8 @@
 //! What the sample and other accepted profiles say of their devices, by hand from the rules in
 //! `docs/profiles.md`.
-use crate::parts::{PAGE, Parts, READ_VIN, WORD, check_entry, code_of, profile_of};
-use crate::rows::Meaning::Direct;
+use crate::meanings::Meaning::Direct;
+use crate::parts::{PAGE, Parts, READ_VIN, check_entry, code_of, profile_of};
+use crate::shapes::WORD;
 use pmb_table::{DeviceProfile, PecMode, SAMPLE, laws};
 
 /// The number of commands that the standard has.
@@ -107,18 +108,17 @@ fn devices(rt: HostRuntime) {
         laws::accepted_bus(&profile);
         let device = profile.device(*address).expect(&rt, name);
         laws::accepted_device(device);
-        assert_eq!(rt; device.address(), *address, "{name}");
-        assert_eq!(rt; device.pec(), *pec, "{name}");
-        assert_eq!(rt; device.pages(), *pages, "{name}");
-        assert_eq!(rt; device.vout_mode(), *vout_mode, "{name}");
         let coefficients = match direct {
             Some((m, b, r)) => Some(pmb_value::Direct::new(*m, *b, *r).expect(&rt, name)),
             None => None,
         };
-        assert_eq!(rt; device.vout_direct(), coefficients, "{name}");
-        assert_eq!(rt; device.len(), *len, "{name}");
-        assert_eq!(rt; code_of(device.entry_at(*len)), None, "{name}");
-        assert_eq!(rt; code_of(device.entry(0xc8)), None, "{name}");
+        let found = (device.address(), device.pec(), device.pages());
+        assert_eq!(rt; found, (*address, *pec, *pages), "{name}");
+        let found = (device.vout_mode(), device.vout_direct());
+        assert_eq!(rt; found, (*vout_mode, coefficients), "{name}");
+        let behind = code_of(device.entry_at(*len));
+        let found = (device.len(), behind, code_of(device.entry(0xc8)));
+        assert_eq!(rt; found, (*len, None, None), "{name}");
     }
 }
 
@@ -163,13 +163,9 @@ fn sample_commands(rt: HostRuntime) {
         check_entry(&rt, name, device.entry_at(*index), parts);
         check_entry(&rt, name, device.entry(parts.0), parts);
         assert_eq!(rt; device.initial(parts.0), *initial, "{name}");
-        assert_eq!(rt;
-            code_of(device.entry_at(STANDARD - 1)),
-            Some(0xc2),
-            "{name}"
-        );
-        assert_eq!(rt; device.initial(0x21), None, "{name}");
-        assert_eq!(rt; device.initial(0xc8), None, "{name}");
+        let last = code_of(device.entry_at(STANDARD - 1));
+        let found = (last, device.initial(0x21), device.initial(0xc8));
+        assert_eq!(rt; found, (Some(0xc2), None, None), "{name}");
     }
 }
 

@@ -1,0 +1,18 @@
+//! Tests of what commands are: the standard's table, the names of status bits, and what an accepted
+//! profile says of its devices and commands.
+//!
+//! A table of rows a subject; a row that fails prints its name.
+#![tactic(auto)]
+
+#[cfg(test)]
+mod meanings;
+#[cfg(test)]
+mod parts;
+#[cfg(test)]
+mod sample;
+#[cfg(test)]
+mod shapes;
+#[cfg(test)]
+mod standard_commands;
+#[cfg(test)]
+mod status_bits;
