@@ -6,7 +6,7 @@ use Rattle.std.proofs.lemmas.Bool.{eqb-true}
 use Rattle.std.proofs.lemmas.List.Folds.{find_at}
 use Rattle.std.proofs.lemmas.Option.{slice_get_within}
 use Rattle.pmb_command.specs.declared.form.Form.{Form}
-use Rattle.pmb_command.specs.declared.form.Form.TheVariants.{Zero, One, Two, Block}
+use Rattle.pmb_command.specs.declared.form.Form.TheVariants.{Zero, One, Two, Four, Eight, Block}
 use Rattle.pmb_command.specs.declared.pec_mode.PecMode.{PecMode}
 use Rattle.pmb_command.specs.declared.pec_mode.PecMode.TheVariants.{Off, On, Optional}
 use Rattle.pmb_command.specs.Parts.{CommandParts, DeviceParts, command_with, device_with}
@@ -132,6 +132,8 @@ is_two None = inr (λ is. cc)
 is_two (Some Zero) = inr (λ is. cc)
 is_two (Some One) = inr (λ is. cc)
 is_two (Some Two) = inl refl
+is_two (Some Four) = inr (λ is. cc)
+is_two (Some Eight) = inr (λ is. cc)
 is_two (Some Block) = inr (λ is. cc)
 
 -- packets carry a packet error code always or not

@@ -26,6 +26,7 @@ ghost use Rattle.pmb_capture.specs.machine.Showing.{
   HasStopped,
   HasEnded,
   counted_in,
+  stops_for_good,
 };
 
 use crate::lines::{bad_token_line, packet_line, refusal_line};
@@ -220,4 +221,6 @@ impl<'a> Engine for Showing<'a> {
     fn end<W: Sink>(&mut self, waiting: &mut Waiting, writer: &mut W) -> Result<(), ToolFault> {
         self.take_end(waiting, writer)
     }
+
+    ghost stops_for_good = { stops_for_good };
 }

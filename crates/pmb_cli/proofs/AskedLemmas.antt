@@ -1,30 +1,20 @@
 -- What `clap` found in the words, as what they ask for.
-use Rattle.std.proofs.Common.{◌≡◌, Bool, true, false, Option, Some, None, List, [], codes, refl, ap, ◌∙◌}
+use Rattle.std.proofs.Common.{◌≡◌, Bool, true, Option, Some, None, List, [], refl, sym, ap, ◌∙◌}
 use Rattle.std.specs.Borrow.{Bor}
 use Rattle.std.specs.Option.{option_map, unwrap_or}
 use Rattle.std.specs.Prelude.{Box}
 use Rattle.std.specs.Box.{box_value}
 use Rattle.std.specs.Str.{bytes_eq}
+use Rattle.std.proofs.lemmas.Slice.Eq.{bytes_eq-Decides}
 use Rattle.clap.specs.Words.{Row, Text, found_of, rows_of, subcommand_rows}
 use Rattle.clap.specs.declared.parser.matches.ArgMatches.TheViews.{out-SubCommand}
 use Rattle.clap.specs.declared.parser.matches.SubCommand.{SubCommand}
-use Rattle.pmb_cli.specs.Asked.{Decode, Encode, Show, entered, format_in, has_sample}
 
 -- ---- the subcommand
 
-pub of_encode : (name : Text) (rows : List Row) (format : Text) → bytes_eq name (codes "encode") ≡ true → format ≡ format_in rows → Encode format ≡ entered name rows
-unfolding entered
-of_encode name rows format is format_is = rw is (ap Encode format_is)
-
-pub of_decode : (name : Text) (rows : List Row) (format : Text) → bytes_eq name (codes "encode") ≡ false → bytes_eq name (codes "decode") ≡ true → format ≡ format_in rows
-    → Decode format ≡ entered name rows
-unfolding entered
-of_decode name rows format not is format_is = rw (not, is) (ap Decode format_is)
-
-pub of_show : (name : Text) (rows : List Row) (sample : Bool) → bytes_eq name (codes "encode") ≡ false → bytes_eq name (codes "decode") ≡ false → sample ≡ has_sample rows
-    → Show sample ≡ entered name rows
-unfolding entered
-of_show name rows sample not_1 not_2 sample_is = rw (not_1, not_2) (ap Show sample_is)
+-- a name that was found to be this text
+pub is_text : (name text : Text) (same : Bool) → same ≡ bytes_eq name text → same ≡ true → name ≡ text
+is_text name text same told is = (bytes_eq-Decides name text).0 (sym told ∙ is)
 
 -- ---- its matches
 

@@ -1,5 +1,5 @@
 -- What `clap` finds in the words `pmb show`, `pmb encode FORMAT` and `pmb decode FORMAT`.
-use Rattle.std.proofs.Common.{◌≡◌, ◌≢◌, ℕ, true, false, eqb, Some, None, List, [], ◌∷◌, codes, refl, ap, ap₂, ◌∙◌}
+use Rattle.std.proofs.Common.{◌≡◌, ◌≢◌, ℕ, true, false, eqb, Option, Some, None, List, [], ◌∷◌, codes, refl, sym, ap, ap₂, ◌∙◌}
 use Rattle.std.specs.Str.{bytes_eq}
 use Rattle.std.proofs.lemmas.Bool.{ne_eqb}
 use Rattle.clap.specs.Faults.{check_fault, defaults_fault, level_fault, settle_fault, step_fault, walk_fault, word_fault}
@@ -9,7 +9,7 @@ use Rattle.clap.specs.Simple.{built_leaf}
 use Rattle.clap.specs.Walk.{Held, Step, Walk, after_step, arg_by_index, finished, idle, nothing_held, settled, to_positional, value, walk, walk_from, walked, word_met}
 use Rattle.clap.specs.Words.{Kinds, Row, Rule, Shape, Text, subcommand_of}
 use Rattle.clap.proofs.OnLiterals.{clap_on_literals}
-use Rattle.pmb_cli.specs.Asked.{AskFor, Decode, Encode, Show, asked_of, entered}
+use Rattle.pmb_cli.specs.Asked.{AskFor, Decode, Encode, Show, format_in, has_sample}
 use Rattle.clap.specs.declared.error.kind.ErrorKind.TheVariants.{DisplayHelp, DisplayVersion}
 use Rattle.pmb_cli.specs.Words.{AskToTell, IsFlag, help, version, faults_of, lines_app, pmb_app}
 
@@ -94,25 +94,23 @@ decode_enters name word = refl
 -- ---- what is asked
 
 -- the matches of a walk's end
-abbrev rows_of_walk : Text → Walk → Text × List Row
-rows_of_walk name end = (name, finished (leaf name).rules end.held)
+abbrev pub rows_of_walk : Text → Walk → List Row
+rows_of_walk name end = finished (leaf name).rules end.held
 
-encode_rows : (name word : Text) → asked_of (subcommand_of pmb_app (name ∷ codes "encode" ∷ word ∷ [])) ≡ asked_of (Some (rows_of_walk (codes "encode") (walk (leaf (codes "encode")).rules [] nothing_held (word ∷ []))))
+encode_rows : (name word : Text) → subcommand_of pmb_app (name ∷ codes "encode" ∷ word ∷ []) ≡ Some (codes "encode", rows_of_walk (codes "encode") (walk (leaf (codes "encode")).rules [] nothing_held (word ∷ [])))
 unfolding clap_on_literals
 encode_rows name word = refl
 
-decode_rows : (name word : Text) → asked_of (subcommand_of pmb_app (name ∷ codes "decode" ∷ word ∷ [])) ≡ asked_of (Some (rows_of_walk (codes "decode") (walk (leaf (codes "decode")).rules [] nothing_held (word ∷ []))))
+decode_rows : (name word : Text) → subcommand_of pmb_app (name ∷ codes "decode" ∷ word ∷ []) ≡ Some (codes "decode", rows_of_walk (codes "decode") (walk (leaf (codes "decode")).rules [] nothing_held (word ∷ [])))
 unfolding clap_on_literals
 decode_rows name word = refl
 
-encode_has : (word : Text) → asked_of (Some (rows_of_walk (codes "encode") (to_positional (leaf (codes "encode")).rules (arg_by_index (leaf (codes "encode")).rules 1) word (walk_from nothing_held) nothing_held)))
-    ≡ Encode word
-unfolding clap_on_literals entered
+encode_has : (word : Text) → word ≡ format_in (rows_of_walk (codes "encode") (to_positional (leaf (codes "encode")).rules (arg_by_index (leaf (codes "encode")).rules 1) word (walk_from nothing_held) nothing_held))
+unfolding clap_on_literals
 encode_has word = refl
 
-decode_has : (word : Text) → asked_of (Some (rows_of_walk (codes "decode") (to_positional (leaf (codes "decode")).rules (arg_by_index (leaf (codes "decode")).rules 1) word (walk_from nothing_held) nothing_held)))
-    ≡ Decode word
-unfolding clap_on_literals entered
+decode_has : (word : Text) → word ≡ format_in (rows_of_walk (codes "decode") (to_positional (leaf (codes "decode")).rules (arg_by_index (leaf (codes "decode")).rules 1) word (walk_from nothing_held) nothing_held))
+unfolding clap_on_literals
 decode_has word = refl
 
 -- `pmb encode FORMAT` is taken, and asks for what FORMAT says.
@@ -120,7 +118,11 @@ pub asks_to_encode : (name format : Text) → (IsFlag format → ⊥) → AskFor
 asks_to_encode name format no_hyphen =
     let plain = no_flag format no_hyphen in record {
       no_fault = encode_enters name format ∙ ap (λ (k : Kinds). or_else k []) (one_word (leaf (codes "encode")) format plain ∙ encode_takes format);
-      asks = encode_rows name format ∙ ap (λ (end : Walk). asked_of (Some (rows_of_walk (codes "encode") end))) (walk_one (leaf (codes "encode")).rules format plain) ∙ encode_has format;
+      asks = (
+        _,
+        encode_rows name format,
+        encode_has format ∙ ap (λ (end : Walk). format_in (rows_of_walk (codes "encode") end)) (sym (walk_one (leaf (codes "encode")).rules format plain)),
+      );
     }
 
 -- and so is `pmb decode FORMAT`
@@ -128,31 +130,47 @@ pub asks_to_decode : (name format : Text) → (IsFlag format → ⊥) → AskFor
 asks_to_decode name format no_hyphen =
     let plain = no_flag format no_hyphen in record {
       no_fault = decode_enters name format ∙ ap (λ (k : Kinds). or_else k []) (one_word (leaf (codes "decode")) format plain ∙ decode_takes format);
-      asks = decode_rows name format ∙ ap (λ (end : Walk). asked_of (Some (rows_of_walk (codes "decode") end))) (walk_one (leaf (codes "decode")).rules format plain) ∙ decode_has format;
+      asks = (
+        _,
+        decode_rows name format,
+        decode_has format ∙ ap (λ (end : Walk). format_in (rows_of_walk (codes "decode") end)) (sym (walk_one (leaf (codes "decode")).rules format plain)),
+      );
     }
 
 -- `pmb show` is taken, with the flag or without it.
+abbrev rows_in : Option (Text × List Row) → List Row
+rows_in None = []
+rows_in (Some subcommand) = subcommand.1
+
 show_sample_fault : (name : Text) → faults_of (name ∷ codes "show" ∷ codes "--sample" ∷ []) ≡ []
 unfolding clap_on_literals
 show_sample_fault name = refl
 
-show_sample_asked : (name : Text) → asked_of (subcommand_of pmb_app (name ∷ codes "show" ∷ codes "--sample" ∷ [])) ≡ Show true
-unfolding clap_on_literals entered
-show_sample_asked name = refl
+show_sample_rows : (name : Text) → subcommand_of pmb_app (name ∷ codes "show" ∷ codes "--sample" ∷ []) ≡ Some (codes "show", rows_in (subcommand_of pmb_app (name ∷ codes "show" ∷ codes "--sample" ∷ [])))
+unfolding clap_on_literals
+show_sample_rows name = refl
+
+show_sample_has : (name : Text) → true ≡ has_sample (rows_in (subcommand_of pmb_app (name ∷ codes "show" ∷ codes "--sample" ∷ [])))
+unfolding clap_on_literals
+show_sample_has name = refl
 
 show_fault : (name : Text) → faults_of (name ∷ codes "show" ∷ []) ≡ []
 unfolding clap_on_literals
 show_fault name = refl
 
-show_asked : (name : Text) → asked_of (subcommand_of pmb_app (name ∷ codes "show" ∷ [])) ≡ Show false
-unfolding clap_on_literals entered
-show_asked name = refl
+show_rows : (name : Text) → subcommand_of pmb_app (name ∷ codes "show" ∷ []) ≡ Some (codes "show", rows_in (subcommand_of pmb_app (name ∷ codes "show" ∷ [])))
+unfolding clap_on_literals
+show_rows name = refl
+
+show_has : (name : Text) → false ≡ has_sample (rows_in (subcommand_of pmb_app (name ∷ codes "show" ∷ [])))
+unfolding clap_on_literals
+show_has name = refl
 
 pub asks_to_show_sample : (name : Text) → AskFor (name ∷ codes "show" ∷ codes "--sample" ∷ []) (Show true)
-asks_to_show_sample name = record { no_fault = show_sample_fault name; asks = show_sample_asked name }
+asks_to_show_sample name = record { no_fault = show_sample_fault name; asks = (_, show_sample_rows name, show_sample_has name) }
 
 pub asks_to_show : (name : Text) → AskFor (name ∷ codes "show" ∷ []) (Show false)
-asks_to_show name = record { no_fault = show_fault name; asks = show_asked name }
+asks_to_show name = record { no_fault = show_fault name; asks = (_, show_rows name, show_has name) }
 
 -- The help and the version are asked for.
 help_fault : (name : Text) → faults_of (name ∷ codes "--help" ∷ []) ≡ DisplayHelp ∷ []

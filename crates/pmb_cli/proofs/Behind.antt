@@ -9,10 +9,10 @@ use Rattle.pmb_io.specs.declared.tally.Tally.{Tally}
 use Rattle.pmb_io.proofs.Running.{raised_twice}
 use Rattle.pmb_io.proofs.Writing.{consumes_then}
 use Rattle.pmb_table.specs.Profile.{Says}
-use Rattle.pmb_capture.specs.Show.{ShowsAtEnd, StopsAtBadWord}
-use Rattle.pmb_cli.specs.Front.{EndsAtMark, EndsWithReader, FirstMark, InTime, Parts, ReadFront}
+use Rattle.pmb_capture.specs.Show.{ShowsAtEnd, ShowsFront, StopsAtBadWord}
+use Rattle.pmb_cli.specs.Front.{EndsAtMark, EndsWithReader, FirstMark, InTime, Parts, ReadFront, ReadUndecided}
 use Rattle.pmb_cli.specs.Front as front
-use Rattle.pmb_cli.specs.Shown.{OpenBehind, ShowedBehind}
+use Rattle.pmb_cli.specs.Shown.{OpenBehind, ShowedBehind, ShowedPart}
 use Rattle.pmb_cli.proofs.Fronts.{stays}
 
 -- where a line `%%` was met
@@ -138,3 +138,37 @@ module _ (devices : List DeviceParts) (tally : Tally) where
           ],
         );
       }
+
+-- ---- where a read failed, or there were too many
+
+-- within the profile
+pub part_of_profile : {R : Type 0} (told : R → front.Told) (old new : R) (held : Option (List ℕ)) → ReadUndecided told old new
+    → ShowedPart (record { left = (told old).left; given = (told old).given; held = held }) (record { left = (told new).left; given = (told new).given; held = held })
+part_of_profile told old new held before = inl (record {
+  read = before.read;
+  consumed = before.gave.consumed;
+  given = before.gave.given;
+  unwritten = refl;
+  undecided = before.undecided;
+})
+
+-- within the capture
+pub part_behind : {R : Type 0} (told : R → front.Told) (old mid : R) (l2 : Option (List ℕ)) (g2 : ℕ) (h0 h1 : Option (List ℕ)) (ended_before : Bool) (parts : Parts) (devices : List DeviceParts)
+    → (before : ReadFront told old mid ended_before parts) → parts.marked ≡ true → Says parts.profile (Ok devices)
+    → Through (ShowsFront devices) parts.rest (record { left = (told mid).left; given = (told mid).given; held = h0 }) (record { left = l2; given = g2; held = h1 })
+    → ShowedPart (record { left = (told old).left; given = (told old).given; held = h0 }) (record { left = l2; given = g2; held = h1 })
+part_behind told old mid l2 g2 h0 h1 ended_before parts devices before marked says through = inr (record {
+  read = before.read ++ through.read;
+  text = through.text;
+  profile = parts.profile;
+  capture = parts.rest ++ through.read;
+  devices = devices;
+  consumed = consumes_then (told old).left (told mid).left l2 before.read through.read before.reads.gave.consumed through.consumed;
+  given = through.given ∙ (ap (λ n. raised n (length through.read)) before.reads.gave.given
+      ∙ (raised_twice (told old).given (length before.read) (length through.read) ∙ ap (raised (told old).given) (sym (length-append before.read through.read))));
+  appended = through.appended;
+  first = stays before.read parts.profile parts.rest through.read (at_mark before.read parts _ ended_before before.ends marked);
+  within = before.within;
+  says = says;
+  shows = through.holds;
+})

@@ -171,3 +171,13 @@ pub grown : (growth : Result Unit AllocError) (refused : Bool) (items read piece
     → items ≡ (if is_ok growth then read ++ piece else read) → items ≡ read ++ piece
 grown (Ok x) refused items read piece told not_refused items_are = items_are
 grown (Err e) refused items read piece told not_refused items_are = absurd (let contrary : true ≡ false = sym told ∙ not_refused in cc)
+
+-- what is said of a line `%%` where there is none
+pub unmarked_not : (result : Result Parts ToolFault) (P : Type 0) → IfOk result (λ front. front.marked ≡ false) → IfOk result (λ front. front.marked ≡ true → P)
+unmarked_not (Ok front) P unmarked = λ marked. absurd (let contrary : true ≡ false = sym marked ∙ unmarked in cc)
+unmarked_not (Err fault) P unmarked = tt
+
+-- and what holds anyway
+pub marked_so : (result : Result Parts ToolFault) (P : Type 0) → P → IfOk result (λ front. front.marked ≡ true → P)
+marked_so (Ok front) P holds = λ _. holds
+marked_so (Err fault) P holds = tt

@@ -1,17 +1,21 @@
 -- A text has one profile and one rest.
-use Rattle.std.proofs.Common.{◌≡◌, ℕ, ◌+◌, ◌<◌, ◌≤◌, List, [], ◌∷◌, ◌++◌, length, take, drop, codes, inl, inr, refl, sym, ap, ◌∙◌, arith, append_assoc}
+use Rattle.std.proofs.Common.{◌≡◌, ℕ, ◌+◌, ◌<◌, ◌≤◌, List, [], ◌∷◌, ◌++◌, length, take, drop, get_or, codes, inl, inr, refl, sym, ap, ◌∙◌, arith, append_assoc}
 use Rattle.std.proofs.lemmas.List.{length-append, take_at, drop-append-le, append_cancel_left}
 use Rattle.pmb_cli.specs.Front.{IsMark, StartsLine, HasMark, FirstMark, IsFront}
 use Rattle.pmb_cli.proofs.Marks.{begins_with, mark_in_front, mark_stays}
 
+-- the bytes of one text are those of another at each place
+at : (place : ℕ) (x y : List ℕ) → x ≡ y → get_or x place 0 ≡ get_or y place 0
+at place x y same = ap (λ (l : List ℕ). get_or l place 0) same
+
 -- a line `%%` ends at the first LF behind its start
 ends_at_lf : (line seen rest after : List ℕ) → IsMark line → seen ++ 10 ∷ rest ≡ line ++ after → length line ≤ length seen + 1
-ends_at_lf line [] rest after (inl lf) same = absurd (let e : 10 ∷ rest ≡ codes "%%\n" ++ after = same ∙ ap (λ l. l ++ after) lf in cc)
-ends_at_lf line (a ∷ []) rest after (inl lf) same = absurd (let e : a ∷ 10 ∷ rest ≡ codes "%%\n" ++ after = same ∙ ap (λ l. l ++ after) lf in cc)
+ends_at_lf line [] rest after (inl lf) same = let apart : 10 ≡ 37 = at 0 (10 ∷ rest) (codes "%%\n" ++ after) (same ∙ ap (λ l. l ++ after) lf) in absurd (omega (arith, apart))
+ends_at_lf line (a ∷ []) rest after (inl lf) same = let apart : 10 ≡ 37 = at 1 (a ∷ 10 ∷ rest) (codes "%%\n" ++ after) (same ∙ ap (λ l. l ++ after) lf) in absurd (omega (arith, apart))
 ends_at_lf line (a ∷ b ∷ seen) rest after (inl lf) same = omega (arith, ap length lf)
-ends_at_lf line [] rest after (inr cr_lf) same = absurd (let e : 10 ∷ rest ≡ codes "%%\r\n" ++ after = same ∙ ap (λ l. l ++ after) cr_lf in cc)
-ends_at_lf line (a ∷ []) rest after (inr cr_lf) same = absurd (let e : a ∷ 10 ∷ rest ≡ codes "%%\r\n" ++ after = same ∙ ap (λ l. l ++ after) cr_lf in cc)
-ends_at_lf line (a ∷ b ∷ []) rest after (inr cr_lf) same = absurd (let e : a ∷ b ∷ 10 ∷ rest ≡ codes "%%\r\n" ++ after = same ∙ ap (λ l. l ++ after) cr_lf in cc)
+ends_at_lf line [] rest after (inr cr_lf) same = let apart : 10 ≡ 37 = at 0 (10 ∷ rest) (codes "%%\r\n" ++ after) (same ∙ ap (λ l. l ++ after) cr_lf) in absurd (omega (arith, apart))
+ends_at_lf line (a ∷ []) rest after (inr cr_lf) same = let apart : 10 ≡ 37 = at 1 (a ∷ 10 ∷ rest) (codes "%%\r\n" ++ after) (same ∙ ap (λ l. l ++ after) cr_lf) in absurd (omega (arith, apart))
+ends_at_lf line (a ∷ b ∷ []) rest after (inr cr_lf) same = let apart : 10 ≡ 13 = at 2 (a ∷ b ∷ 10 ∷ rest) (codes "%%\r\n" ++ after) (same ∙ ap (λ l. l ++ after) cr_lf) in absurd (omega (arith, apart))
 ends_at_lf line (a ∷ b ∷ d ∷ seen) rest after (inr cr_lf) same = omega (arith, ap length cr_lf)
 
 -- a line that starts later starts behind an LF that is no earlier than where another line starts
@@ -40,10 +44,12 @@ first_is_least text before after other line rest first mark earlier =
 
 -- of two lines `%%` at one place the same is behind them
 same_after : (line other a b : List ℕ) → IsMark line → IsMark other → line ++ a ≡ other ++ b → a ≡ b
-same_after line other a b (inl e) (inl f) same = let h : codes "%%\n" ++ a ≡ codes "%%\n" ++ b = ap (λ l. l ++ a) (sym e) ∙ (same ∙ ap (λ l. l ++ b) f) in cc
-same_after line other a b (inl e) (inr f) same = absurd (let h : codes "%%\n" ++ a ≡ codes "%%\r\n" ++ b = ap (λ l. l ++ a) (sym e) ∙ (same ∙ ap (λ l. l ++ b) f) in cc)
-same_after line other a b (inr e) (inl f) same = absurd (let h : codes "%%\r\n" ++ a ≡ codes "%%\n" ++ b = ap (λ l. l ++ a) (sym e) ∙ (same ∙ ap (λ l. l ++ b) f) in cc)
-same_after line other a b (inr e) (inr f) same = let h : codes "%%\r\n" ++ a ≡ codes "%%\r\n" ++ b = ap (λ l. l ++ a) (sym e) ∙ (same ∙ ap (λ l. l ++ b) f) in cc
+same_after line other a b (inl e) (inl f) same = append_cancel_left (codes "%%\n") a b (ap (λ l. l ++ a) (sym e) ∙ (same ∙ ap (λ l. l ++ b) f))
+same_after line other a b (inl e) (inr f) same =
+    let apart : 10 ≡ 13 = at 2 (codes "%%\n" ++ a) (codes "%%\r\n" ++ b) (ap (λ l. l ++ a) (sym e) ∙ (same ∙ ap (λ l. l ++ b) f)) in absurd (omega (arith, apart))
+same_after line other a b (inr e) (inl f) same =
+    let apart : 13 ≡ 10 = at 2 (codes "%%\r\n" ++ a) (codes "%%\n" ++ b) (ap (λ l. l ++ a) (sym e) ∙ (same ∙ ap (λ l. l ++ b) f)) in absurd (omega (arith, apart))
+same_after line other a b (inr e) (inr f) same = append_cancel_left (codes "%%\r\n") a b (ap (λ l. l ++ a) (sym e) ∙ (same ∙ ap (λ l. l ++ b) f))
 
 -- neither of two first lines is earlier
 level : (m n : ℕ) → (m < n → ⊥) → (n < m → ⊥) → m ≡ n

@@ -5,5 +5,6 @@ pub mod FrontReads
 pub mod Statuses
 pub mod Behind
 pub mod AskedLemmas
+pub mod AskedOnce
 pub mod AskedWords
 mod WordsExamples

@@ -1,5 +1,5 @@
 -- What the words ask for, where `clap` finds no fault in them.
-use Rattle.std.specs.Prelude.{◌≡◌, ◌⊎◌, Bool, false, Option, Some, None, Err, List, [], codes, if◌then◌else◌, unwrap_or}
+use Rattle.std.specs.Prelude.{◌≡◌, ◌⊎◌, Bool, Option, Some, None, Err, List, [], codes, unwrap_or}
 use Rattle.std.specs.Str.{bytes_eq}
 use Rattle.clap.specs.Words.{Row, Text, first_of, subcommand_of}
 use Rattle.pmb_convert.specs.Spelling.{Names}
@@ -29,20 +29,30 @@ has_sample rows = bytes_eq (unwrap_or (first_of (codes "sample") rows) []) (code
 abbrev pub format_in : List Row → Text
 format_in rows = unwrap_or (first_of (codes "FORMAT") rows) []
 
--- what a subcommand asks for
-unfoldable pub entered : Text → List Row → Asking
-entered name rows =
-    if bytes_eq name (codes "encode") then Encode (format_in rows) else (
-    if bytes_eq name (codes "decode") then Decode (format_in rows) else Show (has_sample rows))
+-- what is asked for by the subcommand that `clap` found, of which it tells the name and the matches
+abbrev pub Asks : Option (Text × List Row) → Asking → Type 0
+Asks subcommand (Show sample) = (rows : List Row) × (subcommand ≡ Some (codes "show", rows)) × (sample ≡ has_sample rows)
+Asks subcommand (Encode format) = (rows : List Row) × (subcommand ≡ Some (codes "encode", rows)) × (format ≡ format_in rows)
+Asks subcommand (Decode format) = (rows : List Row) × (subcommand ≡ Some (codes "decode", rows)) × (format ≡ format_in rows)
 
-abbrev pub asked_of : Option (Text × List Row) → Asking
-asked_of None = Show false
-asked_of (Some subcommand) = entered subcommand.0 subcommand.1
+-- it asks for nothing
+abbrev pub AsksNothing : Option (Text × List Row) → Type 0
+AsksNothing subcommand = (asking : Asking) → Asks subcommand asking → ⊥
+
+-- it asks for a task, or for none
+abbrev pub AsksTask : Option (Text × List Row) → Option Task → Type 0
+AsksTask subcommand None = AsksNothing subcommand
+AsksTask subcommand (Some task) = Asks subcommand (asking_of task)
 
 -- `clap` finds no fault in the words, and they ask for this
 pub record AskFor (words : List Text) (asking : Asking) : Type 0 where
   pub no_fault : faults_of words ≡ []
-  pub asks : asked_of (subcommand_of pmb_app words) ≡ asking
+  pub asks : Asks (subcommand_of pmb_app words) asking
+
+-- `clap` finds no fault in them, and they ask for nothing
+pub record AskForNothing (words : List Text) : Type 0 where
+  pub no_fault : faults_of words ≡ []
+  pub nothing : AsksNothing (subcommand_of pmb_app words)
 
 -- they ask for lines in a format, but its text names none
 pub record HasBadFormat (words : List Text) : Type 0 where

@@ -1,6 +1,6 @@
 -- The exit statuses.
-use Rattle.std.specs.Prelude.{◌≡◌, ◌≤◌, ℕ, ◌==◌, if◌then◌else◌, length, List, Option, Result, Ok, Err}
-use Rattle.std.specs.Io.KnownBytes.{Consumes}
+use Rattle.std.specs.Prelude.{◌≡◌, ◌≢◌, ◌≤◌, ◌⊎◌, ℕ, ◌==◌, if◌then◌else◌, length, List, [], Option, Result, Ok, Err}
+use Rattle.std.specs.Io.KnownBytes.{Appends, Consumes}
 use Rattle.pmb_io.specs.Count.{raised}
 use Rattle.pmb_io.specs.Runs.{most_reads}
 use Rattle.pmb_io.specs.declared.fault.ToolFault.{ToolFault}
@@ -28,3 +28,13 @@ pub record ReadOften (reads_old reads_new : ℕ) (left_old left_new : Option (Li
   pub read : List ℕ
   pub consumed : Consumes left_old left_new read
   pub many : most_reads ≤ length read
+
+-- some text was written
+pub record Tells (held_old held_new : Option (List ℕ)) : Type 0 where
+  pub text : List ℕ
+  pub some : text ≢ []
+  pub appended : Appends held_old held_new text
+
+-- some text was written, or the writer failed
+abbrev pub IsTold : Option (List ℕ) → Option (List ℕ) → ℕ → ℕ → Type 0
+IsTold held_old held_new failures_old failures_new = (Tells held_old held_new × (failures_new ≡ failures_old)) ⊎ (failures_new ≡ raised failures_old 1)

@@ -1,8 +1,7 @@
 //! What the words of the command ask for.
 
-ghost use Rattle.std.specs.Prelude.{◌≡◌};
 ghost use Rattle.clap.specs.Words.{subcommand_rows_of};
-ghost use Rattle.pmb_cli.specs.Asked.{asked_of, asking_of};
+ghost use Rattle.pmb_cli.specs.Asked.{AsksTask};
 
 use clap::ArgMatches;
 
@@ -17,18 +16,19 @@ pub(crate) enum Task<'a> {
     Decode(&'a str),
 }
 
-/// What the words ask for. `show` is what is left where it is neither of the others.
-pub(crate) fn asked<'a>(matches: &ArgMatches<'a>) -> Task<'a>
-    ensures { asking_of result ≡ asked_of (subcommand_rows_of matches.now) }
+/// What the words ask for, by the subcommand among them.
+pub(crate) fn asked<'a>(matches: &ArgMatches<'a>) -> Option<Task<'a>>
+    ensures { AsksTask (subcommand_rows_of matches.now) result }
 {
-    let Some((name, arguments)) = matches.subcommand() else {
-        return Task::Show(false);
-    };
-    if name == "encode" {
-        Task::Encode(arguments.get_str("FORMAT").unwrap_or(""))
+    let (name, arguments) = matches.subcommand()?;
+    if name == "show" {
+        let sample = arguments.get_str("sample").unwrap_or("") == "true";
+        Some(Task::Show(sample))
+    } else if name == "encode" {
+        Some(Task::Encode(arguments.get_str("FORMAT").unwrap_or("")))
     } else if name == "decode" {
-        Task::Decode(arguments.get_str("FORMAT").unwrap_or(""))
+        Some(Task::Decode(arguments.get_str("FORMAT").unwrap_or("")))
     } else {
-        Task::Show(arguments.get_str("sample").unwrap_or("") == "true")
+        None
     }
 }

@@ -54,6 +54,10 @@ pub fn front<R: Source>(alloc: Global, reader: &mut R) -> Result<Front, ToolFaul
     ensures before_memory { result ≡ Err ToolFault.Memory → ReadSome
         (λ reader. record { left = R.remaining reader; given = R.given reader; reads = R.reads reader }) reader.old reader.new }
 
+    // A reader that ended in this call is not read again: no failed read is behind its end, and neither is a line `%%`.
+    ensures read_not_ended { result ≡ Err ToolFault.Read → R.has_ended reader.new ≡ R.has_ended reader.old }
+    ensures mark_not_ended { IfOk result (λ front. front.marked ≡ true → R.has_ended reader.new ≡ R.has_ended reader.old) }
+
     // The reads that gave bytes are few, and it writes nothing.
     ensures reads { MadeReads (R.reads reader.old) (R.reads reader.new) }
     ensures few_reads { result ≢ Err ToolFault.TooManyReads }

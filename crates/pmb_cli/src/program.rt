@@ -5,19 +5,19 @@ ghost use Rattle.clap.specs.Words.{Text};
 ghost use Rattle.std.specs.declared.io.ErrorKind.TheVariants.{OutOfMemory};
 ghost use Rattle.pmb_io.specs.Count.{raised};
 ghost use Rattle.pmb_io.specs.declared.tally.Tally.{Tally as TallyOf};
-ghost use Rattle.pmb_io.specs.Runs.{Ended};
-ghost use Rattle.pmb_convert.specs.Lines.{AnswersInput};
+ghost use Rattle.pmb_io.specs.Runs.{Ended, Through};
+ghost use Rattle.pmb_convert.specs.Lines.{AnswersEnded, AnswersInput};
 ghost use Rattle.pmb_convert.specs.Spelling.{Names};
 ghost use Rattle.pmb_convert.specs.declared.conversion.Conversion.TheVariants as conversions;
 ghost use Rattle.pmb_convert.specs.declared.named_format.NamedFormat.{NamedFormat as FormatOf};
-ghost use Rattle.pmb_cli.specs.Asked.{AskFor, Decode, Encode, HasBadFormat, Show};
-ghost use Rattle.pmb_cli.specs.Shown.{HasBadProfile, ShowedBehind, ShowedSample};
-ghost use Rattle.pmb_cli.specs.Status.{ReadOften, run_status};
+ghost use Rattle.pmb_cli.specs.Asked.{AskFor, AskForNothing, Decode, Encode, HasBadFormat, Show};
+ghost use Rattle.pmb_cli.specs.Shown.{HasBadProfile, ShowedBehind, ShowedPart, ShowedSample, ShowedSamplePart};
+ghost use Rattle.pmb_cli.specs.Status.{IsTold, ReadOften, Tells, run_status};
 ghost use Rattle.pmb_cli.specs.Words.{AreRefused, AskToTell, MayBeRefused, faults_of};
 
 use crate::asked::{Task, asked};
 use crate::shown::{show_behind, show_sample};
-use crate::status::{BAD_WORDS, ended, tell, tell_format};
+use crate::status::{BAD_WORDS, ended, tell, tell_format, tell_nothing};
 use crate::words::{parse, tell_words};
 use pmb_convert::laws::one_format;
 use pmb_convert::{NamedFormat, decode_lines, encode_lines};
@@ -50,15 +50,20 @@ pub fn tool<S: AsStr, R: Source, W: Sink, E: Sink>(
 
     // The words are looked at first. Help and the version go to `out`.
     ensures refused { AreRefused (map S.text words.now) → (result ≡ 2) ⊎ (result ≡ 4) }
-    ensures told { result ≡ 2 → MayBeRefused (map S.text words.now) ⊎ (HasBadFormat (map S.text words.now)
+    ensures told { result ≡ 2 → (MayBeRefused (map S.text words.now) ⊎ AskForNothing (map S.text words.now)) ⊎ (HasBadFormat (map S.text words.now)
         ⊎ (AskFor (map S.text words.now) (Show false) × HasBadProfile
         (λ reader. record { left = R.remaining reader; given = R.given reader; reads = R.reads reader })
         reader.old reader.new (R.has_ended reader.new))) }
     ensures helped { AskToTell (map S.text words.now) → (result ≡ 0) ⊎ (result ≡ 3) ⊎ (result ≡ 4) }
+    ensures out_told { AskToTell (map S.text words.now) → result ≡ 0 → Tells (W.contents out.old) (W.contents out.new) }
+    ensures nothing { AskForNothing (map S.text words.now) → (result ≡ 2) ⊎ (result ≡ 4) }
+    ensures nothing_unread { AskForNothing (map S.text words.now) → reader.new ≡ reader.old }
     ensures unread { faults_of (map S.text words.now) ≢ [] → reader.new ≡ reader.old }
     ensures unwritten { AreRefused (map S.text words.now) → out.new ≡ out.old }
 
-    // Standard error stays as it is where all went well, and standard output where anything was refused at the start.
+    // Standard error is told something where anything went wrong, and else stays as it is; standard output stays as it is
+    // where anything was refused at the start.
+    ensures err_told { 2 ≤ result → IsTold (E.contents err.old) (E.contents err.new) (E.failures err.old) (E.failures err.new) }
     ensures quiet { result ≤ 1 → err.new ≡ err.old }
     ensures refused_unwritten { (result ≡ 2) ⊎ (result ≡ 4) → out.new ≡ out.old }
 
@@ -92,9 +97,25 @@ pub fn tool<S: AsStr, R: Source, W: Sink, E: Sink>(
         (record { left = R.remaining reader.new; given = R.given reader.new; held = W.contents out.new })
         (R.has_ended reader.new) }
 
+    // Where a read failed or there were too many, what was written is so much of that.
+    ensures part_sample { AskFor (map S.text words.now) (Show true) → result ≡ 3 → (W.failures out.new ≡ raised (W.failures out.old) 1) ⊎ ShowedSamplePart SAMPLE.now
+        (record { left = R.remaining reader.old; given = R.given reader.old; held = W.contents out.old })
+        (record { left = R.remaining reader.new; given = R.given reader.new; held = W.contents out.new }) }
+    ensures part { AskFor (map S.text words.now) (Show false) → result ≡ 3 → (W.failures out.new ≡ raised (W.failures out.old) 1) ⊎ ShowedPart
+        (record { left = R.remaining reader.old; given = R.given reader.old; held = W.contents out.old })
+        (record { left = R.remaining reader.new; given = R.given reader.new; held = W.contents out.new }) }
+    ensures part_encoded { (text : Text) (format : FormatOf) → AskFor (map S.text words.now) (Encode text) → Names text (Ok format) → result ≡ 3
+        → (W.failures out.new ≡ raised (W.failures out.old) 1) ⊎ Through (AnswersEnded (conversions.Encode format)) []
+        (record { left = R.remaining reader.old; given = R.given reader.old; held = W.contents out.old })
+        (record { left = R.remaining reader.new; given = R.given reader.new; held = W.contents out.new }) }
+    ensures part_decoded { (text : Text) (format : FormatOf) → AskFor (map S.text words.now) (Decode text) → Names text (Ok format) → result ≡ 3
+        → (W.failures out.new ≡ raised (W.failures out.old) 1) ⊎ Through (AnswersEnded (conversions.Decode format)) []
+        (record { left = R.remaining reader.old; given = R.given reader.old; held = W.contents out.old })
+        (record { left = R.remaining reader.new; given = R.given reader.new; held = W.contents out.new }) }
+
     // No read and no write on `out` failed where it answers 0 or 1, and one did, or there were too many reads, where 3.
     ensures done { result ≤ 1 → (R.failures reader.new ≡ R.failures reader.old) × (W.failures out.new ≡ W.failures out.old) }
-    ensures io_failed { result ≡ 3 → (R.failures reader.new ≡ raised (R.failures reader.old) 1)
+    ensures io_failed { result ≡ 3 → ((R.failures reader.new ≡ raised (R.failures reader.old) 1) × (R.has_ended reader.new ≡ R.has_ended reader.old))
         ⊎ ((W.failures out.new ≡ raised (W.failures out.old) 1) ⊎ ReadOften (R.reads reader.old) (R.reads reader.new) (R.remaining reader.old) (R.remaining reader.new)) }
 {
     // A text names one format at most.
@@ -104,16 +125,17 @@ pub fn tool<S: AsStr, R: Source, W: Sink, E: Sink>(
         Err(error) => return tell_words(alloc, words, &error, out, err),
     };
     match asked(&matches) {
-        Task::Show(true) => show_sample(alloc, reader, out, err),
-        Task::Show(false) => show_behind(alloc, reader, out, err),
-        Task::Encode(format) => match NamedFormat::parse(format) {
+        Some(Task::Show(true)) => show_sample(alloc, reader, out, err),
+        Some(Task::Show(false)) => show_behind(alloc, reader, out, err),
+        Some(Task::Encode(format)) => match NamedFormat::parse(format) {
             Ok(format) => ended(encode_lines(format, &[], reader, out), err),
             Err(fault) => tell_format(fault, err),
         },
-        Task::Decode(format) => match NamedFormat::parse(format) {
+        Some(Task::Decode(format)) => match NamedFormat::parse(format) {
             Ok(format) => ended(decode_lines(format, &[], reader, out), err),
             Err(fault) => tell_format(fault, err),
         },
+        None => tell_nothing(err),
     }
 }
 
@@ -122,6 +144,7 @@ pub fn tool<S: AsStr, R: Source, W: Sink, E: Sink>(
 pub fn no_words<E: Sink>(kind: io::ErrorKind, err: &mut E) -> u8
     ensures memory { kind ≡ OutOfMemory → result ≡ 4 }
     ensures others { kind ≢ OutOfMemory → result ≡ 2 }
+    ensures err_told { IsTold (E.contents err.old) (E.contents err.new) (E.failures err.old) (E.failures err.new) }
 {
     if kind == io::ErrorKind::OutOfMemory {
         return tell(ToolFault::Memory, err);

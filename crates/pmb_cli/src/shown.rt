@@ -3,8 +3,8 @@
 ghost use Rattle.std.specs.Prelude.{◌≡◌, ◌≢◌, ◌≤◌, ◌⊎◌, Ok};
 ghost use Rattle.pmb_io.specs.Count.{raised};
 ghost use Rattle.pmb_io.specs.declared.tally.Tally.{Tally as TallyOf};
-ghost use Rattle.pmb_cli.specs.Shown.{HasBadProfile, ShowedBehind, ShowedSample};
-ghost use Rattle.pmb_cli.specs.Status.{ReadOften, run_status};
+ghost use Rattle.pmb_cli.specs.Shown.{HasBadProfile, ShowedBehind, ShowedPart, ShowedSample, ShowedSamplePart};
+ghost use Rattle.pmb_cli.specs.Status.{IsTold, ReadOften, run_status};
 
 use crate::front_reader::front;
 use crate::status::{ended, tell, tell_profile};
@@ -26,10 +26,14 @@ pub(crate) fn show_sample<R: Source, W: Sink, E: Sink>(
         (record { left = R.remaining reader.old; given = R.given reader.old; held = W.contents out.old })
         (record { left = R.remaining reader.new; given = R.given reader.new; held = W.contents out.new })
         (R.has_ended reader.new) tally }
+    ensures part { result ≡ 3 → (W.failures out.new ≡ raised (W.failures out.old) 1) ⊎ ShowedSamplePart SAMPLE.now
+        (record { left = R.remaining reader.old; given = R.given reader.old; held = W.contents out.old })
+        (record { left = R.remaining reader.new; given = R.given reader.new; held = W.contents out.new }) }
     ensures quiet { result ≤ 1 → err.new ≡ err.old }
+    ensures err_told { 2 ≤ result → IsTold (E.contents err.old) (E.contents err.new) (E.failures err.old) (E.failures err.new) }
     ensures unwritten { (result ≡ 2) ⊎ (result ≡ 4) → out.new ≡ out.old }
     ensures done { result ≤ 1 → (R.failures reader.new ≡ R.failures reader.old) × (W.failures out.new ≡ W.failures out.old) }
-    ensures io_failed { result ≡ 3 → (R.failures reader.new ≡ raised (R.failures reader.old) 1)
+    ensures io_failed { result ≡ 3 → ((R.failures reader.new ≡ raised (R.failures reader.old) 1) × (R.has_ended reader.new ≡ R.has_ended reader.old))
         ⊎ ((W.failures out.new ≡ raised (W.failures out.old) 1) ⊎ ReadOften (R.reads reader.old) (R.reads reader.new) (R.remaining reader.old) (R.remaining reader.new)) }
 {
     match Profile::from_toml(alloc, SAMPLE.as_bytes()) {
@@ -55,10 +59,14 @@ pub(crate) fn show_behind<R: Source, W: Sink, E: Sink>(
         (record { left = R.remaining reader.old; given = R.given reader.old; held = W.contents out.old })
         (record { left = R.remaining reader.new; given = R.given reader.new; held = W.contents out.new })
         (R.has_ended reader.new) tally }
+    ensures part { result ≡ 3 → (W.failures out.new ≡ raised (W.failures out.old) 1) ⊎ ShowedPart
+        (record { left = R.remaining reader.old; given = R.given reader.old; held = W.contents out.old })
+        (record { left = R.remaining reader.new; given = R.given reader.new; held = W.contents out.new }) }
     ensures quiet { result ≤ 1 → err.new ≡ err.old }
+    ensures err_told { 2 ≤ result → IsTold (E.contents err.old) (E.contents err.new) (E.failures err.old) (E.failures err.new) }
     ensures unwritten { (result ≡ 2) ⊎ (result ≡ 4) → out.new ≡ out.old }
     ensures done { result ≤ 1 → (R.failures reader.new ≡ R.failures reader.old) × (W.failures out.new ≡ W.failures out.old) }
-    ensures io_failed { result ≡ 3 → (R.failures reader.new ≡ raised (R.failures reader.old) 1)
+    ensures io_failed { result ≡ 3 → ((R.failures reader.new ≡ raised (R.failures reader.old) 1) × (R.has_ended reader.new ≡ R.has_ended reader.old))
         ⊎ ((W.failures out.new ≡ raised (W.failures out.old) 1) ⊎ ReadOften (R.reads reader.old) (R.reads reader.new) (R.remaining reader.old) (R.remaining reader.new)) }
 {
     let front = match front(alloc, reader) {

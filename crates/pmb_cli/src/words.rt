@@ -1,10 +1,11 @@
 //! The words of the command, as `clap` reads them: no other module knows it.
 
-ghost use Rattle.std.specs.Prelude.{◌≡◌, ◌≢◌, ◌≤◌, ◌⊎◌, false, map, IfOk};
-ghost use Rattle.clap.specs.Words.{FailsBy, app_of, kind_of, subcommand_of, subcommand_rows_of};
+ghost use Rattle.std.specs.Prelude.{◌≡◌, ◌≢◌, ◌≤◌, ◌⊎◌, [], codes, false, map, IfOk};
+ghost use Rattle.clap.specs.Words.{FailsBy, app_of, kind_of, new_app, subcommand_of, subcommand_rows_of, with_subcommand};
 ghost use Rattle.clap.specs.declared.builder.command.Command.TheViews.{out-Command as fields_of};
 ghost use Rattle.pmb_io.specs.Count.{raised};
-ghost use Rattle.pmb_cli.specs.Words.{IsTelling, faults_of, lines_app, pmb_app, show_app};
+ghost use Rattle.pmb_cli.specs.Status.{IsTold, Tells};
+ghost use Rattle.pmb_cli.specs.Words.{IsTelling, faults_of, lines_app, pmb_app, show_app, top_app};
 
 use crate::status::{BAD_WORDS, DONE, tell, tell_format};
 use clap::error::ErrorKind;
@@ -26,25 +27,57 @@ pub(crate) fn parse<'a, S: AsStr>(alloc: Global, words: &'a [S]) -> Result<ArgMa
 fn pmb_command<'a>(alloc: Global) -> Result<Command<'a>, AllocError>
     ensures { IfOk result (λ command. app_of command ≡ pmb_app) }
 {
+    let encoding = with_lines(
+        alloc,
+        showing_command(alloc)?,
+        "encode",
+        "Writes the code of each quantity, one a line",
+        "The quantities come on standard input, one a line.\n\n\
+         Example:\n  echo 12 | ./pmb encode linear11",
+    )?;
+    with_lines(
+        alloc,
+        encoding,
+        "decode",
+        "Writes the quantity of each code, one a line",
+        "The codes come on standard input, one a line.\n\n\
+         Example:\n  echo d300 | ./pmb decode linear11",
+    )
+}
+
+// `pmb` with `show` alone.
+fn showing_command<'a>(alloc: Global) -> Result<Command<'a>, AllocError>
+    ensures { IfOk result (λ command. app_of command ≡ with_subcommand (top_app (new_app (codes "pmb"))) show_app.top) }
+{
+    top_command(alloc).subcommand(show_command(alloc)?)
+}
+
+// `pmb` without subcommands.
+fn top_command<'a>(alloc: Global) -> Command<'a>
+    ensures { app_of result ≡ top_app (new_app (codes "pmb")) }
+{
     Command::new(alloc, "pmb")
         .version("0.1.0")
         .about("Reads PMBus traffic, and converts between codes and quantities")
-        .after_help("Example:\n  echo 'S b0 A 21 A 00 A 18 A P' | ./pmb show --sample")
+        .after_help(
+            "All read standard input.\n\n\
+             Example:\n  echo 'S b0 A 21 A 00 A 18 A P' | ./pmb show --sample",
+        )
         .subcommand_required(true)
         .arg_required_else_help(true)
-        .subcommand(show_command(alloc)?)?
-        .subcommand(lines_command(
-            alloc,
-            "encode",
-            "Writes the code of each quantity, one a line",
-            "Example:\n  echo 12 | ./pmb encode linear11",
-        )?)?
-        .subcommand(lines_command(
-            alloc,
-            "decode",
-            "Writes the quantity of each code, one a line",
-            "Example:\n  echo d300 | ./pmb decode linear11",
-        )?)
+}
+
+// A command with `encode` or `decode` as one more subcommand.
+fn with_lines<'a>(
+    alloc: Global,
+    command: Command<'a>,
+    name: &'a str,
+    about: &'a str,
+    example: &'a str,
+) -> Result<Command<'a>, AllocError>
+    ensures { IfOk result (λ extended. app_of extended ≡ with_subcommand (app_of command.entry) (lines_app name.entry.now).top) }
+{
+    command.subcommand(lines_command(alloc, name, about, example)?)
 }
 
 // `show` with its flag.
@@ -58,7 +91,11 @@ fn show_command<'a>(alloc: Global) -> Result<Command<'a>, AllocError>
         .help("Take the sample profile, and not one from the front of the input");
     Command::new(alloc, "show")
         .about("Shows the transactions of a capture, one a line")
-        .after_help("Example:\n  echo 'S b0 A 21 A 00 A 18 A P' | ./pmb show --sample")
+        .after_help(
+            "Standard input is a profile, a line '%%' and the capture, or with --sample the capture \
+             alone.\n\n\
+             Example:\n  echo 'S b0 A 21 A 00 A 18 A P' | ./pmb show --sample",
+        )
         .arg(sample)
 }
 
@@ -75,20 +112,24 @@ fn lines_command<'a>(
     let format = Arg::new(alloc, "FORMAT")
         .action(ArgAction::Set)
         .required(true)
-        .help("linear11, ulinear16:E, slinear16:E, vout:HH or direct:M,B,R");
+        .help(
+            "linear11, ulinear16:E, slinear16:E, vout:HH or direct:M,B,R: E is the exponent, HH \
+             VOUT_MODE in two hexadecimal digits, and M, B, R are DIRECT's coefficients",
+        );
     Command::new(alloc, name)
         .about(about)
         .after_help(example)
         .arg(format)
 }
 
-// Whether the words are those of `encode` or `decode` with a FORMAT that begins with `-`, which `clap`
-// takes for a flag. No format begins so.
+// Whether the words are those of `encode` or `decode` with a FORMAT that begins with one `-`, which
+// `clap` takes for a flag. No format begins so; what begins with `--` was meant as a flag.
 fn has_flag_for_format<S: AsStr>(words: &[S]) -> bool {
     match words {
         [_, subcommand, format] => {
             (subcommand.as_str() == "encode" || subcommand.as_str() == "decode")
                 && format.as_str().starts_with('-')
+                && !format.as_str().starts_with("--")
         }
         _ => false,
     }
@@ -112,8 +153,10 @@ pub(crate) fn tell_words<S: AsStr, W: Sink, E: Sink>(
     ensures refused_unwritten { (result ≡ 2) ⊎ (result ≡ 4) → out.new ≡ out.old }
     ensures unwritten { (¬ IsTelling (kind_of error.now)) → out.new ≡ out.old }
 
-    // What is told goes to `out` alone.
+    // Help and the version go to `out` alone, and a fault to `err`.
     ensures quiet { result ≡ 0 → err.new ≡ err.old }
+    ensures out_told { result ≡ 0 → Tells (W.contents out.old) (W.contents out.new) }
+    ensures err_told { 2 ≤ result → IsTold (E.contents err.old) (E.contents err.new) (E.failures err.old) (E.failures err.new) }
 {
     let kind = error.kind();
     if kind == ErrorKind::OutOfMemory {
@@ -125,12 +168,44 @@ pub(crate) fn tell_words<S: AsStr, W: Sink, E: Sink>(
     let Ok(text) = error.to_string(alloc) else {
         return tell(ToolFault::Memory, err);
     };
-    if !error.use_stderr() {
-        return match out.write_all(text.as_bytes()) {
-            Ok(()) => DONE,
-            Err(_) => tell(ToolFault::Write, err),
-        };
+    let text = or_name(text.as_str());
+    if error.use_stderr() {
+        tell_fault(text, err)
+    } else {
+        tell_about(text, out, err)
     }
+}
+
+// Tells help or the version on `out`, and answers the exit status.
+fn tell_about<W: Sink, E: Sink>(text: &str, out: &mut W, err: &mut E) -> u8
+    requires some { text.now ≢ [] }
+    ensures told { (result ≡ 0) ⊎ (result ≡ 3) }
+    ensures done { result ≡ 0 → W.failures out.new ≡ W.failures out.old }
+    ensures io_failed { result ≡ 3 → W.failures out.new ≡ raised (W.failures out.old) 1 }
+    ensures quiet { result ≡ 0 → err.new ≡ err.old }
+    ensures out_told { result ≡ 0 → Tells (W.contents out.old) (W.contents out.new) }
+    ensures err_told { result ≡ 3 → IsTold (E.contents err.old) (E.contents err.new) (E.failures err.old) (E.failures err.new) }
+{
+    match out.write_all(text.as_bytes()) {
+        Ok(()) => DONE,
+        Err(_) => tell(ToolFault::Write, err),
+    }
+}
+
+// Tells a fault of the words on `err`, and answers the exit status.
+fn tell_fault<E: Sink>(text: &str, err: &mut E) -> u8
+    requires some { text.now ≢ [] }
+    ensures status { result ≡ 2 }
+    ensures err_told { IsTold (E.contents err.old) (E.contents err.new) (E.failures err.old) (E.failures err.new) }
+{
     let _ = err.write_all(text.as_bytes());
     BAD_WORDS
+}
+
+/// What `clap` says, or the program's name where it says nothing.
+fn or_name(text: &str) -> &str
+    ensures some { result.now ≢ [] }
+    ensures same { text.now ≢ [] → result.now ≡ text.now }
+{
+    if text.is_empty() { "pmb\n" } else { text }
 }

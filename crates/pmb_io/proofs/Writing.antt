@@ -1,8 +1,8 @@
 -- What a writer and a reader are left with after one call and then another.
-use Rattle.std.proofs.Common.{◌≡◌, ℕ, ◌<◌, ◌≢◌, ◌∙◌, Bool, true, false, length, Option, Some, None, Result, Ok, Err, OnOk, List, [], ◌++◌, sym, ◌∙◌, ap, subst, append_assoc, rules, arith}
+use Rattle.std.proofs.Common.{◌≡◌, ℕ, ◌<◌, ◌≢◌, ◌∙◌, Bool, true, false, length, Option, Some, None, Result, Ok, Err, OnOk, List, [], ◌++◌, sym, ap, subst, refl, append_assoc, append-nil, take, drop, take-append-drop, rules, arith}
 use Rattle.std.specs.Io.KnownBytes.{Appends, Consumes, Keeps}
 use Rattle.std.proofs.lemmas.Bool.Decides.{nat_tests}
-use Rattle.pmb_io.specs.Calls.{TellsEnd}
+use Rattle.pmb_io.specs.Calls.{TellsEnd, WritesFront}
 use Rattle.pmb_io.specs.Outgoing.{Writes}
 
 -- appended twice
@@ -61,6 +61,12 @@ keeps_consumes None b h = tt
 keeps_consumes (Some a) None h = absurd h
 keeps_consumes (Some a) (Some b) h = sym h
 
+-- nor get more
+pub keeps_appends : (a b : Option (List ℕ)) → Keeps a b → Appends a b []
+keeps_appends None b h = tt
+keeps_appends (Some a) None h = absurd h
+keeps_appends (Some a) (Some b) h = h ∙ sym (append-nil a)
+
 -- a read of nothing into a buffer with room tells the end
 pub told_end : (old new : Bool) (count : ℕ) (buffer : List ℕ) → TellsEnd old new (Ok count) buffer → count ≡ 0 → 0 < length buffer → new ≡ true
 told_end old new count buffer told none room = grind (arith, nat_tests)
@@ -69,3 +75,38 @@ told_end old new count buffer told none room = grind (arith, nat_tests)
 pub told_no_end : (old new : Bool) (count : ℕ) (buffer : List ℕ) → TellsEnd old new (Ok count) buffer → count ≢ 0 → new ≡ old
 told_no_end true new count buffer told some = told
 told_no_end false new count buffer told some = grind (arith, nat_tests)
+
+-- ---- bytes of which a front went out
+
+-- and these are left of them
+pub record WritesUpTo (held_old held_new : Option (List ℕ)) (bytes rest : List ℕ) : Type 0 where
+  pub sent : List ℕ
+  pub whole : bytes ≡ sent ++ rest
+  pub appended : Appends held_old held_new sent
+
+pub up_to_none : (h : Option (List ℕ)) (bytes : List ℕ) → WritesUpTo h h bytes bytes
+up_to_none h bytes = record { sent = []; whole = refl; appended = appends_nothing h }
+
+-- nothing is left
+pub up_to_all : (h0 h1 : Option (List ℕ)) (bytes rest : List ℕ) → WritesUpTo h0 h1 bytes rest → rest ≡ [] → Appends h0 h1 bytes
+up_to_all h0 h1 bytes rest so_far none =
+    subst (λ (t : List ℕ). Appends h0 h1 t) (sym (so_far.whole ∙ (ap (λ r. so_far.sent ++ r) none ∙ append-nil so_far.sent))) so_far.appended
+
+-- some more go out
+pub up_to_more : (h0 h1 h2 : Option (List ℕ)) (bytes rest : List ℕ) (count : ℕ) → WritesUpTo h0 h1 bytes rest → Appends h1 h2 (take count rest) → WritesUpTo h0 h2 bytes (drop count rest)
+up_to_more h0 h1 h2 bytes rest count so_far appended = record {
+  sent = so_far.sent ++ take count rest;
+  whole = so_far.whole ∙ (ap (λ r. so_far.sent ++ r) (sym (take-append-drop count rest)) ∙ sym (append_assoc so_far.sent (take count rest) (drop count rest)));
+  appended = appends_then h0 h1 h2 so_far.sent (take count rest) so_far.appended appended;
+}
+
+-- none does
+pub up_to_kept : (h0 h1 h2 : Option (List ℕ)) (bytes rest : List ℕ) → WritesUpTo h0 h1 bytes rest → Keeps h1 h2 → WritesUpTo h0 h2 bytes rest
+up_to_kept h0 h1 h2 bytes rest so_far kept = record {
+  sent = so_far.sent ++ [];
+  whole = so_far.whole ∙ ap (λ t. t ++ rest) (sym (append-nil so_far.sent));
+  appended = appends_then h0 h1 h2 so_far.sent [] so_far.appended (keeps_appends h1 h2 kept);
+}
+
+pub up_to_front : (h0 h1 : Option (List ℕ)) (bytes rest : List ℕ) → WritesUpTo h0 h1 bytes rest → WritesFront h0 h1 bytes
+up_to_front h0 h1 bytes rest so_far = record { sent = so_far.sent; rest = rest; whole = so_far.whole; appended = so_far.appended }

@@ -1,5 +1,6 @@
 -- What calls of a reader and a writer tell of them.
-use Rattle.std.specs.Prelude.{◌≡◌, ℕ, ◌==◌, ◌||◌, ◌&&◌, min, nat_lt, Bool, Result, Ok, Err, List, length}
+use Rattle.std.specs.Prelude.{◌≡◌, ℕ, ◌==◌, ◌||◌, ◌&&◌, min, nat_lt, Bool, Option, Result, Ok, Err, List, ◌++◌, length}
+use Rattle.std.specs.Io.KnownBytes.{Appends}
 use Rattle.pmb_io.specs.Count.{raised}
 use Rattle.pmb_io.specs.declared.fault.IoFault.{IoFault}
 use Rattle.pmb_io.specs.declared.fault.ToolFault.{ToolFault}
@@ -25,6 +26,13 @@ CountsBytes old new (Err fault) = new ≡ old
 abbrev pub TellsEnd : Bool → Bool → Result ℕ IoFault → List ℕ → Type 0
 TellsEnd old new (Ok n) buffer = new ≡ (old || (n == 0 && nat_lt 0 (length buffer)))
 TellsEnd old new (Err fault) buffer = new ≡ old
+
+-- of these bytes a front was written
+pub record WritesFront (held_old held_new : Option (List ℕ)) (bytes : List ℕ) : Type 0 where
+  pub sent : List ℕ
+  pub rest : List ℕ
+  pub whole : bytes ≡ sent ++ rest
+  pub appended : Appends held_old held_new sent
 
 -- A call of ours that writes: the writer failed exactly where it answers `Write`, its only fault.
 abbrev pub WriterTells : {A : Type 0} → ℕ → ℕ → Result A ToolFault → Type 0

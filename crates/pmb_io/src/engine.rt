@@ -26,7 +26,7 @@ pub trait Engine {
     /// The bytes may go on.
     ghost Stands: { Self → Self → List ℕ → List ℕ → Type 0 };
 
-    /// The engine wants no more, whatever follows.
+    /// The engine wants no more, whatever follows: `stops_for_good` is the law.
     ghost Stops: { Self → Self → List ℕ → List ℕ → Type 0 };
 
     /// The bytes have ended.
@@ -50,4 +50,7 @@ pub trait Engine {
             → OnOk result (PutsOut (λ more. Ends start self.new bytes (text ++ more))
             (W.contents writer.old) waiting.old.items (W.contents writer.new) waiting.new.items) }
         ensures failed { WriterTells (W.failures writer.old) (W.failures writer.new) result };
+
+    /// What made it want no more holds whatever follows.
+    ghost stops_for_good: { (start now : Self) (bytes text more : List ℕ) → Stops start now bytes text → Stops start now (bytes ++ more) text };
 }

@@ -4,7 +4,7 @@ use crate::count::raised;
 use crate::fault::IoFault;
 use crate::sink::Sink;
 use crate::source::Source;
-use std::io::{Read, Write};
+use std::io::{ErrorKind, Read, Write};
 
 /// A reader or a writer of the standard library as a [`Source`] or a [`Sink`].
 #[derive(Clone, Copy, Debug, Drop)]
@@ -22,6 +22,7 @@ pub struct Io<T> {
 
 impl<T> Io<T> {
     ghost use Rattle.std.specs.Prelude.{◌≡◌, false};
+    ghost use Rattle.pmb_io.specs.Count.{raised};
     ghost use Rattle.pmb_io.specs.Calls.{io_inner, io_failures, io_reads, io_given, io_ended};
 
     /// None of its calls has failed yet, it has given nothing, and it has not ended.
@@ -48,6 +49,18 @@ impl<T> Io<T> {
         let Io { inner, .. } = self;
         inner
     }
+
+    /// Counts a call that failed.
+    fn fail(&mut self) -> IoFault
+        ensures inner { io_inner self.new ≡ io_inner self.old }
+        ensures failures { io_failures self.new ≡ raised (io_failures self.old) 1 }
+        ensures reads { io_reads self.new ≡ io_reads self.old }
+        ensures given { io_given self.new ≡ io_given self.old }
+        ensures ended { io_ended self.new ≡ io_ended self.old }
+    {
+        self.failures = raised(self.failures, 1);
+        IoFault
+    }
 }
 
 impl<T: Read> Source for Io<T> {
@@ -72,10 +85,7 @@ impl<T: Read> Source for Io<T> {
                 self.given = raised(self.given, count as u64);
                 Ok(count)
             }
-            Err(_) => {
-                self.failures = raised(self.failures, 1);
-                Err(IoFault)
-            }
+            Err(_) => Err(self.fail()),
         }
     }
 }
@@ -86,12 +96,18 @@ impl<T: Write> Sink for Io<T> {
     ghost failures = { λ io. io.failures };
 
     fn write_all(&mut self, bytes: &[u8]) -> Result<(), IoFault> {
-        match self.inner.write_all(bytes) {
-            Ok(()) => Ok(()),
-            Err(_) => {
-                self.failures = raised(self.failures, 1);
-                Err(IoFault)
+        let mut rest = bytes;
+        for _ in 0..u64::MAX {
+            if rest.is_empty() {
+                return Ok(());
+            }
+            match self.inner.write(rest) {
+                Ok(0) => return Err(self.fail()),
+                Ok(count) => rest = &rest[count..],
+                Err(error) if error.kind() == ErrorKind::Interrupted => {}
+                Err(_) => return Err(self.fail()),
             }
         }
+        Err(self.fail())
     }
 }

@@ -119,4 +119,6 @@ impl<T: LineTask, const MOST: usize> Engine for Lines<T, MOST> {
         self.task
             .take_line(Line::Last(self.line.as_slice()), waiting, writer)
     }
+
+    ghost stops_for_good = { λ start now bytes text more never. never };
 }

@@ -1,7 +1,7 @@
 //! Text on its way to a writer, in a buffer of fixed size.
 
-ghost use Rattle.std.specs.Prelude.{◌≡◌, ◌≤◌, [], length, OnOk};
-ghost use Rattle.pmb_io.specs.Calls.{WriterTells};
+ghost use Rattle.std.specs.Prelude.{◌≡◌, ◌+◌, ◌≤◌, ◌++◌, [], length, Ok, OnOk, OnErr};
+ghost use Rattle.pmb_io.specs.Calls.{WriterTells, WritesFront};
 ghost use Rattle.pmb_io.specs.Outgoing.{Writes};
 
 use crate::fault::ToolFault;
@@ -18,10 +18,12 @@ pub type Waiting = ArrayVec<u8, 8192>;
 ///
 /// # Errors
 ///
-/// `Write` where the writer failed; the bytes still wait.
+/// `Write` where the writer failed: a front of the bytes went out, and all of them still wait.
 pub fn send<W: Sink>(waiting: &mut Waiting, writer: &mut W) -> Result<(), ToolFault>
     ensures ok { OnOk result (Writes (W.contents writer.old) waiting.old.items (W.contents writer.new) waiting.new.items []) }
     ensures empty { OnOk result (waiting.new.items ≡ []) }
+    ensures kept { OnErr result (waiting.new.items ≡ waiting.old.items) }
+    ensures front { OnErr result (WritesFront (W.contents writer.old) (W.contents writer.new) waiting.old.items) }
     ensures failed { WriterTells (W.failures writer.old) (W.failures writer.new) result }
 {
     if waiting.is_empty() {
@@ -41,10 +43,18 @@ pub fn send<W: Sink>(waiting: &mut Waiting, writer: &mut W) -> Result<(), ToolFa
 ///
 /// # Errors
 ///
-/// `Write` where the writer failed; the text doesn't wait then.
+/// `Write` where the writer failed: a front of what waited went out, and all of it still waits; the
+/// text doesn't wait then.
 pub fn put<W: Sink>(waiting: &mut Waiting, text: &[u8], writer: &mut W) -> Result<(), ToolFault>
     requires { length text.now ≤ ROOM }
     ensures ok { OnOk result (Writes (W.contents writer.old) waiting.old.items (W.contents writer.new) waiting.new.items text.now) }
+    ensures kept { OnErr result (waiting.new.items ≡ waiting.old.items) }
+    ensures front { OnErr result (WritesFront (W.contents writer.old) (W.contents writer.new) waiting.old.items) }
+
+    // Where both fit, nothing is written.
+    ensures fits { length waiting.old.items + length text.now ≤ ROOM → result ≡ Ok tt }
+    ensures waits { length waiting.old.items + length text.now ≤ ROOM → waiting.new.items ≡ waiting.old.items ++ text.now }
+    ensures unwritten { length waiting.old.items + length text.now ≤ ROOM → writer.new ≡ writer.old }
     ensures failed { WriterTells (W.failures writer.old) (W.failures writer.new) result }
 {
     if waiting.try_extend_from_slice(text).is_err() {

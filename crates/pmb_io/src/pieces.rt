@@ -58,6 +58,9 @@ pub fn each_piece<E: Engine, R: Source, W: Sink>(
     ensures too_many { result ≡ Err ToolFault.TooManyReads → R.reads reader.new ≡ raised (R.reads reader.old) most_reads }
     ensures not_ended { result ≡ Err ToolFault.TooManyReads → R.has_ended reader.new ≡ R.has_ended reader.old }
 
+    // A reader that ended in this call is not read again, so that no failed read is behind its end.
+    ensures read_not_ended { result ≡ Err ToolFault.Read → R.has_ended reader.new ≡ R.has_ended reader.old }
+
     // What was given before reading failed, or before too many reads, is written.
     ensures before { (result ≡ Err ToolFault.Read) ⊎ (result ≡ Err ToolFault.TooManyReads)
         → Through (E.Stands engine.old engine.new) first.now

@@ -1,8 +1,8 @@
 //! What bytes are written to.
 
-ghost use Rattle.std.specs.Prelude.{ℕ, Option, List, OnOk};
+ghost use Rattle.std.specs.Prelude.{ℕ, Option, List, OnOk, OnErr};
 ghost use Rattle.std.specs.Io.KnownBytes.{Appends};
-ghost use Rattle.pmb_io.specs.Calls.{CountsFailure};
+ghost use Rattle.pmb_io.specs.Calls.{CountsFailure, WritesFront};
 
 use crate::fault::IoFault;
 
@@ -14,8 +14,9 @@ pub trait Sink {
     /// How many writes failed; stays at the greatest `u64`.
     ghost failures: { Self → ℕ };
 
-    /// Writes all the bytes. After a fault it is not said how many went out.
+    /// Writes all the bytes. After a fault a front of them went out, and it is not said how many.
     fn write_all(&mut self, bytes: &[u8]) -> Result<(), IoFault>
         ensures written { OnOk result (Appends (contents self.old) (contents self.new) bytes.now) }
+        ensures front { OnErr result (WritesFront (contents self.old) (contents self.new) bytes.now) }
         ensures failed { CountsFailure (failures self.old) (failures self.new) result };
 }

@@ -1,10 +1,12 @@
 //! What events read as, by the reader: whole, one by one, and cut at each place.
 
 use crate::profiles::NO_WORDS;
+use crate::runs::Way;
 use pmb_bus::Event::{self, Ack, Byte, Nack, Start, Stop};
 use pmb_capture::thin::{Feed, Outcome, Reader, Refusal, WriteWord, write_word};
 use pmb_table::{Profile, SAMPLE};
-use std::alloc::AllocError;
+use std::alloc::{AllocError, Global};
+use std::process::Abort;
 use std::test::Fail;
 
 const WORD: WriteWord = WriteWord {
@@ -153,6 +155,22 @@ static ROWS: [Row; 9] = [
     },
 ];
 
+impl Row {
+    /// Whether its events read as it says, handed over in one of the ways.
+    fn check(&self, rt: &impl Abort, way: Way, read: &Reading) {
+        let name = self.name;
+        let found = (read.outcomes.as_slice(), read.end);
+        assert_eq!(rt; found, (self.outcomes, self.end), "{name}, {way:?}");
+    }
+}
+
+/// What a reader answered of events, and what `finish` answered behind them.
+#[derive(Drop)]
+struct Reading {
+    outcomes: Vec<Outcome>,
+    end: Result<(), Refusal>,
+}
+
 /// Hands all events to a reader, and passes over after each refusal.
 fn read(
     reader: &mut Reader,
@@ -175,62 +193,97 @@ fn read(
     Ok(())
 }
 
+/// What events read as, one by one.
+fn read_one_by_one(
+    alloc: Global,
+    profile: &Profile,
+    events: &[Event],
+) -> Result<Reading, AllocError> {
+    let mut reader = Reader::new(profile);
+    let mut outcomes = Vec::new(alloc);
+    for event in events {
+        read(&mut reader, &[*event], &mut outcomes)?;
+    }
+    Ok(Reading {
+        outcomes,
+        end: reader.finish(),
+    })
+}
+
+/// What events read as, in two parts.
+fn read_in_two(
+    alloc: Global,
+    profile: &Profile,
+    first: &[Event],
+    rest: &[Event],
+) -> Result<Reading, AllocError> {
+    let mut reader = Reader::new(profile);
+    let mut outcomes = Vec::new(alloc);
+    read(&mut reader, first, &mut outcomes)?;
+    read(&mut reader, rest, &mut outcomes)?;
+    Ok(Reading {
+        outcomes,
+        end: reader.finish(),
+    })
+}
+
 #[test]
 fn reads_each_row_however_it_is_cut(rt: HostRuntime) -> Result<(), Fail> {
-    let alloc = rt.alloc();
     for row in &ROWS {
-        let name = row.name;
-        let profile = Profile::from_toml(alloc, row.profile.as_bytes())?;
-        let mut reader = Reader::new(&profile);
-        let mut outcomes = Vec::new(alloc);
-        for event in row.events {
-            read(&mut reader, &[*event], &mut outcomes)?;
-        }
-        assert_eq!(rt; outcomes.as_slice(), row.outcomes, "one by one: {name}");
-        assert_eq!(rt; reader.finish(), row.end, "one by one: {name}");
-        for cut in 0..row.events.len() + 1 {
+        let profile = Profile::from_toml(rt.alloc(), row.profile.as_bytes())?;
+        let single = read_one_by_one(rt.alloc(), &profile, row.events)?;
+        row.check(&rt, Way::OneByOne, &single);
+        for cut in 0..=row.events.len() {
             let (first, rest) = row.events.split_at(cut);
-            let mut reader = Reader::new(&profile);
-            let mut outcomes = Vec::new(alloc);
-            read(&mut reader, first, &mut outcomes)?;
-            read(&mut reader, rest, &mut outcomes)?;
-            assert_eq!(rt; outcomes.as_slice(), row.outcomes, "cut at {cut}: {name}");
-            assert_eq!(rt; reader.finish(), row.end, "cut at {cut}: {name}");
+            let parts = read_in_two(rt.alloc(), &profile, first, rest)?;
+            row.check(&rt, Way::CutAt(cut), &parts);
         }
     }
     Ok(())
 }
 
+/// Whether events are answered so, and `finish` behind them.
+fn check_feed(
+    rt: &impl Abort,
+    name: &str,
+    reader: &mut Reader,
+    events: &[Event],
+    feed: Feed,
+    end: Result<(), Refusal>,
+) {
+    let found = (reader.feed(events), reader.finish());
+    assert_eq!(rt; found, (feed, end), "{name}");
+}
+
+const ONE_WORD: Feed = Feed {
+    used: 10,
+    outcome: Outcome::Packet(WORD),
+};
+
+const NO_STOP: Feed = Feed {
+    used: 2,
+    outcome: Outcome::More,
+};
+
+const REFUSAL: Refusal = Refusal { at: 10 };
+
+const HELD: Feed = Feed {
+    used: 0,
+    outcome: Outcome::Refused(REFUSAL),
+};
+
 #[test]
 fn reads_a_word_and_holds_a_refusal(rt: HostRuntime) -> Result<(), Fail> {
     let profile = Profile::from_toml(rt.alloc(), SAMPLE.as_bytes())?;
     let mut reader = Reader::new(&profile);
-    let fed = reader.feed(&write_word(0x58, 0x21, 0x00, 0x18));
-    assert_eq!(rt;
-        fed,
-        Feed {
-            used: 10,
-            outcome: Outcome::Packet(WORD)
-        }
-    );
-    assert_eq!(rt; reader.finish(), Ok(()));
-    let refused = Feed {
-        used: 0,
-        outcome: Outcome::Refused(Refusal { at: 10 }),
-    };
-    assert_eq!(rt; reader.feed(&[Event::Stop, Event::Start]), refused);
-    assert_eq!(rt; reader.feed(&[Event::Start]), refused);
-    assert_eq!(rt; reader.finish(), Err(Refusal { at: 10 }));
+    let word = write_word(0x58, 0x21, 0x00, 0x18);
+    check_feed(&rt, "a word", &mut reader, &word, ONE_WORD, Ok(()));
+    let stop = &[Stop, Start];
+    check_feed(&rt, "STOP", &mut reader, stop, HELD, Err(REFUSAL));
+    check_feed(&rt, "START", &mut reader, &[Start], HELD, Err(REFUSAL));
     reader.resync();
-    assert_eq!(rt; reader.finish(), Ok(()));
-    let fed = reader.feed(&[Event::Stop, Event::Start]);
-    assert_eq!(rt;
-        fed,
-        Feed {
-            used: 2,
-            outcome: Outcome::More
-        }
-    );
-    assert_eq!(rt; reader.finish(), Err(Refusal { at: 12 }));
+    assert_eq!(rt; reader.finish(), Ok(()), "resync");
+    let open = Err(Refusal { at: 12 });
+    check_feed(&rt, "passed over", &mut reader, stop, NO_STOP, open);
     Ok(())
 }

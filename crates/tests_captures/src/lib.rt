@@ -12,6 +12,8 @@ mod profiles;
 #[cfg(test)]
 mod rows;
 #[cfg(test)]
+mod runs;
+#[cfg(test)]
 mod senseless;
 #[cfg(test)]
 mod shows;

@@ -1,13 +1,12 @@
 //! A million bytes that make no sense, and what is shown of them.
 
-use pmb_capture::show;
+use crate::runs::{Way, shown};
 use pmb_io::{Io, Tally};
 use pmb_table::{Profile, SAMPLE};
 use std::alloc::{AllocError, Global};
 use std::test::Fail;
 
 /// Bytes by name.
-#[derive(Clone, Copy)]
 enum Senseless {
     /// These first, and then one byte over and over.
     Repeated(&'static [u8], u8),
@@ -58,51 +57,49 @@ fn senseless_words(alloc: Global, count: u32) -> Result<Vec<u8>, AllocError> {
     Ok(bytes)
 }
 
+/// A name, bytes, and what is shown of them.
+static ROWS: [(&str, Senseless, &str); 3] = [
+    (
+        "one long word",
+        Senseless::Repeated(b"", b'0'),
+        "# bad token at byte 0\n",
+    ),
+    (
+        "one long comment",
+        Senseless::Repeated(b"S b0 # ", b'x'),
+        "# refusal at 2\n",
+    ),
+    (
+        "bytes of all kinds",
+        Senseless::Unordered(0xff),
+        "# bad token at byte 0\n",
+    ),
+];
+
+const ONE_REFUSAL: Tally = Tally {
+    packets: 0,
+    refusals: 1,
+};
+
 #[test]
 fn ends_on_each(rt: HostRuntime) -> Result<(), Fail> {
-    let alloc = rt.alloc();
-    let rows: [(&str, Senseless, &str); 3] = [
-        (
-            "one long word",
-            Senseless::Repeated(b"", b'0'),
-            "# bad token at byte 0\n",
-        ),
-        (
-            "one long comment",
-            Senseless::Repeated(b"S b0 # ", b'x'),
-            "# refusal at 2\n",
-        ),
-        (
-            "bytes of all kinds",
-            Senseless::Unordered(0xff),
-            "# bad token at byte 0\n",
-        ),
-    ];
-    let profile = Profile::from_toml(alloc, SAMPLE.as_bytes())?;
-    for (name, senseless, shown) in &rows {
-        let bytes = bytes_of(alloc, senseless)?;
-        let mut writer = Io::new(Vec::new(alloc));
-        let tally = show(&profile, b"", &mut Io::new(bytes.as_slice()), &mut writer);
-        let one = Tally {
-            packets: 0,
-            refusals: 1,
-        };
-        assert_eq!(rt; tally, Ok(one), "{name}");
-        assert_eq!(rt; writer.into_inner().as_slice(), shown.as_bytes(), "{name}");
+    let profile = Profile::from_toml(rt.alloc(), SAMPLE.as_bytes())?;
+    for (name, senseless, lines) in &ROWS {
+        let bytes = bytes_of(rt.alloc(), senseless)?;
+        let ran = shown(rt.alloc(), &profile, b"", &mut Io::new(bytes.as_slice()));
+        ran.check(&rt, name, Way::Whole, Ok(ONE_REFUSAL), lines.as_bytes());
     }
     Ok(())
 }
 
 #[test]
 fn refuses_senseless_words(rt: HostRuntime) -> Result<(), Fail> {
-    let alloc = rt.alloc();
-    let profile = Profile::from_toml(alloc, SAMPLE.as_bytes())?;
-    let words = senseless_words(alloc, 400_000)?;
-    let mut writer = Io::new(Vec::new(alloc));
-    let tally = show(&profile, b"", &mut Io::new(words.as_slice()), &mut writer)?;
-    assert_eq!(rt; tally.packets, 0);
-    assert!(rt; 0 < tally.refusals);
-    for line in writer.into_inner().as_slice().split(|byte| *byte == b'\n') {
+    let profile = Profile::from_toml(rt.alloc(), SAMPLE.as_bytes())?;
+    let words = senseless_words(rt.alloc(), 400_000)?;
+    let ran = shown(rt.alloc(), &profile, b"", &mut Io::new(words.as_slice()));
+    let tally = ran.answer?;
+    assert!(rt; tally.packets == 0 && 0 < tally.refusals);
+    for line in ran.written.as_slice().split(|byte| *byte == b'\n') {
         assert!(rt; line.is_empty() || line.starts_with(b"# refusal at "));
     }
     Ok(())

@@ -1,6 +1,6 @@
 //! `pmb show --sample`: captures with what is printed of them, and calls that fail.
 
-use crate::run::{Failure, check_reads, check_text, check_writes, run, run_untold, unreadable};
+use crate::run::{Calls, Failure, check_failure, check_text, run, run_untold, unreadable};
 use pmb_cli::Io;
 use std::alloc::{AllocError, Global};
 use std::test::Fail;
@@ -113,28 +113,28 @@ const TWO_LINES: &str = "S b4 A P\nS b0 A 21 A 00 A 18 A P\n";
 static READS: [Failure; 4] = [
     Failure {
         name: "no line",
-        calls: (0, 5),
+        calls: Calls::Reads(0, 5),
         printed: "",
         told: "pmb: read failed\n",
         status: 3,
     },
     Failure {
         name: "the refusal",
-        calls: (5, 33),
+        calls: Calls::Reads(5, 33),
         printed: "# refusal at 1\n",
         told: "pmb: read failed\n",
         status: 3,
     },
     Failure {
         name: "both lines",
-        calls: (33, 34),
+        calls: Calls::Reads(33, 34),
         printed: "# refusal at 1\nwrite 58 21 00 18\n",
         told: "pmb: read failed\n",
         status: 3,
     },
     Failure {
         name: "the end",
-        calls: (34, 35),
+        calls: Calls::Reads(34, 35),
         printed: "# refusal at 1\nwrite 58 21 00 18\n",
         told: "",
         status: 1,
@@ -145,21 +145,21 @@ static READS: [Failure; 4] = [
 static WRITES: [Failure; 3] = [
     Failure {
         name: "no line",
-        calls: (0, 1),
+        calls: Calls::Writes(0, 1),
         printed: "",
         told: "pmb: write failed\n",
         status: 3,
     },
     Failure {
         name: "the refusal",
-        calls: (1, 2),
+        calls: Calls::Writes(1, 2),
         printed: "# refusal at 1\n",
         told: "pmb: write failed\n",
         status: 3,
     },
     Failure {
         name: "both lines",
-        calls: (2, 3),
+        calls: Calls::Writes(2, 3),
         printed: "# refusal at 1\nwrite 58 21 00 18\n",
         told: "",
         status: 1,
@@ -169,14 +169,14 @@ static WRITES: [Failure; 3] = [
 #[test]
 fn keeps_what_was_printed_before_a_read_fails(rt: HostRuntime) {
     for row in &READS {
-        check_reads(&rt, rt.alloc(), &SHOW, TWO_LINES, row);
+        check_failure(&rt, rt.alloc(), &SHOW, TWO_LINES, row);
     }
 }
 
 #[test]
 fn keeps_what_was_printed_before_a_write_fails(rt: HostRuntime) {
     for row in &WRITES {
-        check_writes(&rt, rt.alloc(), &SHOW, TWO_LINES, row);
+        check_failure(&rt, rt.alloc(), &SHOW, TWO_LINES, row);
     }
 }
 

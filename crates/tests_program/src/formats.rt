@@ -1,7 +1,8 @@
 //! FORMATs that name no format, and the words of `pmb encode` and `pmb decode`.
 
 use crate::run::{check_refused, run, unreadable};
-use std::test::Fail;
+use std::alloc::Global;
+use std::process::Abort;
 
 /// A name, a FORMAT, and what is wrong with it.
 static FAULTS: [(&str, &str, &str); 38] = [
@@ -45,17 +46,20 @@ static FAULTS: [(&str, &str, &str); 38] = [
     ("DIRECT", "vout:40", "NoCoefficients"),
 ];
 
+/// Whether a subcommand tells what is wrong with the FORMAT of a row.
+fn check_fault(rt: &impl Abort, alloc: Global, subcommand: &str, row: &(&str, &str, &str)) {
+    let (name, format, fault) = *row;
+    let told = format!(in alloc; "pmb: format: {fault}\n").expect(rt, "memory");
+    let ran = run(alloc, &["pmb", subcommand, format], &mut unreadable());
+    ran.check(rt, name, subcommand, ("", told.as_str(), 2));
+}
+
 #[test]
-fn tells_what_is_wrong_with_a_format(rt: HostRuntime) -> Result<(), Fail> {
-    for (name, format, fault) in &FAULTS {
-        let told = format!(in rt.alloc(); "pmb: format: {fault}\n")?;
-        for subcommand in ["encode", "decode"] {
-            let words: [&str; 3] = ["pmb", subcommand, format];
-            let ran = run(rt.alloc(), &words, &mut unreadable());
-            ran.check(&rt, name, subcommand, ("", told.as_str(), 2));
-        }
+fn tells_what_is_wrong_with_a_format(rt: HostRuntime) {
+    for row in &FAULTS {
+        check_fault(&rt, rt.alloc(), "encode", row);
+        check_fault(&rt, rt.alloc(), "decode", row);
     }
-    Ok(())
 }
 
 /// A name, words that are refused, and what is told of them first.
@@ -88,7 +92,7 @@ static REFUSED: [(&str, &[&str], &str); 6] = [
     (
         "a flag for FORMAT",
         &["pmb", "decode", "--x"],
-        "pmb: format: BadFormat\n",
+        "error: unexpected argument '--x' found\n",
     ),
 ];
 

@@ -1,4 +1,4 @@
-//! What the program does over readers and writers, and the front of a capture, worked out by hand.
+//! What the program does over readers and writers, worked out by hand.
 //!
 //! Each subject is one loop over a table; a row that fails prints its name.
 #![tactic(auto)]
@@ -7,8 +7,6 @@
 mod captures;
 #[cfg(test)]
 mod formats;
-#[cfg(test)]
-mod front;
 #[cfg(test)]
 mod lines;
 #[cfg(test)]

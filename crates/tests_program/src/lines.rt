@@ -1,7 +1,7 @@
 //! `pmb encode` and `pmb decode` over lines. Expected values are worked out by hand from the
 //! definitions of the formats.
 
-use crate::run::{Failure, check_reads, check_text, check_writes, repeated, run};
+use crate::run::{Calls, Failure, check_failure, check_text, run};
 use pmb_cli::Io;
 use std::test::Fail;
 
@@ -167,7 +167,7 @@ static LONG: [(&str, &str, usize, &str, &str, u8); 9] = [
 fn takes_lines_of_256_bytes(rt: HostRuntime) -> Result<(), Fail> {
     for (name, subcommand, zeros, end, printed, status) in &LONG {
         let words: [&str; 3] = ["pmb", subcommand, "linear11"];
-        let mut text = repeated(rt.alloc(), b"", b'0', *zeros)?;
+        let mut text = vec![in rt.alloc(); b'0'; *zeros]?;
         text.extend_from_slice(end.as_bytes())?;
         let ran = run(rt.alloc(), &words, &mut Io::new(text.as_slice()));
         ran.check(&rt, name, "whole", (printed, "", *status));
@@ -183,28 +183,28 @@ const TWO_CODES: &str = "0001\nd300\n";
 static READS: [Failure; 4] = [
     Failure {
         name: "no line",
-        calls: (0, 5),
+        calls: Calls::Reads(0, 5),
         printed: "",
         told: "pmb: read failed\n",
         status: 3,
     },
     Failure {
         name: "a line",
-        calls: (5, 10),
+        calls: Calls::Reads(5, 10),
         printed: "1\n",
         told: "pmb: read failed\n",
         status: 3,
     },
     Failure {
         name: "both lines",
-        calls: (10, 11),
+        calls: Calls::Reads(10, 11),
         printed: "1\n12\n",
         told: "pmb: read failed\n",
         status: 3,
     },
     Failure {
         name: "the end",
-        calls: (11, 12),
+        calls: Calls::Reads(11, 12),
         printed: "1\n12\n",
         told: "",
         status: 0,
@@ -215,21 +215,21 @@ static READS: [Failure; 4] = [
 static WRITES: [Failure; 3] = [
     Failure {
         name: "no line",
-        calls: (0, 1),
+        calls: Calls::Writes(0, 1),
         printed: "",
         told: "pmb: write failed\n",
         status: 3,
     },
     Failure {
         name: "a line",
-        calls: (1, 2),
+        calls: Calls::Writes(1, 2),
         printed: "1\n",
         told: "pmb: write failed\n",
         status: 3,
     },
     Failure {
         name: "both lines",
-        calls: (2, 3),
+        calls: Calls::Writes(2, 3),
         printed: "1\n12\n",
         told: "",
         status: 0,
@@ -239,13 +239,13 @@ static WRITES: [Failure; 3] = [
 #[test]
 fn keeps_what_was_answered_before_a_read_fails(rt: HostRuntime) {
     for row in &READS {
-        check_reads(&rt, rt.alloc(), &DECODE, TWO_CODES, row);
+        check_failure(&rt, rt.alloc(), &DECODE, TWO_CODES, row);
     }
 }
 
 #[test]
 fn keeps_what_was_answered_before_a_write_fails(rt: HostRuntime) {
     for row in &WRITES {
-        check_writes(&rt, rt.alloc(), &DECODE, TWO_CODES, row);
+        check_failure(&rt, rt.alloc(), &DECODE, TWO_CODES, row);
     }
 }

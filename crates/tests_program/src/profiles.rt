@@ -1,6 +1,6 @@
 //! `pmb show`: a profile in front of the capture, and a line `%%` between.
 
-use crate::run::{Failure, check_reads, check_text, repeated, run, run_to_read};
+use crate::run::{Calls, Failure, check_failure, check_text, run, run_to_read};
 use pmb_cli::Io;
 use std::test::Fail;
 
@@ -257,21 +257,21 @@ const PROFILE_AND_CAPTURE: &str = "device = []\n%%\nP\n";
 static READS: [Failure; 3] = [
     Failure {
         name: "the profile and the first line",
-        calls: (0, 17),
+        calls: Calls::Reads(0, 17),
         printed: "",
         told: "pmb: read failed\n",
         status: 3,
     },
     Failure {
         name: "a line was shown",
-        calls: (17, 18),
+        calls: Calls::Reads(17, 18),
         printed: "# refusal at 0\n",
         told: "pmb: read failed\n",
         status: 3,
     },
     Failure {
         name: "the end",
-        calls: (18, 19),
+        calls: Calls::Reads(18, 19),
         printed: "# refusal at 0\n",
         told: "",
         status: 1,
@@ -281,7 +281,7 @@ static READS: [Failure; 3] = [
 #[test]
 fn tells_each_read_that_fails(rt: HostRuntime) {
     for row in &READS {
-        check_reads(&rt, rt.alloc(), &SHOW, PROFILE_AND_CAPTURE, row);
+        check_failure(&rt, rt.alloc(), &SHOW, PROFILE_AND_CAPTURE, row);
     }
 }
 
@@ -332,7 +332,7 @@ static LENGTHS: [(&str, usize, &str); 2] = [
 #[test]
 fn bounds_the_profile(rt: HostRuntime) -> Result<(), Fail> {
     for (name, count, told) in &LENGTHS {
-        let spaces = repeated(rt.alloc(), b"", b' ', *count)?;
+        let spaces = vec![in rt.alloc(); b' '; *count]?;
         let ran = run(rt.alloc(), &SHOW, &mut Io::new(spaces.as_slice()));
         ran.check(&rt, name, "whole", ("", told, 2));
     }

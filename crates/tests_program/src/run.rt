@@ -1,7 +1,8 @@
 //! Runs of the program, and those whose reads or writes fail.
 
-use pmb_cli::{Failing, Io, Source, tool};
-use std::alloc::{AllocError, Global};
+use pmb_cli::{Failing, Io, Source, no_words, tool};
+use std::alloc::Global;
+use std::io::ErrorKind;
 use std::process::Abort;
 
 /// What a run of the program came to.
@@ -27,28 +28,65 @@ impl Ran {
     }
 }
 
-/// Runs the program over a reader.
-pub(crate) fn run<R: Source>(alloc: Global, words: &[&str], reader: &mut R) -> Ran {
-    let mut out = Io::new(Vec::new(alloc));
-    let mut err = Io::new(Vec::new(alloc));
+/// More calls than a run makes.
+pub(crate) const ALL: u64 = u64::MAX;
+
+/// Runs the program over a reader, where the write behind so many others fails, and the call behind
+/// so many others that tells something on standard error.
+fn run_to<R: Source>(
+    alloc: Global,
+    words: &[&str],
+    reader: &mut R,
+    writes: u64,
+    tells: u64,
+) -> Ran {
+    let mut printed = Vec::new(alloc);
+    let mut told = Vec::new(alloc);
+    let mut out = Failing::new(Io::new(&mut printed));
+    out.fail_after(writes);
+    let mut err = Failing::new(Io::new(&mut told));
+    err.fail_after(tells);
     let status = tool(alloc, words, reader, &mut out, &mut err);
     Ran {
         status,
-        printed: out.into_inner(),
-        told: err.into_inner(),
+        printed,
+        told,
     }
+}
+
+/// Runs the program over a reader.
+pub(crate) fn run<R: Source>(alloc: Global, words: &[&str], reader: &mut R) -> Ran {
+    run_to(alloc, words, reader, ALL, ALL)
 }
 
 /// Runs the program over a reader, where nothing can be told.
 pub(crate) fn run_untold<R: Source>(alloc: Global, words: &[&str], reader: &mut R) -> Ran {
-    let mut out = Io::new(Vec::new(alloc));
-    let mut err = Failing::new(Io::new(Vec::new(alloc)));
-    err.fail_after(0);
-    let status = tool(alloc, words, reader, &mut out, &mut err);
+    run_to(alloc, words, reader, ALL, 0)
+}
+
+/// Runs the program over a text, byte by byte, where the read behind so many others fails.
+pub(crate) fn run_to_read(alloc: Global, words: &[&str], text: &str, reads: u64) -> Ran {
+    let mut reader = in_bytes(text);
+    reader.fail_after(reads);
+    run(alloc, words, &mut reader)
+}
+
+/// Runs the program over a text, byte by byte, where the write behind so many others fails.
+pub(crate) fn run_to_write(alloc: Global, words: &[&str], text: &str, writes: u64) -> Ran {
+    run_to(alloc, words, &mut in_bytes(text), writes, ALL)
+}
+
+/// Runs the program where there are no words, and the call behind so many others that tells
+/// something on standard error fails.
+pub(crate) fn run_without_words(alloc: Global, kind: ErrorKind, tells: u64) -> Ran {
+    let mut told = Vec::new(alloc);
+    let mut err = Failing::new(Io::new(&mut told));
+    err.fail_after(tells);
+    let status = no_words(kind, &mut err);
     Ran {
         status,
-        printed: out.into_inner(),
-        told: Vec::new(alloc),
+        printed: Vec::new(alloc),
+        told,
     }
 }
 
@@ -90,94 +128,54 @@ pub(crate) fn check_refused(
     told: &str,
 ) {
     let ran = run(alloc, words, &mut unreadable());
-    assert_eq!(rt; ran.status, 2, "{name}");
-    assert!(rt; ran.told.starts_with(told.as_bytes()), "{name}");
-    assert!(rt; ran.printed.is_empty(), "{name}");
+    let is_told = ran.told.starts_with(told.as_bytes());
+    let found = (ran.status, is_told, ran.printed.as_slice());
+    assert_eq!(rt; found, (2, true, b"".as_slice()), "{name}");
 }
 
-/// Runs the program over a text, byte by byte, where the read behind so many others fails.
-pub(crate) fn run_to_read(alloc: Global, words: &[&str], text: &str, reads: u64) -> Ran {
-    let mut reader = in_bytes(text);
-    reader.fail_after(reads);
-    run(alloc, words, &mut reader)
-}
-
-/// Runs the program over a text, byte by byte, where the write behind so many others fails.
-pub(crate) fn run_to_write(
-    alloc: Global,
-    words: &[&str],
-    text: &str,
-    writes: u64,
-) -> Result<Ran, AllocError> {
-    let mut out = Failing::new(Io::new(Vec::new(alloc)));
-    out.fail_after(writes);
-    let mut err = Io::new(Vec::new(alloc));
-    let status = tool(alloc, words, &mut in_bytes(text), &mut out, &mut err);
-    Ok(Ran {
-        status,
-        printed: out.inner().clone()?.into_inner(),
-        told: err.into_inner(),
-    })
+/// How many calls of a run go through before one fails: from the first number on, and up to the
+/// second.
+pub(crate) enum Calls {
+    Reads(u64, u64),
+    Writes(u64, u64),
 }
 
 /// What a run comes to where a call fails, or where none is left to fail.
 pub(crate) struct Failure {
     pub(crate) name: &'static str,
-    /// How many calls go through: from the first number on, and up to the second.
-    pub(crate) calls: (u64, u64),
+    pub(crate) calls: Calls,
     pub(crate) printed: &'static str,
     pub(crate) told: &'static str,
     pub(crate) status: u8,
 }
 
 impl Failure {
-    fn parts(&self) -> (&[u8], &[u8], u8) {
-        (self.printed.as_bytes(), self.told.as_bytes(), self.status)
+    /// Whether a run in which so many calls went through came to what it says.
+    fn check(&self, rt: &impl Abort, calls: u64, ran: &Ran) {
+        let name = self.name;
+        let expected = (self.printed.as_bytes(), self.told.as_bytes(), self.status);
+        assert_eq!(rt; ran.parts(), expected, "{name}, behind {calls}");
     }
 }
 
-/// Whether runs over a text come to what a row says, by the reads that go through.
-pub(crate) fn check_reads(
+/// Whether runs over a text come to what a row says, by the calls that go through.
+pub(crate) fn check_failure(
     rt: &impl Abort,
     alloc: Global,
     words: &[&str],
     text: &str,
     row: &Failure,
 ) {
-    let name = row.name;
-    let (from, to) = row.calls;
-    for call in from..to {
-        let ran = run_to_read(alloc, words, text, call);
-        assert_eq!(rt; ran.parts(), row.parts(), "{name}, read {call}");
+    match row.calls {
+        Calls::Reads(from, to) => {
+            for reads in from..to {
+                row.check(rt, reads, &run_to_read(alloc, words, text, reads));
+            }
+        }
+        Calls::Writes(from, to) => {
+            for writes in from..to {
+                row.check(rt, writes, &run_to_write(alloc, words, text, writes));
+            }
+        }
     }
-}
-
-/// Whether runs over a text come to what a row says, by the writes that go through.
-pub(crate) fn check_writes(
-    rt: &impl Abort,
-    alloc: Global,
-    words: &[&str],
-    text: &str,
-    row: &Failure,
-) {
-    let name = row.name;
-    let (from, to) = row.calls;
-    for call in from..to {
-        let ran = run_to_write(alloc, words, text, call).expect(rt, "memory");
-        assert_eq!(rt; ran.parts(), row.parts(), "{name}, write {call}");
-    }
-}
-
-/// These bytes first, and then one byte so many times.
-pub(crate) fn repeated(
-    alloc: Global,
-    first: &[u8],
-    byte: u8,
-    count: usize,
-) -> Result<Vec<u8>, AllocError> {
-    let mut bytes = Vec::from_slice(alloc, first)?;
-    for _ in 0..count {
-        bytes.push(byte)?;
-    }
-    Ok(bytes)
 }

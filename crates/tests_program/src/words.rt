@@ -1,10 +1,9 @@
 //! The words of the command: those that are no command, help, the version, and none at all.
 
-use crate::run::{check_refused, run, run_to_write, unreadable};
+use crate::run::{ALL, Ran, check_refused, run, run_to_write, run_without_words, unreadable};
 use pmb_cli::laws::words_ask;
-use pmb_cli::{Failing, Io, no_words};
 use std::io::ErrorKind;
-use std::test::Fail;
+use std::process::Abort;
 
 /// A name, words that are no command, and what is told of them first.
 static REFUSED: [(&str, &[&str], &str); 5] = [
@@ -78,18 +77,22 @@ static ASKING: [(&str, &[&str], &str, &str); 6] = [
     ),
 ];
 
+/// Whether what a run told of the program is printed, from the first text to the last.
+fn check_asked(rt: &impl Abort, name: &str, ran: &Ran, first: &str, last: &str) {
+    let is_first = ran.printed.starts_with(first.as_bytes());
+    let is_last = ran.printed.ends_with(last.as_bytes());
+    let found = (ran.status, is_first, is_last, ran.told.as_slice());
+    assert_eq!(rt; found, (0, true, true, b"".as_slice()), "{name}");
+}
+
 #[test]
-fn tells_of_the_program_where_asked(rt: HostRuntime) -> Result<(), Fail> {
-    for (name, words, first, last) in &ASKING {
+fn tells_of_the_program_where_asked(rt: HostRuntime) {
+    for &(name, words, first, last) in &ASKING {
         let ran = run(rt.alloc(), words, &mut unreadable());
-        assert_eq!(rt; ran.status, 0, "{name}");
-        assert!(rt; ran.printed.starts_with(first.as_bytes()), "{name}");
-        assert!(rt; ran.printed.ends_with(last.as_bytes()), "{name}");
-        assert!(rt; ran.told.is_empty(), "{name}");
-        let unwritten = run_to_write(rt.alloc(), words, "", 0)?;
+        check_asked(&rt, name, &ran, first, last);
+        let unwritten = run_to_write(rt.alloc(), words, "", 0);
         unwritten.check(&rt, name, "unwritten", ("", "pmb: write failed\n", 3));
     }
-    Ok(())
 }
 
 #[test]
@@ -111,13 +114,10 @@ static NO_WORDS: [(&str, ErrorKind, &str, u8); 2] = [
 
 #[test]
 fn answers_where_there_are_no_words(rt: HostRuntime) {
-    for row in &NO_WORDS {
-        let (name, kind, told, status) = *row;
-        let mut err = Io::new(Vec::new(rt.alloc()));
-        assert_eq!(rt; no_words(kind, &mut err), status, "{name}");
-        assert_eq!(rt; err.into_inner().as_slice(), told.as_bytes(), "{name}");
-        let mut failing = Failing::new(Io::new(Vec::new(rt.alloc())));
-        failing.fail_after(0);
-        assert_eq!(rt; no_words(kind, &mut failing), status, "{name}, untold");
+    for &(name, kind, told, status) in &NO_WORDS {
+        let ran = run_without_words(rt.alloc(), kind, ALL);
+        ran.check(&rt, name, "told", ("", told, status));
+        let untold = run_without_words(rt.alloc(), kind, 0);
+        untold.check(&rt, name, "untold", ("", "", status));
     }
 }

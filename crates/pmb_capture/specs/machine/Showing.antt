@@ -1,4 +1,5 @@
 -- Where a `Showing` is within a capture.
+use Rattle.std.proofs.Common.{append_assoc, subst, sym}
 use Rattle.std.specs.Prelude.{◌≡◌, ℕ, Option, List, [], ◌∷◌, ◌++◌, length}
 use Rattle.pmb_bus.specs.declared.event.Event.{Event}
 use Rattle.pmb_bus.specs.Lexer.{StandsAt as LexerStandsAt}
@@ -13,7 +14,7 @@ use Rattle.pmb_capture.specs.declared.reported.Reported.TheVariants as reports
 use Rattle.pmb_capture.specs.declared.showing.Showing.{Showing}
 use Rattle.pmb_capture.specs.Place.{Place}
 use Rattle.pmb_capture.specs.Reading.{Outcome, Reading}
-use Rattle.pmb_capture.specs.Show.{lines_of, but_truncation, packets_in, refusals_in, Shows, StopsAtBadWord, ShowsAtEnd}
+use Rattle.pmb_capture.specs.Show.{lines_of, but_truncation, packets_in, refusals_in, Shows, ShowsUpToBadWord, StopsAtBadWord, ShowsAtEnd}
 use Rattle.pmb_capture.specs.machine.Reported.{IsReading, ReadsFromPlace}
 use Rattle.pmb_capture.specs.machine.Thin.{StandsAt}
 
@@ -92,3 +93,10 @@ HasStopped start now bytes text = StopsAtBadWord (profile_of start) bytes text n
 
 abbrev pub HasEnded : Showing → Showing → List ℕ → List ℕ → Type 0
 HasEnded start now bytes text = ShowsAtEnd (profile_of start) bytes text now.tally
+
+-- what stops it holds whatever follows
+pub stops_for_good : (start now : Showing) (bytes text more : List ℕ) → HasStopped start now bytes text → HasStopped start now (bytes ++ more) text
+stops_for_good start now bytes text more stops = record {
+  shows = stops.whatever_follows more;
+  whatever_follows = λ others. subst (λ (b : List ℕ). ShowsUpToBadWord (profile_of start) b text now.tally) (sym (append_assoc bytes more others)) (stops.whatever_follows (more ++ others));
+}

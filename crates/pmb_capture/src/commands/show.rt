@@ -52,6 +52,9 @@ pub fn show<R: Source, W: Sink>(
     ensures too_many { result ≡ Err ToolFault.TooManyReads → R.reads reader.new ≡ raised (R.reads reader.old) most_reads }
     ensures not_ended { result ≡ Err ToolFault.TooManyReads → R.has_ended reader.new ≡ R.has_ended reader.old }
 
+    // A reader that ended in this call is not read again, so that no failed read is behind its end.
+    ensures read_not_ended { result ≡ Err ToolFault.Read → R.has_ended reader.new ≡ R.has_ended reader.old }
+
     // What was written before reading failed, or before too many reads, is the lines of what was
     // read, a front of its text.
     ensures before { (result ≡ Err ToolFault.Read) ⊎ (result ≡ Err ToolFault.TooManyReads)

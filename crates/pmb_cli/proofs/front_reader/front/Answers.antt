@@ -1,10 +1,10 @@
 use Rattle.std.proofs.Common.{◌≡◌, ◌≢◌, ◌∙◌, ◌+◌, ◌≤◌, ◌<◌, ◌++◌, List, ℕ, ap, length, length-append, min, take, drop, inl, sym, subst, length-take-le, refl, arith}
 use Rattle.std.proofs.lemmas.Bool.Decides.{nat_tests}
 use Rattle.pmb_io.specs.Runs.{most_piece}
-use Rattle.pmb_io.proofs.Writing.{told_end}
+use Rattle.pmb_io.proofs.Writing.{told_end, told_no_end}
 use Rattle.pmb_cli.specs.Front.{FirstMark, MayFit, NoMark, Reads, most_profile}
 use Rattle.pmb_cli.specs.machine.Front.{NoneEndsWithin}
-use Rattle.pmb_cli.proofs.FrontReads.{all_past_limit, all_within, cut_past_limit, cut_within, gave_no_bytes, gave_none, grown, no_reads, none_more, one_more, reads_no_more, reads_nothing, reads_piece, same_reads, told_unfit}
+use Rattle.pmb_cli.proofs.FrontReads.{all_past_limit, all_within, cut_past_limit, cut_within, gave_no_bytes, gave_none, grown, marked_so, no_reads, none_more, one_more, reads_no_more, reads_nothing, reads_piece, same_reads, told_unfit, unmarked_not}
 use Rattle.pmb_cli.proofs.Limits.{fit_is_short}
 use Rattle.pmb_cli.proofs.Marks.{none_in_nothing, none_with_more}
 use Rattle.pmb_cli.proofs.front_reader.front.Goals as goal
@@ -13,11 +13,22 @@ pub loop-piece-init : goal.loop-piece-init
 loop-piece-init g c =
     let empty = c.new-bytes.ensures.items in record {
       failures = refl;
+      not_ended = refl;
       counted = omega (arith, ap length empty, c.new-bytes.ensures.len);
       few = no_reads _ _;
       reads = subst (λ (t : List ℕ). Reads (λ reader. record { left = g.R.Source.remaining reader; given = g.R.Source.given reader; reads = g.R.Source.reads reader }) c.args.reader.now c.args.reader.now t) (sym empty) (reads_nothing (λ reader. record { left = g.R.Source.remaining reader; given = g.R.Source.given reader; reads = g.R.Source.reads reader }) c.args.reader.now);
       none = subst NoMark (sym empty) none_in_nothing;
     }
+
+-- A failed read is answered as such.
+pub returns-in-Err-clause-ok : goal.returns-in-Err-clause-ok
+returns-in-Err-clause-ok g c = tt
+
+pub returns-in-Err-clause-mark_not_ended : goal.returns-in-Err-clause-mark_not_ended
+returns-in-Err-clause-mark_not_ended g c = tt
+
+pub returns-in-Err-clause-no_read : goal.returns-in-Err-clause-no_read
+returns-in-Err-clause-no_read g c other = absurd (other refl)
 
 pub returns-in-Err-clause-before_read : goal.returns-in-Err-clause-before_read
 returns-in-Err-clause-before_read g c is =
@@ -42,6 +53,9 @@ returns-then-count-eq0-clause-ok g c =
     let is_ended = told_end _ _ c.in-Ok.count c.read.new.buffer c.in-Ok.ensures.ended c.if-count-eq0.true (omega arith) in
     let at_end = c.in-Ok.ensures.bytes.1 c.if-count-eq0.true (omega arith) in
     all_within c.all.result (λ reader. record { left = g.R.Source.remaining reader; given = g.R.Source.given reader; reads = g.R.Source.reads reader }) c.args.reader.now c.read.new.self _ read no_more none is_ended at_end c.all.ensures.profile c.all.ensures.rest c.all.ensures.unmarked c.all.ensures.within
+
+pub returns-then-count-eq0-clause-mark_not_ended : goal.returns-then-count-eq0-clause-mark_not_ended
+returns-then-count-eq0-clause-mark_not_ended g c = unmarked_not c.all.result _ c.all.ensures.unmarked
 
 pub returns-then-count-eq0-clause-too_long : goal.returns-then-count-eq0-clause-too_long
 returns-then-count-eq0-clause-too_long g c is =
@@ -110,6 +124,11 @@ returns-in-Some-clause-ok g c =
     let inside : mark.start ≤ length items = subst (λ (t : List ℕ). mark.start ≤ length t) seen c.in-Some.ensures.start in
     cut_within c.cut.result (λ reader. record { left = g.R.Source.remaining reader; given = g.R.Source.given reader; reads = g.R.Source.reads reader }) c.args.reader.now c.read.new.self _ items mark.start mark.end all_reads first inside c.cut.ensures.profile c.cut.ensures.rest c.cut.ensures.marked c.cut.ensures.within
 
+pub returns-in-Some-clause-mark_not_ended : goal.returns-in-Some-clause-mark_not_ended
+returns-in-Some-clause-mark_not_ended g c =
+    let some : c.in-Ok.count ≢ 0 = grind (arith, nat_tests, c.if-count-eq0.false) in
+    marked_so c.cut.result _ (told_no_end _ _ c.in-Ok.count c.read.new.buffer c.in-Ok.ensures.ended some ∙ c.loop-piece.invariant.not_ended)
+
 pub returns-in-Some-clause-too_long : goal.returns-in-Some-clause-too_long
 returns-in-Some-clause-too_long g c is =
     let read = c.loop-piece.bytes.items in
@@ -171,6 +190,7 @@ loop-piece-preserved g c =
     let all_reads = subst (λ (t : List ℕ). Reads (λ reader. record { left = g.R.Source.remaining reader; given = g.R.Source.given reader; reads = g.R.Source.reads reader }) c.args.reader.now c.read.new.self t) (sym items_are) reads in
     record {
       failures = c.in-Ok.ensures.failed ∙ c.loop-piece.invariant.failures;
+      not_ended = told_no_end _ _ c.in-Ok.count c.read.new.buffer c.in-Ok.ensures.ended some ∙ c.loop-piece.invariant.not_ended;
       counted = sym c.as_slice-in-loop-piece.ensures.len ∙ ap length c.as_slice-in-loop-piece.ensures.value;
       few = one_more (min (length read) (most_profile + 4)) (min (length items) (most_profile + 4)) _ _ _ c.in-Ok.count c.loop-piece.invariant.few c.in-Ok.ensures.read some (omega (arith, short, some, longer));
       reads = all_reads;

@@ -75,6 +75,13 @@ returns-in-Stop-2-clause-reads g c =
 pub returns-clause-many : goal.returns-clause-many
 returns-clause-many g c is = (c.reads.invariant.so_far, omega (arith, c.reads.invariant.many))
 
+-- A failed read is answered as such.
+pub returns-in-Err-clause-ok : goal.returns-in-Err-clause-ok
+returns-in-Err-clause-ok g c = tt
+
+pub returns-in-Err-clause-no_read : goal.returns-in-Err-clause-no_read
+returns-in-Err-clause-no_read g c other = absurd (other refl)
+
 -- The reads that were made, wherever it returns.
 pub returns-in-Err-clause-reads : goal.returns-in-Err-clause-reads
 returns-in-Err-clause-reads g c = (c.reads.counter, omega arith, c.in-Err.ensures.read ∙ c.reads.invariant.reads)

@@ -1,4 +1,4 @@
-use Rattle.std.proofs.Common.{◌≡◌, ◌++◌}
+use Rattle.std.proofs.Common.{◌++◌}
 use Rattle.pmb_io.specs.Engines.{Either}
 use Rattle.pmb_io.proofs.Running.{put_and_sent}
 use Rattle.pmb_io.proofs.pieces.take_piece.Goals as goal
