@@ -1,0 +1,6 @@
+use Rattle.pmb_transaction.proofs.LastLegs.{refusal_follows}
+use Rattle.pmb_transaction.proofs.viability.bytes_may_be_refused.Goals as goal
+
+pub returns : goal.returns
+returns c = λ profile parts legs addr device bytes byte bus few own each new known.
+    refusal_follows c.pec_is_a_byte.ensures profile bus parts few own legs each addr new device known bytes byte

@@ -1,0 +1,6 @@
+use Rattle.pmb_transaction.proofs.LastLegs.{taken_follows}
+use Rattle.pmb_transaction.proofs.viability.bytes_taken_begin_a_body.Goals as goal
+
+pub returns : goal.returns
+returns c = λ profile parts legs addr device bytes byte bus few own each new known.
+    taken_follows c.pec_is_a_byte.ensures profile bus parts few own legs each addr new device known bytes byte

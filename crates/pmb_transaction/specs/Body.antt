@@ -1,0 +1,82 @@
+-- Bodies: the bytes behind the address in a written leg.
+use Rattle.std.specs.Prelude.{◌≡◌, ℕ, ◌+◌, ◌*◌, ◌⊎◌, Bool, true, false, Option, Some, None, List, [], ◌∷◌, ◌++◌}
+use Rattle.pmb_bus.specs.Pec.{pec}
+use Rattle.pmb_command.specs.declared.form.Form.{Form}
+use Rattle.pmb_command.specs.declared.form.Shape.{Shape}
+use Rattle.pmb_command.specs.declared.pec_mode.PecMode.{PecMode}
+use Rattle.pmb_command.specs.declared.pec_mode.PecMode.TheVariants.{Off, On, Optional}
+use Rattle.pmb_command.specs.Parts.{CommandParts, DeviceParts, command_with}
+use Rattle.pmb_transaction.specs.Transaction.{PartData}
+use Rattle.pmb_transaction.specs.Wire.{Fits, wire}
+
+-- The byte that addresses a device: the address in bits 7 to 1, and in bit 0 the direction, 0 for
+-- writing and 1 for reading.
+abbrev pub write_address : ℕ → ℕ
+write_address addr = 2 * addr
+
+abbrev pub read_address : ℕ → ℕ
+read_address addr = 2 * addr + 1
+
+-- the forms of a command; none where there is no command
+abbrev pub shape_of : Option CommandParts → Shape
+shape_of None = record { write = None; read = None; call = None }
+shape_of (Some command) = command.entry.shape
+
+-- the forms in which a device takes a command code
+abbrev pub forms : DeviceParts → ℕ → Shape
+forms device code = shape_of (command_with code device.commands)
+
+-- A device's mode allows a packet, or a part of one, with or without a packet error code.
+abbrev pub AllowsPec : PecMode → Bool → Type 0
+AllowsPec Off with_pec = with_pec ≡ false
+AllowsPec On with_pec = with_pec ≡ true
+AllowsPec Optional with_pec = Unit {0}
+
+-- Bytes, and behind them, where one is asked for, the packet error code (SMBus 3.0 section 6.4) over
+-- all bytes so far: those `before` and these.
+abbrev pub checked : Bool → List ℕ → List ℕ → List ℕ
+checked false before bytes = bytes
+checked true before bytes = bytes ++ pec (before ++ bytes) ∷ []
+
+-- The bytes are those of `longer` with one or more left out at the end.
+pub record IsProperPrefix (bytes : List ℕ) (longer : List ℕ) : Type 0 where
+  pub next : ℕ
+  pub rest : List ℕ
+  pub split : longer ≡ bytes ++ next ∷ rest
+
+module _ (device : DeviceParts) where
+  -- A write body is the code, the data in the form in which the command is written, and the packet
+  -- error code where the part carries one. That covers the part's own address byte and its body.
+  pub record WriteBody (code : ℕ) (bytes : List ℕ) (with_pec : Bool) (body : List ℕ) : Type 0 where
+    pub form : Form
+    pub written : (forms device code).write ≡ Some form
+    pub fits : Fits form bytes
+    pub mode : AllowsPec device.pec with_pec
+    pub spelled : body ≡ checked with_pec (write_address device.address ∷ []) (code ∷ wire form bytes)
+
+  -- A read body is the code alone, of a command that is read in the form.
+  pub record ReadBody (code : ℕ) (form : Form) (body : List ℕ) : Type 0 where
+    pub read : (forms device code).read ≡ Some form
+    pub spelled : body ≡ code ∷ []
+
+  -- A call body is the code and the data in the form in which the command is called.
+  pub record CallBody (code : ℕ) (form : Form) (bytes : List ℕ) (body : List ℕ) : Type 0 where
+    pub called : (forms device code).call ≡ Some form
+    pub fits : Fits form bytes
+    pub spelled : body ≡ code ∷ wire form bytes
+
+  -- a body of each sort
+  abbrev pub IsWriteBody : List ℕ → Type 0
+  IsWriteBody body = (code : ℕ) × (bytes : List ℕ) × (with_pec : Bool) × WriteBody code bytes with_pec body
+
+  abbrev pub IsReadBody : List ℕ → Type 0
+  IsReadBody body = (code : ℕ) × (form : Form) × ReadBody code form body
+
+  abbrev pub IsCallBody : List ℕ → Type 0
+  IsCallBody body = (code : ℕ) × (form : Form) × (bytes : List ℕ) × CallBody code form bytes body
+
+  -- A body that is allowed in a leg behind some parts: in the first leg one of any sort, in a later
+  -- one a write body.
+  abbrev pub Allowed : List PartData → List ℕ → Type 0
+  Allowed [] body = IsWriteBody body ⊎ (IsReadBody body ⊎ IsCallBody body)
+  Allowed (part ∷ parts) body = IsWriteBody body

@@ -1,0 +1,9 @@
+pub mod Transaction
+pub mod Wire
+pub mod Body
+pub mod Packet
+pub mod Capture
+pub mod Viable
+pub mod Reason
+pub mod Reading
+pub mod Turns

@@ -1,0 +1,72 @@
+-- What a list of events reads as.
+use Rattle.std.specs.Prelude.{◌≡◌, ◌≢◌, ℕ, ◌+◌, ◌⊎◌, List, [], ◌∷◌, ◌++◌, length}
+use Rattle.pmb_bus.specs.declared.event.Event.{Event}
+use Rattle.pmb_bus.specs.declared.event.Event.TheVariants.{Stop}
+use Rattle.pmb_bus.specs.declared.kinds.Kinds.{Kinds}
+use Rattle.pmb_bus.specs.Count.{capped}
+use Rattle.pmb_bus.specs.Kinds.{AreKindsOf}
+use Rattle.pmb_command.specs.Parts.{DeviceParts}
+use Rattle.pmb_transaction.specs.declared.reason.Reason.{Reason}
+use Rattle.pmb_transaction.specs.declared.reason.Reason.TheVariants.{Truncated}
+use Rattle.pmb_transaction.specs.Transaction.{TransactionData}
+use Rattle.pmb_transaction.specs.Packet.{Packet}
+use Rattle.pmb_transaction.specs.Capture.{HasNoStop, IsPacket, Viable, MayFollow}
+use Rattle.pmb_transaction.specs.Reason.{IsReason}
+
+-- A refusal: its place, which stays at the greatest u64, why, and the kinds of the events that
+-- might have come there.
+pub record RefusalData : Type 0 where
+  pub at : ℕ
+  pub reason : Reason
+  pub expected : Kinds
+
+-- what is read in turn
+pub data Outcome : Type 0 where
+  Accepted : TransactionData → Outcome
+  Refusal : RefusalData → Outcome
+
+-- Events, before which n came, are passed over up to and with the first STOP, and this holds of how
+-- many came before the rest, and of the rest. Without a STOP all are passed over, and that holds.
+abbrev pub BehindStop : (ℕ → List Event → Type 0) → Type 0 → ℕ → List Event → Type 0
+BehindStop Holds HoldsOfNone n events =
+    (HasNoStop events × HoldsOfNone)
+    ⊎ ((passed : List Event) × (rest : List Event) × HasNoStop passed × (events ≡ passed ++ Stop ∷ rest) × Holds (n + length passed + 1) rest)
+
+module _ (profile : List DeviceParts) where
+  -- A packet under way: some packet begins with the events, and they hold no whole one.
+  pub record IsUnderWay (events : List Event) : Type 0 where
+    pub viable : Viable profile events
+    pub no_packet : (front rest : List Event) → events ≡ front ++ rest → ¬ (IsPacket profile front)
+
+  -- The refusal of an event behind those of a packet under way, before which n events came.
+  pub record RefusedAt (n : ℕ) (front : List Event) (event : Event) (refusal : RefusalData) : Type 0 where
+    pub under_way : IsUnderWay front
+    pub refused : ¬ (MayFollow profile front event)
+    pub at : refusal.at ≡ capped (n + length front)
+    pub reason : IsReason profile front event refusal.reason
+    pub expected : AreKindsOf (MayFollow profile front) refusal.expected
+
+  -- The refusal of events that end inside a packet.
+  pub record TruncatedAt (n : ℕ) (events : List Event) (refusal : RefusalData) : Type 0 where
+    pub some : events ≢ []
+    pub under_way : IsUnderWay events
+    pub at : refusal.at ≡ capped (n + length events)
+    pub reason : refusal.reason ≡ Truncated
+    pub expected : AreKindsOf (MayFollow profile events) refusal.expected
+
+  -- The outcomes that events read as, where n events came before them. A packet at their front is
+  -- read, then the rest. Else, with the first event that no packet goes on with, they are refused;
+  -- that event and those behind it are passed over up to and with the first STOP, and what follows
+  -- is read. Else, where some are left, they are truncated.
+  abbrev pub ReadsFrom : ℕ → List Event → List Outcome → Type 0
+  ReadsFrom n events [] = events ≡ []
+  ReadsFrom n events (Accepted t ∷ more) =
+      (front : List Event) × (rest : List Event) × (events ≡ front ++ rest) × Packet profile t front × ReadsFrom (n + length front) rest more
+  ReadsFrom n events (Refusal refusal ∷ more) =
+      ((front : List Event) × (event : Event) × (rest : List Event) × (events ≡ front ++ event ∷ rest) × RefusedAt n front event refusal
+      × BehindStop (λ m behind. ReadsFrom m behind more) (more ≡ []) (n + length front) (event ∷ rest))
+      ⊎ (TruncatedAt n events refusal × (more ≡ []))
+
+  -- the reading of a whole list of events
+  abbrev pub Reading : List Event → List Outcome → Type 0
+  Reading events outcomes = ReadsFrom 0 events outcomes

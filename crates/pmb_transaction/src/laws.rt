@@ -1,0 +1,67 @@
+//! The laws of packets and captures: each function is its contract, and does nothing.
+
+ghost use Rattle.std.specs.Prelude.{◌≡◌, ◌≢◌, List, [], ◌++◌};
+ghost use Rattle.pmb_bus.specs.declared.event.Event.{Event};
+ghost use Rattle.pmb_bus.specs.Event.{AreBytes};
+ghost use Rattle.pmb_command.specs.Parts.{DeviceParts};
+ghost use Rattle.pmb_command.specs.Bus.{IsBus};
+ghost use Rattle.pmb_transaction.specs.Transaction.{TransactionData};
+ghost use Rattle.pmb_transaction.specs.Packet.{Packet};
+ghost use Rattle.pmb_transaction.specs.Capture.{Capture, EndsAtStop};
+
+pub use crate::reading::{captures_read_as_written, one_reading};
+pub use crate::viability::{
+    bytes_follow_inside_a_body, bytes_may_be_refused, bytes_taken_begin_a_body, events_take_turns,
+    fronts_are_viable, packets_begin_with_start, packets_go_no_further, viable_lists,
+};
+use pmb_bus::laws::pec_is_a_byte;
+
+/// A transaction has one packet at most under a profile.
+pub fn one_packet()
+    ensures { (profile : List DeviceParts) (t : TransactionData) (a b : List Event)
+        → Packet profile t a → Packet profile t b → a ≡ b }
+{}
+
+/// Events are the packet of one transaction at most under a profile that is accepted.
+pub fn one_transaction()
+    ensures { (profile : List DeviceParts) (t u : TransactionData) (events : List Event) → IsBus profile
+        → Packet profile t events → Packet profile u events → t ≡ u }
+{}
+
+/// A packet has events.
+pub fn packet_is_not_empty()
+    ensures { (profile : List DeviceParts) (t : TransactionData) (events : List Event)
+        → Packet profile t events → events ≢ [] }
+{}
+
+/// A packet ends with STOP and has no other one.
+pub fn packet_ends_with_stop()
+    ensures { (profile : List DeviceParts) (t : TransactionData) (events : List Event)
+        → Packet profile t events → EndsAtStop events }
+{}
+
+/// A packet is not the beginning of a longer one, so where one ends needs no event more.
+pub fn no_packet_begins_another()
+    ensures { (profile : List DeviceParts) (t u : TransactionData) (events more : List Event)
+        → Packet profile t events → Packet profile u (events ++ more) → more ≡ [] }
+{}
+
+/// Events are the capture of one list of transactions at most under a profile that is accepted.
+pub fn one_capture()
+    ensures { (profile : List DeviceParts) (ts us : List TransactionData) (events : List Event) → IsBus profile
+        → Capture profile ts events → Capture profile us events → ts ≡ us }
+{}
+
+/// A list of transactions has one capture at most under a profile.
+pub fn one_list_of_events()
+    ensures { (profile : List DeviceParts) (ts : List TransactionData) (a b : List Event)
+        → Capture profile ts a → Capture profile ts b → a ≡ b }
+{}
+
+/// The bytes of a packet are below 256 under a profile that is accepted.
+pub fn packets_are_bytes()
+    ensures { (profile : List DeviceParts) (t : TransactionData) (events : List Event) → IsBus profile
+        → Packet profile t events → AreBytes events }
+{
+    pec_is_a_byte();
+}
