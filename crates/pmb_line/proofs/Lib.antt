@@ -1,0 +1,15 @@
+pub mod Partials
+pub mod Steps
+pub mod Completions
+pub mod Completeness
+pub mod Faults
+pub mod Standing
+pub mod Digits
+pub mod WordLemmas
+pub mod Endings
+pub mod Taken
+pub mod Legs
+pub mod Firsts
+pub mod Writings
+pub mod Uniqueness
+pub mod Lines

@@ -1,0 +1,5 @@
+-- What a reader of lines knows between two words. No public contract needs this to be understood.
+pub mod Reading
+pub mod Left
+pub mod Pieces
+pub mod Written

@@ -1,0 +1,17 @@
+//! Laws over the definitions of lines. Each function ensures one, and does nothing.
+
+ghost use Rattle.std.specs.Prelude.{◌≡◌, ℕ, List};
+ghost use Rattle.pmb_transaction.specs.Transaction.{TransactionData};
+ghost use Rattle.pmb_line.specs.Words.{texts, words};
+ghost use Rattle.pmb_line.specs.Spelling.{HasBytes, HasLine, Spells, line};
+
+/// Words spell one transaction at most.
+pub fn one_transaction()
+    ensures { (ws : List (List ℕ)) (t u : TransactionData) → Spells ws t → Spells ws u → t ≡ u }
+{}
+
+/// The line that is written for a transaction of bytes spells it, and no other transaction.
+pub fn line_spells()
+    ensures spells { (t : TransactionData) → HasLine t → HasBytes t → Spells (texts (words (line t))) t }
+    ensures alone { (t u : TransactionData) → HasLine t → HasBytes t → Spells (texts (words (line t))) u → t ≡ u }
+{}

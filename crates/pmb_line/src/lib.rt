@@ -1,0 +1,32 @@
+//! Transactions as lines of text, both ways.
+//!
+//! A line is what a person writes of a transaction: `write 58 21 00 18 pec`. [`parse_line`] reads one
+//! and answers its first fault with its place, [`line_of`] writes one. Under them stand two that copy
+//! nothing large: [`read_line`] reads into a transaction that the caller keeps, and [`append_line`]
+//! appends to a list of bytes.
+//!
+//! ```rust
+//! let profile = Profile::from_toml(rt.alloc(), SAMPLE.as_bytes())?;
+//! let set_vout = parse_line(&profile, b"write 58 21 00 18 pec # 12 V\r")?;
+//! assert_eq!(rt; line_of(&set_vout).as_str(), "write 58 21 00 18 pec");
+//! assert_eq!(rt; parse_line(&profile, b"write 58 2"), Err(LineFault::BadWord(9)));
+//! assert_eq!(rt; word_at(b"write 58 21", 5), Some((6, 8)));
+//! ```
+#![tactic(auto)]
+
+pub mod laws;
+mod line_fault;
+mod line_reader;
+mod reading;
+mod refused;
+mod taking;
+mod token;
+mod word_fault;
+mod words;
+mod writing;
+
+pub use line_fault::{FaultText, LineFault};
+pub use line_reader::{parse_line, read_line, read_words};
+pub use word_fault::WordFault;
+pub use words::word_at;
+pub use writing::{Line, append_line, line_of};

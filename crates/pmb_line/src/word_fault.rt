@@ -1,0 +1,10 @@
+/// Why a line spells no transaction. A place is an offset in the line.
+#[derive(Clone, Copy, Debug, PartialEq, Eq)]
+pub enum WordFault {
+    /// It has no word.
+    Blank,
+    /// The first word that does not fit, or the line's length where words are missing.
+    BadWord(usize),
+    /// The first word that a list has no room for.
+    TooLong(usize),
+}

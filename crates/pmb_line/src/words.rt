@@ -1,0 +1,148 @@
+//! The words of a line, one after the other.
+
+ghost use Rattle.std.specs.Prelude.{◌≡◌, ℕ, ◌+◌, ◌^◌, ◌<◌, ◌≤◌, false, true, length, drop, map, slice_index, [], option_map};
+ghost use Rattle.pmb_line.specs.Words.{bounds, is_blank as is_blank_byte, word_behind, words, words_from, without_cr};
+ghost use Rattle.pmb_line.specs.machine.Reading.{ends_word as ends_word_byte, located};
+
+use crate::token::{Token, token_of};
+
+/// A word of a line: the offset of its first byte, and what it says, if anything.
+#[derive(Clone, Copy, Debug, PartialEq, Eq)]
+pub(crate) struct Located {
+    pub(crate) at: usize,
+    pub(crate) token: Option<Token>,
+}
+
+/// What is left of a line.
+#[derive(Clone, Copy, Drop)]
+pub(crate) struct Words<'a> {
+    /// The offset of the first byte that is left.
+    at: usize,
+    /// The bytes that are left, up to the line's end.
+    rest: &'a [u8],
+    ghost fits: { at + length rest.now < 2 ^ 64 },
+}
+
+impl<'a> Words<'a> {
+    ghost use Rattle.std.specs.Prelude.{◌≡◌, None, Some, IfSome, ◌∷◌};
+    ghost use Rattle.pmb_line.specs.machine.Left.{left, end};
+
+    /// The words of a line. A CR at its end is no part of it.
+    pub(crate) fn of(line: &'a [u8]) -> Words<'a>
+        ensures left { left result ≡ map located (words line.now) }
+        ensures end { end result ≡ length (without_cr line.now) }
+    {
+        let rest = before_cr(line);
+        Words { at: 0, rest }
+    }
+
+    /// Where the line ends: behind its last byte, that of a comment too.
+    pub(crate) fn end(&self) -> usize
+        ensures { result ≡ end self.now }
+    {
+        self.at + self.rest.len()
+    }
+
+    /// The next word.
+    #[inline]
+    pub(crate) fn next(&mut self) -> Option<Located>
+        ensures some { IfSome result (λ word. left self.old ≡ word ∷ left self.new) }
+        ensures none { result ≡ None → left self.old ≡ [] }
+        ensures stays { result ≡ None → left self.new ≡ [] }
+        ensures end { end self.new ≡ end self.old }
+    {
+        let start = blanks(self.rest);
+        let text = &self.rest[start..];
+        let len = word_len(text);
+        if len == 0 {
+            return None;
+        }
+        let at = self.at + start;
+        let token = token_of(&text[..len]);
+        *self = Words {
+            at: at + len,
+            rest: &text[len..],
+        };
+        Some(Located { at, token })
+    }
+}
+
+/// Where the first word of a line that begins at the offset `from` or behind it begins, and the offset
+/// behind its last byte; `None` where no word begins there.
+///
+/// A word in front of which `from` lies in the midst is passed over, and a comment has no words.
+pub fn word_at(line: &[u8], from: usize) -> Option<(usize, usize)>
+    ensures { result ≡ option_map bounds (word_behind from (words line.now)) }
+{
+    let text = before_cr(line);
+    let mut at = 0;
+    while at < text.len() {
+        let start = at + blanks(&text[at..]);
+        let len = word_len(&text[start..]);
+        if len == 0 {
+            return None;
+        }
+        if start >= from {
+            return Some((start, start + len));
+        }
+        at = start + len;
+    }
+    None
+}
+
+/// A line without the CR at its end.
+fn before_cr(line: &[u8]) -> &[u8]
+    ensures { result.now ≡ without_cr line.now }
+{
+    let len = line.len();
+    if len == 0 {
+        return line;
+    }
+    if line[len - 1] == b'\r' {
+        &line[..len - 1]
+    } else {
+        line
+    }
+}
+
+#[inline]
+fn is_blank(byte: u8) -> bool
+    ensures { result ≡ is_blank_byte byte }
+{
+    byte == b' ' || byte == b'\t'
+}
+
+#[inline]
+fn ends_word(byte: u8) -> bool
+    ensures { result ≡ ends_word_byte byte }
+{
+    is_blank(byte) || byte == b'#'
+}
+
+/// How many blanks stand in front of a text.
+#[inline]
+fn blanks(text: &[u8]) -> usize
+    ensures within { result ≤ length text.now }
+    ensures passed { (at : ℕ) → words_from at text.now ≡ words_from (at + result) (drop result text.now) }
+    ensures stops { result < length text.now → is_blank_byte (slice_index text.now result) ≡ false }
+{
+    let mut n = 0;
+    while n < text.len() && is_blank(text[n]) {
+        n += 1;
+    }
+    n
+}
+
+/// How many bytes a word in front of a text has.
+#[inline]
+fn word_len(text: &[u8]) -> usize
+    ensures within { result ≤ length text.now }
+    ensures each { (i : ℕ) → i < result → ends_word_byte (slice_index text.now i) ≡ false }
+    ensures stops { result < length text.now → ends_word_byte (slice_index text.now result) ≡ true }
+{
+    let mut n = 0;
+    while n < text.len() && !ends_word(text[n]) {
+        n += 1;
+    }
+    n
+}

@@ -1,0 +1,6 @@
+pub mod Bodies
+pub mod LegBytes
+pub mod Packets
+pub mod RefusedLegs
+pub mod Rules
+pub mod Written

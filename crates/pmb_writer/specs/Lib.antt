@@ -1,0 +1,2 @@
+pub mod Invalid
+pub mod machine

@@ -1,0 +1,4 @@
+-- What the code counts with.
+pub mod Lengths
+pub mod Legs
+pub mod Typed

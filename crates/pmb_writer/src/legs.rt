@@ -1,0 +1,263 @@
+//! The legs of a transaction's packet, in order.
+
+ghost use Rattle.std.specs.Prelude.{◌≡◌, ◌≤◌, [], ◌∷◌, ◌++◌, false, length, map, MatchOption};
+ghost use Rattle.std.specs.Option.{option_to_list};
+ghost use Rattle.pmb_transaction.specs.Transaction.{part_data, transaction_data, Call, Read, Refused};
+ghost use Rattle.pmb_writer.specs.Invalid.{forms_at};
+ghost use Rattle.pmb_writer.specs.machine.Legs.{asked_leg, leg_data, legs_data, legs_of, part_leg, read_byte, reply_leg, wire_of, write_byte};
+
+use crate::commands::forms_of;
+use crate::leg::Leg;
+use pmb_bus::Event;
+use pmb_command::{Form, Shape};
+use pmb_table::Profile;
+use pmb_transaction::{Part, Transaction};
+use std::slice;
+
+/// The Alert Response Address (SMBus 3.0 appendix C).
+const ALERT_ADDRESS: u8 = 0x0c;
+
+/// The byte that addresses a device for writing.
+fn write_byte(address: u8) -> u8
+    ensures { result ≡ write_byte address }
+{
+    address.wrapping_mul(2)
+}
+
+/// The byte that addresses a device for reading.
+fn read_byte(address: u8) -> u8
+    ensures { result ≡ read_byte address }
+{
+    address.wrapping_mul(2).wrapping_add(1)
+}
+
+/// The forms in which a device takes a command code.
+fn forms_at(profile: &Profile, address: u8, code: u8) -> Shape
+    ensures { result ≡ forms_at profile.now address code }
+{
+    let known = match profile.device(address) {
+        Some(device) => forms_of(device, code),
+        None => None,
+    };
+    known.unwrap_or(Shape {
+        write: None,
+        read: None,
+        call: None,
+    })
+}
+
+/// What goes in front of data in the form: the count of a block.
+fn count_of(form: Option<Form>, bytes: &[u8]) -> Option<u8>
+    requires { length bytes.now ≤ 255 }
+    ensures { option_to_list result ++ bytes.now ≡ wire_of form bytes.now }
+{
+    match form {
+        Some(Form::Block) => Some(bytes.len() as u8),
+        _ => None,
+    }
+}
+
+/// The legs of a packet that are to come: those of parts, and then up to two others.
+#[derive(Clone, Copy, Debug)]
+pub(crate) struct Legs<'a> {
+    pub profile: &'a Profile,
+    pub parts: &'a [Part],
+    pub first: Option<Leg<'a>>,
+    pub second: Option<Leg<'a>>,
+}
+
+/// The leg of a part.
+fn part_leg<'a>(profile: &Profile, part: &'a Part) -> Leg<'a>
+    ensures { leg_data result ≡ part_leg profile.now (part_data part.now) }
+{
+    let forms = forms_at(profile, part.addr, part.code);
+    let data = part.bytes.as_slice();
+    Leg {
+        address: Some(write_byte(part.addr)),
+        code: Some(part.code),
+        count: count_of(forms.write, data),
+        data,
+        pec: part.pec,
+        last: Event::Ack,
+        goes_on: false,
+    }
+}
+
+impl<'a> Legs<'a> {
+    /// Takes the next leg.
+    pub fn take_leg(&mut self) -> Option<Leg<'a>>
+        ensures { MatchOption result ((legs_data self.old ≡ []) × (legs_data self.new ≡ [])) (λ leg. legs_data self.old ≡ leg_data leg ∷ legs_data self.new) }
+    {
+        if let Some((part, others)) = self.parts.split_first() {
+            self.parts = others;
+            return Some(part_leg(self.profile, part));
+        }
+        if let Some(leg) = self.first {
+            self.first = None;
+            return Some(leg);
+        }
+        self.second.take()
+    }
+}
+
+/// A leg that is written, to which each answer is ACK, with a code and the data behind it.
+fn asked_leg<'a>(address: u8, code: u8, count: Option<u8>, bytes: &'a [u8]) -> Leg<'a>
+    ensures { leg_data result ≡ asked_leg address (code ∷ (option_to_list count ++ bytes.now)) }
+{
+    Leg {
+        address: Some(write_byte(address)),
+        code: Some(code),
+        count,
+        data: bytes,
+        ..Leg::none()
+    }
+}
+
+/// A leg that is read, the last byte of which NACK answers.
+fn reply_leg<'a>(address: u8, count: Option<u8>, bytes: &'a [u8], pec: bool) -> Leg<'a>
+    ensures { leg_data result ≡ reply_leg address (option_to_list count ++ bytes.now) pec }
+{
+    Leg {
+        address: Some(read_byte(address)),
+        count,
+        data: bytes,
+        pec,
+        last: Event::Nack,
+        goes_on: true,
+        ..Leg::none()
+    }
+}
+
+/// A leg of an address and bytes behind it, the last of which NACK answers.
+fn refused_leg<'a>(address: u8, bytes: &'a [u8], pec: bool) -> Leg<'a>
+    ensures { leg_data result ≡ record { bytes = address ∷ bytes.now; pec = pec; last = Event.Nack; goes_on = false } }
+{
+    Leg {
+        address: Some(address),
+        data: bytes,
+        pec,
+        last: Event::Nack,
+        ..Leg::none()
+    }
+}
+
+/// The legs of a read.
+fn read_legs<'a>(profile: &'a Profile, addr: u8, code: u8, reply: &'a [u8], pec: bool) -> Legs<'a>
+    requires { length reply.now ≤ 255 }
+    ensures { legs_data result ≡ legs_of profile.now (Read (record { addr = addr; code = code; reply = reply.now; pec = pec })) }
+{
+    let forms = forms_at(profile, addr, code);
+    Legs {
+        profile,
+        parts: &[],
+        first: Some(asked_leg(addr, code, None, &[])),
+        second: Some(reply_leg(addr, count_of(forms.read, reply), reply, pec)),
+    }
+}
+
+/// The legs of a call.
+fn call_legs<'a>(
+    profile: &'a Profile,
+    addr: u8,
+    code: u8,
+    bytes: &'a [u8],
+    reply: &'a [u8],
+    pec: bool,
+) -> Legs<'a>
+    requires sent { length bytes.now ≤ 255 }
+    requires replied { length reply.now ≤ 255 }
+    ensures { legs_data result ≡ legs_of profile.now (Call (record { addr = addr; code = code; bytes = bytes.now; reply = reply.now; pec = pec })) }
+{
+    let forms = forms_at(profile, addr, code);
+    Legs {
+        profile,
+        parts: &[],
+        first: Some(asked_leg(addr, code, count_of(forms.call, bytes), bytes)),
+        second: Some(reply_leg(addr, count_of(forms.call, reply), reply, pec)),
+    }
+}
+
+/// The legs of a refused packet.
+fn refused_legs<'a>(
+    profile: &'a Profile,
+    parts: &'a [Part],
+    addr: u8,
+    sent: &'a [u8],
+    at_read: bool,
+) -> Legs<'a>
+    ensures { legs_data result ≡ legs_of profile.now (Refused (record { parts = map part_data parts.now; addr = addr; sent = sent.now; at_read = at_read })) }
+{
+    if at_read {
+        Legs {
+            profile,
+            parts,
+            first: Some(Leg {
+                address: Some(write_byte(addr)),
+                data: sent,
+                ..Leg::none()
+            }),
+            second: Some(reply_leg(addr, None, &[], false)),
+        }
+    } else {
+        Legs {
+            profile,
+            parts,
+            first: Some(refused_leg(write_byte(addr), sent, false)),
+            second: None,
+        }
+    }
+}
+
+/// The one leg at the Alert Response Address, with what is read there.
+fn alert_legs<'a>(profile: &'a Profile, reply: &'a [u8], pec: bool) -> Legs<'a>
+    ensures { legs_data result ≡ record { bytes = 0x19 ∷ reply.now; pec = pec; last = Event.Nack; goes_on = false } ∷ [] }
+{
+    Legs {
+        profile,
+        parts: &[],
+        first: Some(refused_leg(read_byte(ALERT_ADDRESS), reply, pec)),
+        second: None,
+    }
+}
+
+/// The legs of a transaction's packet.
+pub(crate) fn legs_of<'a>(profile: &'a Profile, transaction: &'a Transaction) -> Legs<'a>
+    ensures { legs_data result ≡ legs_of profile.now (transaction_data transaction.now) }
+{
+    match transaction {
+        Transaction::Write { parts } => Legs {
+            profile,
+            parts: parts.as_slice(),
+            first: None,
+            second: None,
+        },
+        Transaction::Read {
+            addr,
+            code,
+            reply,
+            pec,
+        } => read_legs(profile, *addr, *code, reply.as_slice(), *pec),
+        Transaction::Call {
+            addr,
+            code,
+            bytes,
+            reply,
+            pec,
+        } => call_legs(
+            profile,
+            *addr,
+            *code,
+            bytes.as_slice(),
+            reply.as_slice(),
+            *pec,
+        ),
+        Transaction::Refused {
+            parts,
+            addr,
+            sent,
+            at_read,
+        } => refused_legs(profile, parts.as_slice(), *addr, sent.as_slice(), *at_read),
+        Transaction::Alert { byte, pec } => alert_legs(profile, slice::from_ref(byte), *pec),
+        Transaction::NoAlert => alert_legs(profile, &[], false),
+    }
+}

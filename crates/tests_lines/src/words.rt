@@ -1,0 +1,63 @@
+//! Words of a line, from an offset on; a transaction that is kept; the least line.
+
+use arrayvec::ArrayVec;
+use pmb_line::{append_line, read_words, word_at};
+use pmb_transaction::Transaction;
+use std::test::Fail;
+
+/// A line, an offset, and the word that begins there or behind it.
+type Row = (&'static str, usize, Option<(usize, usize)>);
+
+/// The rows of the table. A call keeps the proof of a loop over them from carrying the table.
+fn rows() -> &'static [Row] {
+    &ROWS
+}
+
+static ROWS: [Row; 14] = [
+    ("write 58 03", 0, Some((0, 5))),
+    ("write 58 03", 1, Some((6, 8))),
+    ("write 58 03", 5, Some((6, 8))),
+    ("write 58 03", 6, Some((6, 8))),
+    ("write 58 03", 7, Some((9, 11))),
+    ("write 58 03", 10, None),
+    ("write 58 03", 99, None),
+    (" \t58", 0, Some((2, 4))),
+    ("58 # 03", 1, None),
+    ("58#03", 0, Some((0, 2))),
+    ("58\r", 0, Some((0, 2))),
+    ("58 \r\r", 2, Some((3, 4))),
+    ("\r", 0, None),
+    ("", 0, None),
+];
+
+#[test]
+fn words_from_an_offset(rt: HostRuntime) {
+    for row in rows() {
+        assert_eq!(rt; word_at(row.0.as_bytes(), row.1), row.2);
+    }
+}
+
+// A transaction that is kept is written over, by one of its kind and by one of another.
+#[test]
+fn a_kept_transaction(rt: HostRuntime) -> Result<(), Fail> {
+    let mut kept = Transaction::NoAlert;
+    let lines = [
+        "write 58 21 00 18 pec + 59 03",
+        "write 5a 03 pec",
+        "read 58 88 : 00 d3",
+        "read 58 99 :",
+        "call 58 06 01 : 02 pec",
+        "refused 58 03 + 59 21 00",
+        "refused 59 88 read",
+        "alert b0",
+        "alert none",
+        "write 58 03",
+    ];
+    for line in lines {
+        assert_eq!(rt; read_words(line.as_bytes(), &mut kept), Ok(()));
+        let mut text = ArrayVec::<u8, 12600>::new();
+        append_line(&kept, &mut text);
+        assert_eq!(rt; text.as_slice(), line.as_bytes());
+    }
+    Ok(())
+}
