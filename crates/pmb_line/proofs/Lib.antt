@@ -13,3 +13,4 @@ pub mod Firsts
 pub mod Writings
 pub mod Uniqueness
 pub mod Lines
+pub mod Packets

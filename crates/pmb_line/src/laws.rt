@@ -1,6 +1,10 @@
 //! Laws over the definitions of lines. Each function ensures one, and does nothing.
 
 ghost use Rattle.std.specs.Prelude.{◌≡◌, ℕ, List};
+ghost use Rattle.pmb_bus.specs.declared.event.Event.{Event};
+ghost use Rattle.pmb_command.specs.Bus.{IsBus};
+ghost use Rattle.pmb_command.specs.Parts.{DeviceParts};
+ghost use Rattle.pmb_transaction.specs.Packet.{Packet};
 ghost use Rattle.pmb_transaction.specs.Transaction.{TransactionData};
 ghost use Rattle.pmb_line.specs.Words.{texts, words};
 ghost use Rattle.pmb_line.specs.Spelling.{HasBytes, HasLine, Spells, line};
@@ -14,4 +18,13 @@ pub fn one_transaction()
 pub fn line_spells()
     ensures spells { (t : TransactionData) → HasLine t → HasBytes t → Spells (texts (words (line t))) t }
     ensures alone { (t u : TransactionData) → HasLine t → HasBytes t → Spells (texts (words (line t))) u → t ≡ u }
+{}
+
+/// The line of a transaction that has a packet, under a profile that is accepted, spells it, and no
+/// other transaction.
+pub fn packet_has_line()
+    ensures spells { (profile : List DeviceParts) (t : TransactionData) (events : List Event) → IsBus profile → Packet profile t events
+        → Spells (texts (words (line t))) t }
+    ensures alone { (profile : List DeviceParts) (t u : TransactionData) (events : List Event) → IsBus profile → Packet profile t events
+        → Spells (texts (words (line t))) u → t ≡ u }
 {}

@@ -2,8 +2,8 @@
 //!
 //! A line is what a person writes of a transaction: `write 58 21 00 18 pec`. [`parse_line`] reads one
 //! and answers its first fault with its place, [`line_of`] writes one. Under them stand two that copy
-//! nothing large: [`read_line`] reads into a transaction that the caller keeps, and [`append_line`]
-//! appends to a list of bytes.
+//! nothing large: [`LineReader`] and [`read_line`] read into transactions that are kept, and
+//! [`append_line`] appends to a list of bytes.
 //!
 //! ```rust
 //! let profile = Profile::from_toml(rt.alloc(), SAMPLE.as_bytes())?;
@@ -14,6 +14,7 @@
 //! ```
 #![tactic(auto)]
 
+mod kept_lines;
 pub mod laws;
 mod line_fault;
 mod line_reader;
@@ -25,6 +26,7 @@ mod word_fault;
 mod words;
 mod writing;
 
+pub use kept_lines::LineReader;
 pub use line_fault::{FaultText, LineFault};
 pub use line_reader::{parse_line, read_line, read_words};
 pub use word_fault::WordFault;

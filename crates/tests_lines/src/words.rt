@@ -1,7 +1,8 @@
 //! Words of a line, from an offset on; a transaction that is kept; the least line.
 
 use arrayvec::ArrayVec;
-use pmb_line::{append_line, read_words, word_at};
+use pmb_line::{LineFault, LineReader, append_line, line_of, read_words, word_at};
+use pmb_table::{Profile, SAMPLE};
 use pmb_transaction::Transaction;
 use std::test::Fail;
 
@@ -58,6 +59,36 @@ fn a_kept_transaction(rt: HostRuntime) -> Result<(), Fail> {
         let mut text = ArrayVec::<u8, 12600>::new();
         append_line(&kept, &mut text);
         assert_eq!(rt; text.as_slice(), line.as_bytes());
+    }
+    Ok(())
+}
+
+// A reader answers each line by itself, whatever the one before was.
+#[test]
+fn a_line_reader(rt: HostRuntime) -> Result<(), Fail> {
+    let profile = Profile::from_toml(rt.alloc(), SAMPLE.as_bytes())?;
+    let mut reader = LineReader::new();
+    let lines = [
+        "write 58 21 00 18 pec + 59 03",
+        "read 58 88 : 00 d3",
+        "write 5a 03 pec",
+        "call 58 1b 7a : 10",
+        "refused 58 03 + 59 21 00",
+        "alert b0",
+        "refused 59 88 read",
+        "alert none",
+    ];
+    for line in lines {
+        let transaction = reader.read(&profile, line.as_bytes());
+        assert!(rt; transaction.is_ok());
+        if let Ok(transaction) = transaction {
+            assert_eq!(rt; line_of(transaction).as_str(), line);
+        }
+        let short = reader.read(&profile, b"write 58 2");
+        assert!(rt; short.is_err());
+        if let Err(fault) = short {
+            assert_eq!(rt; fault, LineFault::BadWord(9));
+        }
     }
     Ok(())
 }

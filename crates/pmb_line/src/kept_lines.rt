@@ -1,0 +1,63 @@
+//! A transaction of each kind, to read lines into.
+
+ghost use Rattle.std.specs.Prelude.{IfOk, IfErr};
+ghost use Rattle.pmb_transaction.specs.Transaction.{transaction_data};
+ghost use Rattle.pmb_line.specs.LineFault.{IsLineFault, Parses};
+
+use crate::line_fault::LineFault;
+use crate::line_reader::read_line;
+use crate::token::Token;
+use crate::words::Words;
+use pmb_table::Profile;
+use pmb_transaction::Transaction;
+
+/// Reads lines of all kinds into transactions that it keeps, one of each kind: a line copies and
+/// clears no more than it holds, whatever the kind of the line before.
+#[derive(Drop)]
+pub struct LineReader {
+    write: Transaction,
+    read: Transaction,
+    call: Transaction,
+    refused: Transaction,
+    other: Transaction,
+}
+
+impl LineReader {
+    /// A reader that has read no line.
+    pub fn new() -> LineReader {
+        LineReader {
+            write: Transaction::NoAlert,
+            read: Transaction::NoAlert,
+            call: Transaction::NoAlert,
+            refused: Transaction::NoAlert,
+            other: Transaction::NoAlert,
+        }
+    }
+
+    /// The transaction that a line spells, as [`parse_line`](crate::parse_line) answers it.
+    ///
+    /// # Errors
+    ///
+    /// The line's first fault.
+    pub fn read(&mut self, profile: &Profile, line: &[u8]) -> Result<&Transaction, LineFault>
+        ensures ok { IfOk result (λ t. Parses profile.now line.now (transaction_data t.now)) }
+        ensures err { IfErr result (IsLineFault profile.now line.now) }
+    {
+        let slot = match first_token(line) {
+            Some(Token::Write) => &mut self.write,
+            Some(Token::Read) => &mut self.read,
+            Some(Token::Call) => &mut self.call,
+            Some(Token::Refused) => &mut self.refused,
+            _ => &mut self.other,
+        };
+        match read_line(profile, line, slot) {
+            Ok(()) => Ok(slot),
+            Err(fault) => Err(fault),
+        }
+    }
+}
+
+// What the first word of a line says.
+fn first_token(line: &[u8]) -> Option<Token> {
+    Words::of(line).next()?.token
+}
