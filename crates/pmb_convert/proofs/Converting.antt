@@ -3,7 +3,6 @@ use Rattle.std.proofs.Common.{◌≡◌, ℕ, ◌+◌, Bool, cond, Ok, Err, List
 use Rattle.std.proofs.lemmas.Grind.{flat_map-append}
 use Rattle.std.proofs.lemmas.List.Sums.{fold-append}
 use Rattle.pmb_io.specs.Lines.{TextLine}
-use Rattle.pmb_io.specs.Runs.{Through, Told}
 use Rattle.pmb_io.specs.Tally.{Counts}
 use Rattle.pmb_io.specs.declared.tally.Tally.{Tally}
 use Rattle.pmb_convert.specs.declared.conversion.Conversion.{Conversion}
@@ -84,20 +83,7 @@ pub answers_of : (conversion : Conversion) (start now : Converter) (lines : List
 answers_of conversion start now lines text is stands =
     subst (λ (c : Conversion). AnswersLines c lines text) (ap (λ (c : Converter). c.conversion) is) stands.answered.given
 
--- ---- what a run says
-
--- less of an input and its text
-unfoldable pub through_weaker : (P Q : List ℕ → List ℕ → Type 0) (first : List ℕ) (old new : Told) → ((bytes text : List ℕ) → P bytes text → Q bytes text) → Through P first old new → Through Q first old new
-through_weaker P Q first old new weaker through = record {
-  read = through.read;
-  text = through.text;
-  consumed = through.consumed;
-  given = through.given;
-  appended = through.appended;
-  holds = weaker (first ++ through.read) through.text through.holds;
-}
-
--- and what it has answered to all lines of an input
+-- what it has answered to all lines of an input
 pub answers_to : (conversion : Conversion) (start now : Converter) (tally : Tally) (lines : List TextLine) (text : List ℕ) → start ≡ fresh conversion → tally ≡ now.tally → Stands start now lines text
     → AnswersCounted conversion tally lines text
 answers_to conversion start now tally lines text is same stands =

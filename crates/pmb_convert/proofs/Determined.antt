@@ -138,7 +138,7 @@ encode_one format code stays one is_code text a b = by (reading text) (reading-p
 -- ---- and so have lines
 
 one_line : (conversion : Conversion) → HasOneAnswer conversion → (line : lines.TextLine) (a b : Answer) → AnswersLine conversion line a → AnswersLine conversion line b → a ≡ b
-one_line conversion one (lines.Ended text) a b left right = one text a b left right
+one_line conversion one (lines.Ended text) a b left right = one (lines.without_return text) a b left right
 one_line conversion one (lines.Last text) a b left right = one text a b left right
 one_line conversion one lines.TooLong a b left right = left ∙ sym right
 

@@ -84,9 +84,9 @@ abbrev pub AnswersText : Conversion → List ℕ → Answer → Type 0
 AnswersText (Encode format) text answer = EncodesRead (coding_of format) (reading text) answer
 AnswersText (Decode format) text answer = answer ≡ value_text (coding_of format) (code_of text)
 
--- what is answered to a line
+-- what is answered to a line: a CR before its LF is no part of what it says
 abbrev pub AnswersLine : Conversion → lines.TextLine → Answer → Type 0
-AnswersLine conversion (lines.Ended text) answer = AnswersText conversion text answer
+AnswersLine conversion (lines.Ended text) answer = AnswersText conversion (lines.without_return text) answer
 AnswersLine conversion (lines.Last text) answer = AnswersText conversion text answer
 AnswersLine conversion lines.TooLong answer = answer ≡ Err TooLong
 

@@ -1,37 +1,89 @@
 //! The line that answers a line.
 
-ghost use Rattle.std.specs.Prelude.{◌≡◌, ◌+◌, ◌≤◌, ◌++◌, length};
-ghost use Rattle.pmb_convert.specs.Answer.{answer_line};
-ghost use Rattle.pmb_convert.specs.machine.Converting.{answer_of};
+ghost use Rattle.std.specs.Prelude.{◌≡◌, ◌++◌, OnOk, codes};
+ghost use Rattle.pmb_io.specs.Calls.{WriterTells};
+ghost use Rattle.pmb_io.specs.Outgoing.{Writes};
+ghost use Rattle.pmb_value.specs.QuantityText.{spelling};
+ghost use Rattle.pmb_convert.specs.Answer.{answer_line, code_text, fault_name};
+ghost use Rattle.pmb_convert.specs.machine.Converting.{answer_of, text_of};
 
 use crate::line_fault::LineFault;
-use arrayvec::ArrayVec;
+use pmb_io::{Sink, ToolFault, Waiting, put};
+use pmb_value::{Quantity, QuantityText};
 
-/// The text of an answer: a code, or a quantity.
-pub(crate) type AnswerText = ArrayVec<u8, 48>;
-
-/// The line of an answer, with its LF.
-pub(crate) type AnswerLine = ArrayVec<u8, 64>;
-
-/// The line of an answer.
-pub(crate) fn answer_line(answer: &Result<AnswerText, LineFault>) -> AnswerLine
-    ensures { result.items ≡ answer_line (answer_of answer.now) }
-{
-    let mut line = AnswerLine::new();
-    match answer {
-        Ok(text) => append(&mut line, text.as_slice()),
-        Err(fault) => {
-            append(&mut line, b"! ");
-            append(&mut line, fault.name());
-        }
-    }
-    append(&mut line, b"\n");
-    line
+/// What the number on a line is converted to.
+#[derive(Clone, Copy)]
+pub(crate) enum Converted {
+    /// A code.
+    Code(u16),
+    /// A quantity.
+    Value(Quantity),
 }
 
-fn append(line: &mut AnswerLine, text: &[u8])
-    requires { length line.old.items + length text.now ≤ 64 }
-    ensures { line.new.items ≡ line.old.items ++ text.now }
+/// Puts out the line of an answer, with its LF.
+pub(crate) fn put_answer<W: Sink>(
+    answer: &Result<Converted, LineFault>,
+    waiting: &mut Waiting,
+    writer: &mut W,
+) -> Result<(), ToolFault>
+    ensures ok { OnOk result (Writes (W.contents writer.old) waiting.old.items (W.contents writer.new) waiting.new.items (answer_line (answer_of answer.now))) }
+    ensures failed { WriterTells (W.failures writer.old) (W.failures writer.new) result }
 {
-    let _ = line.try_extend_from_slice(text);
+    match answer {
+        Ok(converted) => put_converted(converted, waiting, writer)?,
+        Err(fault) => put_fault(*fault, waiting, writer)?,
+    }
+    put(waiting, b"\n", writer)
+}
+
+/// Puts out the text of a code or a quantity.
+fn put_converted<W: Sink>(
+    converted: &Converted,
+    waiting: &mut Waiting,
+    writer: &mut W,
+) -> Result<(), ToolFault>
+    ensures ok { OnOk result (Writes (W.contents writer.old) waiting.old.items (W.contents writer.new) waiting.new.items (text_of converted.now)) }
+    ensures failed { WriterTells (W.failures writer.old) (W.failures writer.new) result }
+{
+    match converted {
+        Converted::Code(code) => put_code(*code, waiting, writer),
+        Converted::Value(quantity) => put_quantity(quantity, waiting, writer),
+    }
+}
+
+/// Puts out a code in four digits.
+fn put_code<W: Sink>(code: u16, waiting: &mut Waiting, writer: &mut W) -> Result<(), ToolFault>
+    ensures ok { OnOk result (Writes (W.contents writer.old) waiting.old.items (W.contents writer.new) waiting.new.items (code_text code)) }
+    ensures failed { WriterTells (W.failures writer.old) (W.failures writer.new) result }
+{
+    let mut digits = [0; 4];
+    let _ = hex::encode_to_slice(code.to_be_bytes(), &mut digits);
+    put(waiting, &digits, writer)
+}
+
+/// Puts out the text of a quantity.
+fn put_quantity<W: Sink>(
+    quantity: &Quantity,
+    waiting: &mut Waiting,
+    writer: &mut W,
+) -> Result<(), ToolFault>
+    ensures ok { OnOk result (Writes (W.contents writer.old) waiting.old.items (W.contents writer.new) waiting.new.items (spelling quantity.now)) }
+    ensures failed { WriterTells (W.failures writer.old) (W.failures writer.new) result }
+{
+    let mut text = QuantityText::new();
+    quantity.write_text(&mut text);
+    put(waiting, text.as_str().as_bytes(), writer)
+}
+
+/// Puts out a fault behind its mark.
+fn put_fault<W: Sink>(
+    fault: LineFault,
+    waiting: &mut Waiting,
+    writer: &mut W,
+) -> Result<(), ToolFault>
+    ensures ok { OnOk result (Writes (W.contents writer.old) waiting.old.items (W.contents writer.new) waiting.new.items (codes "! " ++ fault_name fault)) }
+    ensures failed { WriterTells (W.failures writer.old) (W.failures writer.new) result }
+{
+    put(waiting, b"! ", writer)?;
+    put(waiting, fault.name(), writer)
 }

@@ -2,16 +2,15 @@
 
 ghost use Rattle.std.specs.Prelude.{◌≡◌};
 ghost use Rattle.pmb_io.specs.Lines.{line_text};
-ghost use Rattle.pmb_value.specs.QuantityText.{spelling};
 ghost use Rattle.pmb_value.specs.Reading.{reading};
-ghost use Rattle.pmb_convert.specs.Answer.{EncodesQuantity, EncodesRead, code_of, code_text, value_text};
+ghost use Rattle.pmb_convert.specs.Answer.{EncodesQuantity, EncodesRead, code_of, value_text};
 ghost use Rattle.pmb_convert.specs.Format.{coding_of};
 ghost use Rattle.pmb_convert.specs.machine.Converting.{answer_of};
 
-use crate::answer::AnswerText;
+use crate::answer::Converted;
 use crate::line_fault::LineFault;
 use crate::named_format::NamedFormat;
-use pmb_io::Line;
+use pmb_io::{Line, without_return};
 use pmb_value::{Format, Quantity, QuantityFault, RangeFault, Steps};
 
 /// What is done with each line.
@@ -27,18 +26,18 @@ impl Conversion {
     ghost use Rattle.pmb_convert.specs.Answer.{AnswersLine, AnswersText};
 
     /// The answer to a line.
-    pub(crate) fn answer(&self, line: Line<'_>) -> Result<AnswerText, LineFault>
+    pub(crate) fn answer(&self, line: Line<'_>) -> Result<Converted, LineFault>
         ensures { AnswersLine self.now (line_text line.entry) (answer_of result) }
     {
         match line {
-            Line::Ended(text) => self.answer_text(text),
+            Line::Ended(text) => self.answer_text(without_return(text)),
             Line::Last(text) => self.answer_text(text),
             Line::TooLong => Err(LineFault::TooLong),
         }
     }
 
     /// The answer to what a line says.
-    fn answer_text(&self, text: &[u8]) -> Result<AnswerText, LineFault>
+    fn answer_text(&self, text: &[u8]) -> Result<Converted, LineFault>
         ensures { AnswersText self.now text.now (answer_of result) }
     {
         match self {
@@ -49,7 +48,7 @@ impl Conversion {
 }
 
 /// The code nearest to the quantity that a text spells.
-fn encoded(format: &NamedFormat, text: &[u8]) -> Result<AnswerText, LineFault>
+fn encoded(format: &NamedFormat, text: &[u8]) -> Result<Converted, LineFault>
     ensures { EncodesRead (coding_of format.now) (reading text.now) (answer_of result) }
 {
     match Quantity::parse(text) {
@@ -62,44 +61,24 @@ fn encoded(format: &NamedFormat, text: &[u8]) -> Result<AnswerText, LineFault>
 }
 
 /// The code nearest to a quantity.
-fn encoded_quantity(format: &NamedFormat, quantity: &Quantity) -> Result<AnswerText, LineFault>
+fn encoded_quantity(format: &NamedFormat, quantity: &Quantity) -> Result<Converted, LineFault>
     ensures { EncodesQuantity (coding_of format.now) quantity.now (answer_of result) }
 {
     match format.encode(quantity, &mut Steps::new()) {
-        Ok(code) => Ok(code_text(code)),
+        Ok(code) => Ok(Converted::Code(code)),
         Err(RangeFault::Below) => Err(LineFault::Below),
         Err(RangeFault::Above) => Err(LineFault::Above),
     }
 }
 
-/// A code in four digits.
-fn code_text(code: u16) -> AnswerText
-    ensures { result.items ≡ code_text code }
-{
-    let mut digits = [0; 4];
-    let _ = hex::encode_to_slice(code.to_be_bytes(), &mut digits);
-    let mut text = AnswerText::new();
-    let _ = text.try_extend_from_slice(&digits);
-    text
-}
-
 /// The value of the code that a text writes.
-fn decoded(format: &NamedFormat, text: &[u8]) -> Result<AnswerText, LineFault>
+fn decoded(format: &NamedFormat, text: &[u8]) -> Result<Converted, LineFault>
     ensures { answer_of result ≡ value_text (coding_of format.now) (code_of text.now) }
 {
     match code(text) {
-        Some(code) => Ok(value_text(&format.decode(code))),
+        Some(code) => Ok(Converted::Value(format.decode(code))),
         None => Err(LineFault::BadCode),
     }
-}
-
-/// The text of a quantity.
-fn value_text(quantity: &Quantity) -> AnswerText
-    ensures { result.items ≡ spelling quantity.now }
-{
-    let mut text = AnswerText::new();
-    let _ = text.try_extend_from_slice(quantity.text().as_str().as_bytes());
-    text
 }
 
 /// The code that a text writes in four hexadecimal digits.

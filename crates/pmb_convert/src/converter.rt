@@ -4,10 +4,10 @@ ghost use Rattle.std.specs.Prelude.{◌≡◌, ◌++◌, ◌∷◌, []};
 ghost use Rattle.pmb_convert.specs.Answer.{Answer};
 ghost use Rattle.pmb_convert.specs.machine.Converting.{Stands, answer_of, fresh, with_answer};
 
-use crate::answer::{AnswerText, answer_line};
+use crate::answer::{Converted, put_answer};
 use crate::conversion::Conversion;
 use crate::line_fault::LineFault;
-use pmb_io::{Line, LineTask, Sink, Tally, ToolFault, Waiting, put};
+use pmb_io::{Line, LineTask, Sink, Tally, ToolFault, Waiting};
 
 /// What is done with each line, and what was counted so far.
 #[derive(Clone, Copy, Debug)]
@@ -35,7 +35,7 @@ impl Converter {
     }
 
     /// Counts an answer.
-    fn count(&mut self, answer: &Result<AnswerText, LineFault>)
+    fn count(&mut self, answer: &Result<Converted, LineFault>)
         ensures { self.new ≡ with_answer self.old (answer_of answer.now) }
     {
         match answer {
@@ -56,7 +56,6 @@ impl LineTask for Converter {
     ) -> Result<(), ToolFault> {
         let answer = self.conversion.answer(line);
         self.count(&answer);
-        let line = answer_line(&answer);
-        put(waiting, line.as_slice(), writer)
+        put_answer(&answer, waiting, writer)
     }
 }

@@ -9,3 +9,5 @@ pub mod ReadingLemmas
 pub mod RoundTrip
 pub mod Shortest
 pub mod Places
+pub mod Twos
+pub mod Halves

@@ -1,5 +1,5 @@
 //! Quantities: exact fractions.
-ghost use Rattle.std.specs.Prelude.{◌≡◌, ℕ, ◌^◌, ◌<◌, pos, unsigned_abs, IfOk};
+ghost use Rattle.std.specs.Prelude.{◌≡◌, ℕ, ◌^◌, ◌<◌, ◌≤◌, pos, unsigned_abs, IfOk};
 ghost use Rattle.pmb_quantity.specs.Fraction.{Fraction, HasValue, IsQuantity, gcd, lowest_terms};
 
 use std::marker::Model;
@@ -80,10 +80,7 @@ impl Quantity {
         if denominator == 0 {
             return Err(QuantityFault::ZeroDenominator);
         }
-        let magnitude = Quantity::from_parts(
-            u128::from(numerator.unsigned_abs()),
-            u128::from(denominator.unsigned_abs()),
-        )?;
+        let magnitude = Quantity::from_words(numerator.unsigned_abs(), denominator.unsigned_abs())?;
         if (numerator < 0) == (denominator < 0) {
             Ok(magnitude)
         } else {
@@ -105,6 +102,36 @@ impl Quantity {
         Ok(Quantity {
             numerator: numerator as i64,
             denominator: denominator as u64,
+        })
+    }
+
+    /// A fraction of numbers of 64 bits, or `TooLarge`. With a power of two, as the denominators of
+    /// the linear formats are, a number has only twos in common, and shifts take them out.
+    fn from_words(numerator: u64, denominator: u64) -> Result<Quantity, QuantityFault>
+        requires { 0 < denominator }
+        ensures { result ≡ fitted (lowest_terms (pos numerator) denominator) }
+    {
+        let halvings = denominator.trailing_zeros();
+        if denominator == 1 << halvings {
+            let common = common_halvings(numerator, halvings);
+            return Quantity::from_lowest(numerator >> common, 1 << (halvings - common));
+        }
+        let divisor = gcd_of_words(numerator, denominator);
+        Quantity::from_lowest(numerator / divisor, denominator / divisor)
+    }
+
+    /// A fraction in lowest terms, or `TooLarge`.
+    fn from_lowest(numerator: u64, denominator: u64) -> Result<Quantity, QuantityFault>
+        requires positive { 0 < denominator }
+        requires lowest { gcd numerator denominator ≡ 1 }
+        ensures { result ≡ fitted (record { numerator = pos numerator; denominator = denominator }) }
+    {
+        if u128::from(numerator) >= LIMIT || u128::from(denominator) >= LIMIT {
+            return Err(QuantityFault::TooLarge);
+        }
+        Ok(Quantity {
+            numerator: numerator as i64,
+            denominator,
         })
     }
 
@@ -133,6 +160,16 @@ pub(crate) fn gcd(mut a: u128, mut b: u128) -> u128
         return a;
     }
     u128::from(gcd_of_words(b as u64, (a % b) as u64))
+}
+
+/// How many twos a number and two to a power have in common: two to so many is their greatest common
+/// divisor.
+fn common_halvings(number: u64, halvings: u32) -> u32
+    requires { halvings ≤ 64 }
+    ensures value { gcd number (2 ^ halvings) ≡ 2 ^ result }
+    ensures few { result ≤ halvings }
+{
+    number.trailing_zeros().min(halvings)
 }
 
 /// The greatest common divisor of numbers of 64 bits.

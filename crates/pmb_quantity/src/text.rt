@@ -1,5 +1,5 @@
 //! How a quantity is written.
-ghost use Rattle.std.specs.Prelude.{◌≡◌, ◌+◌, ◌^◌, ◌<◌, ◌≤◌, [], ◌∷◌, ◌++◌, length, IfSome};
+ghost use Rattle.std.specs.Prelude.{◌≡◌, ◌+◌, ◌*◌, ◌^◌, ◌<◌, ◌≤◌, [], ◌∷◌, ◌++◌, length, Some, IfSome};
 ghost use Rattle.std.specs.Fmt.{decimal};
 ghost use Rattle.arrayvec.specs.ArrayString.{array_string_len};
 ghost use Rattle.pmb_quantity.specs.QuantityText.{after_point, magnitude_text, padded, places_of, spelling};
@@ -20,20 +20,75 @@ impl Quantity {
         ensures { result.bytes ≡ spelling self.now }
     {
         let mut text = QuantityText::new();
-        if self.num() < 0 {
-            push_ascii(&mut text, b'-');
-        }
-        push_magnitude(
-            &mut text,
-            self.num().unsigned_abs(),
-            self.den().unsigned_abs(),
-        );
+        self.write_text(&mut text);
         text
+    }
+
+    /// The same text, put into one that is empty, so that no text is moved.
+    pub fn write_text(&self, text: &mut QuantityText)
+        requires { text.old.bytes ≡ [] }
+        ensures { text.new.bytes ≡ spelling self.now }
+    {
+        if self.num() < 0 {
+            push_ascii(text, b'-');
+        }
+        push_magnitude(text, self.num().unsigned_abs(), self.den().unsigned_abs());
     }
 }
 
-/// Appends a fraction without its sign.
+/// Appends a fraction without its sign. A denominator that is two to a power, as those of the linear
+/// formats are, is written without a division.
 fn push_magnitude(text: &mut QuantityText, numerator: u64, denominator: u64)
+    requires numerator_fits { numerator < 2 ^ 62 }
+    requires denominator_fits { denominator < 2 ^ 62 }
+    requires positive { 0 < denominator }
+    requires room { array_string_len text.old ≤ 1 }
+    ensures { text.new.bytes
+        ≡ text.old.bytes ++ magnitude_text numerator denominator (places_of denominator) }
+{
+    let halvings = denominator.trailing_zeros();
+    if halvings <= PLACES && denominator == 1 << halvings {
+        push_halved(text, numerator, halvings);
+    } else {
+        push_divided(text, numerator, denominator);
+    }
+}
+
+/// Appends a number that is halved so many times. It needs a digit after the point for each.
+fn push_halved(text: &mut QuantityText, numerator: u64, places: u32)
+    requires numerator_fits { numerator < 2 ^ 62 }
+    requires few { places ≤ 24 }
+    requires room { array_string_len text.old ≤ 1 }
+    ensures { text.new.bytes
+        ≡ text.old.bytes ++ magnitude_text numerator (2 ^ places) (Some places) }
+{
+    push_number(text, numerator >> places);
+    if places > 0 {
+        push_ascii(text, b'.');
+        push_halves(text, numerator & ((1 << places) - 1), places);
+    }
+}
+
+/// Appends the digits after the point of a number below 2^places that is halved so many times. Each
+/// is the whole part of ten times what is left.
+fn push_halves(text: &mut QuantityText, numerator: u64, places: u32)
+    requires below { numerator < 2 ^ places }
+    requires few { places ≤ 24 }
+    requires room { array_string_len text.old + places ≤ 45 }
+    ensures { text.new.bytes ≡ text.old.bytes ++ padded places (numerator * 5 ^ places) }
+{
+    let mut left = numerator;
+    let mut places = places;
+    while places > 0 {
+        places -= 1;
+        let fives = 5 * left;
+        push_ascii(text, b'0' + (fives >> places) as u8);
+        left = fives & ((1 << places) - 1);
+    }
+}
+
+/// Appends a fraction of any other denominator without its sign.
+fn push_divided(text: &mut QuantityText, numerator: u64, denominator: u64)
     requires numerator_fits { numerator < 2 ^ 62 }
     requires denominator_fits { denominator < 2 ^ 62 }
     requires positive { 0 < denominator }
@@ -55,22 +110,9 @@ fn push_magnitude(text: &mut QuantityText, numerator: u64, denominator: u64)
     }
 }
 
-/// The fewest digits after a point, up to 24, that write a fraction of this denominator. A power of
-/// two, as the denominators of the linear formats are, needs a digit for each factor.
+/// The fewest digits after a point, up to 24, that write a fraction of this denominator: none, where
+/// 24 digits don't do, or the first number that does.
 fn places_of(denominator: u64) -> Option<u32>
-    requires { 0 < denominator }
-    ensures value { result ≡ places_of denominator }
-    ensures few { IfSome result (λ places. places ≤ 24) }
-{
-    let halvings = denominator.trailing_zeros();
-    if halvings <= PLACES && denominator == 1 << halvings {
-        return Some(halvings);
-    }
-    places_by_trial(denominator)
-}
-
-/// The same for any denominator: none, where 24 digits don't do, or the first number that does.
-fn places_by_trial(denominator: u64) -> Option<u32>
     requires { 0 < denominator }
     ensures value { result ≡ places_of denominator }
     ensures few { IfSome result (λ places. places ≤ 24) }
@@ -146,11 +188,12 @@ fn push_padded_word(text: &mut QuantityText, places: u32, number: u64)
     }
 }
 
-/// Appends an ASCII character.
+/// Appends an ASCII character. The remainder changes none, and tells the compiler that it has one
+/// byte.
 fn push_ascii(text: &mut QuantityText, character: u8)
     requires is_ascii { character < 128 }
     requires room { array_string_len text.old < 45 }
     ensures { text.new.bytes ≡ text.old.bytes ++ character ∷ [] }
 {
-    text.push(char::from(character));
+    text.push(char::from(character % 128));
 }

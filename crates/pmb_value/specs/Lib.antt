@@ -2,10 +2,9 @@ pub use Rattle.pmb_quantity.specs.Fraction
 pub use Rattle.pmb_quantity.specs.Quantity
 pub use Rattle.pmb_quantity.specs.QuantityText
 pub use Rattle.pmb_quantity.specs.Reading
-pub mod Coding
-pub mod Linear
-pub mod Direct
+pub use Rattle.pmb_format.specs.Coding
+pub use Rattle.pmb_format.specs.Direct
+pub use Rattle.pmb_format.specs.Laws
+pub use Rattle.pmb_format.specs.Steps
+pub use Rattle.pmb_linear.specs.Linear
 pub mod Vout
-pub mod Laws
-pub mod Steps
-pub mod machine

@@ -1,9 +1,10 @@
 -- The format that VOUT_MODE names (PMBus Part II revision 1.3, section 8).
 use Rattle.std.specs.Prelude.{ℕ, ◌/◌, ◌%◌, ◌^◌, ℤ, Bool, true, false, ◌==◌, if◌then◌else◌, Option, Some, None, Result, Ok, Err}
-use Rattle.pmb_value.specs.Coding.{Coding}
-use Rattle.pmb_value.specs.Linear.{twos_complement, ulinear16, slinear16}
+use Rattle.pmb_format.specs.Coding.{Coding}
+use Rattle.pmb_format.specs.Words.{twos_complement}
+use Rattle.pmb_linear.specs.Linear.{ulinear16, slinear16}
 use Rattle.pmb_coefficients.specs.Coefficients.{Coefficients}
-use Rattle.pmb_value.specs.Direct.{direct}
+use Rattle.pmb_format.specs.Direct.{direct}
 use Rattle.pmb_value.specs.declared.vout.ModeFault.{ModeFault}
 use Rattle.pmb_value.specs.declared.vout.ModeFault.TheVariants.{Relative, Vid, Ieee, NoCoefficients}
 use Rattle.pmb_value.specs.declared.vout.VoutFormat.{VoutFormat}

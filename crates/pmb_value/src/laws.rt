@@ -2,9 +2,9 @@
 //! nothing.
 ghost use Rattle.std.specs.Prelude.{◌≢◌, ℕ, ℤ, pos};
 ghost use Rattle.pmb_coefficients.specs.Coefficients.{Coefficients};
-ghost use Rattle.pmb_value.specs.Direct.{direct};
-ghost use Rattle.pmb_value.specs.Laws.{HasOneNearest, KeepsValues};
-ghost use Rattle.pmb_value.specs.Linear.{IsExponent, linear11, linear11_fixed, ulinear16, slinear16};
+ghost use Rattle.pmb_format.specs.Direct.{direct};
+ghost use Rattle.pmb_format.specs.Laws.{HasOneNearest, KeepsValues};
+ghost use Rattle.pmb_linear.specs.Linear.{IsExponent, linear11, linear11_fixed, ulinear16, slinear16};
 
 /// LINEAR11: a code nearest to the value of a code has that value.
 pub fn linear11_keeps_values()

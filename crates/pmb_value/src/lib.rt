@@ -16,25 +16,11 @@
 //! ```
 #![tactic(auto)]
 
-mod codes;
-mod direct;
-mod evenly_spaced;
-mod format;
 pub mod laws;
-mod linear;
-mod linear11;
-mod linear11_fixed;
-mod linear16;
-mod rounding;
-mod steps;
 mod vout;
 
-pub use format::{Format, RangeFault};
-pub use linear::BadExponent;
-pub use linear11::Linear11;
-pub use linear11_fixed::Linear11Fixed;
-pub use linear16::{Slinear16, Ulinear16};
 pub use pmb_coefficients::{Direct, DirectFault};
+pub use pmb_format::{Format, RangeFault, Steps};
+pub use pmb_linear::{BadExponent, Linear11, Linear11Fixed, Slinear16, Ulinear16};
 pub use pmb_quantity::{Quantity, QuantityFault, QuantityText};
-pub use steps::Steps;
 pub use vout::{ModeFault, VoutFormat, vout_format};

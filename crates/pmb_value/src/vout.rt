@@ -1,13 +1,11 @@
 //! The format that VOUT_MODE names.
 ghost use Rattle.std.specs.Prelude.{◌≡◌, ◌%◌, ◌^◌, ◌<◌};
 ghost use Rattle.pmb_value.specs.Vout.{format_of, linear_of};
-ghost use Rattle.pmb_value.specs.Linear.{twos_complement};
+ghost use Rattle.pmb_format.specs.Words.{twos_complement};
 
-use crate::format::{Format, RangeFault};
-use crate::linear::exponent_of;
-use crate::linear16::{Slinear16, Ulinear16};
-use crate::steps::Steps;
 use pmb_coefficients::Direct;
+use pmb_format::{Format, RangeFault, Steps};
+use pmb_linear::{Slinear16, Ulinear16, exponent_of};
 use pmb_quantity::Quantity;
 
 /// Why a VOUT_MODE names no format.

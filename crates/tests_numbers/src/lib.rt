@@ -11,8 +11,6 @@ mod compared;
 #[cfg(test)]
 mod direct;
 #[cfg(test)]
-mod every_code;
-#[cfg(test)]
 mod example;
 #[cfg(test)]
 mod linear11;

@@ -5,7 +5,13 @@ use pmb_value::{BadExponent, RangeFault, Slinear16, Ulinear16};
 /// A name, an exponent, a text, and its code or fault.
 type Row = (&'static str, i8, &'static str, Result<u16, RangeFault>);
 
-static UNSIGNED: [Row; 11] = [
+/// A little over one, of numbers as long as they come.
+const NEAR_ONE: &str = "4611686018427387903/4611686018427387902";
+
+/// A little under minus one.
+const NEAR_MINUS_ONE: &str = "-4611686018427387903/4611686018427387902";
+
+static UNSIGNED: [Row; 12] = [
     ("fine, greatest", -16, "0.9999847412109375", Ok(0xffff)),
     ("fine, least", -16, "0", Ok(0)),
     ("fine, a step over", -16, "1", ABOVE),
@@ -22,6 +28,7 @@ static UNSIGNED: [Row; 11] = [
     ("coarse, a tie goes up to an even code", 15, "49152", Ok(2)),
     ("coarse, a step over", 15, "2147483648", ABOVE),
     ("coarse, a little over", 15, "2147450880.000001", ABOVE),
+    ("62 bits over 62 bits", -9, NEAR_ONE, Ok(0x0200)),
 ];
 
 #[test]
@@ -32,7 +39,7 @@ fn ulinear16_codes(rt: HostRuntime) {
     }
 }
 
-static SIGNED: [Row; 14] = [
+static SIGNED: [Row; 16] = [
     ("fine, greatest", -16, "0.4999847412109375", Ok(0x7fff)),
     ("fine, least", -16, "-0.5", Ok(0x8000)),
     ("fine, a tie goes up to zero", -16, "-1/131072", Ok(0)),
@@ -47,6 +54,13 @@ static SIGNED: [Row; 14] = [
     ("coarse, least", 15, "-1073741824", Ok(0x8000)),
     ("coarse, a step under", 15, "-1073774592", BELOW),
     ("coarse, a little under", 15, "-1073741824.000001", BELOW),
+    ("62 bits over 62 bits", -9, NEAR_ONE, Ok(0x0200)),
+    (
+        "62 bits over 62 bits, below zero",
+        -9,
+        NEAR_MINUS_ONE,
+        Ok(0xfe00),
+    ),
 ];
 
 #[test]

@@ -20,9 +20,21 @@ fn vout_codes(rt: HostRuntime) {
     }
 }
 
+/// A name, a text, and its code for a trim under VOUT_MODE 17h: a tie goes to the even code on both
+/// sides of zero.
+static TRIMS: [(&str, &str, Result<u16, RangeFault>); 4] = [
+    ("a tie over zero", "1/1024", Ok(0x0000)),
+    ("the next tie over zero", "3/1024", Ok(0x0002)),
+    ("a tie below zero", "-1/1024", Ok(0x0000)),
+    ("the next tie below zero", "-3/1024", Ok(0xfffe)),
+];
+
 #[test]
 fn vout_signed(rt: HostRuntime) {
     let trim = vout_format(0x17, true, None).expect(&rt, "a format");
+    for &(name, text, wanted) in &TRIMS {
+        check_code(&rt, name, &trim, text, wanted);
+    }
     check_text(&rt, "a trim below zero", &trim, 0xffff, "-0.001953125");
 }
 

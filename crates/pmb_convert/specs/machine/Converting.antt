@@ -1,17 +1,24 @@
 -- What is kept while lines are answered.
 use Rattle.std.specs.Prelude.{◌≡◌, ℕ, Result, Ok, Err, List}
-use Rattle.arrayvec.specs.ArrayVec.{ArrayVec}
 use Rattle.pmb_io.specs.Lines.{TextLine}
 use Rattle.pmb_io.specs.Tally.{with_packet, with_refusal}
 use Rattle.pmb_convert.specs.declared.conversion.Conversion.{Conversion}
 use Rattle.pmb_convert.specs.declared.converter.Converter.{Converter}
 use Rattle.pmb_convert.specs.declared.line_fault.LineFault.{LineFault}
-use Rattle.pmb_convert.specs.Answer.{Answer}
+use Rattle.pmb_convert.specs.declared.answer.Converted.{Converted}
+use Rattle.pmb_convert.specs.declared.answer.Converted.TheVariants.{Code, Value}
+use Rattle.pmb_value.specs.QuantityText.{spelling}
+use Rattle.pmb_convert.specs.Answer.{Answer, code_text}
 use Rattle.pmb_convert.specs.Lines.{AnswersCounted}
 
--- an answer as it is kept
-abbrev pub answer_of : Result (ArrayVec ℕ) LineFault → Answer
-answer_of (Ok text) = Ok text.items
+-- the text of what a number is converted to
+abbrev pub text_of : Converted → List ℕ
+text_of (Code code) = code_text code
+text_of (Value quantity) = spelling quantity
+
+-- the answer that it gives
+abbrev pub answer_of : Result Converted LineFault → Answer
+answer_of (Ok converted) = Ok (text_of converted)
 answer_of (Err fault) = Err fault
 
 -- nothing was counted yet

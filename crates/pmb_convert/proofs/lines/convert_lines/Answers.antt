@@ -1,6 +1,7 @@
 use Rattle.std.proofs.Common.{Err, ◌++◌, ap, sym, ◌∙◌, inl, inr}
 use Rattle.pmb_convert.specs.Lines.{AnswersEnded, AnswersInput}
-use Rattle.pmb_convert.proofs.Converting.{answers_of, answers_to, stands_fresh, through_weaker}
+use Rattle.pmb_convert.proofs.Converting.{answers_of, answers_to, stands_fresh}
+use Rattle.pmb_io.proofs.Running.{through_weaker}
 use Rattle.pmb_convert.proofs.lines.convert_lines.Goals as goal
 
 pub each_piece-requires : goal.each_piece-requires

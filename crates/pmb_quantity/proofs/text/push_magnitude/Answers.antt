@@ -1,33 +1,16 @@
-use Rattle.std.proofs.Common.{◌/◌, ap, length, length-append, arith}
-use Rattle.std.proofs.Math.Nat.{div-le_self}
-use Rattle.pmb_quantity.proofs.TextLemmas.{short_decimal}
+use Rattle.std.proofs.Common.{◌≡◌, ◌^◌, ◌++◌, sym, ap, ◌∙◌, arith}
+use Rattle.std.specs.Int.{w64, trailing_zeros}
+use Rattle.std.proofs.lemmas.Nat.{one_shl}
+use Rattle.pmb_quantity.specs.QuantityText.{magnitude_text, places_of}
+use Rattle.pmb_quantity.proofs.Places.{places_of_power}
 use Rattle.pmb_quantity.proofs.text.push_magnitude.Goals as goal
 
-pub push_number-requires : goal.push_number-requires
-push_number-requires c =
+pub returns-then-denominator-halvings : goal.returns-then-denominator-halvings
+returns-then-denominator-halvings c =
+    let text = c.args.text.now.bytes in
     let n = c.args.numerator in
     let d = c.args.denominator in
-    let whole = div-le_self n d in
-    omega (arith, short_decimal (n / d) (omega arith))
-
-pub push_after_point-requires-clause-room : goal.push_after_point-requires-clause-room
-push_after_point-requires-clause-room c =
-    let n = c.args.numerator in
-    let d = c.args.denominator in
-    let whole = div-le_self n d in
-    let written = simp length-append at (ap length c.push_number.ensures) in
-    omega (arith, short_decimal (n / d) (omega arith), c.in-Some.ensures.few)
-
-pub push_number-requires-in-None : goal.push_number-requires-in-None
-push_number-requires-in-None c = omega (arith, short_decimal c.args.numerator (omega arith))
-
-pub push_ascii-requires-clause-room : goal.push_ascii-requires-clause-room
-push_ascii-requires-clause-room c =
-    let written = simp length-append at (ap length c.push_number-in-None.ensures) in
-    omega (arith, short_decimal c.args.numerator (omega arith))
-
-pub push_number-requires-in-None-2 : goal.push_number-requires-in-None-2
-push_number-requires-in-None-2 c =
-    let written = simp length-append at (ap length c.push_number-in-None.ensures) in
-    let marked = simp length-append at (ap length c.push_ascii.ensures) in
-    omega (arith, short_decimal c.args.numerator (omega arith), short_decimal c.args.denominator (omega arith))
+    let h = trailing_zeros w64 d in
+    let is : d ≡ 2 ^ h = c.if-denominator-halvings.true ∙ one_shl h 64 (omega (arith, c.if-halvings-le-PLACES.true)) in
+    let places = places_of_power h c.if-halvings-le-PLACES.true in
+    c.push_halved.ensures ∙ ap (λ p. text ++ magnitude_text n (2 ^ h) p) (sym places) ∙ ap (λ x. text ++ magnitude_text n x (places_of x)) (sym is)

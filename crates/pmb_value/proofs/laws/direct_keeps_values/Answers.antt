@@ -1,6 +1,6 @@
-use Rattle.pmb_value.specs.Direct.{positive_part, direct}
-use Rattle.pmb_value.proofs.DirectLemmas.{denominator_positive}
-use Rattle.pmb_value.proofs.LawLemmas.{keeps_values}
+use Rattle.pmb_format.specs.Direct.{positive_part, direct}
+use Rattle.pmb_format.proofs.DirectLemmas.{denominator_positive}
+use Rattle.pmb_format.proofs.LawLemmas.{keeps_values}
 use Rattle.pmb_value.proofs.laws.direct_keeps_values.Goals as goal
 
 pub returns : goal.returns

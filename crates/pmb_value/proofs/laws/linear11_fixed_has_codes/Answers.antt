@@ -1,6 +1,6 @@
 use Rattle.std.proofs.Common.{◌+ℤ◌, pos, unsigned_abs, arith}
-use Rattle.pmb_value.specs.machine.Fields.{word_at}
-use Rattle.pmb_value.proofs.FixedExponent.{rises-linear11_fixed}
+use Rattle.pmb_linear.specs.machine.Fields.{word_at}
+use Rattle.pmb_linear.proofs.FixedExponent.{rises-linear11_fixed}
 use Rattle.pmb_value.proofs.laws.linear11_fixed_has_codes.Goals as goal
 
 pub returns : goal.returns

@@ -1,6 +1,6 @@
-use Rattle.pmb_value.specs.Linear.{linear11_fixed}
-use Rattle.pmb_value.proofs.OneNearest.{has_one_nearest}
-use Rattle.pmb_value.proofs.FixedExponent.{IsSeparated-linear11_fixed}
+use Rattle.pmb_linear.specs.Linear.{linear11_fixed}
+use Rattle.pmb_format.proofs.OneNearest.{has_one_nearest}
+use Rattle.pmb_linear.proofs.FixedExponent.{IsSeparated-linear11_fixed}
 use Rattle.pmb_value.proofs.laws.linear11_fixed_has_one_nearest.Goals as goal
 
 pub returns : goal.returns

@@ -1,0 +1,14 @@
+pub mod Nearest
+pub mod LawLemmas
+pub mod OneNearest
+pub mod Products
+pub mod Neighbours
+pub mod Rounded
+pub mod Rows
+pub mod EvenRows
+pub mod Range
+pub mod StepLemmas
+pub mod Scaling
+pub mod Words
+pub mod DirectLemmas
+pub mod DirectRows

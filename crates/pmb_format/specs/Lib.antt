@@ -1,0 +1,9 @@
+pub mod Coding
+pub mod Words
+pub mod Direct
+pub mod Laws
+pub mod Steps
+pub mod Row
+pub mod Rounding
+pub mod Written
+pub mod machine

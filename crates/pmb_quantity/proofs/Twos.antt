@@ -1,0 +1,103 @@
+-- Twos in a number, and what it has in common with a power of two.
+use Rattle.std.proofs.Common.{◌≡◌, ℕ, zero, suc, inl, inr, ◌+◌, ◌-◌, ◌*◌, ◌/◌, ◌%◌, ◌^◌, ◌<◌, ◌≤◌, min, pos, sym, ap, ◌∙◌, subst, arith}
+use Rattle.std.specs.Int.{bit_at, w64, trailing_zeros, ◌∣◌}
+use Rattle.std.specs.Int.Count.{trailing_of_zero}
+use Rattle.std.proofs.lemmas.Bool.{cases_eq, cases_lt}
+use Rattle.std.proofs.lemmas.Nat.{pow_pos, pow-add, mul-mod_second}
+use Rattle.std.proofs.lemmas.Nat.Bits.{bit_at-trailing_zeros, bit_at-zero}
+use Rattle.std.proofs.lemmas.Nat.Gcd.{dvd_refl}
+use Rattle.std.proofs.Math.Nat.{mul_assoc, mul_comm, mul-div_cancel, div-mul_cancel, pow-suc, one-dvd, dvd-mul_left, eq-one_of_dvd-one}
+use Rattle.pmb_quantity.specs.Fraction.{gcd, lowest_terms}
+use Rattle.pmb_quantity.proofs.FractionLemmas.{gcd_is, gcd-scale, gcd-quotients}
+
+-- what divides an odd number is odd
+odd_divisor : (d n : ℕ) → d ∣ n → n % 2 ≡ 1 → d % 2 ≡ 1
+odd_divisor d n divides odd =
+    elim (cases_eq (d % 2) 0) [
+      | inl even ↦
+          let whole : n / d * d ≡ n = div-mul_cancel d divides in
+          let product : (n / d * d) % 2 ≡ (n / d * 0) % 2 = sym (mul-mod_second (n / d) d 2) ∙ ap (λ r. (n / d * r) % 2) even in
+          absurd (omega (arith, whole, product, ap (λ x. x % 2) whole))
+      | inr other ↦ omega arith
+    ]
+
+-- an odd number that divides a power of two is 1
+odd_power : (j d : ℕ) → d % 2 ≡ 1 → d ∣ 2 ^ j → d ≡ 1
+odd_power zero d odd divides = eq-one_of_dvd-one divides
+odd_power (suc j) d odd divides =
+    let m = 2 ^ suc j / d in
+    let whole : m * d ≡ 2 ^ suc j = div-mul_cancel d divides in
+    let parity : (m * d) % 2 ≡ (m * 1) % 2 = sym (mul-mod_second m d 2) ∙ ap (λ r. (m * r) % 2) odd in
+    let even : (m * d) % 2 ≡ 0 = ap (λ x. x % 2) whole ∙ omega (arith, pow-suc 2 j) in
+    let halves : m ≡ m / 2 * 2 = omega (arith, parity, even) in
+    let swapped : m * d ≡ m / 2 * d * 2 = ap (λ x. x * d) halves ∙ mul_assoc (m / 2) 2 d ∙ ap (λ x. m / 2 * x) (mul_comm 2 d) ∙ sym (mul_assoc (m / 2) d 2) in
+    let half : m / 2 * d ≡ 2 ^ j = omega (arith, swapped, whole, pow-suc 2 j) in
+    odd_power j d odd (subst (λ (x : ℕ). d ∣ x) half (dvd-mul_left d (m / 2)))
+
+gcd_of_odd : (n j : ℕ) → n % 2 ≡ 1 → gcd n (2 ^ j) ≡ 1
+gcd_of_odd n j odd =
+    gcd_is n (2 ^ j) 1 (
+      one-dvd n,
+      one-dvd (2 ^ j),
+      λ d of_n of_power.
+          subst (λ (x : ℕ). x ∣ 1) (sym (odd_power j d (odd_divisor d n of_n odd) of_power)) (dvd_refl 1),
+    )
+
+gcd_of_one : (n : ℕ) → gcd n 1 ≡ 1
+gcd_of_one n = gcd_is n 1 1 (one-dvd n, one-dvd 1, λ d of_n of_one. of_one)
+
+-- no digit of two below the t-th is set
+no_rest : (t n : ℕ) → ((i : ℕ) → i < t → bit_at n i ≡ 0) → n ≡ n / 2 ^ t * 2 ^ t
+no_rest zero n clear = omega arith
+no_rest (suc t) n clear =
+    let below : n ≡ n / 2 ^ t * 2 ^ t = no_rest t n (λ i less. clear i (omega arith)) in
+    let q = n / 2 ^ t in
+    let even : q % 2 ≡ 0 = clear t (omega arith) in
+    let halves : q ≡ q / 2 * 2 = omega (arith, even) in
+    let whole : n ≡ q / 2 * 2 ^ suc t = below ∙ ap (λ x. x * 2 ^ t) halves ∙ mul_assoc (q / 2) 2 (2 ^ t) ∙ ap (λ x. q / 2 * x) (mul_comm 2 (2 ^ t) ∙ sym (pow-suc 2 t)) in
+    let quotient : n / 2 ^ suc t ≡ q / 2 = ap (λ x. x / 2 ^ suc t) whole ∙ mul-div_cancel (q / 2) (pow_pos (suc t)) in
+    whole ∙ ap (λ x. x * 2 ^ suc t) (sym quotient)
+
+-- a number of that many twos, and the greatest common divisor
+common : (n h t : ℕ) → t ≤ h → n ≡ n / 2 ^ t * 2 ^ t → gcd (n / 2 ^ t) (2 ^ (h - t)) ≡ 1 → gcd n (2 ^ h) ≡ 2 ^ t
+common n h t few whole coprime =
+    let sum : (h - t) + t ≡ h = omega arith in
+    let power : 2 ^ h ≡ 2 ^ (h - t) * 2 ^ t = ap (λ x. 2 ^ x) (sym sum) ∙ pow-add 2 (h - t) t in
+    ap (λ x. gcd x (2 ^ h)) whole ∙ ap (gcd (n / 2 ^ t * 2 ^ t)) power ∙ gcd-scale (n / 2 ^ t) (2 ^ (h - t)) (2 ^ t) (pow_pos t) ∙ ap (λ x. x * 2 ^ t) coprime ∙ omega arith
+
+all_of_them : (n h : ℕ) → ((i : ℕ) → i < h → bit_at n i ≡ 0) → gcd n (2 ^ h) ≡ 2 ^ h
+all_of_them n h clear =
+    let none : h - h ≡ 0 = omega arith in
+    common n h h (omega arith) (no_rest h n clear) (ap (λ x. gcd (n / 2 ^ h) (2 ^ x)) none ∙ gcd_of_one (n / 2 ^ h))
+
+-- with two to a power a number has as many twos in common as it has, and no more than that power
+pub common_twos : (n h : ℕ) → n < 2 ^ 64 → h ≤ 64 → gcd n (2 ^ h) ≡ 2 ^ min (trailing_zeros w64 n) h
+common_twos zero h fits few =
+    all_of_them 0 h (λ i less. bit_at-zero i) ∙ ap (λ x. 2 ^ x) (omega (arith, trailing_of_zero 64))
+common_twos (suc n) h fits few =
+    let t = trailing_zeros w64 (suc n) in
+    let digits = bit_at-trailing_zeros w64 (suc n) (omega arith) fits in
+    elim (cases_lt t h) [
+      | inl less ↦ common (suc n) h t (omega arith) (no_rest t (suc n) digits.2) (gcd_of_odd (suc n / 2 ^ t) (h - t) digits.1) ∙ ap (λ x. 2 ^ x) (omega arith)
+      | inr more ↦ all_of_them (suc n) h (λ i less. digits.2 i (omega arith)) ∙ ap (λ x. 2 ^ x) (omega arith)
+    ]
+
+-- a positive number of 64 bits has fewer of them
+pub few_twos : (n : ℕ) → 0 < n → n < 2 ^ 64 → trailing_zeros w64 n < 64
+few_twos n positive fits = (bit_at-trailing_zeros w64 n positive fits).0
+
+power_quotient : (h t : ℕ) → t ≤ h → 2 ^ h / 2 ^ t ≡ 2 ^ (h - t)
+power_quotient h t few =
+    let sum : (h - t) + t ≡ h = omega arith in
+    ap (λ x. 2 ^ x / 2 ^ t) (sym sum) ∙ ap (λ x. x / 2 ^ t) (pow-add 2 (h - t) t) ∙ mul-div_cancel (2 ^ (h - t)) (pow_pos t)
+
+-- without them both are in lowest terms
+module _ (n h t : ℕ) where
+  pub halved_lowest : t ≤ h → gcd n (2 ^ h) ≡ 2 ^ t → lowest_terms (pos n) (2 ^ h) ≡ record { numerator = pos (n / 2 ^ t); denominator = 2 ^ (h - t) }
+  halved_lowest few is =
+      let divided : lowest_terms (pos n) (2 ^ h) ≡ record { numerator = pos (n / 2 ^ t); denominator = 2 ^ h / 2 ^ t } = ap (λ g. record { numerator = pos (n / g); denominator = 2 ^ h / g }) is in
+      divided ∙ ap (λ x. record { numerator = pos (n / 2 ^ t); denominator = x }) (power_quotient h t few)
+
+  pub halved_coprime : t ≤ h → gcd n (2 ^ h) ≡ 2 ^ t → gcd (n / 2 ^ t) (2 ^ (h - t)) ≡ 1
+  halved_coprime few is =
+      ap (gcd (n / 2 ^ t)) (sym (power_quotient h t few)) ∙ ap (λ g. gcd (n / g) (2 ^ h / g)) (sym is) ∙ gcd-quotients n (2 ^ h) (pow_pos h)

@@ -1,5 +1,0 @@
--- What private parts of the code say. No public contract is understood by these.
-pub mod Fields
-pub mod Rounding
-pub mod Row
-pub mod Written

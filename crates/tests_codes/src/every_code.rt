@@ -1,0 +1,73 @@
+//! The value of every code is encoded by a code of that value.
+use pmb_value::{Direct, Format, Linear11, Linear11Fixed, Slinear16, Steps, Ulinear16};
+use std::process::Abort;
+
+/// The codes of every format are among the numbers below this one.
+const WORDS: u32 = 0x1_0000;
+
+/// Checks that each word whose value is in range is encoded by a code of that value, in 1 to 33
+/// steps.
+fn check_every<F: Format>(rt: &impl Abort, name: &str, format: &F) {
+    for index in 0..WORDS {
+        let word = index as u16;
+        let quantity = format.decode(word);
+        let mut steps = Steps::new();
+        if let Ok(code) = format.encode(&quantity, &mut steps) {
+            let taken = steps.taken();
+            assert!(rt; taken >= 1 && taken <= 33, "{name} at {word}");
+            assert_eq!(rt; format.decode(code), quantity, "{name} at {word}");
+        }
+    }
+}
+
+/// The exponents that each linear format runs at.
+const EXPONENTS: [i8; 4] = [-16, -9, 0, 15];
+
+fn linear11_codes(rt: &impl Abort) {
+    check_every(rt, "LINEAR11", &Linear11);
+}
+
+fn ulinear16_codes(rt: &impl Abort) {
+    for exponent in EXPONENTS {
+        let format = Ulinear16::new(exponent).expect(rt, "an exponent");
+        check_every(rt, "ULINEAR16", &format);
+    }
+}
+
+fn slinear16_codes(rt: &impl Abort) {
+    for exponent in EXPONENTS {
+        let format = Slinear16::new(exponent).expect(rt, "an exponent");
+        check_every(rt, "SLINEAR16", &format);
+    }
+}
+
+fn direct_codes(rt: &impl Abort) {
+    for (m, b, r) in [(3, 2, 1), (-1, 0, -1)] {
+        let format = Direct::new(m, b, r).expect(rt, "coefficients");
+        check_every(rt, "DIRECT", &format);
+    }
+}
+
+/// The 2,048 words with an exponent are the codes, and each is written for its value.
+fn linear11_fixed_codes(rt: &impl Abort) {
+    for exponent in EXPONENTS {
+        let format = Linear11Fixed::new(exponent).expect(rt, "an exponent");
+        let field = (i32::from(exponent) + 32) % 32;
+        for index in 0..2048u16 {
+            let word = (field as u16) * 2048 + index;
+            let quantity = format.decode(word);
+            let code = format.encode(&quantity, &mut Steps::new());
+            assert_eq!(rt; code, Ok(word), "at {exponent}");
+        }
+    }
+}
+
+/// All of them in one run, which is timed as a whole.
+#[test]
+fn all_formats(rt: HostRuntime) {
+    linear11_codes(&rt);
+    ulinear16_codes(&rt);
+    slinear16_codes(&rt);
+    direct_codes(&rt);
+    linear11_fixed_codes(&rt);
+}
