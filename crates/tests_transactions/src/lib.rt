@@ -1,16 +1,6 @@
-//! Packets by the rules in words: [`packet`] builds the events of a transaction rule by rule, and
-//! [`is_viable`] finds by trying transactions whether events may go on. Both are slow, and short
-//! enough to be believed: what writes and reads packets is compared with them, and they with events
-//! that were written by hand.
+//! Tests of packets and viability: the plain decision of `plain_packets` against transactions,
+//! packets and refusals that were written by hand, under the sample profile and others.
 #![tactic(auto)]
-
-mod legs;
-mod packets;
-mod viability;
-
-pub use legs::NoPacket;
-pub use packets::packet;
-pub use viability::{is_viable, kinds_after};
 
 #[cfg(test)]
 mod laws;

@@ -1,7 +1,7 @@
 //! Transactions that have no packet, one rule broken in each.
 
 use crate::said::Said;
-use crate::{NoPacket, packet};
+use plain_packets::{NoPacket, packet};
 use pmb_table::{Profile, SAMPLE};
 use std::alloc::Global;
 use std::process::Abort;

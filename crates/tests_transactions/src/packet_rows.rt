@@ -1,7 +1,7 @@
 //! Transactions with their packets, told by hand.
 
-use crate::said::{LONG_FORMS, Said, events};
-use crate::{is_viable, packet};
+use crate::said::Said;
+use plain_packets::{LONG_FORMS, events, is_viable, packet};
 use pmb_bus::Event;
 use pmb_table::{Profile, SAMPLE};
 use std::alloc::Global;

@@ -1,7 +1,6 @@
 //! Events that no packet begins with, and which events may come instead.
 
-use crate::said::{LONG_FORMS, events, seventeen_devices};
-use crate::{is_viable, kinds_after};
+use plain_packets::{LONG_FORMS, events, is_viable, kinds_after, seventeen_devices};
 use pmb_bus::{Event, Kinds};
 use pmb_table::{Profile, SAMPLE};
 use std::alloc::{AllocError, Global};

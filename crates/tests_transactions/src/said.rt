@@ -1,9 +1,7 @@
-//! What rows tell: transactions, profiles, and events as capture text.
+//! The transactions that rows tell.
 
 use arrayvec::ArrayVec;
-use pmb_bus::{Event, Lexer, Step};
 use pmb_transaction::{Part, Transaction};
-use std::alloc::{AllocError, Global};
 
 /// A part: address, code, data, and whether it carries a packet error code.
 pub(crate) type PartRow = (u8, u8, &'static [u8], bool);
@@ -104,54 +102,4 @@ impl Said {
             Said::NoAlert => Transaction::NoAlert,
         }
     }
-}
-
-/// The events that a capture text spells.
-pub(crate) fn events(alloc: Global, text: &str) -> Result<Vec<Event>, AllocError> {
-    let mut events = Vec::new(alloc);
-    let mut lexer = Lexer::new();
-    let mut rest = text.as_bytes();
-    for _ in 0..text.len() {
-        let lexed = lexer.feed(rest);
-        rest = &rest[lexed.used..];
-        match lexed.step {
-            Step::Event(event) => events.push(event)?,
-            Step::Need | Step::Fault(_) => break,
-        }
-    }
-    if let Ok(Some(event)) = lexer.finish() {
-        events.push(event)?;
-    }
-    Ok(events)
-}
-
-/// A device with commands of four and eight bytes, and one that is called with two.
-pub(crate) const LONG_FORMS: &str = r#"[[device]]
-address = 0x10
-pec = "optional"
-
-[[device.command]]
-code = 0xe0
-write = "four"
-read = "four"
-
-[[device.command]]
-code = 0xe1
-read = "eight"
-
-[[device.command]]
-code = 0xe2
-call = "two"
-"#;
-
-/// 17 devices without packet error codes, 10h to 20h, each with CLEAR_FAULTS alone.
-pub(crate) fn seventeen_devices(alloc: Global) -> Result<String, AllocError> {
-    let mut text = String::new(alloc);
-    for address in 0x10..0x21u8 {
-        let device = format!(in alloc;
-            "[[device]]\naddress = {address}\npec = \"off\"\nstandard = false\n\n[[device.command]]\ncode = 3\nwrite = \"zero\"\n\n"
-        )?;
-        text.push_str(device.as_str())?;
-    }
-    Ok(text)
 }

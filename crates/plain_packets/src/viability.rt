@@ -353,6 +353,20 @@ fn goes_on_with(
     is_viable(alloc, profile, longer.as_slice())
 }
 
+/// The events are viable with some byte more.
+fn goes_on_with_a_byte(
+    alloc: Global,
+    profile: &Profile,
+    events: &[Event],
+) -> Result<bool, AllocError> {
+    for byte in 0..=255u8 {
+        if goes_on_with(alloc, profile, events, Event::Byte(byte))? {
+            return Ok(true);
+        }
+    }
+    Ok(false)
+}
+
 /// The kinds of the events that may come next.
 pub fn kinds_after(
     alloc: Global,
@@ -365,10 +379,8 @@ pub fn kinds_after(
             kinds.insert(Kinds::of(event));
         }
     }
-    for byte in 0..=255u8 {
-        if goes_on_with(alloc, profile, events, Event::Byte(byte))? {
-            kinds.insert(Kinds::BYTE);
-        }
+    if goes_on_with_a_byte(alloc, profile, events)? {
+        kinds.insert(Kinds::BYTE);
     }
     Ok(kinds)
 }
