@@ -54,6 +54,34 @@ distinct_with done part own new =
     subst (IsDistinct nat_eq) (sym (map-append (λ (p : PartData). p.addr) done (part ∷ [])))
     (IsDistinct-push nat_eq_equiv (addresses done) part.addr own new)
 
+-- a number that is none of some and another is none of that one and those
+new_first_of : (n : ℕ) (xs : List ℕ) (x : ℕ) → IsNew n (xs ++ x ∷ []) → (nat_eq n x ≡ false) × IsNew n xs
+new_first_of n [] x new = ((or_parts (nat_eq n x) false new).0, refl)
+new_first_of n (y ∷ xs) x new =
+    let parts = or_parts (nat_eq n y) (list_any (nat_eq n) (xs ++ x ∷ [])) new in
+    let later = new_first_of n xs x parts.1 in
+    (later.0, or_from (nat_eq n y) (list_any (nat_eq n) xs) parts.0 later.1)
+
+new_last_of : (n : ℕ) (xs : List ℕ) (x : ℕ) → nat_eq n x ≡ false → IsNew n xs → IsNew n (xs ++ x ∷ [])
+new_last_of n [] x other new = or_from (nat_eq n x) false other refl
+new_last_of n (y ∷ xs) x other new =
+    let parts = or_parts (nat_eq n y) (list_any (nat_eq n) xs) new in
+    or_from (nat_eq n y) (list_any (nat_eq n) (xs ++ x ∷ [])) parts.0 (new_last_of n xs x other parts.1)
+
+-- An address is new among some parts and one more where it is neither that one's nor one of theirs.
+pub new_with : (n : ℕ) (parts : List PartData) (part : PartData)
+    → (IsNew n (addresses (parts ++ part ∷ [])) → IsNew n (part.addr ∷ addresses parts))
+    × (IsNew n (part.addr ∷ addresses parts) → IsNew n (addresses (parts ++ part ∷ [])))
+new_with n parts part =
+    let same = map-append (λ (p : PartData). p.addr) parts (part ∷ []) in (
+      λ new.
+          let both = new_first_of n (addresses parts) part.addr (subst (IsNew n) same new) in
+          or_from (nat_eq n part.addr) (list_any (nat_eq n) (addresses parts)) both.0 both.1,
+      λ new.
+          let both = or_parts (nat_eq n part.addr) (list_any (nat_eq n) (addresses parts)) new in
+          subst (IsNew n) (sym same) (new_last_of n (addresses parts) part.addr both.0 both.1),
+    )
+
 -- ---- an address that is free
 
 -- a number in front of others, or left out

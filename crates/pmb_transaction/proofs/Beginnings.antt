@@ -7,10 +7,10 @@ use Rattle.pmb_bus.specs.declared.event.Event.{Event}
 use Rattle.pmb_bus.specs.declared.event.Event.TheVariants.{Start, Byte, Ack, Nack, Stop}
 use Rattle.pmb_command.specs.Bus.{IsBus}
 use Rattle.pmb_command.specs.Parts.{DeviceParts, IsNew, device_with}
-use Rattle.pmb_transaction.specs.Transaction.{PartData, TransactionData, Write, Read, Call, Refused, Alert, NoAlert}
+use Rattle.pmb_transaction.specs.Transaction.{PartData, ReadData, CallData, TransactionData, Write, Read, Call, Refused, Alert, NoAlert}
 use Rattle.pmb_transaction.specs.Wire.{IsByte, AreBytes, wire}
 use Rattle.pmb_transaction.specs.Body.{write_address, read_address, checked, IsProperPrefix, IsWriteBody, IsReadBody, IsCallBody, Allowed}
-use Rattle.pmb_transaction.specs.Packet.{Packet, PartEvents, PartsEvents, ByteRefused, ReadRefused, RefusedLeg, acked, nacked, leg, addresses, alert_address}
+use Rattle.pmb_transaction.specs.Packet.{Packet, PartEvents, PartsEvents, ReadPacket, CallPacket, ByteRefused, ReadRefused, RefusedLeg, acked, nacked, leg, addresses, alert_address}
 use Rattle.pmb_transaction.specs.Capture.{Viable}
 use Rattle.pmb_transaction.specs.Viable.{BeginsBody, IsInsideBody, IsAnswer, AnswerBegins, AlertBegins, ReadBegins, LegBegins, PartsAndLeg, IsBeginning, answer_taken, answer_sent, at_alert, alert_answer, read_start, read_address_sent, read_answer, leg_start, leg_address, leg_taken, leg_sent, whole, before_stop, written, read, alert}
 use Rattle.pmb_transaction.proofs.Addresses.{distinct_none, parts_before}
@@ -66,7 +66,7 @@ begins_body device parts bytes (inl none) = inl none
 begins_body device parts bytes (inr w) = inr (w.0, w.2.next ∷ w.2.rest, w.1, w.2.split)
 
 -- a write body is allowed in each leg
-write_is_allowed : (device : DeviceParts) (parts : List PartData) (body : List ℕ) → IsWriteBody device body → Allowed device parts body
+pub write_is_allowed : (device : DeviceParts) (parts : List PartData) (body : List ℕ) → IsWriteBody device body → Allowed device parts body
 write_is_allowed device [] body is = inl is
 write_is_allowed device (part ∷ parts) body is = is
 
@@ -114,8 +114,38 @@ no_alert_begins e (f ∷ g ∷ events) next more same =
     absurd (no_end events next more none)
 
 -- what is in front of STOP
-same_before_stop : (a b : List Event) → a ++ Stop ∷ [] ≡ b ++ Stop ∷ [] → a ≡ b
+pub same_before_stop : (a b : List Event) → a ++ Stop ∷ [] ≡ b ++ Stop ∷ [] → a ≡ b
 same_before_stop a b same = (same_from_push a b Stop Stop same).0
+
+-- ---- answers
+
+-- the answer of a read
+pub read_answers : (profile : List DeviceParts) (t : ReadData) (events : List Event) → (packet : ReadPacket profile t events)
+    → IsAnswer packet.device t.addr (t.code ∷ [])
+    (checked t.pec (write_address t.addr ∷ (t.code ∷ []) ++ read_address t.addr ∷ []) (wire packet.form t.reply))
+read_answers profile t events packet = record {
+  form = packet.form;
+  asked = inl (t.code, record { read = packet.read; spelled = refl });
+  reply = t.reply;
+  fits = packet.fits;
+  with_pec = t.pec;
+  mode = packet.mode;
+  spelled = refl;
+}
+
+-- the answer of a call
+pub call_answers : (profile : List DeviceParts) (t : CallData) (events : List Event) → (packet : CallPacket profile t events)
+    → IsAnswer packet.device t.addr (t.code ∷ wire packet.form t.bytes)
+    (checked t.pec (write_address t.addr ∷ (t.code ∷ wire packet.form t.bytes) ++ read_address t.addr ∷ []) (wire packet.form t.reply))
+call_answers profile t events packet = record {
+  form = packet.form;
+  asked = inr (t.code, t.bytes, record { called = packet.called; fits = packet.sent; spelled = refl });
+  reply = t.reply;
+  fits = packet.replied;
+  with_pec = t.pec;
+  mode = packet.mode;
+  spelled = refl;
+}
 
 module _ (pec_is_byte : (bytes : List ℕ) → pec bytes < 256) (profile : List DeviceParts) (bus : IsBus profile) where
   -- ---- legs that are written
@@ -414,15 +444,7 @@ module _ (pec_is_byte : (bytes : List ℕ) → pec bytes < 256) (profile : List 
       let answer = checked t.pec (write_address addr ∷ body ++ read_address addr ∷ []) (wire packet.form t.reply) in
       let same = same_before_stop all (leg (write_address addr ∷ body) ++ (leg (read_address addr ∷ []) ++ nacked answer)) packet.spelled in
       answer_of addr packet.device body answer packet.known (inl (t.code, packet.form, record { read = packet.read; spelled = refl }))
-      (record {
-        form = packet.form;
-        asked = inl (t.code, record { read = packet.read; spelled = refl });
-        reply = t.reply;
-        fits = packet.fits;
-        with_pec = t.pec;
-        mode = packet.mode;
-        spelled = refl;
-      }) e events w.event w.rest (w.split ∙ same)
+      (read_answers profile t (all ++ Stop ∷ []) packet) e events w.event w.rest (w.split ∙ same)
   inside (Call t) all packet e events w =
       let addr = t.addr in
       let body = t.code ∷ wire packet.form t.bytes in
@@ -430,15 +452,7 @@ module _ (pec_is_byte : (bytes : List ℕ) → pec bytes < 256) (profile : List 
       let same = same_before_stop all (leg (write_address addr ∷ body) ++ (leg (read_address addr ∷ []) ++ nacked answer)) packet.spelled in
       answer_of addr packet.device body answer packet.known
       (inr (t.code, packet.form, t.bytes, record { called = packet.called; fits = packet.sent; spelled = refl }))
-      (record {
-        form = packet.form;
-        asked = inr (t.code, t.bytes, record { called = packet.called; fits = packet.sent; spelled = refl });
-        reply = t.reply;
-        fits = packet.replied;
-        with_pec = t.pec;
-        mode = packet.mode;
-        spelled = refl;
-      }) e events w.event w.rest (w.split ∙ same)
+      (call_answers profile t (all ++ Stop ∷ []) packet) e events w.event w.rest (w.split ∙ same)
   inside (Refused t) all packet e events w =
       let same : all ≡ packet.legs ++ packet.last = same_before_stop all (packet.legs ++ packet.last) packet.spelled in
       refused_begins_at t.parts t.addr t.sent t.at_read packet.legs packet.last packet.few packet.distinct packet.another packet.each

@@ -5,7 +5,6 @@ use Rattle.std.proofs.lemmas.List.{append-nil, length-map, length_push}
 use Rattle.pmb_bus.specs.Pec.{pec}
 use Rattle.pmb_bus.specs.declared.event.Event.{Event}
 use Rattle.pmb_bus.specs.declared.event.Event.TheVariants.{Start, Byte, Ack, Nack, Stop}
-use Rattle.pmb_command.specs.declared.form.Form.{Form}
 use Rattle.pmb_command.specs.Bus.{IsBus}
 use Rattle.pmb_command.specs.Parts.{DeviceParts, IsNew, device_with}
 use Rattle.pmb_transaction.specs.Transaction.{PartData, ReadData, CallData, RefusedData, AlertData, TransactionData, Write, Read, Call, Refused, Alert, NoAlert}
@@ -20,7 +19,7 @@ use Rattle.pmb_transaction.proofs.Bytes.{small-append, small_body, small_sent}
 
 -- ---- bytes, of which the last is refused
 
-nacked_append : (bytes : List ℕ) (next : ℕ) (rest : List ℕ) → nacked (bytes ++ next ∷ rest) ≡ acked bytes ++ nacked (next ∷ rest)
+pub nacked_append : (bytes : List ℕ) (next : ℕ) (rest : List ℕ) → nacked (bytes ++ next ∷ rest) ≡ acked bytes ++ nacked (next ∷ rest)
 nacked_append [] next rest = refl
 nacked_append (b ∷ []) next rest = refl
 nacked_append (b ∷ c ∷ bytes) next rest = ap (λ (es : List Event). Byte b ∷ Ack ∷ es) (nacked_append (c ∷ bytes) next rest)
@@ -78,7 +77,7 @@ module _ (pec_is_byte : (bytes : List ℕ) → pec bytes < 256) (profile : List 
 
   -- ---- refused legs
 
-  refused_follows : (parts : List PartData) → length parts ≤ 15 → IsDistinct nat_eq (addresses parts) → (legs : List Event)
+  pub refused_follows : (parts : List PartData) → length parts ≤ 15 → IsDistinct nat_eq (addresses parts) → (legs : List Event)
       → PartsEvents profile parts legs → (addr : ℕ) (sent : List ℕ) (at_read : Bool) → IsNew addr (addresses parts) → (all : List Event)
       → RefusedLeg profile parts addr sent at_read all → (events last more : List Event) → events ≡ legs ++ last
       → last ++ more ≡ all ++ Stop ∷ [] → Viable profile events
@@ -101,7 +100,7 @@ module _ (pec_is_byte : (bytes : List ℕ) → pec bytes < 256) (profile : List 
       } in
       completes events more ((legs ++ all) ++ Stop ∷ []) (Refused t) same packet
 
-  byte_refused : (parts : List PartData) (addr : ℕ) (device : DeviceParts) (bytes : List ℕ) (byte : ℕ) → device_with addr profile ≡ Some device
+  pub byte_refused : (parts : List PartData) (addr : ℕ) (device : DeviceParts) (bytes : List ℕ) (byte : ℕ) → device_with addr profile ≡ Some device
       → AreBytes bytes → IsByte byte → IsInsideBody device parts bytes
       → RefusedLeg profile parts addr (bytes ++ byte ∷ []) false (leg (write_address addr ∷ []) ++ nacked (bytes ++ byte ∷ []))
   byte_refused parts addr device [] byte known small last inside = record {
@@ -125,12 +124,12 @@ module _ (pec_is_byte : (bytes : List ℕ) → pec bytes < 256) (profile : List 
     spelled = refl;
   }
 
-  read_refused : (addr : ℕ) (sent : List ℕ) (last : List Event) → ReadRefused profile [] addr sent last → RefusedLeg profile [] addr sent true last
+  pub read_refused : (addr : ℕ) (sent : List ℕ) (last : List Event) → ReadRefused profile [] addr sent last → RefusedLeg profile [] addr sent true last
   read_refused addr [] last refused = refused
   read_refused addr (b ∷ sent) last refused = refused
 
   -- behind the leg of a read body or a call body the device may refuse to be read
-  read_follows : (addr : ℕ) (device : DeviceParts) (body : List ℕ) → device_with addr profile ≡ Some device
+  pub read_follows : (addr : ℕ) (device : DeviceParts) (body : List ℕ) → device_with addr profile ≡ Some device
       → IsReadBody device body ⊎ IsCallBody device body → (events begun more : List Event) → events ≡ leg (write_address addr ∷ body) ++ begun
       → begun ++ more ≡ Start ∷ Byte (read_address addr) ∷ Nack ∷ Stop ∷ [] → Viable profile events
   read_follows addr device body known is events begun more spelled ends =
@@ -153,7 +152,7 @@ module _ (pec_is_byte : (bytes : List ℕ) → pec bytes < 256) (profile : List 
   small_allowed [] addr device body known (inr is) = small_sent pec_is_byte profile bus addr device body known is
   small_allowed (part ∷ parts) addr device body known w = small_body pec_is_byte profile bus device addr w.0 w.1 w.2 body known w.3
 
-  small_inside : (parts : List PartData) (addr : ℕ) (device : DeviceParts) (bytes : List ℕ) → device_with addr profile ≡ Some device
+  pub small_inside : (parts : List PartData) (addr : ℕ) (device : DeviceParts) (bytes : List ℕ) → device_with addr profile ≡ Some device
       → IsInsideBody device parts bytes → AreBytes bytes
   small_inside parts addr device bytes known (inl none) = subst AreBytes (sym none) tt
   small_inside parts addr device bytes known (inr w) =
@@ -161,23 +160,37 @@ module _ (pec_is_byte : (bytes : List ℕ) → pec bytes < 256) (profile : List 
 
   module _ (parts : List PartData) (few : length parts ≤ 15) (own : IsDistinct nat_eq (addresses parts)) (legs : List Event) (each : PartsEvents profile parts legs) where
     -- the leg of a write body makes one more part
-    write_follows : (addr : ℕ) (device : DeviceParts) (body : List ℕ) → IsNew addr (addresses parts) → device_with addr profile ≡ Some device
-        → IsWriteBody device body → (events : List Event) → events ≡ legs ++ leg (write_address addr ∷ body) → Viable profile events
-    write_follows addr device body new known is events spelled =
+    pub one_more : (addr : ℕ) (device : DeviceParts) (body : List ℕ) → device_with addr profile ≡ Some device → IsWriteBody device body
+        → (part : PartData) × (part.addr ≡ addr) × PartsEvents profile (parts ++ part ∷ []) (legs ++ leg (write_address addr ∷ body))
+    one_more addr device body known is =
         let part : PartData = record { addr = addr; code = is.0; bytes = is.1; pec = is.2 } in
         let first = leg (write_address addr ∷ body) in
         let here : PartEvents profile part first = record { device = device; body = body; known = known; allowed = is.3; spelled = refl } in
-        let long : length (parts ++ part ∷ []) ≡ length parts + 1 = length_push parts part in
-        let packet : WritePacket profile (parts ++ part ∷ []) ((legs ++ first) ++ Stop ∷ []) = record {
+        (part, refl, parts_push pec_is_byte profile bus parts part legs first each here)
+
+    -- so STOP behind it makes a write
+    pub write_packet : (addr : ℕ) (device : DeviceParts) (body : List ℕ) → IsNew addr (addresses parts) → device_with addr profile ≡ Some device
+        → IsWriteBody device body → IsPacket profile ((legs ++ leg (write_address addr ∷ body)) ++ Stop ∷ [])
+    write_packet addr device body new known is =
+        let w = one_more addr device body known is in
+        let all = parts ++ w.0 ∷ [] in
+        let long : length all ≡ length parts + 1 = length_push parts w.0 in
+        let packet : WritePacket profile all ((legs ++ leg (write_address addr ∷ body)) ++ Stop ∷ []) = record {
           some = omega (arith, long);
           few = omega (arith, long, few);
-          distinct = distinct_with parts part own new;
-          legs = legs ++ first;
-          each = parts_push pec_is_byte profile bus parts part legs first each here;
+          distinct = distinct_with parts w.0 own (subst (λ (a : ℕ). IsNew a (addresses parts)) (sym w.1) new);
+          legs = legs ++ leg (write_address addr ∷ body);
+          each = w.2;
           spelled = refl;
         } in
-        completes events (Stop ∷ []) ((legs ++ first) ++ Stop ∷ []) (Write (parts ++ part ∷ []))
-        (ap (λ (es : List Event). es ++ Stop ∷ []) spelled) packet
+        (Write all, packet)
+
+    write_follows : (addr : ℕ) (device : DeviceParts) (body : List ℕ) → IsNew addr (addresses parts) → device_with addr profile ≡ Some device
+        → IsWriteBody device body → (events : List Event) → events ≡ legs ++ leg (write_address addr ∷ body) → Viable profile events
+    write_follows addr device body new known is events spelled =
+        let all = (legs ++ leg (write_address addr ∷ body)) ++ Stop ∷ [] in
+        let packet = write_packet addr device body new known is in
+        completes events (Stop ∷ []) all packet.0 (ap (λ (es : List Event). es ++ Stop ∷ []) spelled) packet.1
 
     -- inside of a body a byte may be refused
     pub inside_follows : (addr : ℕ) (device : DeviceParts) (bytes : List ℕ) (byte : ℕ) → IsNew addr (addresses parts)
@@ -243,11 +256,11 @@ module _ (pec_is_byte : (bytes : List ℕ) → pec bytes < 256) (profile : List 
 
   -- ---- legs that are read
 
-  answered_packet : (addr : ℕ) (device : DeviceParts) (body : List ℕ) (form : Form) → device_with addr profile ≡ Some device
+  pub answered_packet : (addr : ℕ) (device : DeviceParts) (body : List ℕ) → device_with addr profile ≡ Some device
       → (answer : List ℕ) → (answers : IsAnswer device addr body answer)
       → ((code : ℕ) × ReadBody device code answers.form body) ⊎ ((code : ℕ) × (sent : List ℕ) × CallBody device code answers.form sent body)
       → IsPacket profile (answered addr body (wire answers.form answers.reply) answers.with_pec)
-  answered_packet addr device body form known answer answers (inl w) =
+  answered_packet addr device body known answer answers (inl w) =
       let reply = wire answers.form answers.reply in
       let t : ReadData = record { addr = addr; code = w.0; reply = answers.reply; pec = answers.with_pec } in
       let packet : ReadPacket profile t (answered addr (w.0 ∷ []) reply answers.with_pec) = record {
@@ -260,7 +273,7 @@ module _ (pec_is_byte : (bytes : List ℕ) → pec bytes < 256) (profile : List 
         spelled = refl;
       } in
       subst (λ (bytes : List ℕ). IsPacket profile (answered addr bytes reply answers.with_pec)) (sym w.1.spelled) (Read t, packet)
-  answered_packet addr device body form known answer answers (inr w) =
+  answered_packet addr device body known answer answers (inr w) =
       let reply = wire answers.form answers.reply in
       let t : CallData = record { addr = addr; code = w.0; bytes = w.1; reply = answers.reply; pec = answers.with_pec } in
       let packet : CallPacket profile t (answered addr (w.0 ∷ wire answers.form w.1) reply answers.with_pec) = record {
@@ -283,7 +296,7 @@ module _ (pec_is_byte : (bytes : List ℕ) → pec bytes < 256) (profile : List 
   read_goes_on events (read_answer addr device body answer last known answers begins spelled) =
       let written = leg (write_address addr ∷ body) in
       let rest = rest_of_answer (read_address addr) answer last begins in
-      let packet = answered_packet addr device body answers.form known answer answers answers.asked in
+      let packet = answered_packet addr device body known answer answers answers.asked in
       let same : events ++ (rest.more ++ Stop ∷ []) ≡ answered addr body (wire answers.form answers.reply) answers.with_pec =
       ap (λ (es : List Event). es ++ (rest.more ++ Stop ∷ [])) spelled
       ∙ sym (append_assoc (written ++ last) rest.more (Stop ∷ []))

@@ -4,6 +4,7 @@ pub mod Body
 pub mod Packet
 pub mod Capture
 pub mod Viable
+pub mod Following
 pub mod Reason
 pub mod Reading
 pub mod Turns

@@ -9,6 +9,19 @@ ghost use Rattle.pmb_transaction.specs.Transaction.{TransactionData};
 ghost use Rattle.pmb_transaction.specs.Packet.{Packet};
 ghost use Rattle.pmb_transaction.specs.Capture.{Capture, EndsAtStop};
 
+pub use crate::endings::{
+    alerts_are_packets, calls_are_packets, one_part_more, places_of_events, reads_are_packets,
+    refused_addresses_are_packets, refused_bytes_are_packets, refused_reads_are_packets,
+    something_follows, writes_are_packets,
+};
+pub use crate::following::{
+    addresses_may_be_refused, addresses_taken_are_known, alerts_end, alerts_go_on,
+    alerts_may_be_refused, alerts_may_be_taken, bytes_alone_follow_in_an_answer,
+    bytes_follow_in_a_reply, bytes_follow_in_an_alert, first_addresses, later_addresses,
+    legs_follow_whole_bodies, packets_go_on, packets_under_way, reads_may_be_refused,
+    reads_may_be_taken, replies_end, replies_go_on, stop_follows_nack, stop_makes_a_packet,
+    writes_end_with_stop,
+};
 pub use crate::reading::{captures_read_as_written, one_reading};
 pub use crate::viability::{
     bytes_follow_inside_a_body, bytes_may_be_refused, bytes_taken_begin_a_body, events_take_turns,

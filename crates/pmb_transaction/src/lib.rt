@@ -15,6 +15,8 @@
 //! ```
 #![tactic(auto)]
 
+mod endings;
+mod following;
 pub mod laws;
 mod part;
 mod reading;

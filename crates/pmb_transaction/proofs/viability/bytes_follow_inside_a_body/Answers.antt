@@ -1,4 +1,4 @@
-use Rattle.pmb_transaction.proofs.LastLegs.{byte_follows}
+use Rattle.pmb_transaction.proofs.WrittenLegs.{byte_follows}
 use Rattle.pmb_transaction.proofs.viability.bytes_follow_inside_a_body.Goals as goal
 
 pub returns : goal.returns

@@ -1,4 +1,4 @@
-use Rattle.pmb_transaction.proofs.LastLegs.{refusal_follows}
+use Rattle.pmb_transaction.proofs.WrittenLegs.{refusal_follows}
 use Rattle.pmb_transaction.proofs.viability.bytes_may_be_refused.Goals as goal
 
 pub returns : goal.returns

@@ -1,4 +1,4 @@
-use Rattle.pmb_transaction.proofs.LastLegs.{taken_follows}
+use Rattle.pmb_transaction.proofs.WrittenLegs.{taken_follows}
 use Rattle.pmb_transaction.proofs.viability.bytes_taken_begin_a_body.Goals as goal
 
 pub returns : goal.returns

@@ -1,0 +1,10 @@
+use Rattle.std.proofs.Common.{[]}
+use Rattle.pmb_transaction.specs.Packet.{alert_address}
+use Rattle.pmb_transaction.specs.Following.{IsAlertAnswer}
+use Rattle.pmb_transaction.proofs.Alerts.{alert_is_read}
+use Rattle.pmb_transaction.proofs.ReadLegs.{byte_taken}
+use Rattle.pmb_transaction.proofs.following.alerts_go_on.Goals as goal
+
+pub returns : goal.returns
+returns c = λ profile bytes byte bus.
+    byte_taken c.pec_is_a_byte.ensures profile bus [] alert_address IsAlertAnswer (alert_is_read profile) bytes byte

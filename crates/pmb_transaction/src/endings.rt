@@ -1,0 +1,142 @@
+//! Laws on the packets that events make with their last one, and on the places behind events: each
+//! function is its contract, and does nothing.
+
+ghost use Rattle.std.specs.Prelude.{◌≡◌, ◌≢◌, ℕ, ◌<◌, ◌≤◌, Bool, true, false, Some, List, [], ◌∷◌, ◌++◌, ◌⊎◌, length, nat_eq};
+ghost use Rattle.std.specs.List.{IsDistinct};
+ghost use Rattle.pmb_bus.specs.declared.event.Event.{Event};
+ghost use Rattle.pmb_bus.specs.declared.event.Event.TheVariants.{Start, Byte, Nack, Stop};
+ghost use Rattle.pmb_command.specs.declared.form.Form.{Form};
+ghost use Rattle.pmb_command.specs.Parts.{DeviceParts, IsNew, device_with};
+ghost use Rattle.pmb_command.specs.Bus.{IsBus};
+ghost use Rattle.pmb_transaction.specs.declared.reason.Reason.TheVariants.{BadPec};
+ghost use Rattle.pmb_transaction.specs.Transaction.{PartData, Write, Read, Call, Refused, Alert};
+ghost use Rattle.pmb_transaction.specs.Wire.{IsByte, Fits, wire};
+ghost use Rattle.pmb_transaction.specs.Body.{write_address, read_address, AllowsPec, checked, WriteBody, ReadBody, CallBody, IsReadBody, IsCallBody};
+ghost use Rattle.pmb_transaction.specs.Packet.{Packet, PartsEvents, addresses, alert_address, leg};
+ghost use Rattle.pmb_transaction.specs.Capture.{MayFollow};
+ghost use Rattle.pmb_transaction.specs.Viable.{IsInsideBody};
+ghost use Rattle.pmb_transaction.specs.Reading.{IsUnderWay};
+ghost use Rattle.pmb_transaction.specs.Reason.{BehindAddress, BehindCode, BehindRestart, FurtherOn, InReply, byte_reason, place_behind};
+
+use pmb_bus::laws::pec_is_a_byte;
+
+// ---- writes
+
+/// A written leg with a write body behind some parts makes one part more.
+pub fn one_part_more()
+    ensures { (profile : List DeviceParts) (parts : List PartData) (legs : List Event) (addr : ℕ) (device : DeviceParts)
+        (code : ℕ) (content : List ℕ) (with_pec : Bool) (bytes : List ℕ) → IsBus profile → length parts ≤ 15
+        → IsDistinct nat_eq (addresses parts) → PartsEvents profile parts legs → IsNew addr (addresses parts)
+        → device_with addr profile ≡ Some device → WriteBody device code content with_pec bytes
+        → (PartsEvents profile (parts ++ record { addr = addr; code = code; bytes = content; pec = with_pec } ∷ [])
+        (legs ++ leg (write_address addr ∷ bytes)))
+        × (IsDistinct nat_eq (addresses (parts ++ record { addr = addr; code = code; bytes = content; pec = with_pec } ∷ []))) }
+{
+    pec_is_a_byte();
+}
+
+/// Such a leg behind some parts, and STOP, are a write.
+pub fn writes_are_packets()
+    ensures { (profile : List DeviceParts) (parts : List PartData) (legs : List Event) (addr : ℕ) (device : DeviceParts)
+        (code : ℕ) (content : List ℕ) (with_pec : Bool) (bytes : List ℕ) → IsBus profile → length parts ≤ 15
+        → IsDistinct nat_eq (addresses parts) → PartsEvents profile parts legs → IsNew addr (addresses parts)
+        → device_with addr profile ≡ Some device → WriteBody device code content with_pec bytes
+        → Packet profile (Write (parts ++ record { addr = addr; code = code; bytes = content; pec = with_pec } ∷ []))
+        (legs ++ leg (write_address addr ∷ bytes) ++ Stop ∷ []) }
+{
+    pec_is_a_byte();
+}
+
+// ---- refused packets
+
+/// An address behind some parts that is refused.
+pub fn refused_addresses_are_packets()
+    ensures { (profile : List DeviceParts) (parts : List PartData) (legs : List Event) (addr : ℕ) → IsBus profile
+        → length parts ≤ 15 → IsDistinct nat_eq (addresses parts) → PartsEvents profile parts legs
+        → IsNew addr (addresses parts) → addr < 128
+        → Packet profile (Refused (record { parts = parts; addr = addr; sent = []; at_read = false }))
+        (legs ++ Start ∷ Byte (write_address addr) ∷ [] ++ Nack ∷ [] ++ Stop ∷ []) }
+{}
+
+/// A byte inside of a body, or a wrong one at its end, that is refused.
+pub fn refused_bytes_are_packets()
+    ensures { (profile : List DeviceParts) (parts : List PartData) (legs : List Event) (addr : ℕ) (device : DeviceParts)
+        (bytes : List ℕ) (byte : ℕ) → IsBus profile → length parts ≤ 15 → IsDistinct nat_eq (addresses parts)
+        → PartsEvents profile parts legs → IsNew addr (addresses parts) → device_with addr profile ≡ Some device
+        → IsInsideBody device parts bytes → IsByte byte
+        → Packet profile (Refused (record { parts = parts; addr = addr; sent = bytes ++ byte ∷ []; at_read = false }))
+        (legs ++ leg (write_address addr ∷ bytes) ++ Byte byte ∷ [] ++ Nack ∷ [] ++ Stop ∷ []) }
+{
+    pec_is_a_byte();
+}
+
+/// A device that was asked and refuses to be read.
+pub fn refused_reads_are_packets()
+    ensures { (profile : List DeviceParts) (addr : ℕ) (device : DeviceParts) (body : List ℕ) → IsBus profile
+        → device_with addr profile ≡ Some device → IsReadBody device body ⊎ IsCallBody device body
+        → Packet profile (Refused (record { parts = []; addr = addr; sent = body; at_read = true }))
+        (leg (write_address addr ∷ body) ++ Start ∷ Byte (read_address addr) ∷ [] ++ Nack ∷ [] ++ Stop ∷ []) }
+{
+    pec_is_a_byte();
+}
+
+// ---- answers
+
+/// A whole reply to a read body makes a read.
+pub fn reads_are_packets()
+    ensures { (profile : List DeviceParts) (addr : ℕ) (device : DeviceParts) (body : List ℕ) (form : Form) (reply : List ℕ)
+        (with_pec : Bool) (bytes : List ℕ) (byte : ℕ) (code : ℕ) (read_form : Form) → IsBus profile
+        → device_with addr profile ≡ Some device
+        → ((asked : ℕ) × ReadBody device asked form body) ⊎ ((asked : ℕ) × (sent : List ℕ) × CallBody device asked form sent body)
+        → Fits form reply → AllowsPec device.pec with_pec
+        → bytes ++ byte ∷ [] ≡ checked with_pec (write_address addr ∷ body ++ read_address addr ∷ []) (wire form reply)
+        → ReadBody device code read_form body
+        → Packet profile (Read (record { addr = addr; code = code; reply = reply; pec = with_pec }))
+        (leg (write_address addr ∷ body) ++ leg (read_address addr ∷ bytes) ++ Byte byte ∷ [] ++ Nack ∷ [] ++ Stop ∷ []) }
+{}
+
+/// A whole reply to a call body makes a call.
+pub fn calls_are_packets()
+    ensures { (profile : List DeviceParts) (addr : ℕ) (device : DeviceParts) (body : List ℕ) (form : Form) (reply : List ℕ)
+        (with_pec : Bool) (bytes : List ℕ) (byte : ℕ) (code : ℕ) (content : List ℕ) (call_form : Form) → IsBus profile
+        → device_with addr profile ≡ Some device
+        → ((asked : ℕ) × ReadBody device asked form body) ⊎ ((asked : ℕ) × (sent : List ℕ) × CallBody device asked form sent body)
+        → Fits form reply → AllowsPec device.pec with_pec
+        → bytes ++ byte ∷ [] ≡ checked with_pec (write_address addr ∷ body ++ read_address addr ∷ []) (wire form reply)
+        → CallBody device code call_form content body
+        → Packet profile (Call (record { addr = addr; code = code; bytes = content; reply = reply; pec = with_pec }))
+        (leg (write_address addr ∷ body) ++ leg (read_address addr ∷ bytes) ++ Byte byte ∷ [] ++ Nack ∷ [] ++ Stop ∷ []) }
+{}
+
+/// A whole answer at the Alert Response Address.
+pub fn alerts_are_packets()
+    ensures { (profile : List DeviceParts) (answer : ℕ) (with_pec : Bool) (bytes : List ℕ) (byte : ℕ) → IsByte answer
+        → bytes ++ byte ∷ [] ≡ checked with_pec (read_address alert_address ∷ []) (answer ∷ [])
+        → Packet profile (Alert (record { byte = answer; pec = with_pec }))
+        (leg (read_address alert_address ∷ bytes) ++ Byte byte ∷ [] ++ Nack ∷ [] ++ Stop ∷ []) }
+{}
+
+// ---- behind events
+
+/// The places behind events that end inside a leg or behind a START.
+pub fn places_of_events()
+    ensures address { (front : List Event) (byte : ℕ) → place_behind (front ++ Start ∷ Byte byte ∷ []) ≡ BehindAddress }
+    ensures code { (front : List Event) (addr byte : ℕ)
+        → place_behind (front ++ leg (write_address addr ∷ []) ++ Byte byte ∷ []) ≡ BehindCode }
+    ensures further { (front : List Event) (addr code : ℕ) (bytes : List ℕ) (byte : ℕ)
+        → place_behind (front ++ leg (write_address addr ∷ code ∷ bytes) ++ Byte byte ∷ []) ≡ FurtherOn }
+    ensures reply { (front : List Event) (addr : ℕ) (bytes : List ℕ) (byte : ℕ)
+        → place_behind (front ++ leg (read_address addr ∷ bytes) ++ Byte byte ∷ []) ≡ InReply }
+    ensures restart { (front : List Event) (bytes : List ℕ) → place_behind (front ++ leg bytes ++ Start ∷ []) ≡ BehindRestart }
+
+    // Where another event than START ends two or more, the reason of a byte is that of a wrong packet
+    // error code.
+    ensures wrong_code { (front : List Event) (event : Event) → front ≢ [] → event ≢ Start
+        → byte_reason (place_behind (front ++ event ∷ [])) ≡ BadPec }
+{}
+
+/// Some event may follow those of a packet under way.
+pub fn something_follows()
+    ensures { (profile : List DeviceParts) (events : List Event) → IsUnderWay profile events → events ≢ []
+        → ((event : Event) × MayFollow profile events event) }
+{}
