@@ -8,7 +8,7 @@ use Rattle.pmb_convert.specs.declared.format_fault.FormatFault.{FormatFault}
 use Rattle.pmb_convert.specs.declared.named_format.NamedFormat.{NamedFormat}
 use Rattle.pmb_cli.specs.declared.asked.Task.{Task}
 use Rattle.pmb_cli.specs.declared.asked.Task.TheVariants as asks
-use Rattle.pmb_cli.specs.Asked.{Asking, Asks, AsksNothing, Decode, Encode, HasBadFormat, Show, asking_of, format_in, has_sample}
+use Rattle.pmb_cli.specs.Asked.{Asking, Asks, AsksNothing, Build, Decode, Encode, HasBadFormat, Show, asking_of, format_in, has_sample}
 use Rattle.clap.specs.declared.error.kind.ErrorKind.TheVariants.{DisplayHelp, DisplayVersion, OutOfMemory}
 use Rattle.pmb_cli.specs.Words.{AskToTell, IsTelling, help, version, faults_of, pmb_app}
 
@@ -21,9 +21,10 @@ rows_in : Option (Text × List Row) → List Row
 rows_in None = []
 rows_in (Some met) = met.1
 
--- the letters that tell `show`, `encode` and `decode` apart
+-- the letters that tell `show`, `build`, `encode` and `decode` apart
 abbrev pub letter : Asking → ℕ
 letter (Show sample) = 115
+letter (Build sample) = 98
 letter (Encode format) = 101
 letter (Decode format) = 100
 
@@ -33,6 +34,7 @@ first_of found = get_or (name_in found) 0 0
 is_letter : (found : Option (Text × List Row)) (asking : Asking) → Asks found asking → first_of found ≡ letter asking
 unfolding first_of name_in
 is_letter found (Show sample) is = ap first_of is.1
+is_letter found (Build sample) is = ap first_of is.1
 is_letter found (Encode format) is = ap first_of is.1
 is_letter found (Decode format) is = ap first_of is.1
 
@@ -57,6 +59,12 @@ one_sample found wanted task sample other same asked is also =
     let mine : Asks found (Show sample) = subst (λ (t : Task). Asks found (asking_of t)) is asked in
     mine.2 ∙ (ap has_sample (one_rows found wanted (codes "show") mine.0 also.0 same mine.1 also.1) ∙ sym also.2)
 
+pub one_built_sample : (found wanted : Option (Text × List Row)) (task : Task) (sample other : Bool) → found ≡ wanted → Asks found (asking_of task) → task ≡ asks.Build sample → Asks wanted (Build other)
+    → sample ≡ other
+one_built_sample found wanted task sample other same asked is also =
+    let mine : Asks found (Build sample) = subst (λ (t : Task). Asks found (asking_of t)) is asked in
+    mine.2 ∙ (ap has_sample (one_rows found wanted (codes "build") mine.0 also.0 same mine.1 also.1) ∙ sym also.2)
+
 pub one_encoded : (found wanted : Option (Text × List Row)) (task : Task) (format : Bor Text) (text : Text) → found ≡ wanted → Asks found (asking_of task) → task ≡ asks.Encode format → Asks wanted (Encode text)
     → text ≡ format.now
 one_encoded found wanted task format text same asked is also =
@@ -75,6 +83,14 @@ pub show_has_no_format : (words : List Text) (found : Option (Text × List Row))
 show_has_no_format words found task sample same asked is bad = elim bad.asks [
   | inl ask ↦ let apart : 115 ≡ 101 = one_letter found (subcommand_of pmb_app words) task (asks.Show sample) (Encode bad.format) same asked is ask.asks in omega (arith, apart)
   | inr ask ↦ let apart : 115 ≡ 100 = one_letter found (subcommand_of pmb_app words) task (asks.Show sample) (Decode bad.format) same asked is ask.asks in omega (arith, apart)
+]
+
+-- nor does `build`
+pub build_has_no_format : (words : List Text) (found : Option (Text × List Row)) (task : Task) (sample : Bool) → found ≡ subcommand_of pmb_app words → Asks found (asking_of task) → task ≡ asks.Build sample
+    → HasBadFormat words → ⊥
+build_has_no_format words found task sample same asked is bad = elim bad.asks [
+  | inl ask ↦ let apart : 98 ≡ 101 = one_letter found (subcommand_of pmb_app words) task (asks.Build sample) (Encode bad.format) same asked is ask.asks in omega (arith, apart)
+  | inr ask ↦ let apart : 98 ≡ 100 = one_letter found (subcommand_of pmb_app words) task (asks.Build sample) (Decode bad.format) same asked is ask.asks in omega (arith, apart)
 ]
 
 -- a text names no format and has no fault

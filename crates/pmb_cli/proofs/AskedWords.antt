@@ -1,4 +1,4 @@
--- What `clap` finds in the words `pmb show`, `pmb encode FORMAT` and `pmb decode FORMAT`.
+-- What `clap` finds in the words `pmb show`, `pmb build`, `pmb encode FORMAT` and `pmb decode FORMAT`.
 use Rattle.std.proofs.Common.{◌≡◌, ◌≢◌, ℕ, true, false, eqb, Option, Some, None, List, [], ◌∷◌, codes, refl, sym, ap, ap₂, ◌∙◌}
 use Rattle.std.specs.Str.{bytes_eq}
 use Rattle.std.proofs.lemmas.Bool.{ne_eqb}
@@ -9,7 +9,7 @@ use Rattle.clap.specs.Simple.{built_leaf}
 use Rattle.clap.specs.Walk.{Held, Step, Walk, after_step, arg_by_index, finished, idle, nothing_held, settled, to_positional, value, walk, walk_from, walked, word_met}
 use Rattle.clap.specs.Words.{Kinds, Row, Rule, Shape, Text, subcommand_of}
 use Rattle.clap.proofs.OnLiterals.{clap_on_literals}
-use Rattle.pmb_cli.specs.Asked.{AskFor, Decode, Encode, Show, format_in, has_sample}
+use Rattle.pmb_cli.specs.Asked.{AskFor, Build, Decode, Encode, Show, format_in, has_sample}
 use Rattle.clap.specs.declared.error.kind.ErrorKind.TheVariants.{DisplayHelp, DisplayVersion}
 use Rattle.pmb_cli.specs.Words.{AskToTell, IsFlag, help, version, faults_of, lines_app, pmb_app}
 
@@ -171,6 +171,37 @@ asks_to_show_sample name = record { no_fault = show_sample_fault name; asks = (_
 
 pub asks_to_show : (name : Text) → AskFor (name ∷ codes "show" ∷ []) (Show false)
 asks_to_show name = record { no_fault = show_fault name; asks = (_, show_rows name, show_has name) }
+
+-- So is `pmb build`.
+build_sample_fault : (name : Text) → faults_of (name ∷ codes "build" ∷ codes "--sample" ∷ []) ≡ []
+unfolding clap_on_literals
+build_sample_fault name = refl
+
+build_sample_rows : (name : Text) → subcommand_of pmb_app (name ∷ codes "build" ∷ codes "--sample" ∷ []) ≡ Some (codes "build", rows_in (subcommand_of pmb_app (name ∷ codes "build" ∷ codes "--sample" ∷ [])))
+unfolding clap_on_literals
+build_sample_rows name = refl
+
+build_sample_has : (name : Text) → true ≡ has_sample (rows_in (subcommand_of pmb_app (name ∷ codes "build" ∷ codes "--sample" ∷ [])))
+unfolding clap_on_literals
+build_sample_has name = refl
+
+build_fault : (name : Text) → faults_of (name ∷ codes "build" ∷ []) ≡ []
+unfolding clap_on_literals
+build_fault name = refl
+
+build_rows : (name : Text) → subcommand_of pmb_app (name ∷ codes "build" ∷ []) ≡ Some (codes "build", rows_in (subcommand_of pmb_app (name ∷ codes "build" ∷ [])))
+unfolding clap_on_literals
+build_rows name = refl
+
+build_has : (name : Text) → false ≡ has_sample (rows_in (subcommand_of pmb_app (name ∷ codes "build" ∷ [])))
+unfolding clap_on_literals
+build_has name = refl
+
+pub asks_to_build_sample : (name : Text) → AskFor (name ∷ codes "build" ∷ codes "--sample" ∷ []) (Build true)
+asks_to_build_sample name = record { no_fault = build_sample_fault name; asks = (_, build_sample_rows name, build_sample_has name) }
+
+pub asks_to_build : (name : Text) → AskFor (name ∷ codes "build" ∷ []) (Build false)
+asks_to_build name = record { no_fault = build_fault name; asks = (_, build_rows name, build_has name) }
 
 -- The help and the version are asked for.
 help_fault : (name : Text) → faults_of (name ∷ codes "--help" ∷ []) ≡ DisplayHelp ∷ []

@@ -8,16 +8,18 @@ use Rattle.pmb_cli.specs.declared.asked.Task.{Task}
 use Rattle.pmb_cli.specs.declared.asked.Task.TheVariants as asks
 use Rattle.pmb_cli.specs.Words.{faults_of, pmb_app}
 
--- A capture is to be shown, under the sample profile or else under the one in front of it; or lines are to be encoded or
--- decoded, in the format that a text names.
+-- A capture is to be shown or lines are to be built, under the sample profile or else under the one in front; or lines are
+-- to be encoded or decoded, in the format that a text names.
 pub data Asking : Type 0 where
   Show : (sample : Bool) → Asking
+  Build : (sample : Bool) → Asking
   Encode : (format : Text) → Asking
   Decode : (format : Text) → Asking
 
 -- the same as it is kept
 abbrev pub asking_of : Task → Asking
 asking_of (asks.Show sample) = Show sample
+asking_of (asks.Build sample) = Build sample
 asking_of (asks.Encode format) = Encode format.now
 asking_of (asks.Decode format) = Decode format.now
 
@@ -32,6 +34,7 @@ format_in rows = unwrap_or (first_of (codes "FORMAT") rows) []
 -- what is asked for by the subcommand that `clap` found, of which it tells the name and the matches
 abbrev pub Asks : Option (Text × List Row) → Asking → Type 0
 Asks subcommand (Show sample) = (rows : List Row) × (subcommand ≡ Some (codes "show", rows)) × (sample ≡ has_sample rows)
+Asks subcommand (Build sample) = (rows : List Row) × (subcommand ≡ Some (codes "build", rows)) × (sample ≡ has_sample rows)
 Asks subcommand (Encode format) = (rows : List Row) × (subcommand ≡ Some (codes "encode", rows)) × (format ≡ format_in rows)
 Asks subcommand (Decode format) = (rows : List Row) × (subcommand ≡ Some (codes "decode", rows)) × (format ≡ format_in rows)
 

@@ -3,6 +3,7 @@
 ghost use Rattle.clap.specs.Words.{subcommand_rows_of};
 ghost use Rattle.pmb_cli.specs.Asked.{AsksTask};
 
+use crate::sample_flag::has_sample;
 use clap::ArgMatches;
 
 /// What is to be done.
@@ -10,6 +11,8 @@ use clap::ArgMatches;
 pub(crate) enum Task<'a> {
     /// A capture is shown, under the sample profile, or else under the one in front of it.
     Show(bool),
+    /// Lines are built, under the sample profile, or else under the one in front of them.
+    Build(bool),
     /// Lines are encoded in the format that a text names.
     Encode(&'a str),
     /// Lines are decoded in the format that a text names.
@@ -22,8 +25,9 @@ pub(crate) fn asked<'a>(matches: &ArgMatches<'a>) -> Option<Task<'a>>
 {
     let (name, arguments) = matches.subcommand()?;
     if name == "show" {
-        let sample = arguments.get_str("sample").unwrap_or("") == "true";
-        Some(Task::Show(sample))
+        Some(Task::Show(has_sample(arguments)))
+    } else if name == "build" {
+        Some(Task::Build(has_sample(arguments)))
     } else if name == "encode" {
         Some(Task::Encode(arguments.get_str("FORMAT").unwrap_or("")))
     } else if name == "decode" {

@@ -2,7 +2,7 @@
 
 ghost use Rattle.std.specs.Prelude.{◌≡◌, ℕ, ◌+◌, ◌<◌, ◌≤◌, ◌++◌, ◌⊎◌, ◌↔◌, ◌∷◌, [], List, codes, false, length, true};
 ghost use Rattle.clap.specs.Words.{Text};
-ghost use Rattle.pmb_cli.specs.Asked.{AskFor, Decode, Encode, Show};
+ghost use Rattle.pmb_cli.specs.Asked.{AskFor, Build, Decode, Encode, Show};
 ghost use Rattle.pmb_cli.specs.Words.{AskToTell, IsFlag};
 ghost use Rattle.pmb_cli.specs.Front.{EndsInOpening, FirstMark, IsFront, MayFit, NoMark, most_profile};
 
@@ -24,12 +24,14 @@ pub fn one_limit()
     ensures stays { (text more : List ℕ) → (MayFit text → ⊥) → MayFit (text ++ more) → ⊥ }
 {}
 
-/// The words `pmb show --sample`, `pmb show`, `pmb encode FORMAT` and `pmb decode FORMAT` have no fault
-/// of `clap`'s and ask for just that, where FORMAT does not begin with `-`; `pmb --help` and
-/// `pmb --version` ask to be told about it.
+/// The words `pmb show` and `pmb build`, each with `--sample` or without it, `pmb encode FORMAT` and
+/// `pmb decode FORMAT` have no fault of `clap`'s and ask for just that, where FORMAT does not begin
+/// with `-`; `pmb --help` and `pmb --version` ask to be told about it.
 pub fn words_ask()
     ensures show_sample { (name : Text) → AskFor (name ∷ codes "show" ∷ codes "--sample" ∷ []) (Show true) }
     ensures show { (name : Text) → AskFor (name ∷ codes "show" ∷ []) (Show false) }
+    ensures build_sample { (name : Text) → AskFor (name ∷ codes "build" ∷ codes "--sample" ∷ []) (Build true) }
+    ensures build { (name : Text) → AskFor (name ∷ codes "build" ∷ []) (Build false) }
     ensures encode { (name format : Text) → (IsFlag format → ⊥) → AskFor (name ∷ codes "encode" ∷ format ∷ []) (Encode format) }
     ensures decode { (name format : Text) → (IsFlag format → ⊥) → AskFor (name ∷ codes "decode" ∷ format ∷ []) (Decode format) }
     ensures help { (name : Text) → AskToTell (name ∷ codes "--help" ∷ []) }

@@ -2,7 +2,6 @@
 
 ghost use Rattle.std.specs.Prelude.{◌≡◌, ◌≢◌, ◌≤◌, ◌⊎◌, [], Ok, false, map, true};
 ghost use Rattle.clap.specs.Words.{Text};
-ghost use Rattle.std.specs.declared.io.ErrorKind.TheVariants.{OutOfMemory};
 ghost use Rattle.pmb_io.specs.Count.{raised};
 ghost use Rattle.pmb_io.specs.declared.tally.Tally.{Tally as TallyOf};
 ghost use Rattle.pmb_io.specs.Runs.{Ended, Through};
@@ -10,22 +9,24 @@ ghost use Rattle.pmb_convert.specs.Lines.{AnswersEnded, AnswersInput};
 ghost use Rattle.pmb_convert.specs.Spelling.{Names};
 ghost use Rattle.pmb_convert.specs.declared.conversion.Conversion.TheVariants as conversions;
 ghost use Rattle.pmb_convert.specs.declared.named_format.NamedFormat.{NamedFormat as FormatOf};
-ghost use Rattle.pmb_cli.specs.Asked.{AskFor, AskForNothing, Decode, Encode, HasBadFormat, Show};
-ghost use Rattle.pmb_cli.specs.Shown.{HasBadProfile, ShowedBehind, ShowedPart, ShowedSample, ShowedSamplePart};
+ghost use Rattle.pmb_cli.specs.Asked.{AskFor, AskForNothing, Build, Decode, Encode, HasBadFormat, Show};
+ghost use Rattle.pmb_cli.specs.Matter.{HasBadProfile};
+ghost use Rattle.pmb_cli.specs.Packets.{BuiltBehind, BuiltPart, BuiltSample, BuiltSamplePart};
+ghost use Rattle.pmb_cli.specs.Shown.{ShowedBehind, ShowedPart, ShowedSample, ShowedSamplePart};
 ghost use Rattle.pmb_cli.specs.Status.{IsTold, ReadOften, Tells, run_status};
 ghost use Rattle.pmb_cli.specs.Words.{AreRefused, AskToTell, MayBeRefused, faults_of};
 
 use crate::asked::{Task, asked};
+use crate::packets::{build_behind, build_sample};
 use crate::shown::{show_behind, show_sample};
-use crate::status::{BAD_WORDS, ended, tell, tell_format, tell_nothing};
+use crate::status::{ended, tell_format, tell_nothing};
 use crate::words::{parse, tell_words};
 use pmb_convert::laws::one_format;
 use pmb_convert::{NamedFormat, decode_lines, encode_lines};
-use pmb_io::{Sink, Source, ToolFault};
+use pmb_io::{Sink, Source};
 use pmb_table::SAMPLE;
 use std::alloc::Global;
 use std::convert::AsStr;
-use std::io;
 
 /// Runs `pmb` as its words say, the program's own name first, and answers its exit status.
 ///
@@ -38,7 +39,7 @@ use std::io;
 /// | 4 | there was no memory |
 ///
 /// Faults of the statuses 2 to 4 are told on `err`. The words are looked at before anything is read,
-/// and then the format; then the profile is read, and then the capture.
+/// and then the format; then the profile is read, and then the capture or the lines.
 pub fn tool<S: AsStr, R: Source, W: Sink, E: Sink>(
     alloc: Global,
     words: &[S],
@@ -51,7 +52,7 @@ pub fn tool<S: AsStr, R: Source, W: Sink, E: Sink>(
     // The words are looked at first. Help and the version go to `out`.
     ensures refused { AreRefused (map S.text words.now) → (result ≡ 2) ⊎ (result ≡ 4) }
     ensures told { result ≡ 2 → (MayBeRefused (map S.text words.now) ⊎ AskForNothing (map S.text words.now)) ⊎ (HasBadFormat (map S.text words.now)
-        ⊎ (AskFor (map S.text words.now) (Show false) × HasBadProfile
+        ⊎ ((AskFor (map S.text words.now) (Show false) ⊎ AskFor (map S.text words.now) (Build false)) × HasBadProfile
         (λ reader. record { left = R.remaining reader; given = R.given reader; reads = R.reads reader })
         reader.old reader.new (R.has_ended reader.new))) }
     ensures helped { AskToTell (map S.text words.now) → (result ≡ 0) ⊎ (result ≡ 3) ⊎ (result ≡ 4) }
@@ -85,6 +86,19 @@ pub fn tool<S: AsStr, R: Source, W: Sink, E: Sink>(
         (record { left = R.remaining reader.new; given = R.given reader.new; held = W.contents out.new })
         (R.has_ended reader.new) tally }
 
+    // Where lines are to be built, what was written is the answers to all of them, under the sample profile or under the one
+    // in front of them.
+    ensures built_sample { AskFor (map S.text words.now) (Build true) → result ≤ 1
+        → (tally : TallyOf) × (result ≡ run_status (Ok tally)) × BuiltSample SAMPLE.now
+        (record { left = R.remaining reader.old; given = R.given reader.old; held = W.contents out.old })
+        (record { left = R.remaining reader.new; given = R.given reader.new; held = W.contents out.new })
+        (R.has_ended reader.new) tally }
+    ensures built { AskFor (map S.text words.now) (Build false) → result ≤ 1
+        → (tally : TallyOf) × (result ≡ run_status (Ok tally)) × BuiltBehind
+        (record { left = R.remaining reader.old; given = R.given reader.old; held = W.contents out.old })
+        (record { left = R.remaining reader.new; given = R.given reader.new; held = W.contents out.new })
+        (R.has_ended reader.new) tally }
+
     // Where lines are to be encoded or decoded, what was written is the answers to all that were read.
     ensures encoded { (text : Text) (format : FormatOf) → AskFor (map S.text words.now) (Encode text) → Names text (Ok format) → result ≤ 1
         → (tally : TallyOf) × (result ≡ run_status (Ok tally)) × Ended (AnswersInput (conversions.Encode format) tally) []
@@ -102,6 +116,12 @@ pub fn tool<S: AsStr, R: Source, W: Sink, E: Sink>(
         (record { left = R.remaining reader.old; given = R.given reader.old; held = W.contents out.old })
         (record { left = R.remaining reader.new; given = R.given reader.new; held = W.contents out.new }) }
     ensures part { AskFor (map S.text words.now) (Show false) → result ≡ 3 → (W.failures out.new ≡ raised (W.failures out.old) 1) ⊎ ShowedPart
+        (record { left = R.remaining reader.old; given = R.given reader.old; held = W.contents out.old })
+        (record { left = R.remaining reader.new; given = R.given reader.new; held = W.contents out.new }) }
+    ensures part_built_sample { AskFor (map S.text words.now) (Build true) → result ≡ 3 → (W.failures out.new ≡ raised (W.failures out.old) 1) ⊎ BuiltSamplePart SAMPLE.now
+        (record { left = R.remaining reader.old; given = R.given reader.old; held = W.contents out.old })
+        (record { left = R.remaining reader.new; given = R.given reader.new; held = W.contents out.new }) }
+    ensures part_built { AskFor (map S.text words.now) (Build false) → result ≡ 3 → (W.failures out.new ≡ raised (W.failures out.old) 1) ⊎ BuiltPart
         (record { left = R.remaining reader.old; given = R.given reader.old; held = W.contents out.old })
         (record { left = R.remaining reader.new; given = R.given reader.new; held = W.contents out.new }) }
     ensures part_encoded { (text : Text) (format : FormatOf) → AskFor (map S.text words.now) (Encode text) → Names text (Ok format) → result ≡ 3
@@ -127,6 +147,8 @@ pub fn tool<S: AsStr, R: Source, W: Sink, E: Sink>(
     match asked(&matches) {
         Some(Task::Show(true)) => show_sample(alloc, reader, out, err),
         Some(Task::Show(false)) => show_behind(alloc, reader, out, err),
+        Some(Task::Build(true)) => build_sample(alloc, reader, out, err),
+        Some(Task::Build(false)) => build_behind(alloc, reader, out, err),
         Some(Task::Encode(format)) => match NamedFormat::parse(format) {
             Ok(format) => ended(encode_lines(format, &[], reader, out), err),
             Err(fault) => tell_format(fault, err),
@@ -137,18 +159,4 @@ pub fn tool<S: AsStr, R: Source, W: Sink, E: Sink>(
         },
         None => tell_nothing(err),
     }
-}
-
-/// What `pmb` answers where the process's words can't be had: there is no memory for them, or they
-/// are not UTF-8, which is told on `err` as other bad words are.
-pub fn no_words<E: Sink>(kind: io::ErrorKind, err: &mut E) -> u8
-    ensures memory { kind ≡ OutOfMemory → result ≡ 4 }
-    ensures others { kind ≢ OutOfMemory → result ≡ 2 }
-    ensures err_told { IsTold (E.contents err.old) (E.contents err.new) (E.failures err.old) (E.failures err.new) }
-{
-    if kind == io::ErrorKind::OutOfMemory {
-        return tell(ToolFault::Memory, err);
-    }
-    let _ = err.write_all(b"error: the words of the command are not UTF-8\n");
-    BAD_WORDS
 }

@@ -3,13 +3,15 @@
 ghost use Rattle.std.specs.Prelude.{◌≡◌, ◌≢◌, ◌≤◌, ◌⊎◌, Ok};
 ghost use Rattle.pmb_io.specs.Count.{raised};
 ghost use Rattle.pmb_io.specs.declared.tally.Tally.{Tally as TallyOf};
-ghost use Rattle.pmb_cli.specs.Shown.{HasBadProfile, ShowedBehind, ShowedPart, ShowedSample, ShowedSamplePart};
+ghost use Rattle.pmb_cli.specs.Matter.{HasBadProfile};
+ghost use Rattle.pmb_cli.specs.Shown.{ShowedBehind, ShowedPart, ShowedSample, ShowedSamplePart};
 ghost use Rattle.pmb_cli.specs.Status.{IsTold, ReadOften, run_status};
 
 use crate::front_reader::front;
+use crate::sample::sample_profile;
 use crate::status::{ended, tell, tell_profile};
 use pmb_capture::show;
-use pmb_io::{Empty, Sink, Source, ToolFault};
+use pmb_io::{Empty, Sink, Source};
 use pmb_table::{Profile, SAMPLE};
 use std::alloc::Global;
 
@@ -36,10 +38,9 @@ pub(crate) fn show_sample<R: Source, W: Sink, E: Sink>(
     ensures io_failed { result ≡ 3 → ((R.failures reader.new ≡ raised (R.failures reader.old) 1) × (R.has_ended reader.new ≡ R.has_ended reader.old))
         ⊎ ((W.failures out.new ≡ raised (W.failures out.old) 1) ⊎ ReadOften (R.reads reader.old) (R.reads reader.new) (R.remaining reader.old) (R.remaining reader.new)) }
 {
-    match Profile::from_toml(alloc, SAMPLE.as_bytes()) {
+    match sample_profile(alloc) {
         Ok(profile) => ended(show(&profile, &[], reader, out), err),
-        // The sample has no fault, so there was no memory.
-        Err(_) => tell(ToolFault::Memory, err),
+        Err(fault) => tell(fault, err),
     }
 }
 

@@ -5,7 +5,7 @@ ghost use Rattle.clap.specs.Words.{FailsBy, app_of, kind_of, new_app, subcommand
 ghost use Rattle.clap.specs.declared.builder.command.Command.TheViews.{out-Command as fields_of};
 ghost use Rattle.pmb_io.specs.Count.{raised};
 ghost use Rattle.pmb_cli.specs.Status.{IsTold, Tells};
-ghost use Rattle.pmb_cli.specs.Words.{IsTelling, faults_of, lines_app, pmb_app, show_app, top_app};
+ghost use Rattle.pmb_cli.specs.Words.{IsTelling, faults_of, lines_app, pmb_app, sampled_app, top_app};
 
 use crate::status::{BAD_WORDS, DONE, tell, tell_format};
 use clap::error::ErrorKind;
@@ -29,7 +29,7 @@ fn pmb_command<'a>(alloc: Global) -> Result<Command<'a>, AllocError>
 {
     let encoding = with_lines(
         alloc,
-        showing_command(alloc)?,
+        traffic_command(alloc)?,
         "encode",
         "Writes the code of each quantity, one a line",
         "The quantities come on standard input, one a line.\n\n\
@@ -45,11 +45,29 @@ fn pmb_command<'a>(alloc: Global) -> Result<Command<'a>, AllocError>
     )
 }
 
-// `pmb` with `show` alone.
-fn showing_command<'a>(alloc: Global) -> Result<Command<'a>, AllocError>
-    ensures { IfOk result (λ command. app_of command ≡ with_subcommand (top_app (new_app (codes "pmb"))) show_app.top) }
+// `pmb` with `show` and `build`.
+fn traffic_command<'a>(alloc: Global) -> Result<Command<'a>, AllocError>
+    ensures { IfOk result (λ command. app_of command ≡ with_subcommand (with_subcommand (top_app (new_app (codes "pmb")))
+        (sampled_app (codes "show")).top) (sampled_app (codes "build")).top) }
 {
-    top_command(alloc).subcommand(show_command(alloc)?)
+    let showing = with_sampled(
+        alloc,
+        top_command(alloc),
+        "show",
+        "Shows the transactions of a capture, one a line",
+        "Standard input is a profile, a line '%%' and the capture, or with --sample the capture \
+         alone.\n\n\
+         Example:\n  echo 'S b0 A 21 A 00 A 18 A P' | ./pmb show --sample",
+    )?;
+    with_sampled(
+        alloc,
+        showing,
+        "build",
+        "Writes the bus events of transaction lines, a packet a line",
+        "Standard input is a profile, a line '%%' and transaction lines, or with --sample the lines \
+         alone.\n\n\
+         Example:\n  echo 'write 58 21 00 18 pec' | ./pmb build --sample",
+    )
 }
 
 // `pmb` without subcommands.
@@ -58,7 +76,7 @@ fn top_command<'a>(alloc: Global) -> Command<'a>
 {
     Command::new(alloc, "pmb")
         .version("0.1.0")
-        .about("Reads PMBus traffic, and converts between codes and quantities")
+        .about("Reads and writes PMBus traffic, and converts between codes and quantities")
         .after_help(
             "All read standard input.\n\n\
              Example:\n  echo 'S b0 A 21 A 00 A 18 A P' | ./pmb show --sample",
@@ -80,22 +98,36 @@ fn with_lines<'a>(
     command.subcommand(lines_command(alloc, name, about, example)?)
 }
 
-// `show` with its flag.
-fn show_command<'a>(alloc: Global) -> Result<Command<'a>, AllocError>
-    ensures shape { IfOk result (λ command. app_of command ≡ show_app) }
+// A command with `show` or `build` as one more subcommand.
+fn with_sampled<'a>(
+    alloc: Global,
+    command: Command<'a>,
+    name: &'a str,
+    about: &'a str,
+    example: &'a str,
+) -> Result<Command<'a>, AllocError>
+    ensures { IfOk result (λ extended. app_of extended ≡ with_subcommand (app_of command.entry) (sampled_app name.entry.now).top) }
+{
+    command.subcommand(sampled_command(alloc, name, about, example)?)
+}
+
+// `show` or `build` with its flag.
+fn sampled_command<'a>(
+    alloc: Global,
+    name: &'a str,
+    about: &'a str,
+    example: &'a str,
+) -> Result<Command<'a>, AllocError>
+    ensures shape { IfOk result (λ command. app_of command ≡ sampled_app name.entry.now) }
     ensures local { IfOk result (λ command. (fields_of command).has_globals ≡ false) }
 {
     let sample = Arg::new(alloc, "sample")
         .long("sample")
         .action(ArgAction::SetTrue)
         .help("Take the sample profile, and not one from the front of the input");
-    Command::new(alloc, "show")
-        .about("Shows the transactions of a capture, one a line")
-        .after_help(
-            "Standard input is a profile, a line '%%' and the capture, or with --sample the capture \
-             alone.\n\n\
-             Example:\n  echo 'S b0 A 21 A 00 A 18 A P' | ./pmb show --sample",
-        )
+    Command::new(alloc, name)
+        .about(about)
+        .after_help(example)
         .arg(sample)
 }
 

@@ -1,9 +1,8 @@
 -- Lines of a text that grows by a byte, and lines of which only a front is kept.
-use Rattle.arrayvec.specs.ArrayVec.{ArrayVec}
-use Rattle.std.proofs.Common.{◌≡◌, ◌≢◌, ◌↔◌, ℕ, zero, suc, Result, Ok, Err, OnOk, OnErr, IsOk, ◌+◌, ◌<◌, ◌≤◌, Bool, true, false, cond, eqb, nat_lt, ◌||◌, is_err, List, [], ◌∷◌, ◌++◌, length, take, refl, sym, ap, ◌∙◌, inl, inr, arith, eq-eqb, length-append}
+use Rattle.std.proofs.Common.{◌≡◌, ◌≢◌, ℕ, zero, suc, ◌<◌, Bool, true, false, cond, eqb, nat_lt, List, [], ◌∷◌, ◌++◌, length, take, refl, sym, ap, ◌∙◌, inl, inr, arith, eq-eqb}
 use Rattle.std.proofs.lemmas.Bool.{cases_lt, cases_eq, ne_eqb}
 use Rattle.std.proofs.lemmas.Bool.Decides.{nat_tests}
-use Rattle.std.proofs.lemmas.List.{take_all, length-take-le}
+use Rattle.std.proofs.lemmas.List.{take_all}
 use Rattle.pmb_io.specs.Lines.{Cut, IsCut, carriage_return, cut, ended_line, last_line, line_feed, longer, without_return}
 use Rattle.pmb_io.specs.machine.Lines.{ended_kept, last_kept}
 
@@ -121,31 +120,3 @@ last_kept_is most line = elim (cases_lt most (length line)) [
   | inl long ↦ let test : nat_lt most (length line) ≡ true = grind (arith, nat_tests) in rw test refl
   | inr short ↦ ap (λ l. last_kept l (nat_lt most (length line))) (take_all most line (omega arith))
 ]
-
-or_true : (b : Bool) → (b || true) ≡ true
-or_true true = refl
-or_true false = refl
-
--- one byte more of a line under way
-pub kept_push_is : {E : Type 0} (rest : List ℕ) (byte most : ℕ) (longer : Bool) (old new : ArrayVec ℕ) (r : Result Unit E) → old.items ≡ take most rest → longer ≡ nat_lt most (length rest)
-    → IsOk r ↔ (length old.items < most) → OnOk r (new.items ≡ old.items ++ byte ∷ []) → OnErr r (new ≡ old) → OnErr r (length old.items ≡ most)
-    → (new.items ≡ take most (rest ++ byte ∷ [])) × ((longer || is_err r) ≡ nat_lt most (length (rest ++ byte ∷ [])))
-kept_push_is rest byte most longer old new (Ok x) kept is_longer room pushed same full =
-    let fits : length (take most rest) < most = rw kept at (room.0 refl) in
-    let short : length rest < most = elim (cases_lt (length rest) most) [
-      | inl less ↦ less
-      | inr more ↦ let cut_off : length (take most rest) ≡ most = length-take-le most rest (omega arith) in absurd (omega arith)
-    ] in
-    let appended : length (rest ++ byte ∷ []) ≡ length rest + 1 = length-append rest (byte ∷ []) in
-    let before : nat_lt most (length rest) ≡ false = grind (arith, nat_tests) in
-    let after : nat_lt most (length (rest ++ byte ∷ [])) ≡ false = grind (arith, nat_tests) in
-    (pushed ∙ ap (λ l. l ++ byte ∷ []) kept ∙ kept_push rest byte most fits, ap (λ (b : Bool). b || false) (is_longer ∙ before) ∙ sym after)
-kept_push_is rest byte most longer old new (Err e) kept is_longer room pushed same full =
-    let filled : length (take most rest) ≡ most = rw kept at full in
-    let long : most ≤ length rest = elim (cases_lt (length rest) most) [
-      | inl less ↦ let whole : take most rest ≡ rest = take_all most rest (omega arith) in let same : length (take most rest) ≡ length rest = ap length whole in absurd (omega arith)
-      | inr more ↦ more
-    ] in
-    let appended : length (rest ++ byte ∷ []) ≡ length rest + 1 = length-append rest (byte ∷ []) in
-    let after : nat_lt most (length (rest ++ byte ∷ [])) ≡ true = grind (arith, nat_tests) in
-    (ap (λ (v : ArrayVec ℕ). v.items) same ∙ kept ∙ kept_full rest byte most filled, or_true longer ∙ sym after)

@@ -4,7 +4,7 @@ use Rattle.std.specs.Io.KnownBytes.{Consumes}
 use Rattle.pmb_io.specs.Count.{raised}
 use Rattle.pmb_io.specs.Engines.{PutsOut, WritesOut}
 use Rattle.pmb_io.specs.Outgoing.{Writes}
-use Rattle.pmb_io.specs.Runs.{Stopped, Through, most_piece}
+use Rattle.pmb_io.specs.Runs.{Stopped, Through, Told, most_piece}
 use Rattle.pmb_io.proofs.Writing.{appends_then, consumes_then, consumes_nothing, writes_then, writes_as, writes_all}
 
 -- a count raised twice
@@ -105,3 +105,14 @@ pub no_read_more : (start before after count n : ℕ) → before ≡ raised star
 no_read_more start before after count n was is none =
     let no_one : min n 1 ≡ 0 = omega arith in
     is ∙ (ap (raised before) no_one ∙ (raised_by_none before ∙ was))
+
+-- less of an input and its text
+unfoldable pub through_weaker : (P Q : List ℕ → List ℕ → Type 0) (first : List ℕ) (old new : Told) → ((bytes text : List ℕ) → P bytes text → Q bytes text) → Through P first old new → Through Q first old new
+through_weaker P Q first old new weaker through = record {
+  read = through.read;
+  text = through.text;
+  consumed = through.consumed;
+  given = through.given;
+  appended = through.appended;
+  holds = weaker (first ++ through.read) through.text through.holds;
+}

@@ -5,8 +5,7 @@ use Rattle.pmb_io.specs.declared.line.Line.{Line}
 use Rattle.pmb_io.specs.declared.line.Line.TheVariants as lines
 use Rattle.pmb_io.specs.declared.lines.Lines.{Lines}
 
--- A line, by what is said of it: what stands before an LF, without a CR at its end; what follows the last LF, as it is;
--- or nothing, where it is too long.
+-- A line, by what is said of it: what stands before an LF; what follows the last LF; or nothing, where it is too long.
 pub data TextLine : Type 0 where
   Ended : List ℕ → TextLine
   Last : List ℕ → TextLine
@@ -67,9 +66,9 @@ without_return (byte ∷ next ∷ line) = byte ∷ without_return (next ∷ line
 
 -- ---- its lines, of which each has so many bytes at most
 
--- A line that an LF ends says what stands before a CR at its end, which counts in its length.
+-- A CR at the end of a line counts in its length.
 abbrev pub ended_line : ℕ → List ℕ → TextLine
-ended_line most line = if nat_lt most (length line) then TooLong else Ended (without_return line)
+ended_line most line = if nat_lt most (length line) then TooLong else Ended line
 
 abbrev pub last_line : ℕ → List ℕ → TextLine
 last_line most line = if nat_lt most (length line) then TooLong else Last line

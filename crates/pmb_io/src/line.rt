@@ -6,7 +6,7 @@ ghost use Rattle.pmb_io.specs.Lines.{without_return};
 /// A line of an input.
 #[derive(Clone, Copy, Debug, PartialEq, Eq)]
 pub enum Line<'a> {
-    /// What stands before an LF, without a CR at its end.
+    /// What stands before an LF, as it is: a CR at its end too.
     Ended(&'a [u8]),
     /// What follows the last LF, as it is. It is not empty.
     Last(&'a [u8]),

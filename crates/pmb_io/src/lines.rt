@@ -3,7 +3,7 @@
 //! Of the line under way only as much is kept as a line may have, and whether it has more. It is
 //! handed on when its LF comes, or the end.
 
-ghost use Rattle.std.specs.Prelude.{◌≡◌, ℕ, ◌++◌, ◌∷◌, [], false, List, OnOk};
+ghost use Rattle.std.specs.Prelude.{◌≡◌, ℕ, ◌++◌, ◌∷◌, [], false, List, OnOk, length, nat_lt, take};
 ghost use Rattle.pmb_io.specs.Calls.{WriterTells};
 ghost use Rattle.pmb_io.specs.Engines.{PutsOut};
 ghost use Rattle.pmb_io.specs.Lines.{TextLine, lines_of, lines_task};
@@ -11,7 +11,7 @@ ghost use Rattle.pmb_io.specs.machine.Lines.{Stands, ended_kept};
 
 use crate::engine::{Engine, Flow};
 use crate::fault::ToolFault;
-use crate::line::{Line, without_return};
+use crate::line::Line;
 use crate::line_task::LineTask;
 use crate::outgoing::Waiting;
 use crate::sink::Sink;
@@ -62,7 +62,7 @@ impl<T: LineTask, const MOST: usize> Lines<T, MOST> {
         ensures failed { WriterTells (W.failures writer.old) (W.failures writer.new) result }
     {
         if byte != b'\n' {
-            self.is_longer |= self.line.try_push(byte).is_err();
+            self.keep(byte);
             return Ok(());
         }
         self.take_ended(waiting, writer)?;
@@ -71,7 +71,23 @@ impl<T: LineTask, const MOST: usize> Lines<T, MOST> {
         Ok(())
     }
 
+    /// Keeps a byte of the line under way, where it has room.
+    #[inline]
+    fn keep(&mut self, byte: u8)
+        ensures task { self.new.task ≡ self.old.task }
+        ensures kept { (rest : List ℕ) → self.old.line.items ≡ take MOST rest → self.new.line.items ≡ take MOST (rest ++ byte ∷ []) }
+        ensures longer { (rest : List ℕ) → self.old.line.items ≡ take MOST rest → self.old.is_longer ≡ nat_lt MOST (length rest)
+            → self.new.is_longer ≡ nat_lt MOST (length (rest ++ byte ∷ [])) }
+    {
+        if self.line.is_full() {
+            self.is_longer = true;
+        } else {
+            self.line.push(byte);
+        }
+    }
+
     /// Hands on the line under way, which an LF ended.
+    #[inline(never)]
     fn take_ended<W: Sink>(
         &mut self,
         waiting: &mut Waiting,
@@ -85,8 +101,8 @@ impl<T: LineTask, const MOST: usize> Lines<T, MOST> {
         if self.is_longer {
             return self.task.take_line(Line::TooLong, waiting, writer);
         }
-        let line = without_return(self.line.as_slice());
-        self.task.take_line(Line::Ended(line), waiting, writer)
+        self.task
+            .take_line(Line::Ended(self.line.as_slice()), waiting, writer)
     }
 }
 

@@ -6,8 +6,6 @@ ghost use Rattle.pmb_line.specs.LineFault.{IsLineFault, Parses};
 
 use crate::line_fault::LineFault;
 use crate::line_reader::read_line;
-use crate::token::Token;
-use crate::words::Words;
 use pmb_table::Profile;
 use pmb_transaction::Transaction;
 
@@ -43,11 +41,13 @@ impl LineReader {
         ensures ok { IfOk result (λ t. Parses profile.now line.now (transaction_data t.now)) }
         ensures err { IfErr result (IsLineFault profile.now line.now) }
     {
-        let slot = match first_token(line) {
-            Some(Token::Write) => &mut self.write,
-            Some(Token::Read) => &mut self.read,
-            Some(Token::Call) => &mut self.call,
-            Some(Token::Refused) => &mut self.refused,
+        // Any of them would do, since a line is read into each alike: the front of the line, and not
+        // its first word, tells the kind soon enough.
+        let slot = match line {
+            [b'w', ..] => &mut self.write,
+            [b'r', b'e', b'a', ..] => &mut self.read,
+            [b'r', b'e', b'f', ..] => &mut self.refused,
+            [b'c', ..] => &mut self.call,
             _ => &mut self.other,
         };
         match read_line(profile, line, slot) {
@@ -55,9 +55,4 @@ impl LineReader {
             Err(fault) => Err(fault),
         }
     }
-}
-
-// What the first word of a line says.
-fn first_token(line: &[u8]) -> Option<Token> {
-    Words::of(line).next()?.token
 }

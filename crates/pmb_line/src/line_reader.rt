@@ -203,7 +203,7 @@ fn alert_into(words: &mut Words, into: &mut Transaction) -> Result<(), WordFault
     match token {
         Token::Byte(byte) => {
             let pec = take_pec(words);
-            *into = Transaction::Alert { byte, pec };
+            keep_alert(byte, pec, into);
             take_end(words)
         }
         Token::Nobody => {
@@ -212,4 +212,20 @@ fn alert_into(words: &mut Words, into: &mut Transaction) -> Result<(), WordFault
         }
         _ => Err(WordFault::BadWord(word.at)),
     }
+}
+
+/// Keeps an answer at the Alert Response Address.
+fn keep_alert(byte: u8, pec: bool, into: &mut Transaction)
+    ensures { transaction_data into.new ≡ transaction_data (Transaction.Alert byte pec) }
+{
+    if let Transaction::Alert {
+        byte: kept,
+        pec: with_pec,
+    } = into
+    {
+        *kept = byte;
+        *with_pec = pec;
+        return;
+    }
+    *into = Transaction::Alert { byte, pec };
 }

@@ -4,6 +4,8 @@
 #![tactic(auto)]
 
 #[cfg(test)]
+mod builds;
+#[cfg(test)]
 mod captures;
 #[cfg(test)]
 mod formats;

@@ -6,16 +6,16 @@ use std::io::ErrorKind;
 use std::process::Abort;
 
 /// A name, words that are no command, and what is told of them first.
-static REFUSED: [(&str, &[&str], &str); 5] = [
+static REFUSED: [(&str, &[&str], &str); 7] = [
     (
         "no words",
         &[],
-        "Reads PMBus traffic, and converts between codes and quantities\n",
+        "Reads and writes PMBus traffic, and converts between codes and quantities\n",
     ),
     (
         "no subcommand",
         &["pmb"],
-        "Reads PMBus traffic, and converts between codes and quantities\n",
+        "Reads and writes PMBus traffic, and converts between codes and quantities\n",
     ),
     (
         "another subcommand",
@@ -32,6 +32,16 @@ static REFUSED: [(&str, &[&str], &str); 5] = [
         &["pmb", "show", "--sampel"],
         "error: unexpected argument '--sampel' found\n",
     ),
+    (
+        "a word more of build",
+        &["pmb", "build", "--sample", "x"],
+        "error: unexpected argument 'x' found\n",
+    ),
+    (
+        "the flag twice",
+        &["pmb", "build", "--sample", "--sample"],
+        "error: the argument '--sample' cannot be used multiple times\n",
+    ),
 ];
 
 #[test]
@@ -43,12 +53,12 @@ fn refuses_words_that_are_no_command(rt: HostRuntime) {
 }
 
 const ABOUT: &str =
-    "Reads PMBus traffic, and converts between codes and quantities\n\nUsage: pmb <COMMAND>\n";
+    "Reads and writes PMBus traffic, and converts between codes and quantities\n\nUsage: pmb <COMMAND>\n";
 
 const SHOW_EXAMPLE: &str = "Example:\n  echo 'S b0 A 21 A 00 A 18 A P' | ./pmb show --sample\n";
 
 /// A name, words that ask to be told of the program, and what is printed first and last.
-static ASKING: [(&str, &[&str], &str, &str); 6] = [
+static ASKING: [(&str, &[&str], &str, &str); 7] = [
     ("help", &["pmb", "--help"], ABOUT, SHOW_EXAMPLE),
     ("the subcommand help", &["pmb", "help"], ABOUT, SHOW_EXAMPLE),
     (
@@ -56,6 +66,12 @@ static ASKING: [(&str, &[&str], &str, &str); 6] = [
         &["pmb", "show", "--help"],
         "Shows the transactions of a capture, one a line\n\nUsage: pmb show [OPTIONS]\n",
         SHOW_EXAMPLE,
+    ),
+    (
+        "help on build",
+        &["pmb", "build", "--help"],
+        "Writes the bus events of transaction lines, a packet a line\n\nUsage: pmb build [OPTIONS]\n",
+        "Example:\n  echo 'write 58 21 00 18 pec' | ./pmb build --sample\n",
     ),
     (
         "help on encode",

@@ -1,6 +1,6 @@
 -- What is kept of the line under way.
 use Rattle.std.specs.Prelude.{◌≡◌, ℕ, nat_lt, if◌then◌else◌, Bool, List, length, take}
-use Rattle.pmb_io.specs.Lines.{TextLine, Ended, Last, TooLong, cut, ended_lines, without_return}
+use Rattle.pmb_io.specs.Lines.{TextLine, Ended, Last, TooLong, cut, ended_lines}
 
 -- Of the line under way as many bytes are kept as a line may have, and whether it has more; those that have ended were
 -- given to the task.
@@ -11,7 +11,7 @@ pub record Stands (Given : List TextLine → List ℕ → Type 0) (most : ℕ) (
 
 -- the line under way, from what is kept of it, where an LF ended it
 abbrev pub ended_kept : List ℕ → Bool → TextLine
-ended_kept line is_longer = if is_longer then TooLong else Ended (without_return line)
+ended_kept line is_longer = if is_longer then TooLong else Ended line
 
 -- and where the text ended
 abbrev pub last_kept : List ℕ → Bool → TextLine

@@ -1,4 +1,4 @@
-use Rattle.pmb_cli.proofs.AskedWords.{asks_to_decode, asks_to_encode, asks_to_show, asks_to_show_sample, asks_for_help, asks_for_version}
+use Rattle.pmb_cli.proofs.AskedWords.{asks_to_build, asks_to_build_sample, asks_to_decode, asks_to_encode, asks_to_show, asks_to_show_sample, asks_for_help, asks_for_version}
 use Rattle.pmb_cli.proofs.laws.words_ask.Goals as goal
 
 pub returns-clause-show_sample : goal.returns-clause-show_sample
@@ -6,6 +6,12 @@ returns-clause-show_sample c = asks_to_show_sample
 
 pub returns-clause-show : goal.returns-clause-show
 returns-clause-show c = asks_to_show
+
+pub returns-clause-build_sample : goal.returns-clause-build_sample
+returns-clause-build_sample c = asks_to_build_sample
+
+pub returns-clause-build : goal.returns-clause-build
+returns-clause-build c = asks_to_build
 
 pub returns-clause-encode : goal.returns-clause-encode
 returns-clause-encode c = asks_to_encode

@@ -5,10 +5,10 @@ use Rattle.pmb_io.specs.declared.fault.ToolFault.TheVariants.{Read, Write}
 use Rattle.pmb_convert.specs.Lines.{AnswersEnded, AnswersInput}
 use Rattle.pmb_convert.specs.declared.conversion.Conversion.TheVariants as conversions
 use Rattle.pmb_convert.specs.declared.named_format.NamedFormat.{NamedFormat}
-use Rattle.pmb_cli.specs.Asked.{Asks, Decode, Encode, Show, asking_of}
+use Rattle.pmb_cli.specs.Asked.{Asks, Build, Decode, Encode, Show, asking_of}
 use Rattle.pmb_cli.specs.declared.asked.Task.{Task}
 use Rattle.pmb_cli.specs.Status.{run_status}
-use Rattle.pmb_cli.proofs.AskedOnce.{bad_format_no_fault, decode_has_format, encode_has_format, is_telling, no_telling, not_nothing, one_format_decoded, one_format_encoded, one_letter, one_sample, only_memory, refused_is_no_telling, show_has_no_format}
+use Rattle.pmb_cli.proofs.AskedOnce.{bad_format_no_fault, build_has_no_format, decode_has_format, encode_has_format, is_telling, no_telling, not_nothing, one_built_sample, one_format_decoded, one_format_encoded, one_letter, one_sample, only_memory, refused_is_no_telling, show_has_no_format}
 use Rattle.pmb_cli.proofs.Statuses.{at_ok, ended_well, four_at_most, io_fault, no_fault, not_refused, part_at, read_often}
 use Rattle.pmb_cli.proofs.program.tool.Goals as goal
 
@@ -62,7 +62,12 @@ returns-in-Some-Decode-clause-told g c two = inr (inl (record {
 pub returns-in-Some-Show-false-clause-told : goal.returns-in-Some-Show-false-clause-told
 returns-in-Some-Show-false-clause-told g c two =
     let asks = subst (λ (t : Task). Asks (subcommand_rows_of c.in-Ok.matches) (asking_of t)) c.in-Some-Show-false.field-0-is c.in-Some-Show-false.ensures in
-    inr (inr (record { no_fault = c.in-Ok.ensures.kinds; asks = subst (λ s. Asks s (Show false)) c.in-Ok.ensures.matches (subst (λ b. Asks (subcommand_rows_of c.in-Ok.matches) (Show b)) c.in-Some-Show-false.field-0-0-test asks) }, c.show_behind.ensures.told two))
+    inr (inr (inl (record { no_fault = c.in-Ok.ensures.kinds; asks = subst (λ s. Asks s (Show false)) c.in-Ok.ensures.matches (subst (λ b. Asks (subcommand_rows_of c.in-Ok.matches) (Show b)) c.in-Some-Show-false.field-0-0-test asks) }), c.show_behind.ensures.told two))
+
+pub returns-in-Some-Build-false-clause-told : goal.returns-in-Some-Build-false-clause-told
+returns-in-Some-Build-false-clause-told g c two =
+    let asks = subst (λ (t : Task). Asks (subcommand_rows_of c.in-Ok.matches) (asking_of t)) c.in-Some-Build-false.field-0-is c.in-Some-Build-false.ensures in
+    inr (inr (inr (record { no_fault = c.in-Ok.ensures.kinds; asks = subst (λ s. Asks s (Build false)) c.in-Ok.ensures.matches (subst (λ b. Asks (subcommand_rows_of c.in-Ok.matches) (Build b)) c.in-Some-Build-false.field-0-0-test asks) }), c.build_behind.ensures.told two))
 
 -- `show --sample` asks for nothing else
 pub returns-in-Some-Show-true-clause-showed : goal.returns-in-Some-Show-true-clause-showed
@@ -70,6 +75,18 @@ returns-in-Some-Show-true-clause-showed g c ask done = let contrary : true ≡ f
 
 pub returns-in-Some-Show-true-clause-part : goal.returns-in-Some-Show-true-clause-part
 returns-in-Some-Show-true-clause-part g c ask three = let contrary : true ≡ false = sym c.in-Some-Show-true.field-0-0-test ∙ one_sample _ _ _ _ false c.in-Ok.ensures.matches c.in-Some-Show-true.ensures c.in-Some-Show-true.field-0-is ask.asks in absurd (cc)
+
+pub returns-in-Some-Show-true-clause-built_sample : goal.returns-in-Some-Show-true-clause-built_sample
+returns-in-Some-Show-true-clause-built_sample g c ask done = let apart : 115 ≡ 98 = one_letter _ _ _ _ (Build true) c.in-Ok.ensures.matches c.in-Some-Show-true.ensures c.in-Some-Show-true.field-0-is ask.asks in absurd (omega (arith, apart))
+
+pub returns-in-Some-Show-true-clause-part_built_sample : goal.returns-in-Some-Show-true-clause-part_built_sample
+returns-in-Some-Show-true-clause-part_built_sample g c ask three = let apart : 115 ≡ 98 = one_letter _ _ _ _ (Build true) c.in-Ok.ensures.matches c.in-Some-Show-true.ensures c.in-Some-Show-true.field-0-is ask.asks in absurd (omega (arith, apart))
+
+pub returns-in-Some-Show-true-clause-built : goal.returns-in-Some-Show-true-clause-built
+returns-in-Some-Show-true-clause-built g c ask done = let apart : 115 ≡ 98 = one_letter _ _ _ _ (Build false) c.in-Ok.ensures.matches c.in-Some-Show-true.ensures c.in-Some-Show-true.field-0-is ask.asks in absurd (omega (arith, apart))
+
+pub returns-in-Some-Show-true-clause-part_built : goal.returns-in-Some-Show-true-clause-part_built
+returns-in-Some-Show-true-clause-part_built g c ask three = let apart : 115 ≡ 98 = one_letter _ _ _ _ (Build false) c.in-Ok.ensures.matches c.in-Some-Show-true.ensures c.in-Some-Show-true.field-0-is ask.asks in absurd (omega (arith, apart))
 
 pub returns-in-Some-Show-true-clause-encoded : goal.returns-in-Some-Show-true-clause-encoded
 returns-in-Some-Show-true-clause-encoded g c text format ask names done = let apart : 115 ≡ 101 = one_letter _ _ _ _ (Encode text) c.in-Ok.ensures.matches c.in-Some-Show-true.ensures c.in-Some-Show-true.field-0-is ask.asks in absurd (omega (arith, apart))
@@ -105,6 +122,18 @@ returns-in-Some-Show-false-clause-showed_sample g c ask done = let contrary : fa
 pub returns-in-Some-Show-false-clause-part_sample : goal.returns-in-Some-Show-false-clause-part_sample
 returns-in-Some-Show-false-clause-part_sample g c ask three = let contrary : false ≡ true = sym c.in-Some-Show-false.field-0-0-test ∙ one_sample _ _ _ _ true c.in-Ok.ensures.matches c.in-Some-Show-false.ensures c.in-Some-Show-false.field-0-is ask.asks in absurd (cc)
 
+pub returns-in-Some-Show-false-clause-built_sample : goal.returns-in-Some-Show-false-clause-built_sample
+returns-in-Some-Show-false-clause-built_sample g c ask done = let apart : 115 ≡ 98 = one_letter _ _ _ _ (Build true) c.in-Ok.ensures.matches c.in-Some-Show-false.ensures c.in-Some-Show-false.field-0-is ask.asks in absurd (omega (arith, apart))
+
+pub returns-in-Some-Show-false-clause-part_built_sample : goal.returns-in-Some-Show-false-clause-part_built_sample
+returns-in-Some-Show-false-clause-part_built_sample g c ask three = let apart : 115 ≡ 98 = one_letter _ _ _ _ (Build true) c.in-Ok.ensures.matches c.in-Some-Show-false.ensures c.in-Some-Show-false.field-0-is ask.asks in absurd (omega (arith, apart))
+
+pub returns-in-Some-Show-false-clause-built : goal.returns-in-Some-Show-false-clause-built
+returns-in-Some-Show-false-clause-built g c ask done = let apart : 115 ≡ 98 = one_letter _ _ _ _ (Build false) c.in-Ok.ensures.matches c.in-Some-Show-false.ensures c.in-Some-Show-false.field-0-is ask.asks in absurd (omega (arith, apart))
+
+pub returns-in-Some-Show-false-clause-part_built : goal.returns-in-Some-Show-false-clause-part_built
+returns-in-Some-Show-false-clause-part_built g c ask three = let apart : 115 ≡ 98 = one_letter _ _ _ _ (Build false) c.in-Ok.ensures.matches c.in-Some-Show-false.ensures c.in-Some-Show-false.field-0-is ask.asks in absurd (omega (arith, apart))
+
 pub returns-in-Some-Show-false-clause-encoded : goal.returns-in-Some-Show-false-clause-encoded
 returns-in-Some-Show-false-clause-encoded g c text format ask names done = let apart : 115 ≡ 101 = one_letter _ _ _ _ (Encode text) c.in-Ok.ensures.matches c.in-Some-Show-false.ensures c.in-Some-Show-false.field-0-is ask.asks in absurd (omega (arith, apart))
 
@@ -132,6 +161,97 @@ returns-in-Some-Show-false-clause-bad_format_unread g c bad = absurd (show_has_n
 pub returns-in-Some-Show-false-clause-bad_format_unwritten : goal.returns-in-Some-Show-false-clause-bad_format_unwritten
 returns-in-Some-Show-false-clause-bad_format_unwritten g c bad = absurd (show_has_no_format _ _ _ _ c.in-Ok.ensures.matches c.in-Some-Show-false.ensures c.in-Some-Show-false.field-0-is bad)
 
+-- `build --sample` asks for nothing else, nor does `build`
+pub returns-in-Some-Build-true-clause-showed_sample : goal.returns-in-Some-Build-true-clause-showed_sample
+returns-in-Some-Build-true-clause-showed_sample g c ask done = let apart : 98 ≡ 115 = one_letter _ _ _ _ (Show true) c.in-Ok.ensures.matches c.in-Some-Build-true.ensures c.in-Some-Build-true.field-0-is ask.asks in absurd (omega (arith, apart))
+
+pub returns-in-Some-Build-true-clause-part_sample : goal.returns-in-Some-Build-true-clause-part_sample
+returns-in-Some-Build-true-clause-part_sample g c ask three = let apart : 98 ≡ 115 = one_letter _ _ _ _ (Show true) c.in-Ok.ensures.matches c.in-Some-Build-true.ensures c.in-Some-Build-true.field-0-is ask.asks in absurd (omega (arith, apart))
+
+pub returns-in-Some-Build-true-clause-showed : goal.returns-in-Some-Build-true-clause-showed
+returns-in-Some-Build-true-clause-showed g c ask done = let apart : 98 ≡ 115 = one_letter _ _ _ _ (Show false) c.in-Ok.ensures.matches c.in-Some-Build-true.ensures c.in-Some-Build-true.field-0-is ask.asks in absurd (omega (arith, apart))
+
+pub returns-in-Some-Build-true-clause-part : goal.returns-in-Some-Build-true-clause-part
+returns-in-Some-Build-true-clause-part g c ask three = let apart : 98 ≡ 115 = one_letter _ _ _ _ (Show false) c.in-Ok.ensures.matches c.in-Some-Build-true.ensures c.in-Some-Build-true.field-0-is ask.asks in absurd (omega (arith, apart))
+
+pub returns-in-Some-Build-true-clause-built : goal.returns-in-Some-Build-true-clause-built
+returns-in-Some-Build-true-clause-built g c ask done = let contrary : true ≡ false = sym c.in-Some-Build-true.field-0-0-test ∙ one_built_sample _ _ _ _ false c.in-Ok.ensures.matches c.in-Some-Build-true.ensures c.in-Some-Build-true.field-0-is ask.asks in absurd (cc)
+
+pub returns-in-Some-Build-true-clause-part_built : goal.returns-in-Some-Build-true-clause-part_built
+returns-in-Some-Build-true-clause-part_built g c ask three = let contrary : true ≡ false = sym c.in-Some-Build-true.field-0-0-test ∙ one_built_sample _ _ _ _ false c.in-Ok.ensures.matches c.in-Some-Build-true.ensures c.in-Some-Build-true.field-0-is ask.asks in absurd (cc)
+
+pub returns-in-Some-Build-true-clause-encoded : goal.returns-in-Some-Build-true-clause-encoded
+returns-in-Some-Build-true-clause-encoded g c text format ask names done = let apart : 98 ≡ 101 = one_letter _ _ _ _ (Encode text) c.in-Ok.ensures.matches c.in-Some-Build-true.ensures c.in-Some-Build-true.field-0-is ask.asks in absurd (omega (arith, apart))
+
+pub returns-in-Some-Build-true-clause-part_encoded : goal.returns-in-Some-Build-true-clause-part_encoded
+returns-in-Some-Build-true-clause-part_encoded g c text format ask names three = let apart : 98 ≡ 101 = one_letter _ _ _ _ (Encode text) c.in-Ok.ensures.matches c.in-Some-Build-true.ensures c.in-Some-Build-true.field-0-is ask.asks in absurd (omega (arith, apart))
+
+pub returns-in-Some-Build-true-clause-decoded : goal.returns-in-Some-Build-true-clause-decoded
+returns-in-Some-Build-true-clause-decoded g c text format ask names done = let apart : 98 ≡ 100 = one_letter _ _ _ _ (Decode text) c.in-Ok.ensures.matches c.in-Some-Build-true.ensures c.in-Some-Build-true.field-0-is ask.asks in absurd (omega (arith, apart))
+
+pub returns-in-Some-Build-true-clause-part_decoded : goal.returns-in-Some-Build-true-clause-part_decoded
+returns-in-Some-Build-true-clause-part_decoded g c text format ask names three = let apart : 98 ≡ 100 = one_letter _ _ _ _ (Decode text) c.in-Ok.ensures.matches c.in-Some-Build-true.ensures c.in-Some-Build-true.field-0-is ask.asks in absurd (omega (arith, apart))
+
+pub returns-in-Some-Build-true-clause-nothing : goal.returns-in-Some-Build-true-clause-nothing
+returns-in-Some-Build-true-clause-nothing g c ask = absurd (not_nothing _ _ _ c.in-Ok.ensures.matches c.in-Some-Build-true.ensures ask.nothing)
+
+pub returns-in-Some-Build-true-clause-nothing_unread : goal.returns-in-Some-Build-true-clause-nothing_unread
+returns-in-Some-Build-true-clause-nothing_unread g c ask = absurd (not_nothing _ _ _ c.in-Ok.ensures.matches c.in-Some-Build-true.ensures ask.nothing)
+
+pub returns-in-Some-Build-true-clause-bad_format : goal.returns-in-Some-Build-true-clause-bad_format
+returns-in-Some-Build-true-clause-bad_format g c bad = absurd (build_has_no_format _ _ _ _ c.in-Ok.ensures.matches c.in-Some-Build-true.ensures c.in-Some-Build-true.field-0-is bad)
+
+pub returns-in-Some-Build-true-clause-bad_format_unread : goal.returns-in-Some-Build-true-clause-bad_format_unread
+returns-in-Some-Build-true-clause-bad_format_unread g c bad = absurd (build_has_no_format _ _ _ _ c.in-Ok.ensures.matches c.in-Some-Build-true.ensures c.in-Some-Build-true.field-0-is bad)
+
+pub returns-in-Some-Build-true-clause-bad_format_unwritten : goal.returns-in-Some-Build-true-clause-bad_format_unwritten
+returns-in-Some-Build-true-clause-bad_format_unwritten g c bad = absurd (build_has_no_format _ _ _ _ c.in-Ok.ensures.matches c.in-Some-Build-true.ensures c.in-Some-Build-true.field-0-is bad)
+
+pub returns-in-Some-Build-false-clause-showed_sample : goal.returns-in-Some-Build-false-clause-showed_sample
+returns-in-Some-Build-false-clause-showed_sample g c ask done = let apart : 98 ≡ 115 = one_letter _ _ _ _ (Show true) c.in-Ok.ensures.matches c.in-Some-Build-false.ensures c.in-Some-Build-false.field-0-is ask.asks in absurd (omega (arith, apart))
+
+pub returns-in-Some-Build-false-clause-part_sample : goal.returns-in-Some-Build-false-clause-part_sample
+returns-in-Some-Build-false-clause-part_sample g c ask three = let apart : 98 ≡ 115 = one_letter _ _ _ _ (Show true) c.in-Ok.ensures.matches c.in-Some-Build-false.ensures c.in-Some-Build-false.field-0-is ask.asks in absurd (omega (arith, apart))
+
+pub returns-in-Some-Build-false-clause-showed : goal.returns-in-Some-Build-false-clause-showed
+returns-in-Some-Build-false-clause-showed g c ask done = let apart : 98 ≡ 115 = one_letter _ _ _ _ (Show false) c.in-Ok.ensures.matches c.in-Some-Build-false.ensures c.in-Some-Build-false.field-0-is ask.asks in absurd (omega (arith, apart))
+
+pub returns-in-Some-Build-false-clause-part : goal.returns-in-Some-Build-false-clause-part
+returns-in-Some-Build-false-clause-part g c ask three = let apart : 98 ≡ 115 = one_letter _ _ _ _ (Show false) c.in-Ok.ensures.matches c.in-Some-Build-false.ensures c.in-Some-Build-false.field-0-is ask.asks in absurd (omega (arith, apart))
+
+pub returns-in-Some-Build-false-clause-built_sample : goal.returns-in-Some-Build-false-clause-built_sample
+returns-in-Some-Build-false-clause-built_sample g c ask done = let contrary : false ≡ true = sym c.in-Some-Build-false.field-0-0-test ∙ one_built_sample _ _ _ _ true c.in-Ok.ensures.matches c.in-Some-Build-false.ensures c.in-Some-Build-false.field-0-is ask.asks in absurd (cc)
+
+pub returns-in-Some-Build-false-clause-part_built_sample : goal.returns-in-Some-Build-false-clause-part_built_sample
+returns-in-Some-Build-false-clause-part_built_sample g c ask three = let contrary : false ≡ true = sym c.in-Some-Build-false.field-0-0-test ∙ one_built_sample _ _ _ _ true c.in-Ok.ensures.matches c.in-Some-Build-false.ensures c.in-Some-Build-false.field-0-is ask.asks in absurd (cc)
+
+pub returns-in-Some-Build-false-clause-encoded : goal.returns-in-Some-Build-false-clause-encoded
+returns-in-Some-Build-false-clause-encoded g c text format ask names done = let apart : 98 ≡ 101 = one_letter _ _ _ _ (Encode text) c.in-Ok.ensures.matches c.in-Some-Build-false.ensures c.in-Some-Build-false.field-0-is ask.asks in absurd (omega (arith, apart))
+
+pub returns-in-Some-Build-false-clause-part_encoded : goal.returns-in-Some-Build-false-clause-part_encoded
+returns-in-Some-Build-false-clause-part_encoded g c text format ask names three = let apart : 98 ≡ 101 = one_letter _ _ _ _ (Encode text) c.in-Ok.ensures.matches c.in-Some-Build-false.ensures c.in-Some-Build-false.field-0-is ask.asks in absurd (omega (arith, apart))
+
+pub returns-in-Some-Build-false-clause-decoded : goal.returns-in-Some-Build-false-clause-decoded
+returns-in-Some-Build-false-clause-decoded g c text format ask names done = let apart : 98 ≡ 100 = one_letter _ _ _ _ (Decode text) c.in-Ok.ensures.matches c.in-Some-Build-false.ensures c.in-Some-Build-false.field-0-is ask.asks in absurd (omega (arith, apart))
+
+pub returns-in-Some-Build-false-clause-part_decoded : goal.returns-in-Some-Build-false-clause-part_decoded
+returns-in-Some-Build-false-clause-part_decoded g c text format ask names three = let apart : 98 ≡ 100 = one_letter _ _ _ _ (Decode text) c.in-Ok.ensures.matches c.in-Some-Build-false.ensures c.in-Some-Build-false.field-0-is ask.asks in absurd (omega (arith, apart))
+
+pub returns-in-Some-Build-false-clause-nothing : goal.returns-in-Some-Build-false-clause-nothing
+returns-in-Some-Build-false-clause-nothing g c ask = absurd (not_nothing _ _ _ c.in-Ok.ensures.matches c.in-Some-Build-false.ensures ask.nothing)
+
+pub returns-in-Some-Build-false-clause-nothing_unread : goal.returns-in-Some-Build-false-clause-nothing_unread
+returns-in-Some-Build-false-clause-nothing_unread g c ask = absurd (not_nothing _ _ _ c.in-Ok.ensures.matches c.in-Some-Build-false.ensures ask.nothing)
+
+pub returns-in-Some-Build-false-clause-bad_format : goal.returns-in-Some-Build-false-clause-bad_format
+returns-in-Some-Build-false-clause-bad_format g c bad = absurd (build_has_no_format _ _ _ _ c.in-Ok.ensures.matches c.in-Some-Build-false.ensures c.in-Some-Build-false.field-0-is bad)
+
+pub returns-in-Some-Build-false-clause-bad_format_unread : goal.returns-in-Some-Build-false-clause-bad_format_unread
+returns-in-Some-Build-false-clause-bad_format_unread g c bad = absurd (build_has_no_format _ _ _ _ c.in-Ok.ensures.matches c.in-Some-Build-false.ensures c.in-Some-Build-false.field-0-is bad)
+
+pub returns-in-Some-Build-false-clause-bad_format_unwritten : goal.returns-in-Some-Build-false-clause-bad_format_unwritten
+returns-in-Some-Build-false-clause-bad_format_unwritten g c bad = absurd (build_has_no_format _ _ _ _ c.in-Ok.ensures.matches c.in-Some-Build-false.ensures c.in-Some-Build-false.field-0-is bad)
+
 -- nor `encode` with a format
 pub returns-in-Ok-parse-clause-showed_sample : goal.returns-in-Ok-parse-clause-showed_sample
 returns-in-Ok-parse-clause-showed_sample g c ask done = let apart : 101 ≡ 115 = one_letter _ _ _ _ (Show true) c.in-Ok.ensures.matches c.in-Some-Encode.ensures c.in-Some-Encode.field-0-is ask.asks in absurd (omega (arith, apart))
@@ -147,6 +267,18 @@ returns-in-Ok-parse-clause-part g c ask three = let apart : 101 ≡ 115 = one_le
 
 pub returns-in-Ok-parse-clause-decoded : goal.returns-in-Ok-parse-clause-decoded
 returns-in-Ok-parse-clause-decoded g c text format ask names done = let apart : 101 ≡ 100 = one_letter _ _ _ _ (Decode text) c.in-Ok.ensures.matches c.in-Some-Encode.ensures c.in-Some-Encode.field-0-is ask.asks in absurd (omega (arith, apart))
+
+pub returns-in-Ok-parse-clause-built_sample : goal.returns-in-Ok-parse-clause-built_sample
+returns-in-Ok-parse-clause-built_sample g c ask done = let apart : 101 ≡ 98 = one_letter _ _ _ _ (Build true) c.in-Ok.ensures.matches c.in-Some-Encode.ensures c.in-Some-Encode.field-0-is ask.asks in absurd (omega (arith, apart))
+
+pub returns-in-Ok-parse-clause-part_built_sample : goal.returns-in-Ok-parse-clause-part_built_sample
+returns-in-Ok-parse-clause-part_built_sample g c ask three = let apart : 101 ≡ 98 = one_letter _ _ _ _ (Build true) c.in-Ok.ensures.matches c.in-Some-Encode.ensures c.in-Some-Encode.field-0-is ask.asks in absurd (omega (arith, apart))
+
+pub returns-in-Ok-parse-clause-built : goal.returns-in-Ok-parse-clause-built
+returns-in-Ok-parse-clause-built g c ask done = let apart : 101 ≡ 98 = one_letter _ _ _ _ (Build false) c.in-Ok.ensures.matches c.in-Some-Encode.ensures c.in-Some-Encode.field-0-is ask.asks in absurd (omega (arith, apart))
+
+pub returns-in-Ok-parse-clause-part_built : goal.returns-in-Ok-parse-clause-part_built
+returns-in-Ok-parse-clause-part_built g c ask three = let apart : 101 ≡ 98 = one_letter _ _ _ _ (Build false) c.in-Ok.ensures.matches c.in-Some-Encode.ensures c.in-Some-Encode.field-0-is ask.asks in absurd (omega (arith, apart))
 
 pub returns-in-Ok-parse-clause-part_decoded : goal.returns-in-Ok-parse-clause-part_decoded
 returns-in-Ok-parse-clause-part_decoded g c text format ask names three = let apart : 101 ≡ 100 = one_letter _ _ _ _ (Decode text) c.in-Ok.ensures.matches c.in-Some-Encode.ensures c.in-Some-Encode.field-0-is ask.asks in absurd (omega (arith, apart))
@@ -182,6 +314,18 @@ returns-in-Ok-parse-2-clause-part g c ask three = let apart : 100 ≡ 115 = one_
 pub returns-in-Ok-parse-2-clause-encoded : goal.returns-in-Ok-parse-2-clause-encoded
 returns-in-Ok-parse-2-clause-encoded g c text format ask names done = let apart : 100 ≡ 101 = one_letter _ _ _ _ (Encode text) c.in-Ok.ensures.matches c.in-Some-Decode.ensures c.in-Some-Decode.field-0-is ask.asks in absurd (omega (arith, apart))
 
+pub returns-in-Ok-parse-2-clause-built_sample : goal.returns-in-Ok-parse-2-clause-built_sample
+returns-in-Ok-parse-2-clause-built_sample g c ask done = let apart : 100 ≡ 98 = one_letter _ _ _ _ (Build true) c.in-Ok.ensures.matches c.in-Some-Decode.ensures c.in-Some-Decode.field-0-is ask.asks in absurd (omega (arith, apart))
+
+pub returns-in-Ok-parse-2-clause-part_built_sample : goal.returns-in-Ok-parse-2-clause-part_built_sample
+returns-in-Ok-parse-2-clause-part_built_sample g c ask three = let apart : 100 ≡ 98 = one_letter _ _ _ _ (Build true) c.in-Ok.ensures.matches c.in-Some-Decode.ensures c.in-Some-Decode.field-0-is ask.asks in absurd (omega (arith, apart))
+
+pub returns-in-Ok-parse-2-clause-built : goal.returns-in-Ok-parse-2-clause-built
+returns-in-Ok-parse-2-clause-built g c ask done = let apart : 100 ≡ 98 = one_letter _ _ _ _ (Build false) c.in-Ok.ensures.matches c.in-Some-Decode.ensures c.in-Some-Decode.field-0-is ask.asks in absurd (omega (arith, apart))
+
+pub returns-in-Ok-parse-2-clause-part_built : goal.returns-in-Ok-parse-2-clause-part_built
+returns-in-Ok-parse-2-clause-part_built g c ask three = let apart : 100 ≡ 98 = one_letter _ _ _ _ (Build false) c.in-Ok.ensures.matches c.in-Some-Decode.ensures c.in-Some-Decode.field-0-is ask.asks in absurd (omega (arith, apart))
+
 pub returns-in-Ok-parse-2-clause-part_encoded : goal.returns-in-Ok-parse-2-clause-part_encoded
 returns-in-Ok-parse-2-clause-part_encoded g c text format ask names three = let apart : 100 ≡ 101 = one_letter _ _ _ _ (Encode text) c.in-Ok.ensures.matches c.in-Some-Decode.ensures c.in-Some-Decode.field-0-is ask.asks in absurd (omega (arith, apart))
 
@@ -216,6 +360,18 @@ returns-in-Some-Encode-clause-part g c ask three = let apart : 101 ≡ 115 = one
 pub returns-in-Some-Encode-clause-decoded : goal.returns-in-Some-Encode-clause-decoded
 returns-in-Some-Encode-clause-decoded g c text format ask names done = let apart : 101 ≡ 100 = one_letter _ _ _ _ (Decode text) c.in-Ok.ensures.matches c.in-Some-Encode.ensures c.in-Some-Encode.field-0-is ask.asks in absurd (omega (arith, apart))
 
+pub returns-in-Some-Encode-clause-built_sample : goal.returns-in-Some-Encode-clause-built_sample
+returns-in-Some-Encode-clause-built_sample g c ask done = let apart : 101 ≡ 98 = one_letter _ _ _ _ (Build true) c.in-Ok.ensures.matches c.in-Some-Encode.ensures c.in-Some-Encode.field-0-is ask.asks in absurd (omega (arith, apart))
+
+pub returns-in-Some-Encode-clause-part_built_sample : goal.returns-in-Some-Encode-clause-part_built_sample
+returns-in-Some-Encode-clause-part_built_sample g c ask three = let apart : 101 ≡ 98 = one_letter _ _ _ _ (Build true) c.in-Ok.ensures.matches c.in-Some-Encode.ensures c.in-Some-Encode.field-0-is ask.asks in absurd (omega (arith, apart))
+
+pub returns-in-Some-Encode-clause-built : goal.returns-in-Some-Encode-clause-built
+returns-in-Some-Encode-clause-built g c ask done = let apart : 101 ≡ 98 = one_letter _ _ _ _ (Build false) c.in-Ok.ensures.matches c.in-Some-Encode.ensures c.in-Some-Encode.field-0-is ask.asks in absurd (omega (arith, apart))
+
+pub returns-in-Some-Encode-clause-part_built : goal.returns-in-Some-Encode-clause-part_built
+returns-in-Some-Encode-clause-part_built g c ask three = let apart : 101 ≡ 98 = one_letter _ _ _ _ (Build false) c.in-Ok.ensures.matches c.in-Some-Encode.ensures c.in-Some-Encode.field-0-is ask.asks in absurd (omega (arith, apart))
+
 pub returns-in-Some-Encode-clause-part_decoded : goal.returns-in-Some-Encode-clause-part_decoded
 returns-in-Some-Encode-clause-part_decoded g c text format ask names three = let apart : 101 ≡ 100 = one_letter _ _ _ _ (Decode text) c.in-Ok.ensures.matches c.in-Some-Encode.ensures c.in-Some-Encode.field-0-is ask.asks in absurd (omega (arith, apart))
 
@@ -241,6 +397,18 @@ returns-in-Some-Decode-clause-part g c ask three = let apart : 100 ≡ 115 = one
 pub returns-in-Some-Decode-clause-encoded : goal.returns-in-Some-Decode-clause-encoded
 returns-in-Some-Decode-clause-encoded g c text format ask names done = let apart : 100 ≡ 101 = one_letter _ _ _ _ (Encode text) c.in-Ok.ensures.matches c.in-Some-Decode.ensures c.in-Some-Decode.field-0-is ask.asks in absurd (omega (arith, apart))
 
+pub returns-in-Some-Decode-clause-built_sample : goal.returns-in-Some-Decode-clause-built_sample
+returns-in-Some-Decode-clause-built_sample g c ask done = let apart : 100 ≡ 98 = one_letter _ _ _ _ (Build true) c.in-Ok.ensures.matches c.in-Some-Decode.ensures c.in-Some-Decode.field-0-is ask.asks in absurd (omega (arith, apart))
+
+pub returns-in-Some-Decode-clause-part_built_sample : goal.returns-in-Some-Decode-clause-part_built_sample
+returns-in-Some-Decode-clause-part_built_sample g c ask three = let apart : 100 ≡ 98 = one_letter _ _ _ _ (Build true) c.in-Ok.ensures.matches c.in-Some-Decode.ensures c.in-Some-Decode.field-0-is ask.asks in absurd (omega (arith, apart))
+
+pub returns-in-Some-Decode-clause-built : goal.returns-in-Some-Decode-clause-built
+returns-in-Some-Decode-clause-built g c ask done = let apart : 100 ≡ 98 = one_letter _ _ _ _ (Build false) c.in-Ok.ensures.matches c.in-Some-Decode.ensures c.in-Some-Decode.field-0-is ask.asks in absurd (omega (arith, apart))
+
+pub returns-in-Some-Decode-clause-part_built : goal.returns-in-Some-Decode-clause-part_built
+returns-in-Some-Decode-clause-part_built g c ask three = let apart : 100 ≡ 98 = one_letter _ _ _ _ (Build false) c.in-Ok.ensures.matches c.in-Some-Decode.ensures c.in-Some-Decode.field-0-is ask.asks in absurd (omega (arith, apart))
+
 pub returns-in-Some-Decode-clause-part_encoded : goal.returns-in-Some-Decode-clause-part_encoded
 returns-in-Some-Decode-clause-part_encoded g c text format ask names three = let apart : 100 ≡ 101 = one_letter _ _ _ _ (Encode text) c.in-Ok.ensures.matches c.in-Some-Decode.ensures c.in-Some-Decode.field-0-is ask.asks in absurd (omega (arith, apart))
 
@@ -262,6 +430,18 @@ returns-in-Err-clause-showed g c ask done = absurd (omega (arith, done, c.tell_w
 
 pub returns-in-Err-clause-part : goal.returns-in-Err-clause-part
 returns-in-Err-clause-part g c ask three = absurd (omega (arith, three, c.tell_words.ensures.memory (only_memory _ (kind_of c.in-Err.error) _ ask.no_fault c.in-Err.ensures.kinds)))
+
+pub returns-in-Err-clause-built_sample : goal.returns-in-Err-clause-built_sample
+returns-in-Err-clause-built_sample g c ask done = absurd (omega (arith, done, c.tell_words.ensures.memory (only_memory _ (kind_of c.in-Err.error) _ ask.no_fault c.in-Err.ensures.kinds)))
+
+pub returns-in-Err-clause-part_built_sample : goal.returns-in-Err-clause-part_built_sample
+returns-in-Err-clause-part_built_sample g c ask three = absurd (omega (arith, three, c.tell_words.ensures.memory (only_memory _ (kind_of c.in-Err.error) _ ask.no_fault c.in-Err.ensures.kinds)))
+
+pub returns-in-Err-clause-built : goal.returns-in-Err-clause-built
+returns-in-Err-clause-built g c ask done = absurd (omega (arith, done, c.tell_words.ensures.memory (only_memory _ (kind_of c.in-Err.error) _ ask.no_fault c.in-Err.ensures.kinds)))
+
+pub returns-in-Err-clause-part_built : goal.returns-in-Err-clause-part_built
+returns-in-Err-clause-part_built g c ask three = absurd (omega (arith, three, c.tell_words.ensures.memory (only_memory _ (kind_of c.in-Err.error) _ ask.no_fault c.in-Err.ensures.kinds)))
 
 pub returns-in-Err-clause-encoded : goal.returns-in-Err-clause-encoded
 returns-in-Err-clause-encoded g c text format ask names done = absurd (omega (arith, done, c.tell_words.ensures.memory (only_memory _ (kind_of c.in-Err.error) _ ask.no_fault c.in-Err.ensures.kinds)))
@@ -314,6 +494,36 @@ returns-in-Some-Show-false-clause-helped g c ask = absurd (no_telling _ c.in-Ok.
 
 pub returns-in-Some-Show-false-clause-out_told : goal.returns-in-Some-Show-false-clause-out_told
 returns-in-Some-Show-false-clause-out_told g c ask done = absurd (no_telling _ c.in-Ok.ensures.kinds ask)
+
+pub returns-in-Some-Build-true-clause-refused : goal.returns-in-Some-Build-true-clause-refused
+returns-in-Some-Build-true-clause-refused g c refused = absurd (refused.some c.in-Ok.ensures.kinds)
+
+pub returns-in-Some-Build-true-clause-unwritten : goal.returns-in-Some-Build-true-clause-unwritten
+returns-in-Some-Build-true-clause-unwritten g c refused = absurd (refused.some c.in-Ok.ensures.kinds)
+
+pub returns-in-Some-Build-true-clause-unread : goal.returns-in-Some-Build-true-clause-unread
+returns-in-Some-Build-true-clause-unread g c some = absurd (some c.in-Ok.ensures.kinds)
+
+pub returns-in-Some-Build-true-clause-helped : goal.returns-in-Some-Build-true-clause-helped
+returns-in-Some-Build-true-clause-helped g c ask = absurd (no_telling _ c.in-Ok.ensures.kinds ask)
+
+pub returns-in-Some-Build-true-clause-out_told : goal.returns-in-Some-Build-true-clause-out_told
+returns-in-Some-Build-true-clause-out_told g c ask done = absurd (no_telling _ c.in-Ok.ensures.kinds ask)
+
+pub returns-in-Some-Build-false-clause-refused : goal.returns-in-Some-Build-false-clause-refused
+returns-in-Some-Build-false-clause-refused g c refused = absurd (refused.some c.in-Ok.ensures.kinds)
+
+pub returns-in-Some-Build-false-clause-unwritten : goal.returns-in-Some-Build-false-clause-unwritten
+returns-in-Some-Build-false-clause-unwritten g c refused = absurd (refused.some c.in-Ok.ensures.kinds)
+
+pub returns-in-Some-Build-false-clause-unread : goal.returns-in-Some-Build-false-clause-unread
+returns-in-Some-Build-false-clause-unread g c some = absurd (some c.in-Ok.ensures.kinds)
+
+pub returns-in-Some-Build-false-clause-helped : goal.returns-in-Some-Build-false-clause-helped
+returns-in-Some-Build-false-clause-helped g c ask = absurd (no_telling _ c.in-Ok.ensures.kinds ask)
+
+pub returns-in-Some-Build-false-clause-out_told : goal.returns-in-Some-Build-false-clause-out_told
+returns-in-Some-Build-false-clause-out_told g c ask done = absurd (no_telling _ c.in-Ok.ensures.kinds ask)
 
 pub returns-in-Ok-parse-clause-refused : goal.returns-in-Ok-parse-clause-refused
 returns-in-Ok-parse-clause-refused g c refused = absurd (refused.some c.in-Ok.ensures.kinds)
@@ -393,6 +603,9 @@ returns-clause-out_told g c ask done = absurd (no_telling _ c.in-Ok.ensures.kind
 -- nothing is wrong with the sample, and lines have no fault of memory or of a profile
 pub returns-in-Some-Show-true-clause-told : goal.returns-in-Some-Show-true-clause-told
 returns-in-Some-Show-true-clause-told g c two = absurd (c.show_sample.ensures.no_fault two)
+
+pub returns-in-Some-Build-true-clause-told : goal.returns-in-Some-Build-true-clause-told
+returns-in-Some-Build-true-clause-told g c two = absurd (c.build_sample.ensures.no_fault two)
 
 pub returns-in-Ok-parse-clause-within : goal.returns-in-Ok-parse-clause-within
 returns-in-Ok-parse-clause-within g c = subst (λ (n : ℕ). n ≤ 4) (sym c.ended.ensures.status) (four_at_most c.encode_lines.result)

@@ -53,7 +53,7 @@ returns-in-Ok-from_toml-clause-part g c three =
       | inr says ↦ says
     ] in
     part_at c.show.result _ _ (io_fault c.show.result status) c.show.ensures.write
-    (λ failed. part_behind (λ reader. record { left = g.R.Source.remaining reader; given = g.R.Source.given reader; reads = g.R.Source.reads reader }) c.args.reader.now c.front.new.reader _ _ _ _ _ c.in-Ok.front devices c.in-Ok.ensures.ok (sym c.has_capture.ensures ∙ c.if-has_capture.true)
+    (λ failed. part_behind ShowsFront (λ reader. record { left = g.R.Source.remaining reader; given = g.R.Source.given reader; reads = g.R.Source.reads reader }) c.args.reader.now c.front.new.reader _ _ _ _ _ c.in-Ok.front devices c.in-Ok.ensures.ok (sym c.has_capture.ensures ∙ c.if-has_capture.true)
     (subst (λ (text : List ℕ). Says text (Ok devices)) c.profile.ensures says)
     (subst (λ (rest : List ℕ). Through (ShowsFront devices) rest (record { left = g.R.Source.remaining c.front.new.reader; given = g.R.Source.given c.front.new.reader; held = g.W.Sink.contents c.args.out.now })
     (record { left = g.R.Source.remaining c.show.new.reader; given = g.R.Source.given c.show.new.reader; held = g.W.Sink.contents c.show.new.writer })) c.rest.ensures (c.show.ensures.before failed)))
@@ -105,7 +105,7 @@ returns-in-Err-clause-done g c done = absurd (omega (arith, done, c.tell.ensures
 pub returns-in-Err-clause-part : goal.returns-in-Err-clause-part
 returns-in-Err-clause-part g c three =
     let read : c.in-Err.fault ≡ Read = is_read c.in-Err.fault (λ is. c.in-Err.ensures.no_write (ap (λ (f : ToolFault). Err f) is)) (λ is. c.in-Err.ensures.few_reads (ap (λ (f : ToolFault). Err f) is)) (sym c.tell.ensures.status ∙ three) in
-    inr (part_of_profile (λ reader. record { left = g.R.Source.remaining reader; given = g.R.Source.given reader; reads = g.R.Source.reads reader }) c.args.reader.now c.front.new.reader _ (c.in-Err.ensures.before_read (ap (λ (f : ToolFault). Err f) read)))
+    inr (part_of_profile ShowsFront (λ reader. record { left = g.R.Source.remaining reader; given = g.R.Source.given reader; reads = g.R.Source.reads reader }) c.args.reader.now c.front.new.reader _ (c.in-Err.ensures.before_read (ap (λ (f : ToolFault). Err f) read)))
 
 pub returns-in-Err-clause-io_failed : goal.returns-in-Err-clause-io_failed
 returns-in-Err-clause-io_failed g c three =

@@ -1,6 +1,5 @@
-use Rattle.std.proofs.Common.{◌≡◌, ◌∙◌, ◌≤◌, ℕ, List, Ok, inl, inr, ap, sym, subst}
+use Rattle.std.proofs.Common.{◌≡◌, ◌∙◌, ◌≤◌, ℕ, inl, inr, ap, sym, subst}
 use Rattle.pmb_io.specs.declared.fault.ToolFault.TheVariants.{Read, Write}
-use Rattle.pmb_table.specs.Profile.{Says}
 use Rattle.pmb_cli.specs.Shown.{Showed}
 use Rattle.pmb_cli.specs.Status.{run_status}
 use Rattle.pmb_cli.proofs.Statuses.{at_ok, ended_well, io_fault, no_fault, not_refused, part_at, read_often}
@@ -10,16 +9,13 @@ pub returns-in-Ok-clause-showed : goal.returns-in-Ok-clause-showed
 returns-in-Ok-clause-showed g c done =
     let status : run_status c.show.result ≤ 1 = subst (λ (n : ℕ). n ≤ 1) c.ended.ensures.status done in
     let well = ended_well c.show.result status in
-    let says : Says c.as_bytes.result.now (Ok c.in-Ok.profile) = elim c.in-Ok.ensures.says [
-      | inl memory ↦ absurd (cc)
-      | inr says ↦ says
-    ] in (
+    let says = c.in-Ok.ensures.ok in (
       well.0,
       c.ended.ensures.status ∙ ap run_status well.1,
       record {
         profile = c.in-Ok.profile;
-        says = subst (λ (text : List ℕ). Says text (Ok c.in-Ok.profile)) c.as_bytes.ensures.value says;
-        showed = at_ok (λ tally. Showed c.in-Ok.profile (record { left = g.R.Source.remaining c.args.reader.now; given = g.R.Source.given c.args.reader.now; held = g.W.Sink.contents c.args.out.now })
+        says = says;
+        holds = at_ok (λ tally. Showed c.in-Ok.profile (record { left = g.R.Source.remaining c.args.reader.now; given = g.R.Source.given c.args.reader.now; held = g.W.Sink.contents c.args.out.now })
             (record { left = g.R.Source.remaining c.show.new.reader; given = g.R.Source.given c.show.new.reader; held = g.W.Sink.contents c.show.new.writer }) (g.R.Source.has_ended c.show.new.reader) tally) c.show.result well.0 well.1 c.show.ensures.ok;
       },
     )
@@ -50,9 +46,6 @@ returns-in-Ok-clause-done g c done =
 pub returns-in-Ok-clause-part : goal.returns-in-Ok-clause-part
 returns-in-Ok-clause-part g c three =
     let status : run_status c.show.result ≡ 3 = sym c.ended.ensures.status ∙ three in
-    let says : Says c.as_bytes.result.now (Ok c.in-Ok.profile) = elim c.in-Ok.ensures.says [
-      | inl memory ↦ absurd (cc)
-      | inr says ↦ says
-    ] in
+    let says = c.in-Ok.ensures.ok in
     part_at c.show.result _ _ (io_fault c.show.result status) c.show.ensures.write
-    (λ failed. record { profile = c.in-Ok.profile; says = subst (λ (text : List ℕ). Says text (Ok c.in-Ok.profile)) c.as_bytes.ensures.value says; showed = c.show.ensures.before failed })
+    (λ failed. record { profile = c.in-Ok.profile; says = says; holds = c.show.ensures.before failed })

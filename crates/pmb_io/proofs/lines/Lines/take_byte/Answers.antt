@@ -1,21 +1,19 @@
-use Rattle.std.proofs.Common.{◌≡◌, ◌||◌, ◌++◌, ◌∷◌, List, ℕ, [], nat_lt, length, append-nil, subst, sym}
+use Rattle.std.proofs.Common.{◌++◌, ◌∷◌, List, ℕ, [], append-nil, subst, sym}
 use Rattle.pmb_io.specs.Lines.{cut, ended_lines}
 use Rattle.pmb_io.specs.machine.Lines.{Stands}
-use Rattle.pmb_io.proofs.LineLemmas.{kept_push_is}
 use Rattle.pmb_io.proofs.LineRuns.{after_lf, keeps_byte}
 use Rattle.pmb_io.proofs.Writing.{writes_nothing}
 use Rattle.pmb_io.proofs.lines.Lines.take_byte.Goals as goal
 
 pub returns-then-byte-ne10-clause-takes : goal.returns-then-byte-ne10-clause-takes
 returns-then-byte-ne10-clause-takes g c start bytes text stands =
-    let told = c.try_push.ensures in
-    let push = kept_push_is (cut bytes).rest c.args.byte g.row.MOST c.args.self.now.is_longer c.args.self.now.line c.try_push.new.self c.try_push.result stands.kept stands.longer
-    told.variant told.ok told.err told.full in
-    let longer = subst (λ b. (c.args.self.now.is_longer || b) ≡ nat_lt g.row.MOST (length ((cut bytes).rest ++ c.args.byte ∷ []))) (sym c.is_err.ensures.value) push.1 in record {
+    let kept = c.keep.ensures.kept (cut bytes).rest stands.kept in
+    let longer = c.keep.ensures.longer (cut bytes).rest stands.kept stands.longer in
+    let given = subst (λ task. g.T.LineTask.Stands start task (ended_lines g.row.MOST bytes) text) (sym c.keep.ensures.task) stands.given in record {
       text = [];
       writes = writes_nothing _ _;
-      holds = subst (λ (t : List ℕ). Stands (g.T.LineTask.Stands start c.args.self.now.task) g.row.MOST c.try_push.new.self.items (c.args.self.now.is_longer || c.is_err.result) (bytes ++ c.args.byte ∷ []) t) (sym (append-nil text))
-          (keeps_byte (g.T.LineTask.Stands start c.args.self.now.task) g.row.MOST bytes text _ _ c.args.byte c.if-byte-ne10.true push.0 longer stands.given);
+      holds = subst (λ (t : List ℕ). Stands (g.T.LineTask.Stands start c.keep.new.self.task) g.row.MOST c.keep.new.self.line.items c.keep.new.self.is_longer (bytes ++ c.args.byte ∷ []) t) (sym (append-nil text))
+          (keeps_byte (g.T.LineTask.Stands start c.keep.new.self.task) g.row.MOST bytes text _ _ c.args.byte c.if-byte-ne10.true kept longer given);
     }
 
 pub returns-clause-takes : goal.returns-clause-takes

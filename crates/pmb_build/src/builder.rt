@@ -1,0 +1,114 @@
+//! The lines of an input, built one after the other.
+
+ghost use Rattle.std.specs.Prelude.{◌≡◌, ◌≢◌, ℕ, ◌++◌, ◌∷◌, [], List, OnOk};
+ghost use Rattle.pmb_io.specs.Calls.{WriterTells};
+ghost use Rattle.pmb_io.specs.Count.{raised};
+ghost use Rattle.pmb_io.specs.Engines.{PutsOut};
+ghost use Rattle.pmb_io.specs.Outgoing.{Writes};
+ghost use Rattle.pmb_io.specs.Tally.{with_refusal};
+ghost use Rattle.pmb_line.specs.LineFault.{IsLineFault};
+ghost use Rattle.pmb_build.specs.Answer.{fault_text};
+ghost use Rattle.pmb_build.specs.machine.Building.{Stands, Takes};
+
+use crate::fault_line::fault_line;
+use crate::packet::put_packet;
+use pmb_io::{Line, LineTask, Sink, Tally, ToolFault, Waiting, put};
+use pmb_line::{LineFault, LineReader};
+use pmb_table::Profile;
+
+/// The most bytes of a line, a CR at its end counted.
+pub(crate) const MOST_BYTES: usize = 32768;
+
+/// From lines to the packets of their transactions.
+#[derive(Drop)]
+pub(crate) struct Builder<'a> {
+    profile: &'a Profile,
+    /// What lines are read into.
+    reader: LineReader,
+    /// How many lines were taken; stays at the greatest `u64`.
+    lines: u64,
+    tally: Tally,
+}
+
+impl<'a> Builder<'a> {
+    /// No line was taken yet.
+    pub(crate) fn new(profile: &'a Profile) -> Builder<'a>
+        ensures profile { result.profile.now ≡ profile.entry.now }
+        ensures begins { Stands result result [] [] }
+    {
+        Builder {
+            profile,
+            reader: LineReader::new(),
+            lines: 0,
+            tally: Tally::new(),
+        }
+    }
+
+    /// How many lines had a packet, and how many a fault.
+    pub(crate) fn tally(&self) -> Tally
+        ensures { result ≡ self.now.tally }
+    {
+        self.tally
+    }
+
+    /// Counts a line, and puts out the packet that it spells, or its fault.
+    fn take_text<W: Sink>(
+        &mut self,
+        line: &[u8],
+        waiting: &mut Waiting,
+        writer: &mut W,
+    ) -> Result<(), ToolFault>
+        ensures takes { OnOk result (Takes self.old self.new line.now (W.contents writer.old) waiting.old.items (W.contents writer.new) waiting.new.items) }
+        ensures failed { WriterTells (W.failures writer.old) (W.failures writer.new) result }
+    {
+        match self.reader.read(self.profile, line) {
+            Ok(transaction) => {
+                put_packet(self.profile, transaction, waiting, writer)?;
+                self.tally.count_packet();
+                Ok(())
+            }
+            Err(fault) => {
+                if fault == LineFault::Blank {
+                    return Ok(());
+                }
+                self.take_fault(fault, waiting, writer)
+            }
+        }
+    }
+
+    /// Counts the fault of a line, and puts it out.
+    fn take_fault<W: Sink>(
+        &mut self,
+        fault: LineFault,
+        waiting: &mut Waiting,
+        writer: &mut W,
+    ) -> Result<(), ToolFault>
+        ensures profile { self.new.profile ≡ self.old.profile }
+        ensures lines { self.new.lines ≡ self.old.lines }
+        ensures counted { self.new.tally ≡ with_refusal self.old.tally }
+        ensures writes { OnOk result (Writes (W.contents writer.old) waiting.old.items (W.contents writer.new) waiting.new.items (fault_text self.old.lines fault)) }
+        ensures failed { WriterTells (W.failures writer.old) (W.failures writer.new) result }
+    {
+        self.tally.count_refusal();
+        let line = fault_line(self.lines, fault);
+        put(waiting, line.as_slice(), writer)
+    }
+}
+
+impl<'a> LineTask for Builder<'a> {
+    ghost Stands = { Stands };
+
+    fn take_line<W: Sink>(
+        &mut self,
+        line: Line<'_>,
+        waiting: &mut Waiting,
+        writer: &mut W,
+    ) -> Result<(), ToolFault> {
+        self.lines = self.lines.saturating_add(1);
+        match line {
+            Line::Ended(text) => self.take_text(text, waiting, writer),
+            Line::Last(text) => self.take_text(text, waiting, writer),
+            Line::TooLong => self.take_fault(LineFault::TooLong(MOST_BYTES), waiting, writer),
+        }
+    }
+}

@@ -1,7 +1,0 @@
-use Rattle.std.proofs.Common.{◌∙◌, ap, ap₂}
-use Rattle.std.proofs.lemmas.Result.{IfOk-weaker}
-use Rattle.clap.specs.Words.{App, with_subcommand}
-use Rattle.pmb_cli.proofs.words.showing_command.Goals as goal
-
-pub returns : goal.returns
-returns c = IfOk-weaker c.subcommand.result _ _ (λ command added. added.shape c.in_ok-show_command.ensures.local ∙ ap₂ with_subcommand c.top_command.ensures (ap (λ (a : App). a.top) c.in_ok-show_command.ensures.shape)) c.subcommand.ensures
