@@ -1,0 +1,45 @@
+-- What the code keeps of a written leg.
+use Rattle.std.specs.Prelude.{◌≡◌, ℕ, true, List, [], ◌∷◌}
+use Rattle.pmb_bus.specs.Pec.{pec}
+use Rattle.pmb_command.specs.declared.form.Shape.{Shape}
+use Rattle.pmb_command.specs.declared.pec_mode.PecMode.TheVariants.{Off}
+use Rattle.pmb_command.specs.Fitting.{calls_fit}
+use Rattle.pmb_command.specs.Parts.{DeviceParts}
+use Rattle.pmb_transaction.specs.Body.{write_address, forms}
+use Rattle.pmb_leg.specs.declared.place.LegPlace.{LegPlace}
+use Rattle.pmb_leg.specs.declared.left.Left.{Left}
+use Rattle.pmb_leg.specs.declared.written.WrittenLeg.TheInside.{Inside}
+use Rattle.pmb_leg.specs.Leg.{Written, call_form}
+use Rattle.pmb_leg.specs.machine.Left.{LeavesOf}
+
+abbrev pub written : Inside → Written
+written leg = record { device = leg.device.now; place = leg.place; bytes = leg.bytes.items }
+
+-- What is kept beside the bytes: the forms of the command, what is left of the body of a write and
+-- of that of a call, and the packet error code so far.
+pub record Kept : Type 0 where
+  pub device : DeviceParts
+  pub place : LegPlace
+  pub shape : Shape
+  pub write : Left
+  pub call : Left
+  pub crc : ℕ
+
+abbrev pub kept : Inside → Kept
+kept leg = record { device = leg.device.now; place = leg.place; shape = leg.forms; write = leg.write; call = leg.call; crc = leg.crc }
+
+-- It is that of the bytes behind a code.
+pub record IsBehindCode (leg : Kept) (code : ℕ) (behind : List ℕ) : Type 0 where
+  pub shape_is : leg.shape ≡ forms leg.device code
+  pub called_with_data : calls_fit leg.shape.call ≡ true
+  pub crc : pec (write_address leg.device.address ∷ code ∷ behind) ≡ leg.crc
+  pub write : LeavesOf leg.shape.write leg.device.pec (write_address leg.device.address ∷ code ∷ []) behind leg.write
+  pub call : LeavesOf (call_form leg.place leg.shape) Off (write_address leg.device.address ∷ code ∷ []) behind leg.call
+
+-- In front of the code nothing of it counts.
+abbrev pub IsKept : Kept → List ℕ → Type 0
+IsKept leg [] = Unit {0}
+IsKept leg (code ∷ behind) = IsBehindCode leg code behind
+
+abbrev pub IsUnderWay : Inside → Type 0
+IsUnderWay leg = IsKept (kept leg) leg.bytes.items

@@ -1,0 +1,168 @@
+//! What is left of data in a form.
+//!
+//! One small state for the body of a write, for the body of a call, and for an answer. `Data` counts
+//! down; the form is not needed again behind the first byte, nor are the bytes that were taken.
+
+ghost use Rattle.std.specs.Prelude.{◌≡◌, ◌||◌, ℕ, List};
+ghost use Rattle.pmb_transaction.specs.Wire.{wire};
+ghost use Rattle.pmb_transaction.specs.Body.{checked};
+ghost use Rattle.pmb_leg.specs.machine.Left.{after, ends_data, goes_on, has_code, is_whole, start, takes};
+
+use pmb_command::{Form, PecMode};
+
+/// What is left, where some bytes of data in a form were taken.
+#[derive(Clone, Copy, Debug, PartialEq, Eq)]
+pub(crate) enum Left {
+    /// The count of a block, and the block.
+    Count,
+    /// So many bytes of data, at least one.
+    Data(u8),
+    /// The packet error code, which has to come or may.
+    Code,
+    /// Nothing.
+    Nothing,
+    /// The bytes are the beginning of no such data.
+    Closed,
+}
+
+/// What is left behind the last byte of data.
+fn behind_data(mode: PecMode) -> Left
+    ensures { result ≡ ends_data mode }
+{
+    match mode {
+        PecMode::Off => Left::Nothing,
+        PecMode::On | PecMode::Optional => Left::Code,
+    }
+}
+
+impl Left {
+    /// What is left of data in the form, of which nothing was taken.
+    pub fn start(form: Option<Form>, mode: PecMode) -> Left
+        ensures { result ≡ start form mode }
+    {
+        match form {
+            None => Left::Closed,
+            Some(Form::Zero) => behind_data(mode),
+            Some(Form::One) => Left::Data(1),
+            Some(Form::Two) => Left::Data(2),
+            Some(Form::Four) => Left::Data(4),
+            Some(Form::Eight) => Left::Data(8),
+            Some(Form::Block) => Left::Count,
+        }
+    }
+
+    /// Whether the byte may come next, where `crc` is the packet error code so far.
+    #[inline]
+    pub fn takes(self, crc: u8, byte: u8) -> bool
+        ensures { result ≡ takes self crc byte }
+    {
+        match self {
+            Left::Count | Left::Data(_) => true,
+            Left::Code => byte == crc,
+            Left::Nothing | Left::Closed => false,
+        }
+    }
+
+    /// What is left behind one byte more.
+    #[inline]
+    pub fn after(self, mode: PecMode, crc: u8, byte: u8) -> Left
+        ensures { result ≡ after self mode crc byte }
+    {
+        match self {
+            Left::Count => {
+                if byte == 0 {
+                    behind_data(mode)
+                } else {
+                    Left::Data(byte)
+                }
+            }
+            Left::Data(count) => {
+                if count > 1 {
+                    Left::Data(count - 1)
+                } else {
+                    behind_data(mode)
+                }
+            }
+            Left::Code => {
+                if byte == crc {
+                    Left::Nothing
+                } else {
+                    Left::Closed
+                }
+            }
+            Left::Nothing | Left::Closed => Left::Closed,
+        }
+    }
+
+    /// Whether some byte may come next.
+    #[inline]
+    pub fn goes_on(self) -> bool
+        ensures { result ≡ goes_on self }
+    {
+        match self {
+            Left::Count | Left::Data(_) | Left::Code => true,
+            Left::Nothing | Left::Closed => false,
+        }
+    }
+
+    /// Whether nothing more has to come.
+    #[inline]
+    pub fn is_whole(self, mode: PecMode) -> bool
+        ensures { result ≡ is_whole self mode }
+    {
+        match self {
+            Left::Count | Left::Data(_) | Left::Closed => false,
+            Left::Code => match mode {
+                PecMode::Off | PecMode::On => false,
+                PecMode::Optional => true,
+            },
+            Left::Nothing => true,
+        }
+    }
+
+    /// Whether a packet error code was taken, where nothing more has to come.
+    pub fn has_code(self, mode: PecMode) -> bool
+        ensures { result ≡ has_code self mode }
+    {
+        match self {
+            Left::Count | Left::Data(_) | Left::Code | Left::Closed => false,
+            Left::Nothing => match mode {
+                PecMode::Off => false,
+                PecMode::On | PecMode::Optional => true,
+            },
+        }
+    }
+}
+
+/// Whether some byte may come next in one of two.
+#[inline]
+pub(crate) fn one_goes_on(write: Left, call: Left) -> bool
+    ensures { result ≡ goes_on write || goes_on call }
+{
+    write.goes_on() || call.goes_on()
+}
+
+/// Whether the byte may come next in one of two, where `crc` is the packet error code so far.
+#[inline]
+pub(crate) fn one_takes(write: Left, call: Left, crc: u8, byte: u8) -> bool
+    ensures { result ≡ takes write crc byte || takes call crc byte }
+{
+    write.takes(crc, byte) || call.takes(crc, byte)
+}
+
+/// The data within their bytes on the bus: what stands behind the count of a block, and in front of
+/// a packet error code.
+pub(crate) fn data_within(form: Form, pec: bool, bytes: &[u8]) -> &[u8]
+    requires { (before : List ℕ) × (whole : List ℕ) × (bytes.now ≡ checked pec before (wire form whole)) }
+    ensures { (before : List ℕ) (whole : List ℕ) → bytes.now ≡ checked pec before (wire form whole) → result.now ≡ whole }
+{
+    let behind_count = match form {
+        Form::Zero | Form::One | Form::Two | Form::Four | Form::Eight => bytes,
+        Form::Block => &bytes[1..],
+    };
+    if pec {
+        &behind_count[..behind_count.len() - 1]
+    } else {
+        behind_count
+    }
+}
