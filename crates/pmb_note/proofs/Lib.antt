@@ -1,0 +1,4 @@
+pub mod Texts
+pub mod StatusLemmas
+pub mod Standings
+pub mod Notes

@@ -1,0 +1,4 @@
+pub mod Paging
+pub mod Context
+pub mod Note
+pub mod machine

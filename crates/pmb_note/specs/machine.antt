@@ -1,0 +1,3 @@
+-- What private parts of the code say. No public contract is understood by these.
+pub mod Standing
+pub mod Written

@@ -1,0 +1,91 @@
+//! The set bits of status registers.
+
+ghost use Rattle.std.specs.Prelude.{◌≡◌, ◌+◌, ◌*◌, ◌<◌, ◌≤◌, IfSome, length, option_map};
+ghost use Rattle.pmb_command.specs.StatusBits.{bit_text};
+ghost use Rattle.pmb_note.specs.Note.{is_set, named_bit, register_text, set_bit_text, set_bits_text, status_text};
+ghost use Rattle.pmb_note.specs.machine.Written.{Appends};
+
+use crate::text::append;
+use arrayvec::ArrayVec;
+use itoa::Buffer;
+use pmb_command::bit_name;
+
+/// Appends the set bits of a status register of one byte or two; nothing for another number of bytes.
+pub(crate) fn append_status<const N: usize>(out: &mut ArrayVec<u8, N>, code: u8, bytes: &[u8])
+    requires { length out.old.items + 288 ≤ N }
+    ensures { Appends (status_text code bytes.now) 288 out.old.items out.new.items }
+{
+    if bytes.len() == 1 {
+        append_register(out, code, 8, u16::from(bytes[0]));
+    } else if bytes.len() == 2 {
+        append_register(out, code, 16, u16::from_le_bytes([bytes[0], bytes[1]]));
+    }
+}
+
+// Appends the set bits of a register of so many bits.
+fn append_register<const N: usize>(out: &mut ArrayVec<u8, N>, code: u8, bits: u8, value: u16)
+    requires few { bits ≤ 16 }
+    requires room { length out.old.items + 288 ≤ N }
+    ensures { Appends (register_text code bits value) 288 out.old.items out.new.items }
+{
+    if value == 0 {
+        append(out, " none");
+    } else {
+        append_set_bits(out, code, bits, value);
+    }
+}
+
+// Appends the set bits among the lowest, so many, from the highest down.
+fn append_set_bits<const N: usize>(out: &mut ArrayVec<u8, N>, code: u8, bits: u8, value: u16)
+    requires few { bits ≤ 16 }
+    requires room { length out.old.items + 18 * bits ≤ N }
+    ensures { Appends (set_bits_text code value bits) (18 * bits) out.old.items out.new.items }
+{
+    if bits > 0 {
+        append_set_bit(out, code, bits - 1, value);
+        append_set_bits(out, code, bits - 1, value);
+    }
+}
+
+// Appends a bit where it is set.
+fn append_set_bit<const N: usize>(out: &mut ArrayVec<u8, N>, code: u8, bit: u8, value: u16)
+    requires few { bit < 16 }
+    requires room { length out.old.items + 18 ≤ N }
+    ensures { Appends (set_bit_text code value bit) 18 out.old.items out.new.items }
+{
+    if is_set(value, bit) {
+        append(out, " ");
+        append_bit(out, code, bit);
+    }
+}
+
+#[inline]
+fn is_set(value: u16, bit: u8) -> bool
+    requires { bit < 16 }
+    ensures { result ≡ is_set value bit }
+{
+    (value >> bit) % 2 == 1
+}
+
+// Appends the name of a bit, or its number where it has none.
+fn append_bit<const N: usize>(out: &mut ArrayVec<u8, N>, code: u8, bit: u8)
+    requires few { bit < 16 }
+    requires room { length out.old.items + 17 ≤ N }
+    ensures { Appends (named_bit (bit_text code bit) bit) 17 out.old.items out.new.items }
+{
+    match name_of_bit(code, bit) {
+        Some(name) => append(out, name),
+        None => {
+            append(out, "bit");
+            append(out, Buffer::new().format(bit));
+        }
+    }
+}
+
+// The name of a bit, which is short.
+fn name_of_bit(code: u8, bit: u8) -> Option<&'static str>
+    ensures name { option_map (λ name. name.now) result ≡ bit_text code bit }
+    ensures short { IfSome result (λ name. length name.now ≤ 17) }
+{
+    bit_name(code, bit)
+}
