@@ -1,21 +1,20 @@
 -- What the bytes of a written leg say, by what the code keeps of them.
-use Rattle.std.proofs.Common.{◌≡◌, ◌≢◌, ℕ, inl, inr, Bool, true, false, Option, Some, None, is_some, List, [], ◌∷◌, refl, sym, ap, subst, ◌∙◌}
+use Rattle.std.proofs.Common.{◌≡◌, ℕ, inl, inr, Bool, true, false, Option, Some, None, is_some, List, [], ◌∷◌, refl, sym, ap, subst, ◌∙◌}
 use Rattle.pmb_command.specs.declared.form.Form.{Form}
 use Rattle.pmb_command.specs.declared.form.Shape.{Shape}
 use Rattle.pmb_command.specs.declared.pec_mode.PecMode.{PecMode}
 use Rattle.pmb_command.specs.declared.pec_mode.PecMode.TheVariants.{Off}
 use Rattle.pmb_command.specs.Parts.{DeviceParts}
 use Rattle.pmb_transaction.specs.Wire.{wire}
-use Rattle.pmb_transaction.specs.Body.{checked, forms, WriteBody, ReadBody, CallBody, IsWriteBody, IsReadBody, IsCallBody}
+use Rattle.pmb_transaction.specs.Body.{checked, forms, WriteBody, ReadBody, IsWriteBody, IsReadBody, IsCallBody}
 use Rattle.pmb_leg.specs.declared.left.Left.{Left}
-use Rattle.pmb_leg.specs.declared.left.Left.TheVariants.{Count, Data, Code, Nothing, Closed}
 use Rattle.pmb_leg.specs.declared.place.LegPlace.{LegPlace}
 use Rattle.pmb_leg.specs.declared.place.LegPlace.TheVariants.{First}
 use Rattle.pmb_leg.specs.Leg.{IsRequest, call_form, is_read}
 use Rattle.pmb_leg.specs.machine.Legs.{IsBehindCode, IsKept, Kept}
 use Rattle.pmb_leg.specs.machine.Left.{has_code, is_whole, LeavesOf, Spells, SpellsData}
 use Rattle.pmb_leg.proofs.Lefts.{whole_spells}
-use Rattle.pmb_leg.proofs.Bodies.{call_body, code_in_front, in_front, spells_whole_of, write_body, SpellsOf}
+use Rattle.pmb_leg.proofs.Bodies.{code_in_front, in_front, spells_whole_of, write_body, SpellsOf}
 
 -- ---- bodies with a code that is known
 
@@ -48,14 +47,6 @@ whole_of before o form mode bytes left leaves has done =
     let P : Option Form → Type 0 = λ (x : Option Form). LeavesOf x mode before bytes left in
     whole_spells before form mode bytes left (subst P has leaves) done
 
--- where no code is allowed, none was taken
-no_code : (left : Left) → has_code left Off ≡ false
-no_code Count = refl
-no_code (Data n) = refl
-no_code Code = refl
-no_code Nothing = refl
-no_code Closed = refl
-
 -- ---- what is kept behind a code
 
 module _ (leg : Kept) (code : ℕ) (behind : List ℕ) (is : IsBehindCode leg code behind) where
@@ -68,10 +59,6 @@ module _ (leg : Kept) (code : ℕ) (behind : List ℕ) (is : IsBehindCode leg co
   pub write_is_whole : IsWriteBody leg.device (code ∷ behind) → is_whole leg.write leg.device.pec ≡ true
   write_is_whole body =
       spells_whole_of (in_front leg.device code) leg.shape.write leg.device.pec behind leg.write is.write (write_shape (write_spells leg.device code behind body))
-
-  pub write_has_form : IsWriteBody leg.device (code ∷ behind) → leg.shape.write ≢ None
-  write_has_form body none =
-      subst (λ (o : Option Form). SpellsOf o leg.device.pec (in_front leg.device code) behind) none (write_shape (write_spells leg.device code behind body))
 
   pub write_data : (form : Form) → leg.shape.write ≡ Some form → is_whole leg.write leg.device.pec ≡ true
       → (whole : List ℕ) × SpellsData form leg.device.pec (in_front leg.device code) whole (has_code leg.write leg.device.pec) behind
@@ -111,16 +98,6 @@ module _ (leg : Kept) (code : ℕ) (behind : List ℕ) (is : IsBehindCode leg co
     pub asks_nothing : is_read leg.shape behind ≡ false → is_whole leg.call Off ≡ false → IsRequest leg.device (code ∷ behind) → ⊥
     asks_nothing unread not_whole (inl read) = reads_not unread read
     asks_nothing unread not_whole (inr call) = cc (sym not_whole ∙ call_is_whole call)
-
-    pub call_data : (form : Form) → leg.shape.call ≡ Some form → is_whole leg.call Off ≡ true
-        → (whole : List ℕ) × SpellsData form Off (in_front leg.device code) whole false behind
-    call_data form has done =
-        let w = whole_of (in_front leg.device code) leg.shape.call form Off behind leg.call call_leaves has done in
-        (w.0, subst (λ (b : Bool). SpellsData form Off (in_front leg.device code) w.0 b behind) (no_code leg.call) w.1)
-
-    pub says_call : (form : Form) (whole : List ℕ) → leg.shape.call ≡ Some form
-        → SpellsData form Off (in_front leg.device code) whole false behind → CallBody leg.device code form whole (code ∷ behind)
-    says_call form whole has spells = call_body leg.device code form behind whole (sym (ap (λ (s : Shape). s.call) is.shape_is) ∙ has) spells
 
 pub behind_code : (leg : Kept) (bytes : List ℕ) (code : ℕ) (behind : List ℕ) → IsKept leg bytes → bytes ≡ code ∷ behind → IsBehindCode leg code behind
 behind_code leg bytes code behind is split = subst (IsKept leg) split is

@@ -1,5 +1,0 @@
-use Rattle.pmb_capture.proofs.Packets.{no_packet_begins_another}
-use Rattle.pmb_capture.proofs.laws.no_packet_begins_another.Goals as goal
-
-pub returns : goal.returns
-returns c = no_packet_begins_another

@@ -1,6 +1,0 @@
--- What private parts say of the events and the bytes that were given so far. No public contract
--- needs these to be understood.
-pub mod Grammar
-pub mod Reported
-pub mod Showing
-pub mod Thin

@@ -1,3 +1,0 @@
-//! The commands of this layer.
-
-pub(crate) mod show;

@@ -1,0 +1,5 @@
+use Rattle.pmb_reader.proofs.Accounts.{goes_on}
+use Rattle.pmb_reader.proofs.laws.reading_goes_on.Goals as goal
+
+pub returns : goal.returns
+returns c = goes_on

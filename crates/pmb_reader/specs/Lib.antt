@@ -1,0 +1,5 @@
+pub mod Refusal
+pub mod Reader
+pub mod Feed
+pub mod Reading
+pub mod machine

@@ -1,0 +1,75 @@
+-- What a reader answers for one event more.
+--
+-- `StandsAt profile reader standing` says where a reader stands that was made for a profile and given
+-- some events since. At `Open n events`, n events came, and then those of the packet under way, none
+-- between packets: some packet begins with them, and they hold no whole one. At `Held n refusal`, n
+-- events came, and it holds the refusal of the next one. At `Passing n`, n events came, and it passes
+-- over what comes up to and with the next STOP. What this says of a reader's own fields is in
+-- `machine`, and nothing here needs it to be understood.
+use Rattle.std.specs.Prelude.{◌≡◌, ℕ, ◌+◌, Option, Some, None, Result, Ok, Err, List, [], ◌∷◌, ◌++◌, length}
+use Rattle.pmb_bus.specs.declared.event.Event.{Event}
+use Rattle.pmb_bus.specs.declared.event.Event.TheVariants.{Start, Byte, Ack, Nack, Stop}
+use Rattle.pmb_command.specs.Parts.{DeviceParts}
+use Rattle.pmb_transaction.specs.Packet.{Packet}
+use Rattle.pmb_transaction.specs.Capture.{MayFollow}
+use Rattle.pmb_transaction.specs.Reading.{RefusedAt, TruncatedAt}
+use Rattle.pmb_reader.specs.declared.reader.Took.{Took}
+use Rattle.pmb_reader.specs.declared.reader.Took.TheVariants as answers
+use Rattle.pmb_reader.specs.declared.reader.Reader.{Reader}
+use Rattle.pmb_reader.specs.declared.refusal.Refusal.{Refusal}
+use Rattle.pmb_reader.specs.Refusal.{refusal_data}
+pub use Rattle.pmb_reader.specs.machine.Standing.{Standing, Open, Held, Passing, StandsAt, last_read}
+
+-- where it stands behind an event that is passed over
+abbrev pub behind_passed : ℕ → Event → Standing
+behind_passed n Start = Passing (n + 1)
+behind_passed n (Byte b) = Passing (n + 1)
+behind_passed n Ack = Passing (n + 1)
+behind_passed n Nack = Passing (n + 1)
+behind_passed n Stop = Open (n + 1) []
+
+-- and once reading is to go on behind a refusal
+abbrev pub behind_resync : Standing → Standing
+behind_resync (Open n events) = Open n events
+behind_resync (Held n refusal) = Passing n
+behind_resync (Passing n) = Passing n
+
+-- What one event comes to. Of a packet: it goes on, it ends, or no packet goes on so. A refusal that
+-- is held is answered again. What is passed over is passed over.
+abbrev pub Takes : List DeviceParts → Standing → Event → Took → Reader → Type 0
+Takes profile (Open n events) event answers.More after = StandsAt profile after (Open n (events ++ event ∷ []))
+Takes profile (Open n events) event answers.Packet after =
+    Packet profile (last_read after) (events ++ event ∷ []) × StandsAt profile after (Open (n + length events + 1) [])
+Takes profile (Open n events) event (answers.Refused refusal) after =
+    RefusedAt profile n events event (refusal_data refusal) × StandsAt profile after (Held (n + length events) (refusal_data refusal))
+Takes profile (Held n refusal) event answers.More after = ⊥
+Takes profile (Held n refusal) event answers.Packet after = ⊥
+Takes profile (Held n refusal) event (answers.Refused again) after = (refusal_data again ≡ refusal) × StandsAt profile after (Held n refusal)
+Takes profile (Passing n) event answers.More after = StandsAt profile after (behind_passed n event)
+Takes profile (Passing n) event answers.Packet after = ⊥
+Takes profile (Passing n) event (answers.Refused refusal) after = ⊥
+
+-- the events that can come: none while a refusal is held, and any while they are passed over
+abbrev pub CanCome : List DeviceParts → Standing → Event → Type 0
+CanCome profile (Open n events) event = MayFollow profile events event
+CanCome profile (Held n refusal) event = ⊥
+CanCome profile (Passing n) event = Unit {0}
+
+-- what is answered at the end of the events: inside a packet that they are truncated, and a refusal
+-- that is held
+abbrev pub Finishes : List DeviceParts → Standing → Result Unit Refusal → Type 0
+Finishes profile (Open n events) (Ok done) = events ≡ []
+Finishes profile (Open n events) (Err refusal) = TruncatedAt profile n events (refusal_data refusal)
+Finishes profile (Held n refusal) (Ok done) = ⊥
+Finishes profile (Held n refusal) (Err again) = refusal_data again ≡ refusal
+Finishes profile (Passing n) (Ok done) = Unit {0}
+Finishes profile (Passing n) (Err refusal) = ⊥
+
+-- the refusal that is held
+abbrev pub IsHeldAt : Standing → Option Refusal → Type 0
+IsHeldAt (Open n events) None = Unit {0}
+IsHeldAt (Open n events) (Some refusal) = ⊥
+IsHeldAt (Held n refusal) None = ⊥
+IsHeldAt (Held n refusal) (Some held) = refusal_data held ≡ refusal
+IsHeldAt (Passing n) None = Unit {0}
+IsHeldAt (Passing n) (Some refusal) = ⊥

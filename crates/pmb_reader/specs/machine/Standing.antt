@@ -1,0 +1,53 @@
+-- Where a reader stands.
+use Rattle.std.specs.Prelude.{◌≡◌, ℕ, ◌+◌, List, [], length}
+use Rattle.pmb_bus.specs.declared.event.Event.{Event}
+use Rattle.pmb_bus.specs.Count.{capped}
+use Rattle.pmb_command.specs.Parts.{DeviceParts}
+use Rattle.pmb_transaction.specs.Transaction.{TransactionData}
+use Rattle.pmb_transaction.specs.Reading.{RefusalData}
+use Rattle.pmb_reader.specs.declared.reader.Mode.{Mode}
+use Rattle.pmb_reader.specs.declared.reader.Mode.TheVariants as modes
+use Rattle.pmb_reader.specs.declared.reader.Reader.{Reader}
+use Rattle.pmb_reader.specs.Refusal.{refusal_data}
+use Rattle.pmb_reader.specs.machine.Kept.{last_kept}
+use Rattle.pmb_reader.specs.machine.UnderWay.{StandsIn}
+
+-- Where a reader stands: n events came, and then those of the packet under way, if there are any; or
+-- n events came, and it holds a refusal of the next, or passes over those up to the next STOP.
+pub data Standing : Type 0 where
+  Open : (n : ℕ) → (events : List Event) → Standing
+  Held : (n : ℕ) → (refusal : RefusalData) → Standing
+  Passing : (n : ℕ) → Standing
+
+-- the events of the packet under way
+abbrev pub events_of : Standing → List Event
+events_of (Open n events) = events
+events_of (Held n refusal) = []
+events_of (Passing n) = []
+
+-- how many events came
+abbrev pub count_of : Standing → ℕ
+count_of (Open n events) = n + length events
+count_of (Held n refusal) = n
+count_of (Passing n) = n
+
+abbrev pub IsMode : Mode → Standing → Type 0
+IsMode modes.Open (Open n events) = Unit {0}
+IsMode modes.Open (Held n refusal) = ⊥
+IsMode modes.Open (Passing n) = ⊥
+IsMode (modes.Held held) (Open n events) = ⊥
+IsMode (modes.Held held) (Held n refusal) = refusal_data held ≡ refusal
+IsMode (modes.Held held) (Passing n) = ⊥
+IsMode modes.Passing (Open n events) = ⊥
+IsMode modes.Passing (Held n refusal) = ⊥
+IsMode modes.Passing (Passing n) = Unit {0}
+
+-- A reader that was made for a profile stands there.
+pub record StandsAt (profile : List DeviceParts) (reader : Reader) (standing : Standing) : Type 0 where
+  pub mode : IsMode reader.mode standing
+  pub counted : reader.used ≡ capped (count_of standing)
+  pub inside : StandsIn profile reader.under_way (events_of standing)
+
+-- the transaction whose packet ended last
+abbrev pub last_read : Reader → TransactionData
+last_read reader = last_kept reader.under_way.kept

@@ -1,0 +1,71 @@
+//! Pieces of a capture.
+
+ghost use Rattle.std.specs.Prelude.{List};
+ghost use Rattle.pmb_command.specs.Parts.{DeviceParts};
+ghost use Rattle.pmb_reader.specs.Reader.{Standing, StandsAt};
+ghost use Rattle.pmb_reader.specs.Feed.{Feeds};
+
+use crate::reader::{Reader, Took};
+use crate::refusal::Refusal;
+use pmb_bus::Event;
+use pmb_transaction::Transaction;
+
+/// What a piece of a capture came to.
+#[derive(Debug, Drop, PartialEq, Eq)]
+pub enum Outcome {
+    /// All of it is used. A packet may be under way.
+    More,
+    /// The last event used is the STOP of this packet.
+    Packet(Transaction),
+    /// The next event is not used: no packet goes on with it.
+    Refused(Refusal),
+}
+
+/// How many events of a piece were used, and what they came to.
+#[derive(Debug, Drop, PartialEq, Eq)]
+pub struct Feed {
+    /// How many events of the piece were used.
+    pub used: usize,
+    /// What they came to.
+    pub outcome: Outcome,
+}
+
+impl<'p> Reader<'p> {
+    /// Takes the next piece of a capture, up to and with the STOP that ends a packet, or up to and
+    /// without an event that no packet goes on with: the events behind `used` are to be given again.
+    ///
+    /// While a refusal is held, every call answers it and uses nothing. The transaction is handed
+    /// over by value; [`take`](Reader::take) and [`packet`](Reader::packet) lend it.
+    pub fn feed(&mut self, events: &[Event]) -> Feed
+        ensures { (profile : List DeviceParts) (standing : Standing) → StandsAt profile self.old standing
+            → Feeds profile standing events.now result.used result.outcome self.new }
+    {
+        if let Some(refusal) = self.held() {
+            return Feed {
+                used: 0,
+                outcome: Outcome::Refused(refusal),
+            };
+        }
+        for (i, event) in events.iter().enumerate() {
+            match self.take(*event) {
+                Took::More => {}
+                Took::Packet => {
+                    return Feed {
+                        used: i + 1,
+                        outcome: Outcome::Packet(self.take_packet()),
+                    };
+                }
+                Took::Refused(refusal) => {
+                    return Feed {
+                        used: i,
+                        outcome: Outcome::Refused(refusal),
+                    };
+                }
+            }
+        }
+        Feed {
+            used: events.len(),
+            outcome: Outcome::More,
+        }
+    }
+}

@@ -1,0 +1,32 @@
+//! Packets read from the events of a bus, one event at a time.
+//!
+//! A [`Reader`] takes the events of a capture in order. At each STOP that ends a packet it has the
+//! transaction; at the first event that no packet goes on with it answers why, and what might have
+//! come. It keeps no list of events: of the packet under way it keeps the parts so far, the bytes of
+//! the leg under way, and its packet error code.
+//!
+//! ```rust
+//! let profile = Profile::from_toml(rt.alloc(), SAMPLE.as_bytes())?;
+//! let mut reader = Reader::new(&profile);
+//! for event in [Event::Start, Event::Byte(0x40), Event::Nack] {
+//!     assert_eq!(rt; reader.take(event), Took::More);
+//! }
+//! assert_eq!(rt; reader.expected(), Kinds::STOP);
+//! assert_eq!(rt; reader.take(Event::Stop), Took::Packet);
+//! assert_eq!(rt; line_of(reader.packet()).as_str(), "refused 20");
+//! ```
+#![tactic(auto)]
+
+mod answering;
+mod expecting;
+mod feed;
+mod kept;
+pub mod laws;
+mod reader;
+mod refusal;
+mod under_way;
+mod writing;
+
+pub use feed::{Feed, Outcome};
+pub use reader::{Reader, Took};
+pub use refusal::Refusal;

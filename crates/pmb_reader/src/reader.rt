@@ -1,0 +1,209 @@
+//! Reads packets.
+//!
+//! A [`Reader`] is between packets or inside one, or it holds a refusal, or it passes events over up
+//! to the next STOP. What it keeps of the packet under way is [`UnderWay`], which alone knows what a
+//! packet is; here events are counted and refusals are kept.
+
+ghost use Rattle.std.specs.Prelude.{◌≡◌, ◌+◌, ℕ, List, [], length};
+ghost use Rattle.pmb_bus.specs.declared.event.Event.{Event as BusEvent};
+ghost use Rattle.pmb_bus.specs.Kinds.{AreKindsOf};
+ghost use Rattle.pmb_command.specs.Parts.{DeviceParts};
+ghost use Rattle.pmb_transaction.specs.Capture.{MayFollow};
+ghost use Rattle.pmb_transaction.specs.Reading.{RefusedAt};
+ghost use Rattle.pmb_transaction.specs.Transaction.{transaction_data};
+ghost use Rattle.pmb_reader.specs.Refusal.{refusal_data};
+ghost use Rattle.pmb_reader.specs.Reader.{Standing, Open, Held, Passing, StandsAt, CanCome, Finishes, IsHeldAt, Takes, behind_passed, behind_resync, last_read};
+
+use crate::refusal::Refusal;
+use crate::under_way::{Move, UnderWay};
+use pmb_bus::{Event, Kinds};
+use pmb_table::Profile;
+use pmb_transaction::{Reason, Transaction};
+
+/// What one event came to.
+#[derive(Clone, Copy, Debug, PartialEq, Eq)]
+pub enum Took {
+    /// It was used, and no packet ended.
+    More,
+    /// It was used, and ends the packet of [`Reader::packet`].
+    Packet,
+    /// It was not used: no packet goes on with it.
+    Refused(Refusal),
+}
+
+/// What a reader does with events.
+#[derive(Clone, Copy)]
+pub(crate) enum Mode {
+    /// It reads a packet.
+    Open,
+    /// It holds a refusal.
+    Held(Refusal),
+    /// It passes them over up to the next STOP.
+    Passing,
+}
+
+/// Reads the packets of a profile's devices from the events of a capture.
+#[derive(Drop)]
+pub struct Reader<'p> {
+    under_way: UnderWay<'p>,
+    /// How many events were used since `new`; stays at the greatest `u64`.
+    used: u64,
+    mode: Mode,
+}
+
+impl<'p> Reader<'p> {
+    /// A reader at the start of a capture.
+    pub fn new(profile: &'p Profile) -> Self
+        ensures { StandsAt profile.now result (Open 0 []) }
+    {
+        Reader {
+            under_way: UnderWay::new(profile),
+            used: 0,
+            mode: Mode::Open,
+        }
+    }
+
+    /// Takes one event.
+    ///
+    /// While a refusal is held, every call answers it and uses nothing.
+    #[inline]
+    pub fn take(&mut self, event: Event) -> Took
+        ensures { (profile : List DeviceParts) (standing : Standing) → StandsAt profile self.old standing
+            → Takes profile standing event result self.new }
+    {
+        match self.mode {
+            Mode::Open => self.read(event),
+            Mode::Held(refusal) => Took::Refused(refusal),
+            Mode::Passing => {
+                self.pass(event);
+                Took::More
+            }
+        }
+    }
+
+    /// The transaction whose packet ended last.
+    #[inline]
+    pub fn packet(&self) -> &Transaction
+        ensures { transaction_data result.now ≡ last_read self.now }
+    {
+        self.under_way.packet()
+    }
+
+    /// Gives away the transaction whose packet ended last.
+    pub(crate) fn take_packet(&mut self) -> Transaction
+        ensures read { transaction_data result ≡ last_read self.old }
+        ensures stands { (profile : List DeviceParts) (n : ℕ) → StandsAt profile self.old (Open n [])
+            → StandsAt profile self.new (Open n []) }
+    {
+        self.under_way.take_packet()
+    }
+
+    /// The refusal that is held.
+    pub(crate) fn held(&self) -> Option<Refusal>
+        ensures { (profile : List DeviceParts) (standing : Standing) → StandsAt profile self.now standing
+            → IsHeldAt standing result }
+    {
+        match self.mode {
+            Mode::Held(refusal) => Some(refusal),
+            Mode::Open | Mode::Passing => None,
+        }
+    }
+
+    /// The kinds of the events that some packet goes on with; none while a refusal is held, and all
+    /// while events are passed over.
+    pub fn expected(&self) -> Kinds
+        ensures { (profile : List DeviceParts) (standing : Standing) → StandsAt profile self.now standing
+            → AreKindsOf (CanCome profile standing) result }
+    {
+        match self.mode {
+            Mode::Open => self.under_way.expected(),
+            Mode::Held(_) => Kinds::empty(),
+            Mode::Passing => Kinds::all(),
+        }
+    }
+
+    /// The end of the capture.
+    ///
+    /// # Errors
+    ///
+    /// The refusal that is held, or, inside a packet, that it is truncated.
+    pub fn finish(&self) -> Result<(), Refusal>
+        ensures { (profile : List DeviceParts) (standing : Standing) → StandsAt profile self.now standing
+            → Finishes profile standing result }
+    {
+        match self.mode {
+            Mode::Open => {
+                if self.under_way.is_between() {
+                    Ok(())
+                } else {
+                    Err(Refusal {
+                        at: self.used,
+                        reason: Reason::Truncated,
+                        expected: self.under_way.expected(),
+                    })
+                }
+            }
+            Mode::Held(refusal) => Err(refusal),
+            Mode::Passing => Ok(()),
+        }
+    }
+
+    /// Goes on behind a refusal: the events up to and with the next STOP, the refused one among
+    /// them, are passed over. Where no refusal is held nothing changes.
+    pub fn resync(&mut self)
+        ensures { (profile : List DeviceParts) (standing : Standing) → StandsAt profile self.old standing
+            → StandsAt profile self.new (behind_resync standing) }
+    {
+        if let Mode::Held(_) = self.mode {
+            self.mode = Mode::Passing;
+        }
+    }
+
+    // Takes an event of a packet.
+    #[inline]
+    fn read(&mut self, event: Event) -> Took
+        ensures { (profile : List DeviceParts) (n : ℕ) (events : List BusEvent) → StandsAt profile self.old (Open n events)
+            → Takes profile (Open n events) event result self.new }
+    {
+        match self.under_way.step(event) {
+            Move::On => {
+                self.used = self.used.saturating_add(1);
+                Took::More
+            }
+            Move::Packet => {
+                self.used = self.used.saturating_add(1);
+                Took::Packet
+            }
+            Move::No => Took::Refused(self.refuse(event)),
+        }
+    }
+
+    // Refuses an event, and holds that.
+    #[inline(never)]
+    fn refuse(&mut self, event: Event) -> Refusal
+        ensures { (profile : List DeviceParts) (n : ℕ) (events : List BusEvent) → StandsAt profile self.old (Open n events)
+            → (MayFollow profile events event → ⊥) → RefusedAt profile n events event (refusal_data result)
+            × StandsAt profile self.new (Held (n + length events) (refusal_data result)) }
+    {
+        let refusal = Refusal {
+            at: self.used,
+            reason: self.under_way.reason(event),
+            expected: self.under_way.expected(),
+        };
+        self.under_way.restart();
+        self.mode = Mode::Held(refusal);
+        refusal
+    }
+
+    // Passes an event over.
+    #[inline]
+    fn pass(&mut self, event: Event)
+        ensures { (profile : List DeviceParts) (n : ℕ) → StandsAt profile self.old (Passing n)
+            → StandsAt profile self.new (behind_passed n event) }
+    {
+        self.used = self.used.saturating_add(1);
+        if let Event::Stop = event {
+            self.mode = Mode::Open;
+        }
+    }
+}
