@@ -1,0 +1,15 @@
+//! Packets by the rules in words, for tests to compare with: [`packet`] builds the events of a
+//! transaction rule by rule, and [`is_viable`] finds by trying transactions whether events may go
+//! on. Both are slow, and short enough to be believed: what writes and reads packets is compared
+//! with them, and they, in `tests_transactions`, with events that were written by hand.
+#![tactic(auto)]
+
+mod legs;
+mod packets;
+mod texts;
+mod viability;
+
+pub use legs::NoPacket;
+pub use packets::packet;
+pub use texts::{LONG_FORMS, events, seventeen_devices};
+pub use viability::{is_viable, kinds_after};

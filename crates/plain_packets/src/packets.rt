@@ -1,0 +1,184 @@
+//! The events of a transaction, built rule by rule.
+
+use crate::legs::{
+    Body, NoPacket, address_byte, allowed, allows, goes_on, is_leg, leg_bytes, plain_pec, push_leg,
+    push_wire, reply_form, require,
+};
+use pmb_bus::Event;
+use pmb_table::{DeviceProfile, Form, Profile};
+use pmb_transaction::{Part, Transaction};
+use std::alloc::Global;
+
+fn device(profile: &Profile, addr: u8) -> Result<&DeviceProfile, NoPacket> {
+    profile.device(addr).ok_or(NoPacket::AgainstTheRules)
+}
+
+fn has_address(parts: &[Part], addr: u8) -> bool {
+    for part in parts {
+        if part.addr == addr {
+            return true;
+        }
+    }
+    false
+}
+
+/// The legs of parts, no two of which are for one device.
+fn parts_events(alloc: Global, profile: &Profile, parts: &[Part]) -> Result<Vec<Event>, NoPacket> {
+    let mut events = Vec::new(alloc);
+    for (index, part) in parts.iter().enumerate() {
+        require(!has_address(&parts[..index], part.addr))?;
+        let device = device(profile, part.addr)?;
+        let body = Body::Write { pec: part.pec };
+        let bytes = leg_bytes(alloc, device, body, part.code, part.bytes.as_slice())?;
+        push_leg(&mut events, bytes.as_slice(), Event::Ack)?;
+    }
+    Ok(events)
+}
+
+fn write_events(alloc: Global, profile: &Profile, parts: &[Part]) -> Result<Vec<Event>, NoPacket> {
+    require(!parts.is_empty())?;
+    let mut events = parts_events(alloc, profile, parts)?;
+    events.push(Event::Stop)?;
+    Ok(events)
+}
+
+/// The leg that was sent, and the leg of the reply in the form; a packet error code covers the bytes
+/// of both.
+fn answered(
+    alloc: Global,
+    device: &DeviceProfile,
+    sent: &[u8],
+    form: Form,
+    reply: &[u8],
+    pec: bool,
+) -> Result<Vec<Event>, NoPacket> {
+    require(allows(device.pec(), pec))?;
+    let mut answer = Vec::new(alloc);
+    answer.push(address_byte(device.address(), true)?)?;
+    push_wire(&mut answer, form, reply)?;
+    if pec {
+        let mut covered = Vec::new(alloc);
+        covered.extend_from_slice(sent)?;
+        covered.extend_from_slice(answer.as_slice())?;
+        answer.push(plain_pec(covered.as_slice()))?;
+    }
+    let mut events = Vec::new(alloc);
+    push_leg(&mut events, sent, Event::Ack)?;
+    push_leg(&mut events, answer.as_slice(), Event::Nack)?;
+    events.push(Event::Stop)?;
+    Ok(events)
+}
+
+/// A refused packet: complete parts, then a leg whose last byte was refused.
+fn refused_byte_events(
+    alloc: Global,
+    profile: &Profile,
+    parts: &[Part],
+    addr: u8,
+    sent: &[u8],
+) -> Result<Vec<Event>, NoPacket> {
+    require(!has_address(parts, addr))?;
+    let mut events = parts_events(alloc, profile, parts)?;
+    let mut bytes = Vec::new(alloc);
+    bytes.push(address_byte(addr, false)?)?;
+    bytes.extend_from_slice(sent)?;
+    if let Some((_, front)) = bytes.as_slice().split_last() {
+        // The address byte may be refused by no device; the first byte behind it may have any
+        // value.
+        if !sent.is_empty() {
+            let device = device(profile, addr)?;
+            let bodies = allowed(parts.is_empty());
+            require(front.len() == 1 || goes_on(alloc, device, bodies, front)?)?;
+        }
+    }
+    push_leg(&mut events, bytes.as_slice(), Event::Nack)?;
+    events.push(Event::Stop)?;
+    Ok(events)
+}
+
+/// A refused packet: a leg that asks for a reply, then a read address that was refused.
+fn refused_read_events(
+    alloc: Global,
+    profile: &Profile,
+    parts: &[Part],
+    addr: u8,
+    sent: &[u8],
+) -> Result<Vec<Event>, NoPacket> {
+    require(parts.is_empty())?;
+    let device = device(profile, addr)?;
+    let mut bytes = Vec::new(alloc);
+    bytes.push(address_byte(addr, false)?)?;
+    bytes.extend_from_slice(sent)?;
+    require(is_leg(alloc, device, &[Body::Read, Body::Call], bytes.as_slice())?)?;
+    let mut events = Vec::new(alloc);
+    push_leg(&mut events, bytes.as_slice(), Event::Ack)?;
+    push_leg(&mut events, &[address_byte(addr, true)?], Event::Nack)?;
+    events.push(Event::Stop)?;
+    Ok(events)
+}
+
+/// The answer at the Alert Response Address, read: none, a byte, or a byte and its packet error
+/// code.
+fn alert_events(alloc: Global, answer: &[u8]) -> Result<Vec<Event>, NoPacket> {
+    let mut bytes = Vec::new(alloc);
+    bytes.push(0x19)?;
+    bytes.extend_from_slice(answer)?;
+    let mut events = Vec::new(alloc);
+    push_leg(&mut events, bytes.as_slice(), Event::Nack)?;
+    events.push(Event::Stop)?;
+    Ok(events)
+}
+
+/// The events of the packet of a transaction under a profile.
+pub fn packet(
+    alloc: Global,
+    profile: &Profile,
+    transaction: &Transaction,
+) -> Result<Vec<Event>, NoPacket> {
+    match transaction {
+        Transaction::Write { parts } => write_events(alloc, profile, parts.as_slice()),
+        Transaction::Read {
+            addr,
+            code,
+            reply,
+            pec,
+        } => {
+            let device = device(profile, *addr)?;
+            let sent = leg_bytes(alloc, device, Body::Read, *code, &[])?;
+            let form = reply_form(device, Body::Read, *code)?;
+            answered(alloc, device, sent.as_slice(), form, reply.as_slice(), *pec)
+        }
+        Transaction::Call {
+            addr,
+            code,
+            bytes,
+            reply,
+            pec,
+        } => {
+            let device = device(profile, *addr)?;
+            let sent = leg_bytes(alloc, device, Body::Call, *code, bytes.as_slice())?;
+            let form = reply_form(device, Body::Call, *code)?;
+            answered(alloc, device, sent.as_slice(), form, reply.as_slice(), *pec)
+        }
+        Transaction::Refused {
+            parts,
+            addr,
+            sent,
+            at_read,
+        } => {
+            if *at_read {
+                refused_read_events(alloc, profile, parts.as_slice(), *addr, sent.as_slice())
+            } else {
+                refused_byte_events(alloc, profile, parts.as_slice(), *addr, sent.as_slice())
+            }
+        }
+        Transaction::Alert { byte, pec } => {
+            if *pec {
+                alert_events(alloc, &[*byte, plain_pec(&[0x19, *byte])])
+            } else {
+                alert_events(alloc, &[*byte])
+            }
+        }
+        Transaction::NoAlert => alert_events(alloc, &[]),
+    }
+}

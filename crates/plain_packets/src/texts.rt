@@ -1,0 +1,54 @@
+//! Captures and profiles as rows of tests tell them.
+
+use pmb_bus::{Event, Lexer, Step};
+use std::alloc::{AllocError, Global};
+
+/// The events that a capture text spells.
+pub fn events(alloc: Global, text: &str) -> Result<Vec<Event>, AllocError> {
+    let mut events = Vec::new(alloc);
+    let mut lexer = Lexer::new();
+    let mut rest = text.as_bytes();
+    for _ in 0..text.len() {
+        let lexed = lexer.feed(rest);
+        rest = &rest[lexed.used..];
+        match lexed.step {
+            Step::Event(event) => events.push(event)?,
+            Step::Need | Step::Fault(_) => break,
+        }
+    }
+    if let Ok(Some(event)) = lexer.finish() {
+        events.push(event)?;
+    }
+    Ok(events)
+}
+
+/// A device with commands of four and eight bytes, and one that is called with two.
+pub const LONG_FORMS: &str = r#"[[device]]
+address = 0x10
+pec = "optional"
+
+[[device.command]]
+code = 0xe0
+write = "four"
+read = "four"
+
+[[device.command]]
+code = 0xe1
+read = "eight"
+
+[[device.command]]
+code = 0xe2
+call = "two"
+"#;
+
+/// 17 devices without packet error codes, 10h to 20h, each with CLEAR_FAULTS alone.
+pub fn seventeen_devices(alloc: Global) -> Result<String, AllocError> {
+    let mut text = String::new(alloc);
+    for address in 0x10..0x21u8 {
+        let device = format!(in alloc;
+            "[[device]]\naddress = {address}\npec = \"off\"\nstandard = false\n\n[[device.command]]\ncode = 3\nwrite = \"zero\"\n\n"
+        )?;
+        text.push_str(device.as_str())?;
+    }
+    Ok(text)
+}
