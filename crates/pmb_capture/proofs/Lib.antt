@@ -1,0 +1,9 @@
+pub mod Passing
+pub mod Reporting
+pub mod Texts
+pub mod Outcomes
+pub mod Endings
+pub mod Taking
+pub mod Putting
+pub mod Running
+pub mod Shown

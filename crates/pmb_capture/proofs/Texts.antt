@@ -1,0 +1,53 @@
+-- The text of outcomes and then others.
+use Rattle.std.proofs.Common.{◌≡◌, ◌+◌, Bool, not, List, [], ◌∷◌, ◌++◌, count_by, cond, sym, ap, ◌∙◌, refl, append_assoc, append-nil}
+use Rattle.std.proofs.lemmas.List.Elements.{filter-append}
+use Rattle.std.proofs.lemmas.List.Sums.{sum_by-append}
+use Rattle.pmb_transaction.specs.Reading.{Outcome, Accepted, Refusal}
+use Rattle.pmb_transaction.specs.Transaction.{TransactionData}
+use Rattle.pmb_capture.specs.Lines.{refusal_line}
+use Rattle.pmb_capture.specs.Output.{OutputText, accepted_in, but_truncation, is_packet, is_truncation, packets_in, refusals_in, text_behind}
+
+pub accepted_append : (a b : List Outcome) → accepted_in (a ++ b) ≡ accepted_in a ++ accepted_in b
+accepted_append [] b = refl
+accepted_append (Accepted t ∷ a) b = ap (λ ts. t ∷ ts) (accepted_append a b)
+accepted_append (Refusal refusal ∷ a) b = accepted_append a b
+
+pub text_append : (output : OutputText) (before : List TransactionData) (a b : List Outcome)
+    → text_behind output before (a ++ b) ≡ text_behind output before a ++ text_behind output (before ++ accepted_in a) b
+text_append output before [] b = ap (λ ts. text_behind output ts b) (sym (append-nil before))
+text_append output before (Accepted t ∷ a) b =
+    ap (λ text. output.of_packet before t ++ text)
+    (text_append output (before ++ t ∷ []) a b
+    ∙ ap (λ ts. text_behind output (before ++ t ∷ []) a ++ text_behind output ts b) (append_assoc before (t ∷ []) (accepted_in a)))
+    ∙ sym (append_assoc (output.of_packet before t) (text_behind output (before ++ t ∷ []) a) (text_behind output (before ++ t ∷ accepted_in a) b))
+text_append output before (Refusal refusal ∷ a) b =
+    ap (λ text. refusal_line refusal ++ text) (text_append output before a b)
+    ∙ sym (append_assoc (refusal_line refusal) (text_behind output before a) (text_behind output (before ++ accepted_in a) b))
+
+-- behind some, from the start
+pub texts_then : (output : OutputText) (outcomes a b : List Outcome)
+    → text_behind output (accepted_in outcomes) (a ++ b) ≡ text_behind output (accepted_in outcomes) a ++ text_behind output (accepted_in (outcomes ++ a)) b
+texts_then output outcomes a b =
+    text_append output (accepted_in outcomes) a b
+    ∙ ap (λ ts. text_behind output (accepted_in outcomes) a ++ text_behind output ts b) (sym (accepted_append outcomes a))
+
+-- ---- counts
+
+count_by-append : (p : Outcome → Bool) (xs ys : List Outcome) → count_by p (xs ++ ys) ≡ count_by p xs + count_by p ys
+count_by-append p xs ys = sum_by-append (λ x. cond (p x) 1 0) xs ys
+
+pub packets_append : (a b : List Outcome) → packets_in (a ++ b) ≡ packets_in a + packets_in b
+packets_append a b = count_by-append is_packet a b
+
+pub refusals_append : (a b : List Outcome) → refusals_in (a ++ b) ≡ refusals_in a + refusals_in b
+refusals_append a b = count_by-append (λ o. not (is_packet o)) a b
+
+-- ---- an end inside a packet is all that is left out
+
+pub left_in_both : (a b : List Outcome) → but_truncation a ≡ a → but_truncation b ≡ b → but_truncation (a ++ b) ≡ a ++ b
+left_in_both a b first second =
+    filter-append (λ o. not (is_truncation o)) a b ∙ (ap (λ l. l ++ but_truncation b) first ∙ ap (λ l. a ++ l) second)
+
+pub left_out : (outcomes last : List Outcome) → but_truncation outcomes ≡ outcomes → but_truncation last ≡ [] → but_truncation (outcomes ++ last) ≡ outcomes
+left_out outcomes last whole inside =
+    filter-append (λ o. not (is_truncation o)) outcomes last ∙ (ap (λ l. l ++ but_truncation last) whole ∙ (ap (λ l. outcomes ++ l) inside ∙ append-nil outcomes))

@@ -1,0 +1,6 @@
+pub mod Lines
+pub mod Output
+pub mod Written
+pub mod Show
+pub mod Check
+pub mod machine

@@ -1,0 +1,5 @@
+//! The commands of this layer.
+
+pub(crate) mod check_capture;
+pub(crate) mod show;
+mod written;

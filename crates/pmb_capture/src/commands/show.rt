@@ -1,0 +1,73 @@
+//! What is shown of a capture.
+
+ghost use Rattle.std.specs.Prelude.{◌≡◌, ◌≢◌, ◌≤◌, ◌⊎◌, length, IfOk, Err};
+ghost use Rattle.pmb_bus.specs.Text.{BeginsText};
+ghost use Rattle.pmb_io.specs.Count.{raised};
+ghost use Rattle.pmb_io.specs.Runs.{Ended, MadeReads, Stopped, Through, most_reads};
+ghost use Rattle.pmb_capture.specs.Show.{ShowsAtEnd, ShowsFront, StopsAtBadWord};
+
+use crate::commands::written::write_capture;
+use crate::packet_lines::PacketLines;
+use pmb_io::{Sink, Source, Tally, ToolFault};
+use pmb_table::Profile;
+
+/// Writes a line for each packet and each refusal of the capture whose text is `first` and what the
+/// reader gives, under a profile.
+///
+/// The lines of a piece are written before the next is read. It ends with the reader, or at a word
+/// that is no token, whose line comes last.
+///
+/// # Errors
+///
+/// `Read` where the reader failed: the lines of what was read before are written. `Write` where the
+/// writer failed. `TooManyReads` where 2^32 reads gave bytes and the reader had not ended.
+pub fn show<R: Source, W: Sink>(
+    profile: &Profile,
+    first: &[u8],
+    reader: &mut R,
+    writer: &mut W,
+) -> Result<Tally, ToolFault>
+    // What was written is what is shown of `first` and the bytes read, however the reader cut them:
+    // they ended, or a word is no token.
+    ensures ok { IfOk result (λ tally.
+        Ended (λ bytes text. ShowsAtEnd profile.now bytes text tally) first.now
+        (record { left = R.remaining reader.old; given = R.given reader.old; held = W.contents writer.old })
+        (record { left = R.remaining reader.new; given = R.given reader.new; held = W.contents writer.new })
+        (R.has_ended reader.new)
+        ⊎ Stopped (λ bytes text. StopsAtBadWord profile.now bytes text tally) BeginsText first.now
+        (record { left = R.remaining reader.old; given = R.given reader.old; held = W.contents writer.old })
+        (record { left = R.remaining reader.new; given = R.given reader.new; held = W.contents writer.new })) }
+
+    // The reader failed in this call exactly where it answers `Read`, the writer where it answers
+    // `Write`.
+    ensures read { result ≡ Err ToolFault.Read → R.failures reader.new ≡ raised (R.failures reader.old) 1 }
+    ensures no_read { result ≢ Err ToolFault.Read → R.failures reader.new ≡ R.failures reader.old }
+    ensures write { result ≡ Err ToolFault.Write → W.failures writer.new ≡ raised (W.failures writer.old) 1 }
+    ensures no_write { result ≢ Err ToolFault.Write → W.failures writer.new ≡ W.failures writer.old }
+    ensures memory { result ≢ Err ToolFault.Memory }
+    ensures profile { result ≢ Err ToolFault.ProfileTooLong }
+
+    // It makes no more reads than these, and so many before it answers `TooManyReads`.
+    ensures reads { MadeReads (R.reads reader.old) (R.reads reader.new) }
+    ensures too_many { result ≡ Err ToolFault.TooManyReads → R.reads reader.new ≡ raised (R.reads reader.old) most_reads }
+    ensures not_ended { result ≡ Err ToolFault.TooManyReads → R.has_ended reader.new ≡ R.has_ended reader.old }
+
+    // A reader that ended in this call is not read again, so that no failed read is behind its end.
+    ensures read_not_ended { result ≡ Err ToolFault.Read → R.has_ended reader.new ≡ R.has_ended reader.old }
+
+    // What was written before reading failed, or before too many reads, is the lines of what was
+    // read, a front of its text.
+    ensures before { (result ≡ Err ToolFault.Read) ⊎ (result ≡ Err ToolFault.TooManyReads)
+        → Through (ShowsFront profile.now) first.now
+        (record { left = R.remaining reader.old; given = R.given reader.old; held = W.contents writer.old })
+        (record { left = R.remaining reader.new; given = R.given reader.new; held = W.contents writer.new }) }
+
+    // Too many reads gave as many bytes at least.
+    ensures many { result ≡ Err ToolFault.TooManyReads
+        → (through : Through (ShowsFront profile.now) first.now
+        (record { left = R.remaining reader.old; given = R.given reader.old; held = W.contents writer.old })
+        (record { left = R.remaining reader.new; given = R.given reader.new; held = W.contents writer.new }))
+        × (most_reads ≤ length through.read) }
+{
+    write_capture(profile, PacketLines::new(), first, reader, writer)
+}

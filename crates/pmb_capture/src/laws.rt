@@ -1,0 +1,50 @@
+//! Laws over the definitions alone.
+
+ghost use Rattle.std.specs.Prelude.{◌≡◌, ℕ, List, length};
+ghost use Rattle.std.specs.List.{flat_map};
+ghost use Rattle.pmb_bus.specs.declared.event.Event.{Event};
+ghost use Rattle.pmb_bus.specs.Text.{Spells};
+ghost use Rattle.pmb_command.specs.Bus.{IsBus};
+ghost use Rattle.pmb_command.specs.Parts.{DeviceParts};
+ghost use Rattle.pmb_io.specs.declared.tally.Tally.{Tally};
+ghost use Rattle.pmb_io.specs.Count.{counted};
+ghost use Rattle.pmb_transaction.specs.Capture.{Capture};
+ghost use Rattle.pmb_transaction.specs.Transaction.{TransactionData};
+ghost use Rattle.pmb_capture.specs.Check.{Checks};
+ghost use Rattle.pmb_capture.specs.Lines.{packet_line};
+ghost use Rattle.pmb_capture.specs.Show.{Shows};
+
+use pmb_bus::laws::{one_bad_word, one_spelling, spelled_has_no_bad_word};
+use pmb_transaction::laws::{captures_read_as_written, one_reading};
+
+/// What is shown of bytes, and its tally, is a function of the bytes under a profile that is accepted.
+pub fn one_showing()
+    ensures { (profile : List DeviceParts) (bytes a b : List ℕ) (s t : Tally) → IsBus profile
+        → Shows profile bytes a s → Shows profile bytes b t → (a ≡ b) × (s ≡ t) }
+{
+    one_reading();
+    one_spelling();
+    one_bad_word();
+    spelled_has_no_bad_word();
+}
+
+/// And so is what is written of them in a check.
+pub fn one_check()
+    ensures { (profile : List DeviceParts) (bytes a b : List ℕ) (s t : Tally) → IsBus profile
+        → Checks profile bytes a s → Checks profile bytes b t → (a ≡ b) × (s ≡ t) }
+{
+    one_reading();
+    one_spelling();
+    one_bad_word();
+    spelled_has_no_bad_word();
+}
+
+/// The capture of transactions, however it is spelled, is shown as their lines, and nothing in it is
+/// refused, under a profile that is accepted.
+pub fn captures_are_shown()
+    ensures { (profile : List DeviceParts) (ts : List TransactionData) (events : List Event) (bytes : List ℕ) → IsBus profile
+        → Capture profile ts events → Spells bytes events
+        → Shows profile bytes (flat_map packet_line ts) (record { packets = counted (length ts); refusals = 0 }) }
+{
+    captures_read_as_written();
+}

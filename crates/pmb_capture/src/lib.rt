@@ -1,0 +1,27 @@
+//! Captures: what is written of them under a profile.
+//!
+//! [`show`] writes a line for each packet and each refusal of a capture; [`check_capture`] writes the
+//! refusals alone, and how many packets and refusals there were.
+//!
+//! ```rust
+//! let profile = Profile::from_toml(rt.alloc(), SAMPLE.as_bytes())?;
+//! let mut reader = Io::new(b" 18 A f8 A P".as_slice());
+//! let mut writer = Io::new(Vec::new(rt.alloc()));
+//! let tally = show(&profile, b"S b0 A 21 A 00 A", &mut reader, &mut writer)?;
+//! assert_eq!(rt; tally, Tally { packets: 1, refusals: 0 });
+//! assert_eq!(rt; writer.into_inner().as_slice(), b"write 58 21 00 18 pec\n".as_slice());
+//! ```
+#![tactic(auto)]
+
+mod capture;
+mod commands;
+pub mod laws;
+mod lines;
+mod nowhere;
+mod output;
+mod packet_lines;
+mod reported;
+mod tally_alone;
+
+pub use commands::check_capture::check_capture;
+pub use commands::show::show;

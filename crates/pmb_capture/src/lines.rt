@@ -1,0 +1,118 @@
+//! The lines of refusals, of words that are no token, and of a tally.
+
+ghost use Rattle.std.specs.Prelude.{◌≡◌, ◌+◌, ◌≤◌, ℕ, List, Bool, bit_and, ◌==◌, [], ◌∷◌, ◌++◌, length, codes};
+ghost use Rattle.pmb_bus.specs.declared.event.Event.TheVariants.{Start, Byte, Ack, Nack, Stop};
+ghost use Rattle.pmb_bus.specs.Kinds.{bits, holds};
+ghost use Rattle.pmb_reader.specs.Refusal.{refusal_data};
+ghost use Rattle.pmb_capture.specs.Lines.{bad_token_line as bad_token_text, joined, kind_names, reason_name as reason_text, refusal_line as refusal_text, tally_line as tally_text, with_name};
+
+use arrayvec::ArrayVec;
+use itoa::Buffer;
+use pmb_bus::Kinds;
+use pmb_io::Tally;
+use pmb_reader::Refusal;
+use pmb_transaction::Reason;
+
+/// A line with its LF.
+pub(crate) type Line = ArrayVec<u8, 128>;
+
+fn append(line: &mut Line, text: &[u8])
+    requires { length line.old.items + length text.now ≤ 128 }
+    ensures { line.new.items ≡ line.old.items ++ text.now }
+{
+    let _ = line.try_extend_from_slice(text);
+}
+
+/// The line of a refusal.
+pub(crate) fn refusal_line(refusal: Refusal) -> Line
+    ensures { result.items ≡ refusal_text (refusal_data refusal) }
+{
+    let mut line = Line::new();
+    append(&mut line, b"# refusal at ");
+    append(&mut line, Buffer::new().format(refusal.at).as_bytes());
+    append(&mut line, b": ");
+    append(&mut line, reason_name(refusal.reason));
+    append(&mut line, b", expected ");
+    append_kinds(&mut line, refusal.expected);
+    append(&mut line, b"\n");
+    line
+}
+
+fn reason_name(reason: Reason) -> &'static [u8]
+    ensures name { result.now ≡ reason_text reason }
+    ensures short { length result.now ≤ 14 }
+{
+    match reason {
+        Reason::ReadFirst => b"ReadFirst",
+        Reason::BadRestart => b"BadRestart",
+        Reason::BadPec => b"BadPec",
+        Reason::UnknownDevice => b"UnknownDevice",
+        Reason::UnknownCommand => b"UnknownCommand",
+        Reason::TooLong => b"TooLong",
+        Reason::TooShort => b"TooShort",
+        Reason::WrongEvent => b"WrongEvent",
+        Reason::Truncated => b"Truncated",
+    }
+}
+
+/// Appends the names of kinds, with ` or ` between each two.
+fn append_kinds(line: &mut Line, kinds: Kinds)
+    requires { length line.old.items + 45 ≤ 128 }
+    ensures names { line.new.items ≡ line.old.items ++ joined [] (kind_names kinds) }
+    ensures short { length line.new.items ≤ length line.old.items + 45 }
+{
+    let mark = append_kind(line, b"", kinds, Kinds::START, b"Start");
+    let mark = append_kind(line, mark, kinds, Kinds::BYTE, b"Byte");
+    let mark = append_kind(line, mark, kinds, Kinds::ACK, b"Ack");
+    let mark = append_kind(line, mark, kinds, Kinds::NACK, b"Nack");
+    append_kind(line, mark, kinds, Kinds::STOP, b"Stop");
+}
+
+/// Appends a mark and the name of a kind, where it is one of these kinds, and answers the mark
+/// before the next name.
+fn append_kind(
+    line: &mut Line,
+    mark: &'static [u8],
+    kinds: Kinds,
+    kind: Kinds,
+    name: &[u8],
+) -> &'static [u8]
+    requires room { length line.old.items + 9 ≤ 128 }
+    requires mark { length mark.now ≤ 4 }
+    requires name { length name.now ≤ 5 }
+    ensures names { (rest : List (List ℕ))
+        → line.new.items ++ joined result.now rest ≡ line.old.items ++ joined mark.now (with_name (bit_and (bits kinds) (bits kind) == bits kind) name.now rest) }
+    ensures next { length result.now ≤ 4 }
+    ensures short { length line.new.items ≤ length line.old.items + 9 }
+{
+    if !kinds.contains(kind) {
+        return mark;
+    }
+    append(line, mark);
+    append(line, name);
+    b" or "
+}
+
+/// The line of a word that is no token.
+pub(crate) fn bad_token_line(at: u64) -> Line
+    ensures { result.items ≡ bad_token_text at }
+{
+    let mut line = Line::new();
+    append(&mut line, b"# bad token at byte ");
+    append(&mut line, Buffer::new().format(at).as_bytes());
+    append(&mut line, b"\n");
+    line
+}
+
+/// The line of a tally.
+pub(crate) fn tally_line(tally: Tally) -> Line
+    ensures { result.items ≡ tally_text tally }
+{
+    let mut line = Line::new();
+    append(&mut line, b"packets ");
+    append(&mut line, Buffer::new().format(tally.packets).as_bytes());
+    append(&mut line, b" refusals ");
+    append(&mut line, Buffer::new().format(tally.refusals).as_bytes());
+    append(&mut line, b"\n");
+    line
+}

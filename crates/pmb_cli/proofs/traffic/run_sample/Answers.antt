@@ -1,0 +1,49 @@
+use Rattle.std.proofs.Common.{◌≡◌, ◌∙◌, ◌≤◌, ℕ, [], inl, inr, ap, sym, subst}
+use Rattle.pmb_io.specs.declared.fault.ToolFault.TheVariants.{Read, Write}
+use Rattle.pmb_cli.specs.Status.{run_status}
+use Rattle.pmb_cli.specs.Traffic.{Wrote}
+use Rattle.pmb_cli.proofs.Statuses.{at_ok, ended_well, io_fault, no_fault, not_refused, part_at, read_often}
+use Rattle.pmb_cli.proofs.traffic.run_sample.Goals as goal
+
+pub returns-in-Ok-clause-wrote : goal.returns-in-Ok-clause-wrote
+returns-in-Ok-clause-wrote g c done =
+    let status : run_status c.run.result ≤ 1 = subst (λ (n : ℕ). n ≤ 1) c.ended.ensures.status done in
+    let well = ended_well c.run.result status in (
+      well.0,
+      c.ended.ensures.status ∙ ap run_status well.1,
+      record {
+        profile = c.in-Ok.profile;
+        says = c.in-Ok.ensures.ok;
+        holds = at_ok (λ tally. Wrote c.args.work c.in-Ok.profile tally [] (record { left = g.R.Source.remaining c.args.reader.now; given = g.R.Source.given c.args.reader.now; held = g.W.Sink.contents c.args.out.now })
+            (record { left = g.R.Source.remaining c.run.new.reader; given = g.R.Source.given c.run.new.reader; held = g.W.Sink.contents c.run.new.out }) (g.R.Source.has_ended c.run.new.reader)) c.run.result well.0 well.1 c.run.ensures.ok;
+      },
+    )
+
+pub returns-in-Ok-clause-io_failed : goal.returns-in-Ok-clause-io_failed
+returns-in-Ok-clause-io_failed g c three =
+    let status : run_status c.run.result ≡ 3 = sym c.ended.ensures.status ∙ three in
+    elim (io_fault c.run.result status) [
+      | inl read ↦ inl (c.run.ensures.read read, c.run.ensures.read_not_ended read)
+      | inr (inl write) ↦ inr (inl (c.run.ensures.write write))
+      | inr (inr often) ↦ inr (inr (read_often _ _ _ _ (c.run.ensures.many often).0.read (c.run.ensures.too_many often) (c.run.ensures.many often).0.consumed (c.run.ensures.many often).1))
+    ]
+
+pub returns-in-Ok-clause-no_fault : goal.returns-in-Ok-clause-no_fault
+returns-in-Ok-clause-no_fault g c two = not_refused c.run.result c.run.ensures.memory c.run.ensures.profile (inl (sym c.ended.ensures.status ∙ two))
+
+pub returns-in-Ok-clause-unwritten : goal.returns-in-Ok-clause-unwritten
+returns-in-Ok-clause-unwritten g c refused = absurd (not_refused c.run.result c.run.ensures.memory c.run.ensures.profile (elim refused [
+  | inl two ↦ inl (sym c.ended.ensures.status ∙ two)
+  | inr four ↦ inr (sym c.ended.ensures.status ∙ four)
+]))
+
+pub returns-in-Ok-clause-done : goal.returns-in-Ok-clause-done
+returns-in-Ok-clause-done g c done =
+    let status : run_status c.run.result ≤ 1 = subst (λ (n : ℕ). n ≤ 1) c.ended.ensures.status done in
+    (c.run.ensures.no_read (no_fault c.run.result Read status), c.run.ensures.no_write (no_fault c.run.result Write status))
+
+pub returns-in-Ok-clause-part : goal.returns-in-Ok-clause-part
+returns-in-Ok-clause-part g c three =
+    let status : run_status c.run.result ≡ 3 = sym c.ended.ensures.status ∙ three in
+    part_at c.run.result _ _ (io_fault c.run.result status) c.run.ensures.write
+    (λ failed. record { profile = c.in-Ok.profile; says = c.in-Ok.ensures.ok; holds = c.run.ensures.before failed })

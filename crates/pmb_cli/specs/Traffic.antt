@@ -1,0 +1,70 @@
+-- What `pmb show`, `pmb check` and `pmb build` write of what they read.
+use Rattle.std.specs.Prelude.{◌≡◌, ◌⊎◌, ℕ, Bool, true, List, []}
+use Rattle.std.specs.Io.KnownBytes.{IsAtEnd}
+use Rattle.pmb_build.specs.Lines.{BuildsEnded, BuildsInput}
+use Rattle.pmb_bus.specs.Text.{BeginsText}
+use Rattle.pmb_capture.specs.Check.{ChecksAtEnd, ChecksFront, ChecksUpToBadWord}
+use Rattle.pmb_capture.specs.Show.{ShowsAtEnd, ShowsFront, StopsAtBadWord}
+use Rattle.pmb_command.specs.Parts.{DeviceParts}
+use Rattle.pmb_io.specs.Runs.{Ended, OpenBefore, Stopped, Through, Told}
+use Rattle.pmb_io.specs.declared.tally.Tally.{Tally}
+use Rattle.pmb_cli.specs.Front.{FirstMark, Undecided}
+use Rattle.pmb_cli.specs.Matter.{Behind, PartBehind, UnderSample}
+use Rattle.pmb_cli.specs.declared.traffic.Work.{Work}
+use Rattle.pmb_cli.specs.declared.traffic.Work.TheVariants.{Show, Check, Build}
+
+-- ---- by the work
+
+-- the text that is written for a capture or for lines, all of which has ended
+abbrev pub WritesAll : Work → List DeviceParts → Tally → List ℕ → List ℕ → Type 0
+WritesAll Show profile tally bytes text = ShowsAtEnd profile bytes text tally
+WritesAll Check profile tally bytes text = ChecksAtEnd profile bytes text tally
+WritesAll Build profile tally bytes text = BuildsInput profile tally bytes text
+
+-- for a capture up to a word that is no token; lines have no such word
+abbrev pub WritesUpToBadWord : Work → List DeviceParts → Tally → List ℕ → List ℕ → Type 0
+WritesUpToBadWord Show profile tally bytes text = StopsAtBadWord profile bytes text tally
+WritesUpToBadWord Check profile tally bytes text = ChecksUpToBadWord profile bytes text tally
+WritesUpToBadWord Build profile tally bytes text = ⊥
+
+-- for a capture or lines that go on: the text of the words or the lines that have ended
+abbrev pub WritesFront : Work → List DeviceParts → List ℕ → List ℕ → Type 0
+WritesFront Show profile bytes text = ShowsFront profile bytes text
+WritesFront Check profile bytes text = ChecksFront profile bytes text
+WritesFront Build profile bytes text = BuildsEnded profile bytes text
+
+-- ---- under a profile
+
+-- The text was written for some bytes and those that were read behind them: the reader ended, or a word is no token.
+abbrev pub Wrote : Work → List DeviceParts → Tally → List ℕ → Told → Told → Bool → Type 0
+Wrote work profile tally first old new has_ended =
+    Ended (WritesAll work profile tally) first old new has_ended
+    ⊎ Stopped (WritesUpToBadWord work profile tally) BeginsText first old new
+
+-- under the sample profile
+abbrev pub WroteSample : List ℕ → Work → Told → Told → Bool → Tally → Type 0
+WroteSample sample work old new has_ended tally = UnderSample (λ profile. Wrote work profile tally [] old new has_ended) sample
+
+-- What was read but for a last piece left something open: nothing was decided of the profile, or a capture behind it
+-- begins a text of events.
+abbrev pub OpenBehind : List ℕ → Type 0
+OpenBehind read = Undecided read ⊎ ((profile : List ℕ) × (capture : List ℕ) × FirstMark read profile capture × BeginsText capture)
+
+-- The text was written for what stands behind a profile: the reader ended, or a word of a capture is no token, from the
+-- last piece on.
+abbrev pub WritesMatter : Work → Told → Bool → Tally → List DeviceParts → List ℕ → List ℕ → List ℕ → Type 0
+WritesMatter work new has_ended tally devices matter text read =
+    (WritesAll work devices tally matter text × (has_ended ≡ true) × IsAtEnd new.left)
+    ⊎ (WritesUpToBadWord work devices tally matter text × OpenBefore OpenBehind [] read)
+
+-- under the profile in front of it
+abbrev pub WroteBehind : Work → Told → Told → Bool → Tally → Type 0
+WroteBehind work old new has_ended tally = Behind (WritesMatter work new has_ended tally) old new
+
+-- ---- where a read failed, or there were too many
+
+abbrev pub WroteSamplePart : List ℕ → Work → Told → Told → Type 0
+WroteSamplePart sample work old new = UnderSample (λ profile. Through (WritesFront work profile) [] old new) sample
+
+abbrev pub WrotePart : Work → Told → Told → Type 0
+WrotePart work old new = PartBehind (WritesFront work) old new

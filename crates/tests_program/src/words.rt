@@ -1,0 +1,155 @@
+//! The words of the command: those that are no command, help, the version, and none at all.
+
+use crate::run::{ALL, Ran, check_refused, run, run_to_write, run_without_words, unreadable};
+use pmb_cli::laws::words_ask;
+use std::io::ErrorKind;
+use std::process::Abort;
+
+/// A name, words that are no command, and what is told of them first.
+static REFUSED: [(&str, &[&str], &str); 9] = [
+    (
+        "no words",
+        &[],
+        "Reads and writes PMBus traffic, and converts between codes and quantities\n",
+    ),
+    (
+        "no subcommand",
+        &["pmb"],
+        "Reads and writes PMBus traffic, and converts between codes and quantities\n",
+    ),
+    (
+        "another subcommand",
+        &["pmb", "shw", "--sample"],
+        "error: unrecognized subcommand 'shw'\n",
+    ),
+    (
+        "a word more",
+        &["pmb", "show", "--sample", "x"],
+        "error: unexpected argument 'x' found\n",
+    ),
+    (
+        "another flag",
+        &["pmb", "show", "--sampel"],
+        "error: unexpected argument '--sampel' found\n",
+    ),
+    (
+        "a word more of check",
+        &["pmb", "check", "--sample", "x"],
+        "error: unexpected argument 'x' found\n",
+    ),
+    (
+        "another flag of check",
+        &["pmb", "check", "--tally"],
+        "error: unexpected argument '--tally' found\n",
+    ),
+    (
+        "a word more of build",
+        &["pmb", "build", "--sample", "x"],
+        "error: unexpected argument 'x' found\n",
+    ),
+    (
+        "the flag twice",
+        &["pmb", "build", "--sample", "--sample"],
+        "error: the argument '--sample' cannot be used multiple times\n",
+    ),
+];
+
+#[test]
+fn refuses_words_that_are_no_command(rt: HostRuntime) {
+    for (name, words, told) in &REFUSED {
+        check_refused(&rt, rt.alloc(), name, words, told);
+    }
+    words_ask();
+}
+
+const ABOUT: &str =
+    "Reads and writes PMBus traffic, and converts between codes and quantities\n\nUsage: pmb <COMMAND>\n";
+
+const SHOW_EXAMPLE: &str = "Example:\n  echo 'S b0 A 21 A 00 A 18 A P' | ./pmb show --sample\n";
+
+/// A name, words that ask to be told of the program, and what is printed first and last.
+static ASKING: [(&str, &[&str], &str, &str); 8] = [
+    ("help", &["pmb", "--help"], ABOUT, SHOW_EXAMPLE),
+    ("the subcommand help", &["pmb", "help"], ABOUT, SHOW_EXAMPLE),
+    (
+        "help on show",
+        &["pmb", "show", "--help"],
+        "Shows the transactions of a capture, one a line\n\nUsage: pmb show [OPTIONS]\n",
+        SHOW_EXAMPLE,
+    ),
+    (
+        "help on check",
+        &["pmb", "check", "--help"],
+        "Tells the refusals of a capture, one a line, and the number of packets\n\nUsage: pmb check [OPTIONS]\n",
+        "Example:\n  echo 'S b0 A 03 A 47 A P' | ./pmb check --sample\n",
+    ),
+    (
+        "help on build",
+        &["pmb", "build", "--help"],
+        "Writes the bus events of transaction lines, a packet a line\n\nUsage: pmb build [OPTIONS]\n",
+        "Example:\n  echo 'write 58 21 00 18 pec' | ./pmb build --sample\n",
+    ),
+    (
+        "help on encode",
+        &["pmb", "encode", "--help"],
+        "Writes the code of each quantity, one a line\n\nUsage: pmb encode <FORMAT>\n",
+        "Example:\n  echo 12 | ./pmb encode linear11\n",
+    ),
+    (
+        "help on decode",
+        &["pmb", "decode", "--help"],
+        "Writes the quantity of each code, one a line\n\nUsage: pmb decode <FORMAT>\n",
+        "Example:\n  echo d300 | ./pmb decode linear11\n",
+    ),
+    (
+        "the version",
+        &["pmb", "--version"],
+        "pmb 0.1.0\n",
+        "pmb 0.1.0\n",
+    ),
+];
+
+/// Whether what a run told of the program is printed, from the first text to the last.
+fn check_asked(rt: &impl Abort, name: &str, ran: &Ran, first: &str, last: &str) {
+    let is_first = ran.printed.starts_with(first.as_bytes());
+    let is_last = ran.printed.ends_with(last.as_bytes());
+    let found = (ran.status, is_first, is_last, ran.told.as_slice());
+    assert_eq!(rt; found, (0, true, true, b"".as_slice()), "{name}");
+}
+
+#[test]
+fn tells_of_the_program_where_asked(rt: HostRuntime) {
+    for &(name, words, first, last) in &ASKING {
+        let ran = run(rt.alloc(), words, &mut unreadable());
+        check_asked(&rt, name, &ran, first, last);
+        let unwritten = run_to_write(rt.alloc(), words, "", 0);
+        unwritten.check(&rt, name, "unwritten", ("", "pmb: write failed\n", 3));
+    }
+}
+
+#[test]
+fn prints_the_version_alone(rt: HostRuntime) {
+    let ran = run(rt.alloc(), &["pmb", "--version"], &mut unreadable());
+    ran.check(&rt, "the version", "alone", ("pmb 0.1.0\n", "", 0));
+}
+
+/// A name, why there are no words, what is told, and the status.
+static NO_WORDS: [(&str, ErrorKind, &str, u8); 2] = [
+    (
+        "not UTF-8",
+        ErrorKind::InvalidData,
+        "error: the words of the command are not UTF-8\n",
+        2,
+    ),
+    ("no memory", ErrorKind::OutOfMemory, "pmb: no memory\n", 4),
+];
+
+#[test]
+fn answers_where_there_are_no_words(rt: HostRuntime) {
+    for &(name, kind, told, status) in &NO_WORDS {
+        let ran = run_without_words(rt.alloc(), kind, ALL);
+        ran.check(&rt, name, "told", ("", told, status));
+        let untold = run_without_words(rt.alloc(), kind, 0);
+        untold.check(&rt, name, "untold", ("", "", status));
+    }
+}
