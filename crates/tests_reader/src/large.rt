@@ -64,16 +64,41 @@ fn reads_the_longest_group(rt: HostRuntime) -> Result<(), Fail> {
     Ok(())
 }
 
-/// How many packets and refusals a capture of so many events has, each of which is made by a
-/// function of a number that follows no pattern.
-fn counted(profile: &Profile, count: u32, event_of: fn(u32) -> Event) -> (u32, u32) {
+/// A capture of events without sense.
+#[derive(Clone, Copy)]
+enum Senseless {
+    /// Events that follow no pattern.
+    Unordered,
+    /// One event over and over.
+    Repeated(Event),
+}
+
+impl Senseless {
+    /// The event that a number from 0 to 65535, which follows no pattern, stands for.
+    fn event(self, number: u32) -> Event {
+        match self {
+            Senseless::Repeated(event) => event,
+            Senseless::Unordered => match number % 8 {
+                0 => Event::Start,
+                1 => Event::Stop,
+                2 => Event::Nack,
+                3 => Event::Byte(0xb0),
+                4 => Event::Byte((number / 8 % 256) as u8),
+                _ => Event::Ack,
+            },
+        }
+    }
+}
+
+/// How many packets and refusals such a capture of so many events has.
+fn counted(profile: &Profile, count: u32, senseless: Senseless) -> (u32, u32) {
     let mut reader = Reader::new(profile);
     let mut packets = 0u32;
     let mut refusals = 0u32;
     let mut state = 0x2545_f491u32;
     for _ in 0..count {
         state = state.wrapping_mul(1_664_525).wrapping_add(1_013_904_223);
-        let event = event_of(state >> 16);
+        let event = senseless.event(state >> 16);
         match reader.take(event) {
             Took::More => {}
             Took::Packet => packets = packets.saturating_add(1),
@@ -87,32 +112,21 @@ fn counted(profile: &Profile, count: u32, event_of: fn(u32) -> Event) -> (u32, u
     (packets, refusals)
 }
 
-fn senseless(number: u32) -> Event {
-    match number % 8 {
-        0 => Event::Start,
-        1 => Event::Stop,
-        2 => Event::Nack,
-        3 => Event::Byte(0xb0),
-        4 => Event::Byte((number >> 8) as u8),
-        _ => Event::Ack,
-    }
-}
-
-fn stop(_number: u32) -> Event {
-    Event::Stop
-}
-
-fn start(_number: u32) -> Event {
-    Event::Start
-}
-
 #[test]
 fn senseless_events_end(rt: HostRuntime) -> Result<(), Fail> {
     let profile = Profile::from_toml(rt.alloc(), SAMPLE.as_bytes())?;
-    let (packets, refusals) = counted(&profile, 10_000_000, senseless);
+    let (packets, refusals) = counted(&profile, 10_000_000, Senseless::Unordered);
     assert!(rt; packets > 0 && refusals > packets, "{packets}, {refusals}");
-    assert_eq!(rt; counted(&profile, 1 << 20, stop), (0, 1 << 20), "STOPs");
-    assert_eq!(rt; counted(&profile, 1 << 20, start), (0, 1), "STARTs");
+    assert_eq!(rt;
+        counted(&profile, 1 << 20, Senseless::Repeated(Event::Stop)),
+        (0, 1 << 20),
+        "STOPs"
+    );
+    assert_eq!(rt;
+        counted(&profile, 1 << 20, Senseless::Repeated(Event::Start)),
+        (0, 1),
+        "STARTs"
+    );
     Ok(())
 }
 

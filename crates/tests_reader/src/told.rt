@@ -28,17 +28,29 @@ static NAMES: [(Kinds, &str); 5] = [
     (Kinds::STOP, "Stop"),
 ];
 
+/// Tells a kind if it might have come, and whether none was told yet.
+fn tell_kind(
+    text: &mut String,
+    refusal: Refusal,
+    kind: Kinds,
+    name: &str,
+    is_first: bool,
+) -> Result<bool, AllocError> {
+    if !refusal.expected.contains(kind) {
+        return Ok(is_first);
+    }
+    text.push_str(if is_first { " " } else { " or " })?;
+    text.push_str(name)?;
+    Ok(false)
+}
+
 fn tell_refusal(text: &mut String, alloc: Global, refusal: Refusal) -> Result<(), AllocError> {
     let at = refusal.at;
     let reason = name_of(refusal.reason);
     text.push_str(format!(in alloc; "refusal at {at}: {reason}, expected")?.as_str())?;
-    let mut joint = " ";
+    let mut is_first = true;
     for (kind, name) in &NAMES {
-        if refusal.expected.contains(*kind) {
-            text.push_str(joint)?;
-            text.push_str(name)?;
-            joint = " or ";
-        }
+        is_first = tell_kind(text, refusal, *kind, name, is_first)?;
     }
     text.push_str("\n")
 }
