@@ -12,7 +12,8 @@ pub(crate) struct Row {
     pub(crate) shown: &'static str,
 }
 
-pub(crate) static ROWS: [Row; 71] = [
+/// How words may stand.
+static SPELLINGS: [Row; 8] = [
     Row {
         name: "no bytes",
         profile: SAMPLE,
@@ -61,6 +62,10 @@ pub(crate) static ROWS: [Row; 71] = [
         capture: "S#x\nb0#\nA 21 A 00 A 18 A P#",
         shown: "write 58 21 00 18\n",
     },
+];
+
+/// Packets of each kind.
+static PACKETS: [Row; 15] = [
     Row {
         name: "a write with a packet error code",
         profile: SAMPLE,
@@ -151,6 +156,10 @@ pub(crate) static ROWS: [Row; 71] = [
         capture: "S b0 A 21 A 00 A 18 A P\nS b0 A 21 A ff A 00 A P\n",
         shown: "write 58 21 00 18\nwrite 58 21 ff 00\n",
     },
+];
+
+/// Refusals, once for each reason and more.
+static REFUSALS: [Row; 13] = [
     Row {
         name: "a wrong packet error code in a reply",
         profile: SAMPLE,
@@ -229,6 +238,10 @@ pub(crate) static ROWS: [Row; 71] = [
         capture: "P S b0 A 21 A 00 A 18 A P",
         shown: "# refusal at 0: WrongEvent, expected Start\nwrite 58 21 00 18\n",
     },
+];
+
+/// What is passed over behind a refusal.
+static PASSED_OVER: [Row; 6] = [
     Row {
         name: "a START behind a START",
         profile: SAMPLE,
@@ -265,6 +278,10 @@ pub(crate) static ROWS: [Row; 71] = [
         capture: "P P P",
         shown: "# refusal at 0: WrongEvent, expected Start\n# refusal at 1: WrongEvent, expected Start\n# refusal at 2: WrongEvent, expected Start\n",
     },
+];
+
+/// Captures that end inside a packet.
+static ENDS: [Row; 10] = [
     Row {
         name: "ends behind START",
         profile: SAMPLE,
@@ -325,6 +342,10 @@ pub(crate) static ROWS: [Row; 71] = [
         capture: "S b0 A 21 A 00 A 18 A P S b0 A 21",
         shown: "write 58 21 00 18\n# refusal at 14: Truncated, expected Ack or Nack\n",
     },
+];
+
+/// Words that are no token.
+static BAD_TOKENS: [Row; 8] = [
     Row {
         name: "a letter that is no token",
         profile: SAMPLE,
@@ -373,6 +394,10 @@ pub(crate) static ROWS: [Row; 71] = [
         capture: "S b0 A 21 A 000 A",
         shown: "# bad token at byte 12\n",
     },
+];
+
+/// Forms of four and eight bytes, alerts, and the longest group.
+static LATER_FORMS: [Row; 11] = [
     Row {
         name: "four bytes",
         profile: LONG_FORMS,
@@ -440,3 +465,16 @@ pub(crate) static ROWS: [Row; 71] = [
         shown: "# refusal at 80: WrongEvent, expected Stop\n",
     },
 ];
+
+/// All rows, a table a subject.
+pub(crate) fn tables() -> [&'static [Row]; 7] {
+    [
+        &SPELLINGS,
+        &PACKETS,
+        &REFUSALS,
+        &PASSED_OVER,
+        &ENDS,
+        &BAD_TOKENS,
+        &LATER_FORMS,
+    ]
+}

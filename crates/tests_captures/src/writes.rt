@@ -1,7 +1,7 @@
 //! What `show` and `check_capture` write for each row: whole, byte by byte, cut at each place, and
 //! with each read and each write failing in its turn.
 
-use crate::rows::{ROWS, Row};
+use crate::rows::{Row, tables};
 use crate::runs::{
     COMMANDS, Command, Ran, Way, in_bytes, lines_of, profile_of, tally_of, written,
     written_to_read, written_to_write,
@@ -29,12 +29,19 @@ fn check_row(rt: &impl Abort, alloc: Global, command: Command, row: &Row, lines:
     }
 }
 
+fn check_rows(rt: &impl Abort, alloc: Global, command: Command, rows: &[Row]) -> Result<(), Fail> {
+    for row in rows {
+        let lines = lines_of(command, alloc, row.shown)?;
+        check_row(rt, alloc, command, row, lines.as_slice());
+    }
+    Ok(())
+}
+
 #[test]
 fn writes_each_row_however_it_is_cut(rt: HostRuntime) -> Result<(), Fail> {
     for command in COMMANDS {
-        for row in &ROWS {
-            let lines = lines_of(command, rt.alloc(), row.shown)?;
-            check_row(&rt, rt.alloc(), command, row, lines.as_slice());
+        for rows in tables() {
+            check_rows(&rt, rt.alloc(), command, rows)?;
         }
     }
     Ok(())
@@ -56,19 +63,30 @@ fn check_front(rt: &impl Abort, row: &Row, way: Way, lines: &[u8], fewer: usize,
     );
 }
 
+/// Whether each run of a row in which a read failed wrote such a front.
+fn check_fronts(rt: &impl Abort, alloc: Global, command: Command, row: &Row, lines: &[u8]) {
+    let profile = profile_of(rt, alloc, row);
+    let mut fewer = 0;
+    for call in 0..row.capture.len() as u64 + 1 {
+        let ran = written_to_read(command, alloc, &profile, row.capture, call);
+        check_front(rt, row, Way::FailingRead(call), lines, fewer, &ran);
+        fewer = ran.written.len();
+    }
+}
+
+fn check_reads(rt: &impl Abort, alloc: Global, command: Command, rows: &[Row]) -> Result<(), Fail> {
+    for row in rows {
+        let lines = lines_of(command, alloc, row.shown)?;
+        check_fronts(rt, alloc, command, row, lines.as_slice());
+    }
+    Ok(())
+}
+
 #[test]
 fn writes_a_front_of_each_row_where_a_read_fails(rt: HostRuntime) -> Result<(), Fail> {
     for command in COMMANDS {
-        for row in &ROWS {
-            let profile = profile_of(&rt, rt.alloc(), row);
-            let lines = lines_of(command, rt.alloc(), row.shown)?;
-            let mut fewer = 0;
-            for call in 0..row.capture.len() as u64 + 1 {
-                let ran = written_to_read(command, rt.alloc(), &profile, row.capture, call);
-                let way = Way::FailingRead(call);
-                check_front(&rt, row, way, lines.as_slice(), fewer, &ran);
-                fewer = ran.written.len();
-            }
+        for rows in tables() {
+            check_reads(&rt, rt.alloc(), command, rows)?;
         }
     }
     Ok(())
@@ -98,12 +116,24 @@ fn check_writes(rt: &impl Abort, alloc: Global, command: Command, row: &Row, lin
     }
 }
 
+fn check_all_writes(
+    rt: &impl Abort,
+    alloc: Global,
+    command: Command,
+    rows: &[Row],
+) -> Result<(), Fail> {
+    for row in rows {
+        let lines = lines_of(command, alloc, row.shown)?;
+        check_writes(rt, alloc, command, row, lines.as_slice());
+    }
+    Ok(())
+}
+
 #[test]
 fn writes_the_lines_before_the_write_that_fails(rt: HostRuntime) -> Result<(), Fail> {
     for command in COMMANDS {
-        for row in &ROWS {
-            let lines = lines_of(command, rt.alloc(), row.shown)?;
-            check_writes(&rt, rt.alloc(), command, row, lines.as_slice());
+        for rows in tables() {
+            check_all_writes(&rt, rt.alloc(), command, rows)?;
         }
     }
     Ok(())
