@@ -13,7 +13,7 @@ use Rattle.pmb_line.specs.Token.{token_of}
 use Rattle.pmb_line.specs.Words.{Word, texts, without_cr, words}
 use Rattle.pmb_line.specs.Spelling.{HasLine, Spells, parts, tokens}
 use Rattle.pmb_line.specs.Fault.{ArePartsWithin, At, Begins, HasRoom, goes_on, plus, IsWithin, IsBadWord, IsCutShort, IsTooLong, IsFault}
-use Rattle.pmb_line.specs.machine.Reading.{Partial, nothing, write_next, write_data, write_pec, run, step, finish, Room, StandsAt, Says, IsUnfit, IsShort, IsFull, IsFaultOf, located, said}
+use Rattle.pmb_line.specs.machine.Reading.{Partial, nothing, write_next, write_data, write_pec, refused_pec, run, step, finish, Room, StandsAt, Says, IsUnfit, IsShort, IsFull, IsFaultOf, located, said}
 use Rattle.pmb_line.proofs.Partials.{spelled, append-nil, parts_before, parts-push}
 use Rattle.pmb_line.proofs.Steps.{cases, ends_part, ran, run-append, run-none}
 use Rattle.pmb_line.proofs.Completions.{RoomMore, completes}
@@ -186,7 +186,16 @@ plus_behind (write_data qs a c bs) ps is = cc is
 plus_behind (write_pec qs a c bs) ps is = cc is
 plus_behind _ ps is = cc is
 
--- nor is there room for one that has none
+pub ran_plus : (before : List (List ℕ)) (last : List ℕ) (ps : List PartData) → token_of last ≡ Some Plus → Spells before (says.Write ps)
+    → run (Some nothing) (map token_of (before ++ last ∷ [])) ≡ Some (write_next ps)
+ran_plus before last ps last_is spells =
+    let line = reached (says.Write ps) spells.has_line in
+    let ran_before : run (Some nothing) (map token_of before) ≡ Some line.at = ap (run (Some nothing)) spells.says ∙ line.ran in
+    ap (run (Some nothing)) (map-append token_of before (last ∷ [])) ∙ run-append (Some nothing) (map token_of before) (token_of last ∷ [])
+    ∙ ap (λ o. run o (token_of last ∷ [])) ran_before ∙ ap (λ (w : Option Token). run (Some line.at) (w ∷ [])) last_is
+    ∙ ap (λ o. run o []) (plus_behind line.at ps line.finished)
+
+-- no line goes on with a word for which there is no room
 pub no_room : (front : List (List ℕ)) (word : List ℕ) (s after : Partial) → run (Some nothing) (map token_of front) ≡ Some s → step s (token_of word) ≡ Some after
     → (Room after → ⊥) → HasRoom (front ++ word ∷ []) → ⊥
 no_room front word s after is fits_so full (goes_on more t spells within) =
@@ -195,12 +204,7 @@ no_room front word s after is fits_so full (goes_on more t spells within) =
     let same : reaches.mid ≡ after = cc (fits_so, next) in
     full (subst Room same (reaches.room within))
 no_room front word s after is fits_so full (plus before last ps split last_is spells within) =
-    let line = reached (says.Write ps) spells.has_line in
-    let ran_before : run (Some nothing) (map token_of before) ≡ Some line.at = ap (run (Some nothing)) spells.says ∙ line.ran in
-    let ran_all : run (Some nothing) (map token_of (before ++ last ∷ [])) ≡ Some (write_next ps) =
-    ap (run (Some nothing)) (map-append token_of before (last ∷ [])) ∙ run-append (Some nothing) (map token_of before) (token_of last ∷ [])
-    ∙ ap (λ o. run o (token_of last ∷ [])) ran_before ∙ ap (λ (w : Option Token). run (Some line.at) (w ∷ [])) last_is
-    ∙ ap (λ o. run o []) (plus_behind line.at ps line.finished) in
+    let ran_all = ran_plus before last ps last_is spells in
     let next = one_more front word s (write_next ps) is (ap (λ ws. run (Some nothing) (map token_of ws)) split ∙ ran_all) in
     let same : write_next ps ≡ after = cc (fits_so, next) in
     full (subst Room same within)
@@ -317,3 +321,15 @@ spelling line t says_so =
     let is = ran_line line says_so.s says_so.stands in
     let finished = finish_line says_so.s t says_so.finished in
     record { has_line = finished.1; says = spelled_is (texts (words line)) says_so.s is ∙ ap (λ (xs : List Token). map Some xs) finished.0 }
+
+-- and that it is not too large
+room_behind : (s : Partial) (t : TransactionData) → finish s ≡ Some t → Room s → RoomMore s
+room_behind (write_next ps) t is room = cc is
+room_behind (refused_pec ps a c bs) t is room = cc is
+room_behind _ t is room = room
+
+pub within : (all : List Located) (t : TransactionData) → Says all t → IsWithin t
+within all t says_so =
+    let c = completes says_so.s in
+    let whole = c.finishes t says_so.finished in
+    subst IsWithin whole.1 (c.within (room_behind says_so.s t says_so.finished says_so.stands.room))

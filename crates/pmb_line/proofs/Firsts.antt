@@ -8,10 +8,10 @@ use Rattle.pmb_line.specs.declared.word_fault.WordFault.{WordFault}
 use Rattle.pmb_line.specs.declared.words.Located.{Located}
 use Rattle.pmb_line.specs.Words.{texts, words, without_cr}
 use Rattle.pmb_line.specs.Spelling.{Spells}
-use Rattle.pmb_line.specs.Fault.{IsFault}
+use Rattle.pmb_line.specs.Fault.{IsFault, IsWithin}
 use Rattle.pmb_line.specs.machine.Reading.{StandsAt, nothing, on_keyword, located}
 use Rattle.pmb_line.specs.machine.Pieces.{Reads}
-use Rattle.pmb_line.proofs.Faults.{fault_of, spelling}
+use Rattle.pmb_line.proofs.Faults.{fault_of, spelling, within}
 
 -- before the first word
 pub begin : (all : List Located) → StandsAt all nothing all
@@ -30,6 +30,10 @@ pub reads_ok : (line : List ℕ) (t : TransactionData) (result : Result Unit Wor
     → OnOk result (Spells (texts (words line)) t)
 reads_ok line t (Ok done) says_so = spelling line t says_so
 reads_ok line t (Err fault) says_so = tt
+
+pub reads_within : (line : List ℕ) (t : TransactionData) (result : Result Unit WordFault) → Reads (map located (words line)) (length (without_cr line)) t result → OnOk result (IsWithin t)
+reads_within line t (Ok done) says_so = within (map located (words line)) t says_so
+reads_within line t (Err fault) says_so = tt
 
 pub reads_err : (line : List ℕ) (t : TransactionData) (result : Result Unit WordFault) → Reads (map located (words line)) (length (without_cr line)) t result
     → IfErr result (λ fault. IsFault line fault)

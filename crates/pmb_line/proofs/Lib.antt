@@ -12,5 +12,7 @@ pub mod Legs
 pub mod Firsts
 pub mod Writings
 pub mod Uniqueness
+pub mod PacketsWithin
+pub mod OneFault
 pub mod Lines
 pub mod Packets

@@ -11,7 +11,7 @@ use Rattle.pmb_line.specs.declared.word_fault.WordFault.{WordFault}
 use Rattle.pmb_line.specs.declared.word_fault.WordFault.TheVariants.{Blank, BadWord, TooLong}
 use Rattle.pmb_line.specs.Words.{texts, words}
 use Rattle.pmb_line.specs.Spelling.{Spells}
-use Rattle.pmb_line.specs.Fault.{IsFault}
+use Rattle.pmb_line.specs.Fault.{IsFault, IsWithin}
 
 -- the fault of a line's words
 abbrev pub word_fault : WordFault → LineFault
@@ -41,10 +41,11 @@ pub record Parses (profile : List DeviceParts) (line : List ℕ) (t : Transactio
   pub spells : Spells (texts (words line)) t
   pub packet : HasPacket profile t
 
--- The line spells a transaction with this first fault.
+-- The line spells a transaction that is not too large, with this first fault.
 pub record IsInvalid (profile : List DeviceParts) (line : List ℕ) (invalid : Invalid) : Type 0 where
   pub t : TransactionData
   pub spells : Spells (texts (words line)) t
+  pub within : IsWithin t
   pub first : IsFirstFault profile t invalid
 
 -- the first fault of a line: of its words, or of the transaction that it spells

@@ -6,6 +6,8 @@ ghost use Rattle.pmb_command.specs.Bus.{IsBus};
 ghost use Rattle.pmb_command.specs.Parts.{DeviceParts};
 ghost use Rattle.pmb_transaction.specs.Packet.{Packet};
 ghost use Rattle.pmb_transaction.specs.Transaction.{TransactionData};
+ghost use Rattle.pmb_line.specs.declared.line_fault.LineFault.{LineFault};
+ghost use Rattle.pmb_line.specs.LineFault.{IsLineFault, Parses};
 ghost use Rattle.pmb_line.specs.Words.{texts, words};
 ghost use Rattle.pmb_line.specs.Spelling.{HasBytes, HasLine, Spells, line};
 
@@ -27,4 +29,15 @@ pub fn packet_has_line()
         → Spells (texts (words (line t))) t }
     ensures alone { (profile : List DeviceParts) (t u : TransactionData) (events : List Event) → IsBus profile → Packet profile t events
         → Spells (texts (words (line t))) u → t ≡ u }
+{}
+
+/// A line has one fault at most, under any profile.
+pub fn one_line_fault()
+    ensures { (profile : List DeviceParts) (line : List ℕ) (a b : LineFault) → IsLineFault profile line a → IsLineFault profile line b → a ≡ b }
+{}
+
+/// A line with a fault spells no transaction that has a packet, under an accepted profile.
+pub fn no_parse_with_a_fault()
+    ensures { (profile : List DeviceParts) (line : List ℕ) (fault : LineFault) (t : TransactionData) → IsBus profile → IsLineFault profile line fault
+        → Parses profile line t → ⊥ }
 {}

@@ -4,7 +4,7 @@ ghost use Rattle.std.specs.Prelude.{◌≡◌, OnOk, IfOk, IfErr, List, []};
 ghost use Rattle.pmb_transaction.specs.Transaction.{transaction_data};
 ghost use Rattle.pmb_line.specs.Words.{texts, words};
 ghost use Rattle.pmb_line.specs.Spelling.{Spells};
-ghost use Rattle.pmb_line.specs.Fault.{IsFault};
+ghost use Rattle.pmb_line.specs.Fault.{IsFault, IsWithin};
 ghost use Rattle.pmb_line.specs.LineFault.{IsLineFault, Parses};
 ghost use Rattle.pmb_line.specs.declared.words.Located.{Located as Place};
 ghost use Rattle.pmb_line.specs.machine.Reading.{StandsAt, write_next, read_next, call_next, refused_next, alert_next};
@@ -31,6 +31,7 @@ use pmb_writer::check;
 /// The line's fault. `into` then holds a transaction that means nothing.
 pub fn read_words(line: &[u8], into: &mut Transaction) -> Result<(), WordFault>
     ensures ok { OnOk result (Spells (texts (words line.now)) (transaction_data into.new)) }
+    ensures within { OnOk result (IsWithin (transaction_data into.new)) }
     ensures err { IfErr result (λ fault. IsFault line.now fault) }
 {
     read_any(&mut Words::of(line), into)
