@@ -154,8 +154,8 @@ fn lines_command<'a>(
         .action(ArgAction::Set)
         .required(true)
         .help(
-            "linear11, ulinear16:E, slinear16:E, vout:HH or direct:M,B,R: E is the exponent, HH \
-             VOUT_MODE in two hexadecimal digits, and M, B, R are DIRECT's coefficients",
+            "linear11, linear11:E, ulinear16:E, slinear16:E, vout:HH or direct:M,B,R: E is the \
+             exponent, HH VOUT_MODE in two hexadecimal digits, and M, B, R are DIRECT's coefficients",
         );
     Command::new(alloc, name)
         .about(about)

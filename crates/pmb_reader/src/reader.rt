@@ -81,7 +81,8 @@ impl<'p> Reader<'p> {
         }
     }
 
-    /// The transaction whose packet ended last.
+    /// The transaction of the packet that the last event taken ended: to be asked for directly behind
+    /// [`Took::Packet`]. While a packet is under way, and where none ended yet, it means nothing.
     #[inline]
     pub fn packet(&self) -> &Transaction
         ensures { transaction_data result.now ≡ last_read self.now }

@@ -48,6 +48,6 @@ pub record StandsAt (profile : List DeviceParts) (reader : Reader) (standing : S
   pub counted : reader.used ≡ capped (count_of standing)
   pub inside : StandsIn profile reader.under_way (events_of standing)
 
--- the transaction whose packet ended last
+-- the transaction of the packet that the last event ended
 abbrev pub last_read : Reader → TransactionData
 last_read reader = last_kept reader.under_way.kept
