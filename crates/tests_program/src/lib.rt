@@ -16,4 +16,6 @@ mod profiles;
 #[cfg(test)]
 mod run;
 #[cfg(test)]
+mod session;
+#[cfg(test)]
 mod words;
