@@ -230,7 +230,7 @@ alert none # no device
 "#;
 
 /// The capture that the tour in the README begins with, under the sample profile.
-static TOUR: &str = r#"# One packet of each kind that the README's tour begins with.
+static TOUR: &str = r#"# The packets that the README's tour begins with.
 # VOUT_COMMAND 1800h = 6144: 6144 / 512 = 12 V, as VOUT_MODE is 17h (exponent -9) at first.
 S b0 A 21 A 00 A 18 A f8 A P
 # STATUS_WORD 8840h is 1000100001000000b: bits 15, 11 and 6.
