@@ -1,6 +1,5 @@
 -- What is written for bytes is one text and one tally.
 use Rattle.std.proofs.Common.{◌≡◌, ℕ, ◌+◌, List, [], ◌∷◌, ◌++◌, length, map, append-nil, inl, inr, refl, sym, ◌∙◌, ap, subst, arith}
-use Rattle.std.specs.List.{flat_map}
 use Rattle.pmb_bus.specs.declared.event.Event.{Event}
 use Rattle.pmb_bus.specs.Text.{Spells, FirstBadWord}
 use Rattle.pmb_command.specs.Parts.{DeviceParts}
@@ -9,9 +8,9 @@ use Rattle.pmb_io.specs.Count.{counted}
 use Rattle.pmb_io.specs.Tally.{Counts}
 use Rattle.pmb_transaction.specs.Reading.{Outcome, Accepted, Reading}
 use Rattle.pmb_transaction.specs.Transaction.{TransactionData}
-use Rattle.pmb_capture.specs.Lines.{bad_token_line, packet_line}
+use Rattle.pmb_capture.specs.Lines.{bad_token_line}
 use Rattle.pmb_capture.specs.Output.{OutputText, but_truncation, packets_in, refusals_in, text_behind, text_of}
-use Rattle.pmb_capture.specs.Show.{Shows, shown}
+use Rattle.pmb_capture.specs.Show.{Shows, noted_behind, noted_line, noted_lines, shown}
 use Rattle.pmb_capture.specs.Written.{Writes}
 use Rattle.pmb_capture.proofs.Texts.{packets_append, refusals_append}
 
@@ -54,9 +53,9 @@ module _ (output : OutputText) (profile : List DeviceParts) where
 
 -- ---- captures without refusals
 
-lines_of_packets : (before ts : List TransactionData) → text_behind shown before (map Accepted ts) ≡ flat_map packet_line ts
-lines_of_packets before [] = refl
-lines_of_packets before (t ∷ ts) = ap (λ text. packet_line t ++ text) (lines_of_packets (before ++ t ∷ []) ts)
+lines_of_packets : (profile : List DeviceParts) (before ts : List TransactionData) → text_behind (shown profile) before (map Accepted ts) ≡ noted_behind profile before ts
+lines_of_packets profile before [] = refl
+lines_of_packets profile before (t ∷ ts) = ap (λ text. noted_line profile before t ++ text) (lines_of_packets profile (before ++ t ∷ []) ts)
 
 packets_are_all : (ts : List TransactionData) → packets_in (map Accepted ts) ≡ length ts
 packets_are_all [] = refl
@@ -71,12 +70,12 @@ refusals_are_none (t ∷ ts) =
     omega (arith, none, refusals_are_none ts)
 
 pub shown_as_written : (profile : List DeviceParts) (ts : List TransactionData) (events : List Event) (bytes : List ℕ) → Spells bytes events → Reading profile events (map Accepted ts)
-    → Shows profile bytes (flat_map packet_line ts) (record { packets = counted (length ts); refusals = 0 })
+    → Shows profile bytes (noted_lines profile ts) (record { packets = counted (length ts); refusals = 0 })
 shown_as_written profile ts events bytes spells reads = inl (record {
   events = events;
   outcomes = map Accepted ts;
   spells = spells;
   reads = reads;
-  lines = sym (append-nil (text_of shown (map Accepted ts)) ∙ lines_of_packets [] ts);
+  lines = sym (append-nil (text_of (shown profile) (map Accepted ts)) ∙ lines_of_packets profile [] ts);
   counts = record { packets_counted = ap counted (sym (packets_are_all ts)); refusals_counted = ap counted (sym (refusals_are_none ts)) };
 })

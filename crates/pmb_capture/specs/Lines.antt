@@ -4,17 +4,9 @@ use Rattle.pmb_bus.specs.declared.event.Event.TheVariants.{Start, Byte, Ack, Nac
 use Rattle.pmb_bus.specs.declared.kinds.Kinds.{Kinds}
 use Rattle.pmb_bus.specs.Kinds.{holds}
 use Rattle.pmb_io.specs.declared.tally.Tally.{Tally}
-use Rattle.pmb_line.specs.Spelling.{line}
 use Rattle.pmb_transaction.specs.declared.reason.Reason.{Reason}
 use Rattle.pmb_transaction.specs.declared.reason.Reason.TheVariants.{ReadFirst, BadRestart, BadPec, UnknownDevice, UnknownCommand, TooLong, TooShort, WrongEvent, Truncated}
 use Rattle.pmb_transaction.specs.Reading.{RefusalData}
-use Rattle.pmb_transaction.specs.Transaction.{TransactionData}
-
--- ---- packets
-
--- a transaction's own line
-abbrev pub packet_line : TransactionData → List ℕ
-packet_line t = line t ++ codes "\n"
 
 -- ---- refusals
 

@@ -1,27 +1,43 @@
--- What `show` writes for the bytes of a capture: a line for each packet and each refusal, and one for
--- a word that is no token.
-use Rattle.std.specs.Prelude.{ℕ, List, []}
+-- What `show` writes for the bytes of a capture: a line with a note for each packet, a line for each
+-- refusal, and one for a word that is no token.
+use Rattle.std.specs.Prelude.{ℕ, List, [], ◌∷◌, ◌++◌, codes}
 use Rattle.pmb_command.specs.Parts.{DeviceParts}
 use Rattle.pmb_io.specs.declared.tally.Tally.{Tally}
-use Rattle.pmb_capture.specs.Lines.{packet_line}
+use Rattle.pmb_line.specs.Spelling.{line}
+use Rattle.pmb_note.specs.Note.{note}
+use Rattle.pmb_transaction.specs.Transaction.{TransactionData}
 use Rattle.pmb_capture.specs.Output.{OutputText}
 use Rattle.pmb_capture.specs.Written.{Writes, WritesAtEnd, WritesFront, WritesUpToStop}
 
-abbrev pub shown : OutputText
-shown = record { of_packet = λ before t. packet_line t; at_end = λ tally. [] }
+-- A transaction's line behind others: its own, and as a comment its note, which is what it says by
+-- the PAGE and VOUT_MODE that those before it told.
+abbrev pub noted_line : List DeviceParts → List TransactionData → TransactionData → List ℕ
+noted_line profile before t = line t ++ (codes " # " ++ (note profile before t ++ codes "\n"))
+
+-- the lines of transactions in order, behind others
+abbrev pub noted_behind : List DeviceParts → List TransactionData → List TransactionData → List ℕ
+noted_behind profile before [] = []
+noted_behind profile before (t ∷ ts) = noted_line profile before t ++ noted_behind profile (before ++ t ∷ []) ts
+
+-- the lines of transactions that are all there were
+abbrev pub noted_lines : List DeviceParts → List TransactionData → List ℕ
+noted_lines profile ts = noted_behind profile [] ts
+
+abbrev pub shown : List DeviceParts → OutputText
+shown profile = record { of_packet = noted_line profile; at_end = λ tally. [] }
 
 -- what is shown of bytes, and the tally
 abbrev pub Shows : List DeviceParts → List ℕ → List ℕ → Tally → Type 0
-Shows profile bytes text tally = Writes shown profile bytes text tally
+Shows profile bytes text tally = Writes (shown profile) profile bytes text tally
 
 -- of bytes that have ended
 abbrev pub ShowsAtEnd : List DeviceParts → List ℕ → List ℕ → Tally → Type 0
-ShowsAtEnd profile bytes text tally = WritesAtEnd shown profile bytes text tally
+ShowsAtEnd profile bytes text tally = WritesAtEnd (shown profile) profile bytes text tally
 
 -- of bytes up to a word that is no token
 abbrev pub StopsAtBadWord : List DeviceParts → List ℕ → List ℕ → Tally → Type 0
-StopsAtBadWord profile bytes text tally = WritesUpToStop shown profile bytes text tally
+StopsAtBadWord profile bytes text tally = WritesUpToStop (shown profile) profile bytes text tally
 
 -- of bytes that more may follow
 abbrev pub ShowsFront : List DeviceParts → List ℕ → List ℕ → Type 0
-ShowsFront profile bytes text = WritesFront shown profile bytes text
+ShowsFront profile bytes text = WritesFront (shown profile) profile bytes text

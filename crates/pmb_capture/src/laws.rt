@@ -1,7 +1,6 @@
 //! Laws over the definitions alone.
 
 ghost use Rattle.std.specs.Prelude.{◌≡◌, ℕ, List, length};
-ghost use Rattle.std.specs.List.{flat_map};
 ghost use Rattle.pmb_bus.specs.declared.event.Event.{Event};
 ghost use Rattle.pmb_bus.specs.Text.{Spells};
 ghost use Rattle.pmb_command.specs.Bus.{IsBus};
@@ -11,8 +10,7 @@ ghost use Rattle.pmb_io.specs.Count.{counted};
 ghost use Rattle.pmb_transaction.specs.Capture.{Capture};
 ghost use Rattle.pmb_transaction.specs.Transaction.{TransactionData};
 ghost use Rattle.pmb_capture.specs.Check.{Checks};
-ghost use Rattle.pmb_capture.specs.Lines.{packet_line};
-ghost use Rattle.pmb_capture.specs.Show.{Shows};
+ghost use Rattle.pmb_capture.specs.Show.{Shows, noted_lines};
 
 use pmb_bus::laws::{one_bad_word, one_spelling, spelled_has_no_bad_word};
 use pmb_transaction::laws::{captures_read_as_written, one_reading};
@@ -39,12 +37,12 @@ pub fn one_check()
     spelled_has_no_bad_word();
 }
 
-/// The capture of transactions, however it is spelled, is shown as their lines, and nothing in it is
-/// refused, under a profile that is accepted.
+/// The capture of transactions, however it is spelled, is shown as their lines, each with its note
+/// behind those before it, and nothing in it is refused, under a profile that is accepted.
 pub fn captures_are_shown()
     ensures { (profile : List DeviceParts) (ts : List TransactionData) (events : List Event) (bytes : List ℕ) → IsBus profile
         → Capture profile ts events → Spells bytes events
-        → Shows profile bytes (flat_map packet_line ts) (record { packets = counted (length ts); refusals = 0 }) }
+        → Shows profile bytes (noted_lines profile ts) (record { packets = counted (length ts); refusals = 0 }) }
 {
     captures_read_as_written();
 }

@@ -1,7 +1,7 @@
 //! Captures: what is written of them under a profile.
 //!
-//! [`show`] writes a line for each packet and each refusal of a capture; [`check_capture`] writes the
-//! refusals alone, and how many packets and refusals there were.
+//! [`show`] writes a line for each packet and each refusal of a capture, that of a packet with what it
+//! says; [`check_capture`] writes the refusals alone, and how many packets and refusals there were.
 //!
 //! ```rust
 //! let profile = Profile::from_toml(rt.alloc(), SAMPLE.as_bytes())?;
@@ -9,7 +9,7 @@
 //! let mut writer = Io::new(Vec::new(rt.alloc()));
 //! let tally = show(&profile, b"S b0 A 21 A 00 A", &mut reader, &mut writer)?;
 //! assert_eq!(rt; tally, Tally { packets: 1, refusals: 0 });
-//! assert_eq!(rt; writer.into_inner().as_slice(), b"write 58 21 00 18 pec\n".as_slice());
+//! assert_eq!(rt; writer.into_inner().as_slice(), b"write 58 21 00 18 pec # VOUT_COMMAND 12\n".as_slice());
 //! ```
 #![tactic(auto)]
 

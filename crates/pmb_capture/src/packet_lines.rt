@@ -1,38 +1,53 @@
-//! A line for each packet.
+//! A line with a note for each packet.
 
-ghost use Rattle.std.specs.Prelude.{OnOk};
+ghost use Rattle.std.specs.Prelude.{◌≡◌, [], OnOk};
 ghost use Rattle.pmb_io.specs.Calls.{WriterTells};
 ghost use Rattle.pmb_io.specs.Outgoing.{Writes};
+ghost use Rattle.pmb_note.specs.Context.{HasSeen};
 ghost use Rattle.pmb_capture.specs.Show.{shown};
 
 use crate::output::Output;
 use arrayvec::ArrayVec;
 use pmb_io::{Sink, Tally, ToolFault, Waiting, put};
 use pmb_line::append_line;
+use pmb_note::Context;
+use pmb_table::Profile;
 use pmb_transaction::Transaction;
 
 /// How many bytes are put out at once, the most that [`put`] takes.
 const PIECE: usize = 8192;
 
-/// Writes the line of each packet's transaction, and nothing at the end.
+/// The most bytes of what is written of a packet: a transaction's line, the mark of a comment, a note
+/// and LF.
+const MOST: usize = 12544 + 3 + 8192 + 1;
+
+/// Writes the line of each packet's transaction with its note, and nothing at the end.
 #[derive(Drop)]
-pub(crate) struct PacketLines {
+pub(crate) struct PacketLines<'p> {
+    profile: &'p Profile,
+    /// What the transactions so far tell, which the note of the next is made by.
+    context: Context<'p>,
     /// The line that goes out. It is kept, since most lines are short and its room is not.
-    line: ArrayVec<u8, 12544>,
+    line: ArrayVec<u8, MOST>,
 }
 
-impl PacketLines {
-    pub(crate) fn new() -> PacketLines {
+impl<'p> PacketLines<'p> {
+    pub(crate) fn new(profile: &'p Profile) -> PacketLines<'p>
+        ensures text { result.profile.now ≡ profile.now }
+        ensures begins { HasSeen result.context profile.now [] }
+    {
         PacketLines {
+            profile,
+            context: Context::new(profile),
             line: ArrayVec::new(),
         }
     }
 }
 
-impl Output for PacketLines {
-    ghost text = { λ _. shown };
+impl<'p> Output for PacketLines<'p> {
+    ghost text = { λ lines. shown lines.profile.now };
 
-    ghost Stands = { λ _ _. Unit {0} };
+    ghost Stands = { λ lines before. HasSeen lines.context lines.profile.now before };
 
     fn put_packet<W: Sink>(
         &mut self,
@@ -42,8 +57,11 @@ impl Output for PacketLines {
     ) -> Result<(), ToolFault> {
         self.line.clear();
         append_line(transaction, &mut self.line);
-        put_long(waiting, self.line.as_slice(), writer)?;
-        put(waiting, b"\n", writer)
+        let _ = self.line.try_extend_from_slice(b" # ");
+        self.context.append_note(transaction, &mut self.line);
+        self.line.push(b'\n');
+        self.context.observe(transaction);
+        put_long(waiting, self.line.as_slice(), writer)
     }
 
     fn put_end<W: Sink>(

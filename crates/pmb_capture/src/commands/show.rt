@@ -12,7 +12,8 @@ use pmb_io::{Sink, Source, Tally, ToolFault};
 use pmb_table::Profile;
 
 /// Writes a line for each packet and each refusal of the capture whose text is `first` and what the
-/// reader gives, under a profile.
+/// reader gives, under a profile. A packet's line is that of its transaction, and as a comment what
+/// it says, by the PAGE and VOUT_MODE that the packets before it told.
 ///
 /// The lines of a piece are written before the next is read. It ends with the reader, or at a word
 /// that is no token, whose line comes last.
@@ -69,5 +70,5 @@ pub fn show<R: Source, W: Sink>(
         (record { left = R.remaining reader.new; given = R.given reader.new; held = W.contents writer.new }))
         × (most_reads ≤ length through.read) }
 {
-    write_capture(profile, PacketLines::new(), first, reader, writer)
+    write_capture(profile, PacketLines::new(profile), first, reader, writer)
 }
