@@ -30,7 +30,8 @@ pub fn line_of(transaction: &Transaction) -> Line
 /// the most that one has.
 pub fn append_line<const N: usize>(transaction: &Transaction, out: &mut ArrayVec<u8, N>)
     requires { length out.old.items + 12544 ≤ N }
-    ensures { out.new.items ≡ out.old.items ++ line (transaction_data transaction.now) }
+    ensures line { out.new.items ≡ out.old.items ++ line (transaction_data transaction.now) }
+    ensures longer { length out.new.items ≤ length out.old.items + 12544 }
 {
     match transaction {
         Transaction::Write { parts } => {
@@ -119,6 +120,7 @@ fn append_mark<const N: usize>(out: &mut ArrayVec<u8, N>, word: &[u8], is_so: bo
     requires { length out.old.items + length word.now ≤ N }
     ensures marked { is_so ≡ true → out.new.items ≡ out.old.items ++ word.now }
     ensures unmarked { is_so ≡ false → out.new.items ≡ out.old.items }
+    ensures longer { length out.new.items ≤ length out.old.items + length word.now }
 {
     if is_so {
         append(out, word);
@@ -138,7 +140,8 @@ fn append_part<const N: usize>(out: &mut ArrayVec<u8, N>, part: &Part)
 // Appends parts with ` +` between each two.
 fn append_parts<const N: usize>(out: &mut ArrayVec<u8, N>, parts: &[Part])
     requires { length out.old.items + 777 * length parts.now ≤ N }
-    ensures { out.new.items ≡ out.old.items ++ behind (parts_tokens (map part_data parts.now)) }
+    ensures text { out.new.items ≡ out.old.items ++ behind (parts_tokens (map part_data parts.now)) }
+    ensures longer { length out.new.items ≤ length out.old.items + 777 * length parts.now }
 {
     let [first, rest @ ..] = parts else {
         return;

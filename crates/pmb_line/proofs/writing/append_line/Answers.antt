@@ -10,8 +10,8 @@ use Rattle.pmb_line.specs.machine.Written.{behind}
 use Rattle.pmb_line.proofs.Writings.{first, marks, more}
 use Rattle.pmb_line.proofs.writing.append_line.Goals as goal
 
-pub returns-in-Read : goal.returns-in-Read
-returns-in-Read g c =
+pub returns-in-Read-clause-line : goal.returns-in-Read-clause-line
+returns-in-Read-clause-line g c =
     let old = c.args.out.now.items in
     let kw : List ℕ = codes "read" in
     let head : List Token = Byte c.in-Read.addr ∷ Byte c.in-Read.code ∷ [] in
@@ -23,8 +23,8 @@ returns-in-Read g c =
     more old kw ((head ++ Colon ∷ []) ++ bytes reply) (mark Pec c.in-Read.pec) _ _ step3 marked
     ∙ ap (λ t. old ++ line (says.transaction_data t)) (sym c.in-Read.is)
 
-pub returns-in-Call : goal.returns-in-Call
-returns-in-Call g c =
+pub returns-in-Call-clause-line : goal.returns-in-Call-clause-line
+returns-in-Call-clause-line g c =
     let old = c.args.out.now.items in
     let kw : List ℕ = codes "call" in
     let head : List Token = Byte c.in-Call.addr ∷ Byte c.in-Call.code ∷ [] in
@@ -39,8 +39,8 @@ returns-in-Call g c =
     ∙ ap (λ xs. old ++ (kw ++ behind (xs ++ mark Pec c.in-Call.pec))) (append_assoc (head ++ bytes sent) (Colon ∷ []) (bytes reply))
     ∙ ap (λ t. old ++ line (says.transaction_data t)) (sym c.in-Call.is)
 
-pub returns-in-Refused : goal.returns-in-Refused
-returns-in-Refused g c =
+pub returns-in-Refused-clause-line : goal.returns-in-Refused-clause-line
+returns-in-Refused-clause-line g c =
     let old = c.args.out.now.items in
     let kw : List ℕ = codes "refused" in
     let front : List Token = flat_map part_before (map part_data c.in-Refused.parts.items) in
