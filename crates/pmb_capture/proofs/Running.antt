@@ -1,5 +1,5 @@
 -- What was written where a run over a capture returns.
-use Rattle.std.proofs.Common.{◌≡◌, ◌≤◌, ℕ, ◌⊎◌, Bool, Result, Err, List, ◌++◌, length, inl, inr, sym, ◌∙◌, ap, subst}
+use Rattle.std.proofs.Common.{◌≡◌, ◌≤◌, ℕ, ◌⊎◌, Bool, IfOk, Result, Err, List, ◌++◌, length, inl, inr, sym, ◌∙◌, ap, subst}
 use Rattle.pmb_bus.specs.Text.{BeginsText}
 use Rattle.pmb_command.specs.Parts.{DeviceParts}
 use Rattle.pmb_io.specs.declared.fault.ToolFault.{ToolFault}
@@ -17,6 +17,24 @@ pub same_fault : (r : Result Unit ToolFault) (answer : Result Tally ToolFault) (
 same_fault r answer fault wanted is answered same =
     let one : fault ≡ wanted = cc in
     is ∙ ap Err one
+
+-- `Ok`: the bytes ended, or a word of them is no token
+abbrev pub IsDone : OutputText → List DeviceParts → Tally → List ℕ → Told → Told → Bool → Type 0
+IsDone output profile tally first old new ended =
+    Ended (λ bytes text. WritesAtEnd output profile bytes text tally) first old new ended
+    ⊎ Stopped (λ bytes text. WritesUpToStop output profile bytes text tally) BeginsText first old new
+
+-- too many reads gave as many bytes at least
+abbrev pub IsMany : OutputText → List DeviceParts → List ℕ → Told → Told → Type 0
+IsMany output profile first old new = (through : Through (WritesFront output profile) first old new) × (most_reads ≤ length through.read)
+
+-- of texts that are one
+pub done_by : (result : Result Tally ToolFault) (a b : OutputText) (profile : List DeviceParts) (first : List ℕ) (old new : Told) (ended : Bool) → a ≡ b
+    → IfOk result (λ tally. IsDone a profile tally first old new ended) → IfOk result (λ tally. IsDone b profile tally first old new ended)
+done_by result a b profile first old new ended same = subst (λ (output : OutputText). IfOk result (λ tally. IsDone output profile tally first old new ended)) same
+
+pub many_by : (a b : OutputText) (profile : List DeviceParts) (first : List ℕ) (old new : Told) → a ≡ b → IsMany a profile first old new → IsMany b profile first old new
+many_by a b profile first old new same = subst (λ (output : OutputText). IsMany output profile first old new) same
 
 module _ {O : Type 0} (TextOf : O → OutputText) (StandsBehind : O → List TransactionData → Type 0) where
   -- whatever is left of a capture comes to something
@@ -42,7 +60,7 @@ module _ {O : Type 0} (TextOf : O → OutputText) (StandsBehind : O → List Tra
 
   -- too many reads gave as many bytes at least
   written_many : (start now : Capture O) (first : List ℕ) (old new : Told) → Leaves now → (through : Through (HasWritten TextOf StandsBehind start now) first old new) × (most_reads ≤ length through.read)
-      → (through : Through (WritesFront (TextOf start.output) (profile_of start)) first old new) × (most_reads ≤ length through.read)
+      → IsMany (TextOf start.output) (profile_of start) first old new
   unfolding written_before
   written_many start now first old new leaves many = (written_before start now first old new leaves many.0, many.1)
 
@@ -61,10 +79,10 @@ module _ {O : Type 0} (TextOf : O → OutputText) (StandsBehind : O → List Tra
 
   pub many_of : (start now : Capture O) (first : List ℕ) (old new : Told) (output : OutputText) (profile : List DeviceParts) → TextOf start.output ≡ output → profile_of start ≡ profile
       → Leaves now → (through : Through (HasWritten TextOf StandsBehind start now) first old new) × (most_reads ≤ length through.read)
-      → (through : Through (WritesFront output profile) first old new) × (most_reads ≤ length through.read)
+      → IsMany output profile first old new
   many_of start now first old new output profile same_output same_profile leaves many =
-      subst (λ (p : List DeviceParts). (through : Through (WritesFront output p) first old new) × (most_reads ≤ length through.read)) same_profile
-      (subst (λ (o : OutputText). (through : Through (WritesFront o (profile_of start)) first old new) × (most_reads ≤ length through.read)) same_output (written_many start now first old new leaves many))
+      subst (λ (p : List DeviceParts). IsMany output p first old new) same_profile
+      (subst (λ (o : OutputText). IsMany o (profile_of start) first old new) same_output (written_many start now first old new leaves many))
 
   -- `Ok`
   written_whole : (start now : Capture O) (tally : Tally) (first : List ℕ) (old new : Told) (ended : Bool) → tally ≡ now.tally
@@ -77,11 +95,6 @@ module _ {O : Type 0} (TextOf : O → OutputText) (StandsBehind : O → List Tra
   written_whole start now tally first old new ended told (inr stopped) =
       inr (subst (λ (t : Tally). Stopped (λ bytes text. WritesUpToStop (TextOf start.output) (profile_of start) bytes text t) BeginsText first old new) (sym told)
       (record { through = stopped.through; in_time = begins_text start first stopped.through.read stopped.in_time }))
-
-  abbrev pub IsDone : OutputText → List DeviceParts → Tally → List ℕ → Told → Told → Bool → Type 0
-  IsDone output profile tally first old new ended =
-      Ended (λ bytes text. WritesAtEnd output profile bytes text tally) first old new ended
-      ⊎ Stopped (λ bytes text. WritesUpToStop output profile bytes text tally) BeginsText first old new
 
   pub whole_of : (start now : Capture O) (tally : Tally) (first : List ℕ) (old new : Told) (ended : Bool) (output : OutputText) (profile : List DeviceParts)
       → TextOf start.output ≡ output → profile_of start ≡ profile → tally ≡ now.tally

@@ -16,8 +16,10 @@ use pmb_transaction::Reason;
 /// A line with its LF.
 pub(crate) type Line = ArrayVec<u8, 128>;
 
-fn append(line: &mut Line, text: &[u8])
-    requires { length line.old.items + length text.now ≤ 128 }
+/// Appends a text, for which there must be room.
+#[inline]
+pub(crate) fn append<const N: usize>(line: &mut ArrayVec<u8, N>, text: &[u8])
+    requires { length line.old.items + length text.now ≤ N }
     ensures { line.new.items ≡ line.old.items ++ text.now }
 {
     let _ = line.try_extend_from_slice(text);

@@ -1,11 +1,13 @@
 //! A line with a note for each packet.
 
-ghost use Rattle.std.specs.Prelude.{◌≡◌, [], OnOk};
+ghost use Rattle.std.specs.Prelude.{◌≡◌, ◌++◌, ◌∷◌, [], List, OnOk};
 ghost use Rattle.pmb_io.specs.Calls.{WriterTells};
 ghost use Rattle.pmb_io.specs.Outgoing.{Writes};
 ghost use Rattle.pmb_note.specs.Context.{HasSeen};
-ghost use Rattle.pmb_capture.specs.Show.{shown};
+ghost use Rattle.pmb_transaction.specs.Transaction.{TransactionData, transaction_data};
+ghost use Rattle.pmb_capture.specs.Show.{noted_line, shown};
 
+use crate::lines::append;
 use crate::output::Output;
 use arrayvec::ArrayVec;
 use pmb_io::{Sink, Tally, ToolFault, Waiting, put};
@@ -42,6 +44,22 @@ impl<'p> PacketLines<'p> {
             line: ArrayVec::new(),
         }
     }
+
+    /// Makes the line that goes out of the next packet's transaction, and takes what that one tells.
+    fn take_transaction(&mut self, transaction: &Transaction)
+        ensures profile { self.new.profile ≡ self.old.profile }
+        ensures line { (before : List TransactionData) → HasSeen self.old.context self.old.profile.now before
+            → self.new.line.items ≡ noted_line self.old.profile.now before (transaction_data transaction.now) }
+        ensures seen { (before : List TransactionData) → HasSeen self.old.context self.old.profile.now before
+            → HasSeen self.new.context self.old.profile.now (before ++ transaction_data transaction.now ∷ []) }
+    {
+        self.line.clear();
+        append_line(transaction, &mut self.line);
+        append(&mut self.line, b" # ");
+        self.context.append_note(transaction, &mut self.line);
+        append(&mut self.line, b"\n");
+        self.context.observe(transaction);
+    }
 }
 
 impl<'p> Output for PacketLines<'p> {
@@ -55,12 +73,7 @@ impl<'p> Output for PacketLines<'p> {
         waiting: &mut Waiting,
         writer: &mut W,
     ) -> Result<(), ToolFault> {
-        self.line.clear();
-        append_line(transaction, &mut self.line);
-        let _ = self.line.try_extend_from_slice(b" # ");
-        self.context.append_note(transaction, &mut self.line);
-        self.line.push(b'\n');
-        self.context.observe(transaction);
+        self.take_transaction(transaction);
         put_long(waiting, self.line.as_slice(), writer)
     }
 
