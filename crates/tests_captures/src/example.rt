@@ -20,7 +20,7 @@ fn shows_from_bytes_that_were_read_already(rt: HostRuntime) -> Result<(), Fail> 
     );
     assert_eq!(rt;
         writer.into_inner().as_slice(),
-        b"write 58 21 00 18 pec\n".as_slice()
+        b"write 58 21 00 18 pec # VOUT_COMMAND 12\n".as_slice()
     );
     Ok(())
 }

@@ -8,12 +8,20 @@ mod example;
 #[cfg(test)]
 mod long;
 #[cfg(test)]
+mod notes;
+#[cfg(test)]
+mod packets;
+#[cfg(test)]
 mod profiles;
+#[cfg(test)]
+mod refusals;
 #[cfg(test)]
 mod rows;
 #[cfg(test)]
 mod runs;
 #[cfg(test)]
 mod senseless;
+#[cfg(test)]
+mod words;
 #[cfg(test)]
 mod writes;

@@ -21,25 +21,28 @@ fn shows_a_block_of_255_bytes(rt: HostRuntime) -> Result<(), Fail> {
         line.extend_from_slice(b" 41")?;
     }
     capture.extend_from_slice(b" N P")?;
-    line.push(b'\n')?;
+    line.extend_from_slice(b" # MFR_ID\n")?;
     let mut reader = Io::new(capture.as_slice());
     let ran = written(Command::Show, rt.alloc(), &profile, b"", &mut reader);
     ran.check(&rt, "block", Way::Whole, Ok(ONE_PACKET), line.as_slice());
     Ok(())
 }
 
-/// The line of 12,371 bytes doesn't fit into what waits.
+/// The line of 12,371 bytes and its note don't fit into what waits.
 #[test]
 fn shows_a_group_of_sixteen_blocks(rt: HostRuntime) -> Result<(), Fail> {
     let profile = Profile::from_toml(rt.alloc(), MANY_DEVICES.as_bytes())?;
     let mut capture = Vec::new(rt.alloc());
     let mut line = Vec::from_slice(rt.alloc(), b"write")?;
+    let mut note = Vec::from_slice(rt.alloc(), b" #")?;
     for address in 0x10..0x20u8 {
         let byte = format!(in rt.alloc(); "S {:02x} A 99 A ff A ", 2 * u32::from(address))?;
         capture.extend_from_slice(byte.as_bytes())?;
         if address > 0x10 {
             line.extend_from_slice(b" +")?;
+            note.extend_from_slice(b" +")?;
         }
+        note.extend_from_slice(b" MFR_ID")?;
         let part = format!(in rt.alloc(); " {address:02x} 99")?;
         line.extend_from_slice(part.as_bytes())?;
         for _ in 0..255u8 {
@@ -48,6 +51,7 @@ fn shows_a_group_of_sixteen_blocks(rt: HostRuntime) -> Result<(), Fail> {
         }
     }
     capture.extend_from_slice(b"P\n")?;
+    line.extend_from_slice(note.as_slice())?;
     line.push(b'\n')?;
     for (command, lines) in [
         (Command::Show, line.as_slice()),

@@ -153,7 +153,7 @@ static FRONTS: [(&str, u64, u64, &str, &str); 3] = [
         "the packet",
         33,
         34,
-        "# refusal at 1: ReadFirst, expected Byte\nwrite 58 21 00 18\n",
+        "# refusal at 1: ReadFirst, expected Byte\nwrite 58 21 00 18 # VOUT_COMMAND 12\n",
         ONE_REFUSAL,
     ),
 ];

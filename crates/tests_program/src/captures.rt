@@ -9,8 +9,17 @@ const SHOW: [&str; 3] = ["pmb", "show", "--sample"];
 
 const CHECK: [&str; 3] = ["pmb", "check", "--sample"];
 
-/// A name, a capture, and what is printed of it. The status is 0 where no line has a `#`.
+/// A name, a capture, and what is printed of it. The status is 0 where no line begins with `#`.
 type Row = (&'static str, &'static str, &'static str);
+
+/// 1 where a line tells a refusal or a bad token, else 0.
+fn status_of(printed: &str) -> u8 {
+    if printed.starts_with('#') || printed.contains("\n#") {
+        1
+    } else {
+        0
+    }
+}
 
 #[rattlefmt::skip]
 static ROWS: [Row; 40] = [
@@ -18,30 +27,30 @@ static ROWS: [Row; 40] = [
     ("nothing", "", ""),
     ("a comment", "# nothing", ""),
     ("white space", " \t\r\n", ""),
-    ("a line", "S b0 A 21 A 00 A 18 A P\n", "write 58 21 00 18\n"),
-    ("both cases", "S B0 A 21 A Fe A eF A P", "write 58 21 fe ef\n"),
-    ("all white space", "\tS\tb0 A\r\n21 A 00 A 18 A P\r\n", "write 58 21 00 18\n"),
-    ("comments between", "# S P\nS b0 A # N\n21 A 00 A 18 A P# end", "write 58 21 00 18\n"),
-    ("comments at the words", "S#x\nb0#\nA 21 A 00 A 18 A P#", "write 58 21 00 18\n"),
+    ("a line", "S b0 A 21 A 00 A 18 A P\n", "write 58 21 00 18 # VOUT_COMMAND 12\n"),
+    ("both cases", "S B0 A 21 A Fe A eF A P", "write 58 21 fe ef # VOUT_COMMAND 119.99609375\n"),
+    ("all white space", "\tS\tb0 A\r\n21 A 00 A 18 A P\r\n", "write 58 21 00 18 # VOUT_COMMAND 12\n"),
+    ("comments between", "# S P\nS b0 A # N\n21 A 00 A 18 A P# end", "write 58 21 00 18 # VOUT_COMMAND 12\n"),
+    ("comments at the words", "S#x\nb0#\nA 21 A 00 A 18 A P#", "write 58 21 00 18 # VOUT_COMMAND 12\n"),
     // Packets of each kind.
-    ("a write", "S b0 A 21 A 00 A 18 A P", "write 58 21 00 18\n"),
-    ("a write with PEC", "S b0 A 21 A 00 A 18 A f8 A P", "write 58 21 00 18 pec\n"),
-    ("a group", "S b0 A 03 A S b2 A 03 A P", "write 58 03 + 59 03\n"),
-    ("a read", "S b0 A 88 A S b1 A 00 A d3 A f6 N P", "read 58 88 : 00 d3 pec\n"),
-    ("an empty block", "S b0 A 99 A S b1 A 00 N P", "read 58 99 :\n"),
-    ("a call", "S b0 A 1b A 01 A 7a A S b1 A 01 A 10 N P", "call 58 1b 7a : 10\n"),
-    ("a refused address", "S 40 N P", "refused 20\n"),
-    ("a refused byte", "S b0 A 03 A 47 N P", "refused 58 03 47\n"),
-    ("refused to be read", "S b0 A 21 A S b1 N P", "refused 58 21 read\n"),
-    ("an alert", "S 19 A b0 A f3 N P", "alert b0 pec\n"),
-    ("no alert", "S 19 N P", "alert none\n"),
-    ("two packets", "S b0 A 21 A 00 A 18 A P\nS b4 A 03 A 12 A P\n", "write 58 21 00 18\nwrite 5a 03 pec\n"),
+    ("a write", "S b0 A 21 A 00 A 18 A P", "write 58 21 00 18 # VOUT_COMMAND 12\n"),
+    ("a write with PEC", "S b0 A 21 A 00 A 18 A f8 A P", "write 58 21 00 18 pec # VOUT_COMMAND 12\n"),
+    ("a group", "S b0 A 03 A S b2 A 03 A P", "write 58 03 + 59 03 # CLEAR_FAULTS + CLEAR_FAULTS\n"),
+    ("a read", "S b0 A 88 A S b1 A 00 A d3 A f6 N P", "read 58 88 : 00 d3 pec # READ_VIN 12\n"),
+    ("an empty block", "S b0 A 99 A S b1 A 00 N P", "read 58 99 : # MFR_ID\n"),
+    ("a call", "S b0 A 1b A 01 A 7a A S b1 A 01 A 10 N P", "call 58 1b 7a : 10 # SMBALERT_MASK\n"),
+    ("a refused address", "S 40 N P", "refused 20 # address refused\n"),
+    ("a refused byte", "S b0 A 03 A 47 N P", "refused 58 03 47 # byte refused\n"),
+    ("refused to be read", "S b0 A 21 A S b1 N P", "refused 58 21 read # read address refused\n"),
+    ("an alert", "S 19 A b0 A f3 N P", "alert b0 pec # device 58\n"),
+    ("no alert", "S 19 N P", "alert none # no device\n"),
+    ("two packets", "S b0 A 21 A 00 A 18 A P\nS b4 A 03 A 12 A P\n", "write 58 21 00 18 # VOUT_COMMAND 12\nwrite 5a 03 pec # CLEAR_FAULTS\n"),
     // Refusals of each reason, and what is read behind them.
     ("for reading", "S b1", "# refusal at 1: ReadFirst, expected Byte\n"),
     ("a device twice", "S b0 A 03 A S b0 A 03 A P", "# refusal at 6: BadRestart, expected Byte\n"),
     ("a wrong PEC of a reply", "S b0 A 88 A S b1 A 00 A d3 A f7 N P", "# refusal at 12: BadPec, expected Byte\n"),
     ("a wrong PEC that was taken", "S b0 A 03 A 47 A", "# refusal at 6: BadPec, expected Nack\n"),
-    ("nobody's address", "S 40 A P\nS b0 A 21 A 00 A 18 A P\n", "# refusal at 2: UnknownDevice, expected Nack\nwrite 58 21 00 18\n"),
+    ("nobody's address", "S 40 A P\nS b0 A 21 A 00 A 18 A P\n", "# refusal at 2: UnknownDevice, expected Nack\nwrite 58 21 00 18 # VOUT_COMMAND 12\n"),
     ("nobody's code", "S b0 A c8 A", "# refusal at 4: UnknownCommand, expected Nack\n"),
     ("a reply that goes on", "S b2 A 19 A S b3 A b0 A", "# refusal at 9: TooLong, expected Nack\n"),
     ("a reply that ends", "S b0 A 88 A S b1 A 00 N", "# refusal at 9: TooShort, expected Ack\n"),
@@ -50,13 +59,13 @@ static ROWS: [Row; 40] = [
     ("three kinds", "S b0 A 21 A 00 A 18 A", "# refusal at 9: Truncated, expected Start or Byte or Stop\n"),
     ("behind NACK", "S b0 N S", "# refusal at 3: WrongEvent, expected Stop\n"),
     // A refused STOP ends the passing over at once.
-    ("STOP first", "P S b0 A 21 A 00 A 18 A P", "# refusal at 0: WrongEvent, expected Start\nwrite 58 21 00 18\n"),
-    ("START twice", "S S b0 A P S b0 A 21 A 00 A 18 A P", "# refusal at 1: WrongEvent, expected Byte\nwrite 58 21 00 18\n"),
+    ("STOP first", "P S b0 A 21 A 00 A 18 A P", "# refusal at 0: WrongEvent, expected Start\nwrite 58 21 00 18 # VOUT_COMMAND 12\n"),
+    ("START twice", "S S b0 A P S b0 A 21 A 00 A 18 A P", "# refusal at 1: WrongEvent, expected Byte\nwrite 58 21 00 18 # VOUT_COMMAND 12\n"),
     // Bad tokens: a packet under way is not reported behind one.
     ("another letter", "S b0 X", "# bad token at byte 5\n"),
     ("`a` alone", "S b0 a 21", "# bad token at byte 5\n"),
     ("two letters", "SS", "# bad token at byte 0\n"),
-    ("in a packet", "S b0 A 21 A 00 A 18 A P S b0 zz P", "write 58 21 00 18\n# bad token at byte 29\n"),
+    ("in a packet", "S b0 A 21 A 00 A 18 A P S b0 zz P", "write 58 21 00 18 # VOUT_COMMAND 12\n# bad token at byte 29\n"),
     ("behind a refusal", "S b1 q", "# refusal at 1: ReadFirst, expected Byte\n# bad token at byte 5\n"),
     ("three digits", "S b0 A 21 A 000 A", "# bad token at byte 12\n"),
 ];
@@ -64,15 +73,14 @@ static ROWS: [Row; 40] = [
 #[test]
 fn prints_each_row_whole_and_byte_by_byte(rt: HostRuntime) {
     for (name, capture, printed) in &ROWS {
-        let status = if printed.contains('#') { 1 } else { 0 };
-        let expected = (*printed, "", status);
+        let expected = (*printed, "", status_of(printed));
         check_text(&rt, rt.alloc(), &SHOW, name, capture, expected);
     }
 }
 
 /// The captures of `examples/captures`: a name, the text, and what is printed of it.
 static EXAMPLES: [Row; 2] = [
-    ("a word", "S b0 A 21 A 00 A 18 A P\n", "write 58 21 00 18\n"),
+    ("a word", "S b0 A 21 A 00 A 18 A P\n", "write 58 21 00 18 # VOUT_COMMAND 12\n"),
     (
         "a session on the bench",
         r#"# A bench session with the device 58h, whose output is set to 12 V (1800h at the exponent -9).
@@ -87,10 +95,10 @@ S B0 A 21 A
 # The capture stops here, in the midst of a packet.
 S b0 A 21
 "#,
-        r#"write 58 21 00 18
-refused 58 21 00
+        r#"write 58 21 00 18 # VOUT_COMMAND 12
+refused 58 21 00 # byte refused
 # refusal at 27: WrongEvent, expected Byte
-write 58 21 00 0a
+write 58 21 00 0a # VOUT_COMMAND 5
 # refusal at 42: Truncated, expected Ack or Nack
 "#,
     ),
@@ -99,13 +107,13 @@ write 58 21 00 0a
 #[test]
 fn prints_each_example(rt: HostRuntime) {
     for (name, capture, printed) in &EXAMPLES {
-        let status = if printed.contains('#') { 1 } else { 0 };
-        let expected = (*printed, "", status);
+        let expected = (*printed, "", status_of(printed));
         check_text(&rt, rt.alloc(), &SHOW, name, capture, expected);
     }
 }
 
-/// A name, a capture, and what is printed of it by `check`. The status is 0 where no line has a `#`.
+/// A name, a capture, and what is printed of it by `check`. The status is 0 where no line begins with
+/// `#`.
 #[rattlefmt::skip]
 static CHECKED: [Row; 7] = [
     ("nothing", "", "packets 0 refusals 0\n"),
@@ -132,8 +140,7 @@ static CHECKED: [Row; 7] = [
 #[test]
 fn checks_each_row_whole_and_byte_by_byte(rt: HostRuntime) {
     for (name, capture, printed) in &CHECKED {
-        let status = if printed.contains('#') { 1 } else { 0 };
-        let expected = (*printed, "", status);
+        let expected = (*printed, "", status_of(printed));
         check_text(&rt, rt.alloc(), &CHECK, name, capture, expected);
     }
 }
@@ -160,14 +167,14 @@ static READS: [Failure; 4] = [
     Failure {
         name: "both lines",
         calls: Calls::Reads(33, 34),
-        printed: "# refusal at 1: ReadFirst, expected Byte\nwrite 58 21 00 18\n",
+        printed: "# refusal at 1: ReadFirst, expected Byte\nwrite 58 21 00 18 # VOUT_COMMAND 12\n",
         told: "pmb: read failed\n",
         status: 3,
     },
     Failure {
         name: "the end",
         calls: Calls::Reads(34, 35),
-        printed: "# refusal at 1: ReadFirst, expected Byte\nwrite 58 21 00 18\n",
+        printed: "# refusal at 1: ReadFirst, expected Byte\nwrite 58 21 00 18 # VOUT_COMMAND 12\n",
         told: "",
         status: 1,
     },
@@ -192,7 +199,7 @@ static WRITES: [Failure; 3] = [
     Failure {
         name: "both lines",
         calls: Calls::Writes(2, 3),
-        printed: "# refusal at 1: ReadFirst, expected Byte\nwrite 58 21 00 18\n",
+        printed: "# refusal at 1: ReadFirst, expected Byte\nwrite 58 21 00 18 # VOUT_COMMAND 12\n",
         told: "",
         status: 1,
     },

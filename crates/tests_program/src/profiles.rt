@@ -28,7 +28,7 @@ vout_mode = 0x14            # output voltages in steps of 1/4096 V
 S 9e A 21 A cd A 1c A P
 S 9e A 40 A 00 A 20 A P
 "#,
-        "write 4f 21 cd 1c\nwrite 4f 40 00 20\n",
+        "write 4f 21 cd 1c # VOUT_COMMAND 1.800048828125\nwrite 4f 40 00 20 # VOUT_OV_FAULT_LIMIT 2\n",
         "",
         0,
     ),
@@ -96,7 +96,7 @@ S 20 A 57 A 20 A 22 A P
 # READ_VIN is not written.
 S 20 A 88 A 00 A 00 A P
 "#,
-        "write 10 57 20 22\n# refusal at 15: WrongEvent, expected Start\n",
+        "write 10 57 20 22 # VIN_OV_WARN_LIMIT 13\n# refusal at 15: WrongEvent, expected Start\n",
         "",
         1,
     ),
@@ -114,7 +114,7 @@ S b0 A 3b A 20 A e3 A P
 # Nobody answers at 59h.
 S b2 N P
 "#,
-        "write 58 3b 20 e3\nrefused 59\n",
+        "write 58 3b 20 e3 # FAN_COMMAND_1 50\nrefused 59 # address refused\n",
         "",
         0,
     ),
@@ -185,14 +185,14 @@ static ROWS: [Row; 19] = [
     (
         "a packet",
         "[[device]]\naddress = 0x20\npec = \"off\"\n%%\nS 40 A 21 A 00 A 18 A P\n",
-        "write 20 21 00 18\n",
+        "write 20 21 00 18 # VOUT_COMMAND 12\n",
         "",
         0,
     ),
     (
         "CR LF",
         "[[device]]\r\naddress = 0x20\r\npec = \"off\"\r\n%%\r\nS 40 A 21 A 00 A 18 A P\r\n",
-        "write 20 21 00 18\n",
+        "write 20 21 00 18 # VOUT_COMMAND 12\n",
         "",
         0,
     ),
