@@ -72,7 +72,7 @@ fn in_two(alloc: Global, front: &[u8], back: &[u8]) -> Result<Reading, AllocErro
 
 /// A text spells the events, or those in front of the bad word that begins at `fault`, however it
 /// is cut.
-pub fn spells<R: Abort>(
+pub(crate) fn spells<R: Abort>(
     rt: &R,
     alloc: Global,
     name: &str,
