@@ -3,10 +3,6 @@
 #![tactic(auto)]
 
 #[cfg(test)]
-mod command_forms;
-#[cfg(test)]
-mod command_initial;
-#[cfg(test)]
 mod command_keys;
 #[cfg(test)]
 mod command_order;
@@ -17,8 +13,6 @@ mod devices;
 #[cfg(test)]
 mod examples;
 #[cfg(test)]
-mod exponent;
-#[cfg(test)]
 mod large;
 #[cfg(test)]
 mod rows;
@@ -26,5 +20,3 @@ mod rows;
 mod texts;
 #[cfg(test)]
 mod value_types;
-#[cfg(test)]
-mod wide_forms;

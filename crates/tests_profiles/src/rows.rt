@@ -101,19 +101,3 @@ pub(crate) fn check_commands(rt: &impl Abort, alloc: Global, rows: &[Row]) {
         check_command(rt, alloc, keys, *fault);
     }
 }
-
-/// The kinds that are numbers.
-static NUMBERS: [&str; 4] = [
-    "'linear11'",
-    "'vout'",
-    "'vout_signed'",
-    "'direct', m = 1, b = 0, r = 0",
-];
-
-/// Whether a command of these forms has a fault, or none, with each kind that is a number.
-pub(crate) fn check_numbers(rt: &impl Abort, alloc: Global, forms: &str, fault: Option<FaultKind>) {
-    for kind in &NUMBERS {
-        let keys = format!(in alloc; "code = 0xd0, {forms}, kind = {kind}").expect(rt, "memory");
-        check_command(rt, alloc, keys.as_str(), fault);
-    }
-}
