@@ -9,12 +9,12 @@ use Rattle.pmb_io.specs.declared.tally.Tally.{Tally}
 use Rattle.pmb_io.proofs.Running.{raised_twice}
 use Rattle.pmb_io.proofs.Writing.{consumes_then}
 use Rattle.pmb_table.specs.Profile.{Says}
-use Rattle.pmb_cli.specs.Front.{EndsAtMark, EndsWithReader, FirstMark, Parts, ReadFront, ReadUndecided}
-use Rattle.pmb_cli.specs.Front as front
+use Rattle.pmb_front.specs.Front.{EndsAtMark, EndsWithReader, FirstMark, Parts, ReadFront, ReadUndecided}
+use Rattle.pmb_front.specs.Front as front
 use Rattle.pmb_cli.specs.Matter.{Behind, PartBehind}
 use Rattle.pmb_cli.specs.Traffic.{OpenBehind, WritesAll, WritesUpToBadWord, WroteBehind}
-use Rattle.pmb_cli.specs.declared.traffic.Work.{Work}
-use Rattle.pmb_cli.proofs.Fronts.{stays}
+use Rattle.pmb_words.specs.declared.work.Work.{Work}
+use Rattle.pmb_front.proofs.Fronts.{stays}
 
 -- where a line `%%` was met
 at_mark : (read : List ℕ) (parts : Parts) (left : Option (List ℕ)) (has_ended : Bool) → EndsAtMark read parts ⊎ EndsWithReader read parts left has_ended → parts.marked ≡ true

@@ -3,13 +3,13 @@ use Rattle.std.proofs.Common.{◌≡◌, ◌∙◌, ap, ℕ, ◌+◌, ◌≤◌,
 use Rattle.pmb_io.specs.declared.fault.ToolFault.{ToolFault}
 use Rattle.pmb_io.specs.declared.fault.ToolFault.TheVariants.{Read, Write, TooManyReads, ProfileTooLong, Memory}
 use Rattle.pmb_io.specs.declared.tally.Tally.{Tally}
-use Rattle.pmb_cli.specs.Status.{ReadOften, run_status, status_of}
+use Rattle.pmb_status.specs.Status.{ReadOften, run_status, status_of}
 use Rattle.pmb_io.specs.Count.{raised}
 use Rattle.pmb_io.specs.Runs.{most_reads}
 use Rattle.std.specs.Io.KnownBytes.{Consumes}
 use Rattle.pmb_io.proofs.Running.{raised_twice}
 use Rattle.pmb_io.proofs.Writing.{consumes_then}
-use Rattle.pmb_cli.specs.Front.{most_profile}
+use Rattle.pmb_front.specs.Front.{most_profile}
 
 -- with status 3 a read or a write failed, or there were too many reads
 pub io_fault : (outcome : Result Tally ToolFault) → run_status outcome ≡ 3 →
@@ -57,12 +57,13 @@ ended_well (Err Memory) within = absurd (omega arith)
 pub at_ok : (Holds : Tally → Type 0) (outcome : Result Tally ToolFault) (tally : Tally) → outcome ≡ Ok tally → IfOk outcome Holds → Holds tally
 at_ok Holds outcome tally is holds = subst (λ (r : Result Tally ToolFault). IfOk r Holds) is holds
 
--- what was done where no write failed
-pub part_at : (outcome : Result Tally ToolFault) (Failed Part : Type 0) → (outcome ≡ Err Read) ⊎ ((outcome ≡ Err Write) ⊎ (outcome ≡ Err TooManyReads)) → (outcome ≡ Err Write → Failed)
-    → ((outcome ≡ Err Read) ⊎ (outcome ≡ Err TooManyReads) → Part) → Failed ⊎ Part
-part_at outcome Failed Part (inl read) failed part = inr (part (inl read))
-part_at outcome Failed Part (inr (inl write)) failed part = inl (failed write)
-part_at outcome Failed Part (inr (inr many)) failed part = inr (part (inr many))
+-- a write failed, or else it was the reader
+pub write_or_read : (outcome : Result Tally ToolFault) → run_status outcome ≡ 3 → (outcome ≡ Err Write) ⊎ ((outcome ≡ Err Read) ⊎ (outcome ≡ Err TooManyReads))
+write_or_read outcome three = elim (io_fault outcome three) [
+  | inl read ↦ inr (inl read)
+  | inr (inl write) ↦ inl write
+  | inr (inr many) ↦ inr (inr many)
+]
 
 -- with status 0 or 1 there was no fault
 pub no_fault : (outcome : Result Tally ToolFault) (fault : ToolFault) → run_status outcome ≤ 1 → outcome ≡ Err fault → ⊥

@@ -6,8 +6,8 @@ use Rattle.pmb_io.specs.Count.{raised}
 use Rattle.pmb_io.specs.Runs.{Told}
 use Rattle.pmb_table.specs.Profile.{Says}
 use Rattle.pmb_table.specs.declared.fault.ProfileFault.{ProfileFault}
-use Rattle.pmb_cli.specs.Front.{FirstMark, IsFront, Parts, ReadFront, ReadTooMuch, Undecided, most_profile}
-use Rattle.pmb_cli.specs.Front as front
+use Rattle.pmb_front.specs.Front.{FirstMark, IsFront, Parts, ReadFront, ReadTooMuch, Undecided, most_profile}
+use Rattle.pmb_front.specs.Front as front
 
 -- This holds of the sample profile, as it is read.
 pub record UnderSample (Holds : List DeviceParts → Type 0) (sample : List ℕ) : Type 0 where

@@ -1,6 +1,5 @@
 -- What is written for what the words ask for.
 use Rattle.std.specs.Prelude.{Bool, true, false, Ok, List, [], ℕ}
-use Rattle.clap.specs.Words.{Text}
 use Rattle.pmb_convert.specs.Lines.{AnswersEnded, AnswersInput}
 use Rattle.pmb_convert.specs.Spelling.{Names}
 use Rattle.pmb_convert.specs.declared.conversion.Conversion.{Conversion}
@@ -8,11 +7,11 @@ use Rattle.pmb_convert.specs.declared.conversion.Conversion.TheVariants as conve
 use Rattle.pmb_convert.specs.declared.named_format.NamedFormat.{NamedFormat}
 use Rattle.pmb_io.specs.Runs.{Ended, Through, Told}
 use Rattle.pmb_io.specs.declared.tally.Tally.{Tally}
-use Rattle.pmb_cli.specs.Asked.{Asking, Traffic, Encode, Decode}
+use Rattle.pmb_words.specs.Asked.{Asking, Traffic, Encode, Decode}
 use Rattle.pmb_cli.specs.Traffic.{WroteBehind, WrotePart, WroteSample, WroteSamplePart}
 
 -- The text names a format, and this holds of the conversion in it.
-pub record InFormat (conversion : NamedFormat → Conversion) (Holds : Conversion → Type 0) (text : Text) : Type 0 where
+pub record InFormat (conversion : NamedFormat → Conversion) (Holds : Conversion → Type 0) (text : List ℕ) : Type 0 where
   pub format : NamedFormat
   pub names : Names text (Ok format)
   pub holds : Holds (conversion format)

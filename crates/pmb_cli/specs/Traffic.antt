@@ -8,10 +8,10 @@ use Rattle.pmb_capture.specs.Show.{ShowsAtEnd, ShowsFront, StopsAtBadWord}
 use Rattle.pmb_command.specs.Parts.{DeviceParts}
 use Rattle.pmb_io.specs.Runs.{Ended, OpenBefore, Stopped, Through, Told}
 use Rattle.pmb_io.specs.declared.tally.Tally.{Tally}
-use Rattle.pmb_cli.specs.Front.{FirstMark, Undecided}
+use Rattle.pmb_front.specs.Front.{FirstMark, Undecided}
 use Rattle.pmb_cli.specs.Matter.{Behind, PartBehind, UnderSample}
-use Rattle.pmb_cli.specs.declared.traffic.Work.{Work}
-use Rattle.pmb_cli.specs.declared.traffic.Work.TheVariants.{Show, Check, Build}
+use Rattle.pmb_words.specs.declared.work.Work.{Work}
+use Rattle.pmb_words.specs.declared.work.Work.TheVariants.{Show, Check, Build}
 
 -- ---- by the work
 

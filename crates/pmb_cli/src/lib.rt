@@ -1,24 +1,17 @@
-//! The command `pmb` over a reader and two writers: what its words say, the profile in front of a
-//! capture, and `tool`, which runs it.
+//! The command `pmb` over a reader and two writers: `tool`, which does what its words say, and the
+//! names of the crates that it stands on.
 #![tactic(auto)]
 
-mod asked;
-mod front_parts;
-mod front_reader;
+mod doing;
 pub mod laws;
+mod lines;
 mod program;
-mod sample;
-mod sample_flag;
-mod status;
 mod traffic;
-mod without_words;
-mod words;
 
-pub use front_parts::Front;
-pub use front_reader::front;
 pub use pmb_build::build;
 pub use pmb_capture::{check_capture, show};
 pub use pmb_convert::{FormatFault, NamedFormat, decode_lines, encode_lines};
+pub use pmb_front::{Front, front};
 pub use pmb_io::{Failing, Io, IoFault, Sink, Source, Tally, ToolFault};
+pub use pmb_words::no_words;
 pub use program::tool;
-pub use without_words::no_words;

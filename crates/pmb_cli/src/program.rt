@@ -1,24 +1,20 @@
 //! The whole program over a reader and two writers.
 
-ghost use Rattle.std.specs.Prelude.{◌≡◌, ◌≢◌, ◌≤◌, ◌⊎◌, [], Ok, false, map, true};
-ghost use Rattle.clap.specs.Words.{Text};
+ghost use Rattle.std.specs.Prelude.{◌≡◌, ◌≢◌, ◌≤◌, ◌⊎◌, [], Ok, false, map};
+ghost use Rattle.pmb_cli.specs.Matter.{HasBadProfile};
+ghost use Rattle.pmb_cli.specs.Tasks.{WroteTask, WroteTaskPart};
 ghost use Rattle.pmb_io.specs.Count.{raised};
 ghost use Rattle.pmb_io.specs.declared.tally.Tally.{Tally as TallyOf};
-ghost use Rattle.pmb_cli.specs.Asked.{AskFor, AskForNothing, Asking, HasBadFormat, Traffic};
-ghost use Rattle.pmb_cli.specs.Matter.{HasBadProfile};
-ghost use Rattle.pmb_cli.specs.Status.{IsTold, ReadOften, Tells, run_status};
-ghost use Rattle.pmb_cli.specs.Tasks.{WroteTask, WroteTaskPart};
-ghost use Rattle.pmb_cli.specs.declared.traffic.Work.{Work as WorkOf};
-ghost use Rattle.pmb_cli.specs.Words.{AreRefused, AskToTell, MayBeRefused, faults_of};
+ghost use Rattle.pmb_status.specs.Status.{IsTold, ReadOften, Tells, run_status};
+ghost use Rattle.pmb_words.specs.Asked.{AskFor, AskForNothing, Asking, HasBadFormat, Traffic};
+ghost use Rattle.pmb_words.specs.Words.{AreRefused, AskToTell, MayBeRefused, faults_of};
+ghost use Rattle.pmb_words.specs.declared.work.Work.{Work as WorkOf};
 
-use crate::asked::{Task, asked};
-use crate::status::{ended, tell_format, tell_nothing};
-use crate::traffic::{run_behind, run_sample};
-use crate::words::{parse, tell_words};
-use pmb_convert::laws::one_format;
-use pmb_convert::{NamedFormat, decode_lines, encode_lines};
+use crate::doing::run_task;
 use pmb_io::{Sink, Source};
 use pmb_table::SAMPLE;
+use pmb_words::asked;
+use pmb_words::laws::one_asking;
 use std::alloc::Global;
 use std::convert::AsStr;
 
@@ -87,23 +83,9 @@ pub fn tool<S: AsStr, R: Source, W: Sink, E: Sink>(
     ensures io_failed { result ≡ 3 → ((R.failures reader.new ≡ raised (R.failures reader.old) 1) × (R.has_ended reader.new ≡ R.has_ended reader.old))
         ⊎ ((W.failures out.new ≡ raised (W.failures out.old) 1) ⊎ ReadOften (R.reads reader.old) (R.reads reader.new) (R.remaining reader.old) (R.remaining reader.new)) }
 {
-    // A text names one format at most.
-    one_format();
-    let matches = match parse(alloc, words) {
-        Ok(matches) => matches,
-        Err(error) => return tell_words(alloc, words, &error, out, err),
-    };
-    match asked(&matches) {
-        Some(Task::Traffic(work, true)) => run_sample(work, alloc, reader, out, err),
-        Some(Task::Traffic(work, false)) => run_behind(work, alloc, reader, out, err),
-        Some(Task::Encode(format)) => match NamedFormat::parse(format) {
-            Ok(format) => ended(encode_lines(format, &[], reader, out), err),
-            Err(fault) => tell_format(fault, err),
-        },
-        Some(Task::Decode(format)) => match NamedFormat::parse(format) {
-            Ok(format) => ended(decode_lines(format, &[], reader, out), err),
-            Err(fault) => tell_format(fault, err),
-        },
-        None => tell_nothing(err),
+    one_asking();
+    match asked(alloc, words, out, err) {
+        Ok(task) => run_task(task, alloc, reader, out, err),
+        Err(status) => status,
     }
 }

@@ -6,28 +6,17 @@ ghost use Rattle.pmb_io.specs.Count.{raised};
 ghost use Rattle.pmb_io.specs.Runs.{Through, most_reads};
 ghost use Rattle.pmb_io.specs.declared.tally.Tally.{Tally as TallyOf};
 ghost use Rattle.pmb_cli.specs.Matter.{HasBadProfile};
-ghost use Rattle.pmb_cli.specs.Status.{IsTold, ReadOften, run_status};
+ghost use Rattle.pmb_status.specs.Status.{IsTold, ReadOften, run_status};
 ghost use Rattle.pmb_cli.specs.Traffic.{WritesFront, Wrote, WroteBehind, WrotePart, WroteSample, WroteSamplePart};
 
-use crate::front_reader::front;
-use crate::sample::sample_profile;
-use crate::status::{ended, tell, tell_profile};
 use pmb_build::build;
 use pmb_capture::{check_capture, show};
+use pmb_front::{front, sample_profile, tell_profile};
 use pmb_io::{Empty, Sink, Source, Tally, ToolFault};
+use pmb_status::{ended, tell};
 use pmb_table::{Profile, SAMPLE};
+use pmb_words::Work;
 use std::alloc::Global;
-
-/// What is done with what stands behind a profile.
-#[derive(Clone, Copy)]
-pub(crate) enum Work {
-    /// A capture is shown.
-    Show,
-    /// What is wrong in a capture is told, and how much of it.
-    Check,
-    /// Packets are built from lines.
-    Build,
-}
 
 /// Does the work on `first` and what the reader gives, under a profile.
 ///

@@ -2,8 +2,9 @@
 
 ghost use Rattle.std.specs.Prelude.{◌≤◌, length};
 
-use pmb_cli::laws::{one_front, one_limit};
-use pmb_cli::{Failing, Front, Io, Source, ToolFault, front};
+use pmb_front::laws::{one_front, one_limit};
+use pmb_front::{Front, front};
+use pmb_io::{Failing, Io, Source, ToolFault};
 use std::alloc::{AllocError, Global};
 use std::io::Read;
 use std::process::Abort;

@@ -2,7 +2,7 @@ use Rattle.std.proofs.Common.{◌≡◌, ◌≤◌, IfOk, Err, length, subst, sy
 use Rattle.pmb_io.specs.Runs.{Through, most_reads}
 use Rattle.pmb_io.specs.declared.fault.ToolFault.TheVariants.{TooManyReads}
 use Rattle.pmb_cli.specs.Traffic.{WritesFront, Wrote}
-use Rattle.pmb_cli.specs.declared.traffic.Work.{Work}
+use Rattle.pmb_words.specs.declared.work.Work.{Work}
 use Rattle.pmb_cli.proofs.traffic.run.Goals as goal
 
 -- What each does is what is told of it.

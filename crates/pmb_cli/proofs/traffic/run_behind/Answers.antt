@@ -5,10 +5,10 @@ use Rattle.pmb_keys.specs.declared.fault.FaultKind.TheVariants.{OutOfMemory}
 use Rattle.pmb_io.specs.declared.fault.ToolFault.{ToolFault}
 use Rattle.pmb_io.specs.declared.fault.ToolFault.TheVariants.{Read, Write}
 use Rattle.pmb_table.specs.Profile.{Says}
-use Rattle.pmb_cli.specs.Status.{run_status}
+use Rattle.pmb_status.specs.Status.{run_status}
 use Rattle.pmb_cli.specs.Traffic.{WritesFront, Wrote}
 use Rattle.pmb_cli.proofs.Behind.{behind_all, behind_mark, part_behind, part_of_profile}
-use Rattle.pmb_cli.proofs.Statuses.{at_ok, ended_well, io_fault, is_read, is_too_long, no_fault, not_refused, part_at, read_often_behind, two_or_more}
+use Rattle.pmb_cli.proofs.Statuses.{at_ok, ended_well, io_fault, is_read, is_too_long, no_fault, not_refused, read_often_behind, two_or_more, write_or_read}
 use Rattle.pmb_cli.proofs.traffic.run_behind.Goals as goal
 
 pub returns-in-Ok-from_toml-clause-wrote : goal.returns-in-Ok-from_toml-clause-wrote
@@ -52,11 +52,13 @@ returns-in-Ok-from_toml-clause-part g c three =
       | inl memory ↦ absurd (cc)
       | inr says ↦ says
     ] in
-    part_at c.run.result _ _ (io_fault c.run.result status) c.run.ensures.write
-    (λ failed. part_behind (WritesFront c.args.work) (λ reader. record { left = g.R.Source.remaining reader; given = g.R.Source.given reader; reads = g.R.Source.reads reader }) c.args.reader.now c.front.new.reader _ _ _ _ _ c.in-Ok.front devices c.in-Ok.ensures.ok (sym c.has_capture.ensures ∙ c.if-has_capture.true)
-    (subst (λ (text : List ℕ). Says text (Ok devices)) c.profile.ensures says)
-    (subst (λ (rest : List ℕ). Through (WritesFront c.args.work devices) rest (record { left = g.R.Source.remaining c.front.new.reader; given = g.R.Source.given c.front.new.reader; held = g.W.Sink.contents c.args.out.now })
-    (record { left = g.R.Source.remaining c.run.new.reader; given = g.R.Source.given c.run.new.reader; held = g.W.Sink.contents c.run.new.out })) c.rest.ensures (c.run.ensures.before failed)))
+    elim (write_or_read c.run.result status) [
+      | inl write ↦ inl (c.run.ensures.write write)
+      | inr failed ↦ inr (part_behind (WritesFront c.args.work) (λ reader. record { left = g.R.Source.remaining reader; given = g.R.Source.given reader; reads = g.R.Source.reads reader }) c.args.reader.now c.front.new.reader _ _ _ _ _ c.in-Ok.front devices c.in-Ok.ensures.ok (sym c.has_capture.ensures ∙ c.if-has_capture.true)
+          (subst (λ (text : List ℕ). Says text (Ok devices)) c.profile.ensures says)
+          (subst (λ (rest : List ℕ). Through (WritesFront c.args.work devices) rest (record { left = g.R.Source.remaining c.front.new.reader; given = g.R.Source.given c.front.new.reader; held = g.W.Sink.contents c.args.out.now })
+          (record { left = g.R.Source.remaining c.run.new.reader; given = g.R.Source.given c.run.new.reader; held = g.W.Sink.contents c.run.new.out })) c.rest.ensures (c.run.ensures.before failed)))
+    ]
 
 pub returns-in-Ok-2-clause-wrote : goal.returns-in-Ok-2-clause-wrote
 returns-in-Ok-2-clause-wrote g c done =

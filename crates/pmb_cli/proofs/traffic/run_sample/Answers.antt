@@ -1,8 +1,8 @@
 use Rattle.std.proofs.Common.{◌≡◌, ◌∙◌, ◌≤◌, ℕ, [], inl, inr, ap, sym, subst}
 use Rattle.pmb_io.specs.declared.fault.ToolFault.TheVariants.{Read, Write}
-use Rattle.pmb_cli.specs.Status.{run_status}
+use Rattle.pmb_status.specs.Status.{run_status}
 use Rattle.pmb_cli.specs.Traffic.{Wrote}
-use Rattle.pmb_cli.proofs.Statuses.{at_ok, ended_well, io_fault, no_fault, not_refused, part_at, read_often}
+use Rattle.pmb_cli.proofs.Statuses.{at_ok, ended_well, io_fault, no_fault, not_refused, read_often, write_or_read}
 use Rattle.pmb_cli.proofs.traffic.run_sample.Goals as goal
 
 pub returns-in-Ok-clause-wrote : goal.returns-in-Ok-clause-wrote
@@ -45,5 +45,7 @@ returns-in-Ok-clause-done g c done =
 pub returns-in-Ok-clause-part : goal.returns-in-Ok-clause-part
 returns-in-Ok-clause-part g c three =
     let status : run_status c.run.result ≡ 3 = sym c.ended.ensures.status ∙ three in
-    part_at c.run.result _ _ (io_fault c.run.result status) c.run.ensures.write
-    (λ failed. record { profile = c.in-Ok.profile; says = c.in-Ok.ensures.ok; holds = c.run.ensures.before failed })
+    elim (write_or_read c.run.result status) [
+      | inl write ↦ inl (c.run.ensures.write write)
+      | inr failed ↦ inr (record { profile = c.in-Ok.profile; says = c.in-Ok.ensures.ok; holds = c.run.ensures.before failed })
+    ]

@@ -1,0 +1,4 @@
+pub mod Marks
+pub mod Fronts
+pub mod Limits
+pub mod FrontReads

@@ -1,0 +1,39 @@
+//! What is told of a fault of a profile on standard error.
+
+ghost use Rattle.std.specs.Prelude.{◌≡◌, ◌≢◌, ◌⊎◌};
+ghost use Rattle.pmb_keys.specs.declared.fault.FaultKind.TheVariants.{OutOfMemory};
+ghost use Rattle.pmb_status.specs.Status.{IsTold};
+
+use arrayvec::ArrayString;
+use pmb_io::{Sink, ToolFault};
+use pmb_status::{BAD_WORDS, tell, tell_text};
+use pmb_table::{FaultKind, ProfileFault};
+use std::fmt::Write;
+
+/// Tells what is wrong with a profile, and where, on `err`.
+pub fn tell_profile<E: Sink>(fault: ProfileFault, err: &mut E) -> u8
+    ensures memory { fault.what ≡ OutOfMemory → result ≡ 4 }
+    ensures other { fault.what ≢ OutOfMemory → result ≡ 2 }
+    ensures refused { (result ≡ 2) ⊎ (result ≡ 4) }
+    ensures err_told { IsTold (E.contents err.old) (E.contents err.new) (E.failures err.old) (E.failures err.new) }
+{
+    if fault.what == FaultKind::OutOfMemory {
+        return tell(ToolFault::Memory, err);
+    }
+    tell_text(profile_text(fault).as_str(), err);
+    BAD_WORDS
+}
+
+/// What is told of a fault of a profile.
+fn profile_text(fault: ProfileFault) -> ArrayString<96> {
+    let mut text = ArrayString::new();
+    let _ = write!(text, "profile: {:?}", fault.what);
+    if let Some(device) = fault.device {
+        let _ = write!(text, " in device {device}");
+    }
+    if let Some(command) = fault.command {
+        let _ = write!(text, " command {command}");
+    }
+    let _ = text.try_push_str("\n");
+    text
+}

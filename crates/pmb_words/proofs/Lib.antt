@@ -1,0 +1,4 @@
+pub mod AskedLemmas
+pub mod AskedOnce
+pub mod AskedWords
+mod WordsExamples

@@ -1,0 +1,32 @@
+use Rattle.pmb_words.proofs.AskedWords.{asks_to_check, asks_to_check_sample, asks_to_build, asks_to_build_sample, asks_to_decode, asks_to_encode, asks_to_show, asks_to_show_sample, asks_for_help, asks_for_version}
+use Rattle.pmb_words.proofs.laws.words_ask.Goals as goal
+
+pub returns-clause-show_sample : goal.returns-clause-show_sample
+returns-clause-show_sample c = asks_to_show_sample
+
+pub returns-clause-show : goal.returns-clause-show
+returns-clause-show c = asks_to_show
+
+pub returns-clause-check_sample : goal.returns-clause-check_sample
+returns-clause-check_sample c = asks_to_check_sample
+
+pub returns-clause-check : goal.returns-clause-check
+returns-clause-check c = asks_to_check
+
+pub returns-clause-build_sample : goal.returns-clause-build_sample
+returns-clause-build_sample c = asks_to_build_sample
+
+pub returns-clause-build : goal.returns-clause-build
+returns-clause-build c = asks_to_build
+
+pub returns-clause-encode : goal.returns-clause-encode
+returns-clause-encode c = asks_to_encode
+
+pub returns-clause-decode : goal.returns-clause-decode
+returns-clause-decode c = asks_to_decode
+
+pub returns-clause-help : goal.returns-clause-help
+returns-clause-help c = asks_for_help
+
+pub returns-clause-version : goal.returns-clause-version
+returns-clause-version c = asks_for_version

@@ -1,0 +1,15 @@
+use Rattle.std.proofs.Common.{◌≡◌, ◌∙◌, ap, map, subst, true, refl}
+use Rattle.clap.specs.Words.{App, FailsBy, fault_of, is_simple_and_free}
+use Rattle.clap.proofs.OnLiterals.{clap_on_literals}
+use Rattle.pmb_words.specs.Words.{pmb_app}
+use Rattle.pmb_words.proofs.words.parse.Goals as goal
+
+-- The command is of the kind of which `clap` tells all faults.
+pmb_is_simple : is_simple_and_free pmb_app ≡ true
+unfolding clap_on_literals
+pmb_is_simple = refl
+
+pub returns-clause-kinds : goal.returns-clause-kinds
+returns-clause-kinds g c =
+    subst (λ (a : App). FailsBy (fault_of a (map g.S.AsStr.text c.args.words.now)) c.try_get_matches_from.result) c.in_ok-pmb_command.ensures
+    (c.try_get_matches_from.ensures.kinds (ap is_simple_and_free c.in_ok-pmb_command.ensures ∙ pmb_is_simple))

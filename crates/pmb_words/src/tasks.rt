@@ -1,0 +1,92 @@
+//! What the words of the command ask for.
+
+ghost use Rattle.std.specs.Prelude.{◌≡◌, ◌≢◌, ◌≤◌, ◌⊎◌, IfErr, IfOk, map};
+ghost use Rattle.clap.specs.Words.{subcommand_rows_of};
+ghost use Rattle.pmb_status.specs.Status.{IsTold, Tells};
+ghost use Rattle.pmb_io.specs.Count.{raised};
+ghost use Rattle.pmb_words.specs.Asked.{AskFor, AskForNothing, Asking, AsksTask, asking_of};
+ghost use Rattle.pmb_words.specs.Words.{AreRefused, AskToTell, MayBeRefused};
+
+use crate::sample_flag::has_sample;
+use crate::words::{parse, tell_words};
+use crate::work::Work;
+use clap::ArgMatches;
+use pmb_io::Sink;
+use pmb_status::tell_nothing;
+use std::alloc::Global;
+use std::convert::AsStr;
+
+/// What is to be done.
+#[derive(Clone, Copy)]
+pub enum Task<'a> {
+    /// What is done with a capture or lines, and whether it is done under the sample profile, or else
+    /// under the one in front of them.
+    Traffic(Work, bool),
+    /// Lines are encoded in the format that a text names.
+    Encode(&'a str),
+    /// Lines are decoded in the format that a text names.
+    Decode(&'a str),
+}
+
+/// What the words ask for, the program's own name first. Words that ask for nothing to be done are
+/// answered at once: help and the version are told on `out`, and a fault on `err`.
+///
+/// # Errors
+///
+/// The exit status of what was told: 0 for help or the version, 2 for words that are no command, 3
+/// where `out` failed, and 4 where there was no memory.
+pub fn asked<'a, S: AsStr, W: Sink, E: Sink>(
+    alloc: Global,
+    words: &'a [S],
+    out: &mut W,
+    err: &mut E,
+) -> Result<Task<'a>, u8>
+    ensures ok { IfOk result (λ task. AskFor (map S.text words.entry.now) (asking_of task)) }
+    ensures ok_quiet { IfOk result (λ _. (out.new ≡ out.old) × (err.new ≡ err.old)) }
+    ensures within { IfErr result (λ status. status ≤ 4) }
+
+    // Where they ask for something, only memory is lacking.
+    ensures memory { IfErr result (λ status. (asking : Asking) → AskFor (map S.text words.entry.now) asking → status ≡ 4) }
+    ensures nothing { IfErr result (λ status. AskForNothing (map S.text words.entry.now) → (status ≡ 2) ⊎ (status ≡ 4)) }
+    ensures refused { IfErr result (λ status. AreRefused (map S.text words.entry.now) → (status ≡ 2) ⊎ (status ≡ 4)) }
+    ensures told { IfErr result (λ status. status ≡ 2 → MayBeRefused (map S.text words.entry.now) ⊎ AskForNothing (map S.text words.entry.now)) }
+    ensures helped { IfErr result (λ status. AskToTell (map S.text words.entry.now) → (status ≡ 0) ⊎ (status ≡ 3) ⊎ (status ≡ 4)) }
+
+    // Help and the version go to `out` alone, and a fault to `err`.
+    ensures out_told { IfErr result (λ status. AskToTell (map S.text words.entry.now) → status ≡ 0 → Tells (W.contents out.old) (W.contents out.new)) }
+    ensures err_told { IfErr result (λ status. 2 ≤ status → IsTold (E.contents err.old) (E.contents err.new) (E.failures err.old) (E.failures err.new)) }
+    ensures quiet { IfErr result (λ status. status ≤ 1 → err.new ≡ err.old) }
+    ensures unwritten { IfErr result (λ status. AreRefused (map S.text words.entry.now) → out.new ≡ out.old) }
+    ensures refused_unwritten { IfErr result (λ status. (status ≡ 2) ⊎ (status ≡ 4) → out.new ≡ out.old) }
+    ensures done { IfErr result (λ status. status ≤ 1 → W.failures out.new ≡ W.failures out.old) }
+    ensures io_failed { IfErr result (λ status. status ≡ 3 → W.failures out.new ≡ raised (W.failures out.old) 1) }
+{
+    let matches = match parse(alloc, words) {
+        Ok(matches) => matches,
+        Err(error) => return Err(tell_words(alloc, words, &error, out, err)),
+    };
+    match task_of(&matches) {
+        Some(task) => Ok(task),
+        None => Err(tell_nothing(err)),
+    }
+}
+
+// What the words ask for, by the subcommand among them.
+fn task_of<'a>(matches: &ArgMatches<'a>) -> Option<Task<'a>>
+    ensures { AsksTask (subcommand_rows_of matches.now) result }
+{
+    let (name, arguments) = matches.subcommand()?;
+    if name == "show" {
+        Some(Task::Traffic(Work::Show, has_sample(arguments)))
+    } else if name == "check" {
+        Some(Task::Traffic(Work::Check, has_sample(arguments)))
+    } else if name == "build" {
+        Some(Task::Traffic(Work::Build, has_sample(arguments)))
+    } else if name == "encode" {
+        Some(Task::Encode(arguments.get_str("FORMAT").unwrap_or("")))
+    } else if name == "decode" {
+        Some(Task::Decode(arguments.get_str("FORMAT").unwrap_or("")))
+    } else {
+        None
+    }
+}

@@ -1,0 +1,23 @@
+//! Where the process's words can't be had.
+
+ghost use Rattle.std.specs.Prelude.{◌≡◌, ◌≢◌};
+ghost use Rattle.std.specs.declared.io.ErrorKind.TheVariants.{OutOfMemory};
+ghost use Rattle.pmb_status.specs.Status.{IsTold};
+
+use pmb_io::{Sink, ToolFault};
+use pmb_status::{BAD_WORDS, tell};
+use std::io;
+
+/// What `pmb` answers where the process's words can't be had: there is no memory for them, or they
+/// are not UTF-8, which is told on `err` as other bad words are.
+pub fn no_words<E: Sink>(kind: io::ErrorKind, err: &mut E) -> u8
+    ensures memory { kind ≡ OutOfMemory → result ≡ 4 }
+    ensures others { kind ≢ OutOfMemory → result ≡ 2 }
+    ensures err_told { IsTold (E.contents err.old) (E.contents err.new) (E.failures err.old) (E.failures err.new) }
+{
+    if kind == io::ErrorKind::OutOfMemory {
+        return tell(ToolFault::Memory, err);
+    }
+    let _ = err.write_all(b"error: the words of the command are not UTF-8\n");
+    BAD_WORDS
+}

@@ -1,0 +1,252 @@
+//! The words of the command, as `clap` reads them: no other module knows it.
+
+ghost use Rattle.std.specs.Prelude.{◌≡◌, ◌≢◌, ◌≤◌, ◌⊎◌, [], codes, false, map, IfOk};
+ghost use Rattle.clap.specs.Words.{FailsBy, app_of, kind_of, new_app, subcommand_of, subcommand_rows_of, with_subcommand};
+ghost use Rattle.clap.specs.declared.builder.command.Command.TheViews.{out-Command as fields_of};
+ghost use Rattle.pmb_io.specs.Count.{raised};
+ghost use Rattle.pmb_status.specs.Status.{IsTold, Tells};
+ghost use Rattle.pmb_words.specs.Words.{IsTelling, faults_of, lines_app, pmb_app, sampled_app, top_app};
+
+use clap::error::ErrorKind;
+use clap::{Arg, ArgAction, ArgMatches, Command, Error};
+use pmb_convert::FormatFault;
+use pmb_io::{Sink, ToolFault};
+use pmb_status::{BAD_WORDS, DONE, tell, tell_format};
+use std::alloc::{AllocError, Global};
+use std::convert::AsStr;
+
+/// What the words say, or the first fault in them.
+pub(crate) fn parse<'a, S: AsStr>(alloc: Global, words: &'a [S]) -> Result<ArgMatches<'a>, Error>
+    ensures kinds { FailsBy (faults_of (map S.text words.entry.now)) result }
+    ensures matches { IfOk result (λ matches. subcommand_rows_of matches ≡ subcommand_of pmb_app (map S.text words.entry.now)) }
+{
+    pmb_command(alloc)?.try_get_matches_from(words)
+}
+
+// `pmb` with its subcommands.
+fn pmb_command<'a>(alloc: Global) -> Result<Command<'a>, AllocError>
+    ensures { IfOk result (λ command. app_of command ≡ pmb_app) }
+{
+    let encoding = with_lines(
+        alloc,
+        traffic_command(alloc)?,
+        "encode",
+        "Writes the code of each quantity, one a line",
+        "The quantities come on standard input, one a line.\n\n\
+         Example:\n  echo 12 | ./pmb encode linear11",
+    )?;
+    with_lines(
+        alloc,
+        encoding,
+        "decode",
+        "Writes the quantity of each code, one a line",
+        "The codes come on standard input, one a line.\n\n\
+         Example:\n  echo d300 | ./pmb decode linear11",
+    )
+}
+
+// `pmb` with `show`, `check` and `build`.
+fn traffic_command<'a>(alloc: Global) -> Result<Command<'a>, AllocError>
+    ensures { IfOk result (λ command. app_of command ≡ with_subcommand (with_subcommand (with_subcommand (top_app (new_app (codes "pmb")))
+        (sampled_app (codes "show")).top) (sampled_app (codes "check")).top) (sampled_app (codes "build")).top) }
+{
+    let showing = with_sampled(
+        alloc,
+        top_command(alloc),
+        "show",
+        "Shows the transactions of a capture, one a line",
+        "Standard input is a profile, a line '%%' and the capture, or with --sample the capture \
+         alone.\n\n\
+         Example:\n  echo 'S b0 A 21 A 00 A 18 A P' | ./pmb show --sample",
+    )?;
+    let checking = with_sampled(
+        alloc,
+        showing,
+        "check",
+        "Tells the refusals of a capture, one a line, and the number of packets",
+        "Standard input is a profile, a line '%%' and the capture, or with --sample the capture \
+         alone.\n\n\
+         Example:\n  echo 'S b0 A 03 A 47 A P' | ./pmb check --sample",
+    )?;
+    with_sampled(
+        alloc,
+        checking,
+        "build",
+        "Writes the bus events of transaction lines, a packet a line",
+        "Standard input is a profile, a line '%%' and transaction lines, or with --sample the lines \
+         alone.\n\n\
+         Example:\n  echo 'write 58 21 00 18 pec' | ./pmb build --sample",
+    )
+}
+
+// `pmb` without subcommands.
+fn top_command<'a>(alloc: Global) -> Command<'a>
+    ensures { app_of result ≡ top_app (new_app (codes "pmb")) }
+{
+    Command::new(alloc, "pmb")
+        .version("0.1.0")
+        .about("Reads and writes PMBus traffic, and converts between codes and quantities")
+        .after_help(
+            "All read standard input.\n\n\
+             Example:\n  echo 'S b0 A 21 A 00 A 18 A P' | ./pmb show --sample",
+        )
+        .subcommand_required(true)
+        .arg_required_else_help(true)
+}
+
+// A command with `encode` or `decode` as one more subcommand.
+fn with_lines<'a>(
+    alloc: Global,
+    command: Command<'a>,
+    name: &'a str,
+    about: &'a str,
+    example: &'a str,
+) -> Result<Command<'a>, AllocError>
+    ensures { IfOk result (λ extended. app_of extended ≡ with_subcommand (app_of command.entry) (lines_app name.entry.now).top) }
+{
+    command.subcommand(lines_command(alloc, name, about, example)?)
+}
+
+// A command with `show`, `check` or `build` as one more subcommand.
+fn with_sampled<'a>(
+    alloc: Global,
+    command: Command<'a>,
+    name: &'a str,
+    about: &'a str,
+    example: &'a str,
+) -> Result<Command<'a>, AllocError>
+    ensures { IfOk result (λ extended. app_of extended ≡ with_subcommand (app_of command.entry) (sampled_app name.entry.now).top) }
+{
+    command.subcommand(sampled_command(alloc, name, about, example)?)
+}
+
+// `show`, `check` or `build` with its flag.
+fn sampled_command<'a>(
+    alloc: Global,
+    name: &'a str,
+    about: &'a str,
+    example: &'a str,
+) -> Result<Command<'a>, AllocError>
+    ensures shape { IfOk result (λ command. app_of command ≡ sampled_app name.entry.now) }
+    ensures local { IfOk result (λ command. (fields_of command).has_globals ≡ false) }
+{
+    let sample = Arg::new(alloc, "sample")
+        .long("sample")
+        .action(ArgAction::SetTrue)
+        .help("Take the sample profile, and not one from the front of the input");
+    Command::new(alloc, name)
+        .about(about)
+        .after_help(example)
+        .arg(sample)
+}
+
+// `encode` or `decode` with its FORMAT.
+fn lines_command<'a>(
+    alloc: Global,
+    name: &'a str,
+    about: &'a str,
+    example: &'a str,
+) -> Result<Command<'a>, AllocError>
+    ensures shape { IfOk result (λ command. app_of command ≡ lines_app name.entry.now) }
+    ensures local { IfOk result (λ command. (fields_of command).has_globals ≡ false) }
+{
+    let format = Arg::new(alloc, "FORMAT")
+        .action(ArgAction::Set)
+        .required(true)
+        .help(
+            "linear11, linear11:E, ulinear16:E, slinear16:E, vout:HH or direct:M,B,R: E is the \
+             exponent, HH VOUT_MODE in two hexadecimal digits, and M, B, R are DIRECT's coefficients",
+        );
+    Command::new(alloc, name)
+        .about(about)
+        .after_help(example)
+        .arg(format)
+}
+
+// Whether the words are those of `encode` or `decode` with a FORMAT that begins with one `-`, which
+// `clap` takes for a flag. No format begins so; what begins with `--` was meant as a flag.
+fn has_flag_for_format<S: AsStr>(words: &[S]) -> bool {
+    match words {
+        [_, subcommand, format] => {
+            (subcommand.as_str() == "encode" || subcommand.as_str() == "decode")
+                && format.as_str().starts_with('-')
+                && !format.as_str().starts_with("--")
+        }
+        _ => false,
+    }
+}
+
+/// Tells what `clap` says of the words, and answers the exit status: help and the version on `out`, a
+/// fault on `err`. What it takes for an unknown flag in the place of FORMAT is told as a format.
+pub(crate) fn tell_words<S: AsStr, W: Sink, E: Sink>(
+    alloc: Global,
+    words: &[S],
+    error: &Error,
+    out: &mut W,
+    err: &mut E,
+) -> u8
+    ensures within { result ≤ 4 }
+    ensures done { result ≤ 1 → W.failures out.new ≡ W.failures out.old }
+    ensures io_failed { result ≡ 3 → W.failures out.new ≡ raised (W.failures out.old) 1 }
+    ensures refused { (¬ IsTelling (kind_of error.now)) → (result ≡ 2) ⊎ (result ≡ 4) }
+    ensures told { IsTelling (kind_of error.now) → (result ≡ 0) ⊎ (result ≡ 3) ⊎ (result ≡ 4) }
+    ensures memory { kind_of error.now ≡ ErrorKind.OutOfMemory → result ≡ 4 }
+    ensures refused_unwritten { (result ≡ 2) ⊎ (result ≡ 4) → out.new ≡ out.old }
+    ensures unwritten { (¬ IsTelling (kind_of error.now)) → out.new ≡ out.old }
+
+    // Help and the version go to `out` alone, and a fault to `err`.
+    ensures quiet { result ≡ 0 → err.new ≡ err.old }
+    ensures out_told { result ≡ 0 → Tells (W.contents out.old) (W.contents out.new) }
+    ensures err_told { 2 ≤ result → IsTold (E.contents err.old) (E.contents err.new) (E.failures err.old) (E.failures err.new) }
+{
+    let kind = error.kind();
+    if kind == ErrorKind::OutOfMemory {
+        return tell(ToolFault::Memory, err);
+    }
+    if kind == ErrorKind::UnknownArgument && has_flag_for_format(words) {
+        return tell_format(FormatFault::BadFormat, err);
+    }
+    let Ok(text) = error.to_string(alloc) else {
+        return tell(ToolFault::Memory, err);
+    };
+    let text = or_name(text.as_str());
+    if error.use_stderr() {
+        tell_fault(text, err)
+    } else {
+        tell_about(text, out, err)
+    }
+}
+
+// Tells help or the version on `out`, and answers the exit status.
+fn tell_about<W: Sink, E: Sink>(text: &str, out: &mut W, err: &mut E) -> u8
+    requires some { text.now ≢ [] }
+    ensures told { (result ≡ 0) ⊎ (result ≡ 3) }
+    ensures done { result ≡ 0 → W.failures out.new ≡ W.failures out.old }
+    ensures io_failed { result ≡ 3 → W.failures out.new ≡ raised (W.failures out.old) 1 }
+    ensures quiet { result ≡ 0 → err.new ≡ err.old }
+    ensures out_told { result ≡ 0 → Tells (W.contents out.old) (W.contents out.new) }
+    ensures err_told { result ≡ 3 → IsTold (E.contents err.old) (E.contents err.new) (E.failures err.old) (E.failures err.new) }
+{
+    match out.write_all(text.as_bytes()) {
+        Ok(()) => DONE,
+        Err(_) => tell(ToolFault::Write, err),
+    }
+}
+
+// Tells a fault of the words on `err`, and answers the exit status.
+fn tell_fault<E: Sink>(text: &str, err: &mut E) -> u8
+    requires some { text.now ≢ [] }
+    ensures status { result ≡ 2 }
+    ensures err_told { IsTold (E.contents err.old) (E.contents err.new) (E.failures err.old) (E.failures err.new) }
+{
+    let _ = err.write_all(text.as_bytes());
+    BAD_WORDS
+}
+
+/// What `clap` says, or the program's name where it says nothing.
+fn or_name(text: &str) -> &str
+    ensures some { result.now ≢ [] }
+    ensures same { text.now ≢ [] → result.now ≡ text.now }
+{
+    if text.is_empty() { "pmb\n" } else { text }
+}
