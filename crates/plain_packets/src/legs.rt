@@ -1,5 +1,8 @@
 //! The bytes of a leg, and its events.
 
+ghost use Rattle.std.specs.Prelude.{◌≢◌, IfOk};
+ghost use Rattle.plain_packets.specs.Stops.{NoneStops};
+
 use pmb_bus::Event;
 use pmb_table::{DeviceProfile, Form, PecMode};
 use std::alloc::{AllocError, AllocFailed, Global};
@@ -229,16 +232,29 @@ pub(crate) fn is_leg(
     Ok(false)
 }
 
+/// Appends a byte, and what was answered to it.
+#[tactic(auto, using(crate::proofs::Stops::one_more))]
+fn push_byte(events: &mut Vec<Event>, byte: u8, answer: Event) -> Result<(), NoPacket>
+    requires other { answer ≢ Event.Stop }
+    ensures { IfOk result (λ _. NoneStops events.old.items → NoneStops events.new.items) }
+{
+    events.push(Event::Byte(byte))?;
+    events.push(answer)?;
+    Ok(())
+}
+
 /// Appends START, and the bytes each with ACK, but for the last.
-pub(crate) fn push_leg(events: &mut Vec<Event>, bytes: &[u8], last: Event) -> Result<(), NoPacket> {
+#[tactic(auto, using(crate::proofs::Stops::one_more))]
+pub(crate) fn push_leg(events: &mut Vec<Event>, bytes: &[u8], last: Event) -> Result<(), NoPacket>
+    requires other { last ≢ Event.Stop }
+    ensures { IfOk result (λ _. NoneStops events.old.items → NoneStops events.new.items) }
+{
     events.push(Event::Start)?;
     if let Some((end, front)) = bytes.split_last() {
         for byte in front {
-            events.push(Event::Byte(*byte))?;
-            events.push(Event::Ack)?;
+            push_byte(events, *byte, Event::Ack)?;
         }
-        events.push(Event::Byte(*end))?;
-        events.push(last)?;
+        push_byte(events, *end, last)?;
     }
     Ok(())
 }

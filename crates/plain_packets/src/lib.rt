@@ -11,5 +11,5 @@ mod viability;
 
 pub use legs::NoPacket;
 pub use packets::packet;
-pub use texts::{LONG_FORMS, events, seventeen_devices};
+pub use texts::{LONG_FORMS, SEVENTEEN_DEVICES, events};
 pub use viability::{is_viable, kinds_after};

@@ -1,5 +1,9 @@
 //! The events of a transaction, built rule by rule.
 
+ghost use Rattle.std.specs.Prelude.{IfOk};
+ghost use Rattle.pmb_transaction.specs.Capture.{EndsAtStop};
+ghost use Rattle.plain_packets.specs.Stops.{NoneStops};
+
 use crate::legs::{
     Body, NoPacket, address_byte, allowed, allows, goes_on, is_leg, leg_bytes, plain_pec, push_leg,
     push_wire, reply_form, require,
@@ -23,7 +27,9 @@ fn has_address(parts: &[Part], addr: u8) -> bool {
 }
 
 /// The legs of parts, no two of which are for one device.
-fn parts_events(alloc: Global, profile: &Profile, parts: &[Part]) -> Result<Vec<Event>, NoPacket> {
+fn parts_events(alloc: Global, profile: &Profile, parts: &[Part]) -> Result<Vec<Event>, NoPacket>
+    ensures { IfOk result (λ events. NoneStops events.items) }
+{
     let mut events = Vec::new(alloc);
     for (index, part) in parts.iter().enumerate() {
         require(!has_address(&parts[..index], part.addr))?;
@@ -35,9 +41,23 @@ fn parts_events(alloc: Global, profile: &Profile, parts: &[Part]) -> Result<Vec<
     Ok(events)
 }
 
-fn write_events(alloc: Global, profile: &Profile, parts: &[Part]) -> Result<Vec<Event>, NoPacket> {
+#[tactic(auto, using(crate::proofs::Stops::ends))]
+fn write_events(alloc: Global, profile: &Profile, parts: &[Part]) -> Result<Vec<Event>, NoPacket>
+    ensures { IfOk result (λ events. EndsAtStop events.items) }
+{
     require(!parts.is_empty())?;
     let mut events = parts_events(alloc, profile, parts)?;
+    events.push(Event::Stop)?;
+    Ok(events)
+}
+
+/// Appends the last leg, whose last byte has NACK, and STOP.
+#[tactic(auto, using(crate::proofs::Stops::ends))]
+fn end_with(mut events: Vec<Event>, bytes: &[u8]) -> Result<Vec<Event>, NoPacket>
+    requires { NoneStops events.items }
+    ensures { IfOk result (λ events. EndsAtStop events.items) }
+{
+    push_leg(&mut events, bytes, Event::Nack)?;
     events.push(Event::Stop)?;
     Ok(events)
 }
@@ -51,7 +71,9 @@ fn answered(
     form: Form,
     reply: &[u8],
     pec: bool,
-) -> Result<Vec<Event>, NoPacket> {
+) -> Result<Vec<Event>, NoPacket>
+    ensures { IfOk result (λ events. EndsAtStop events.items) }
+{
     require(allows(device.pec(), pec))?;
     let mut answer = Vec::new(alloc);
     answer.push(address_byte(device.address(), true)?)?;
@@ -64,9 +86,7 @@ fn answered(
     }
     let mut events = Vec::new(alloc);
     push_leg(&mut events, sent, Event::Ack)?;
-    push_leg(&mut events, answer.as_slice(), Event::Nack)?;
-    events.push(Event::Stop)?;
-    Ok(events)
+    end_with(events, answer.as_slice())
 }
 
 /// A refused packet: complete parts, then a leg whose last byte was refused.
@@ -76,9 +96,11 @@ fn refused_byte_events(
     parts: &[Part],
     addr: u8,
     sent: &[u8],
-) -> Result<Vec<Event>, NoPacket> {
+) -> Result<Vec<Event>, NoPacket>
+    ensures { IfOk result (λ events. EndsAtStop events.items) }
+{
     require(!has_address(parts, addr))?;
-    let mut events = parts_events(alloc, profile, parts)?;
+    let events = parts_events(alloc, profile, parts)?;
     let mut bytes = Vec::new(alloc);
     bytes.push(address_byte(addr, false)?)?;
     bytes.extend_from_slice(sent)?;
@@ -91,9 +113,7 @@ fn refused_byte_events(
             require(front.len() == 1 || goes_on(alloc, device, bodies, front)?)?;
         }
     }
-    push_leg(&mut events, bytes.as_slice(), Event::Nack)?;
-    events.push(Event::Stop)?;
-    Ok(events)
+    end_with(events, bytes.as_slice())
 }
 
 /// A refused packet: a leg that asks for a reply, then a read address that was refused.
@@ -103,7 +123,9 @@ fn refused_read_events(
     parts: &[Part],
     addr: u8,
     sent: &[u8],
-) -> Result<Vec<Event>, NoPacket> {
+) -> Result<Vec<Event>, NoPacket>
+    ensures { IfOk result (λ events. EndsAtStop events.items) }
+{
     require(parts.is_empty())?;
     let device = device(profile, addr)?;
     let mut bytes = Vec::new(alloc);
@@ -112,21 +134,18 @@ fn refused_read_events(
     require(is_leg(alloc, device, &[Body::Read, Body::Call], bytes.as_slice())?)?;
     let mut events = Vec::new(alloc);
     push_leg(&mut events, bytes.as_slice(), Event::Ack)?;
-    push_leg(&mut events, &[address_byte(addr, true)?], Event::Nack)?;
-    events.push(Event::Stop)?;
-    Ok(events)
+    end_with(events, &[address_byte(addr, true)?])
 }
 
 /// The answer at the Alert Response Address, read: none, a byte, or a byte and its packet error
 /// code.
-fn alert_events(alloc: Global, answer: &[u8]) -> Result<Vec<Event>, NoPacket> {
+fn alert_events(alloc: Global, answer: &[u8]) -> Result<Vec<Event>, NoPacket>
+    ensures { IfOk result (λ events. EndsAtStop events.items) }
+{
     let mut bytes = Vec::new(alloc);
     bytes.push(0x19)?;
     bytes.extend_from_slice(answer)?;
-    let mut events = Vec::new(alloc);
-    push_leg(&mut events, bytes.as_slice(), Event::Nack)?;
-    events.push(Event::Stop)?;
-    Ok(events)
+    end_with(Vec::new(alloc), bytes.as_slice())
 }
 
 /// The events of the packet of a transaction under a profile.
@@ -134,7 +153,9 @@ pub fn packet(
     alloc: Global,
     profile: &Profile,
     transaction: &Transaction,
-) -> Result<Vec<Event>, NoPacket> {
+) -> Result<Vec<Event>, NoPacket>
+    ensures { IfOk result (λ events. EndsAtStop events.items) }
+{
     match transaction {
         Transaction::Write { parts } => write_events(alloc, profile, parts.as_slice()),
         Transaction::Read {

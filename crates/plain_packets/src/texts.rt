@@ -42,13 +42,23 @@ call = "two"
 "#;
 
 /// 17 devices without packet error codes, 10h to 20h, each with CLEAR_FAULTS alone.
-pub fn seventeen_devices(alloc: Global) -> Result<String, AllocError> {
-    let mut text = String::new(alloc);
-    for address in 0x10..0x21u8 {
-        let device = format!(in alloc;
-            "[[device]]\naddress = {address}\npec = \"off\"\nstandard = false\n\n[[device.command]]\ncode = 3\nwrite = \"zero\"\n\n"
-        )?;
-        text.push_str(device.as_str())?;
-    }
-    Ok(text)
-}
+pub const SEVENTEEN_DEVICES: &str = r#"device = [
+    { address = 0x10, pec = 'off', standard = false, command = [{ code = 3, write = 'zero' }] },
+    { address = 0x11, pec = 'off', standard = false, command = [{ code = 3, write = 'zero' }] },
+    { address = 0x12, pec = 'off', standard = false, command = [{ code = 3, write = 'zero' }] },
+    { address = 0x13, pec = 'off', standard = false, command = [{ code = 3, write = 'zero' }] },
+    { address = 0x14, pec = 'off', standard = false, command = [{ code = 3, write = 'zero' }] },
+    { address = 0x15, pec = 'off', standard = false, command = [{ code = 3, write = 'zero' }] },
+    { address = 0x16, pec = 'off', standard = false, command = [{ code = 3, write = 'zero' }] },
+    { address = 0x17, pec = 'off', standard = false, command = [{ code = 3, write = 'zero' }] },
+    { address = 0x18, pec = 'off', standard = false, command = [{ code = 3, write = 'zero' }] },
+    { address = 0x19, pec = 'off', standard = false, command = [{ code = 3, write = 'zero' }] },
+    { address = 0x1a, pec = 'off', standard = false, command = [{ code = 3, write = 'zero' }] },
+    { address = 0x1b, pec = 'off', standard = false, command = [{ code = 3, write = 'zero' }] },
+    { address = 0x1c, pec = 'off', standard = false, command = [{ code = 3, write = 'zero' }] },
+    { address = 0x1d, pec = 'off', standard = false, command = [{ code = 3, write = 'zero' }] },
+    { address = 0x1e, pec = 'off', standard = false, command = [{ code = 3, write = 'zero' }] },
+    { address = 0x1f, pec = 'off', standard = false, command = [{ code = 3, write = 'zero' }] },
+    { address = 0x20, pec = 'off', standard = false, command = [{ code = 3, write = 'zero' }] },
+]
+"#;

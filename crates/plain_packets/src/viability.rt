@@ -4,6 +4,8 @@
 //! whose addresses, codes and data are those of the events as far as they go. Where an address or a
 //! code is missing each one is tried, and missing data are 0.
 
+ghost use Rattle.std.specs.Prelude.{◌≡◌, [], Ok, true};
+
 use crate::legs::{Body, NoPacket, data_like, form_of, leg_bytes, leg_like, reply_form};
 use crate::packets::packet;
 use arrayvec::ArrayVec;
@@ -327,7 +329,9 @@ fn to_try(
 }
 
 /// There are no events, or some packet begins with them.
-pub fn is_viable(alloc: Global, profile: &Profile, events: &[Event]) -> Result<bool, AllocError> {
+pub fn is_viable(alloc: Global, profile: &Profile, events: &[Event]) -> Result<bool, AllocError>
+    ensures none { events.now ≡ [] → result ≡ Ok true }
+{
     if events.is_empty() {
         return Ok(true);
     }

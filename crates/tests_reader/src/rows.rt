@@ -3,7 +3,7 @@
 
 use crate::compared::first_difference;
 use crate::told::{tell_end, tell_piece};
-use plain_packets::{LONG_FORMS, events, seventeen_devices};
+use plain_packets::{LONG_FORMS, SEVENTEEN_DEVICES, events};
 use pmb_bus::Event;
 use pmb_reader::Reader;
 use pmb_table::{Profile, SAMPLE};
@@ -191,7 +191,6 @@ fn reads_each_row_however_it_is_cut(rt: HostRuntime) -> Result<(), Fail> {
 #[test]
 fn a_group_has_sixteen_parts(rt: HostRuntime) -> Result<(), Fail> {
     let alloc = rt.alloc();
-    let profile = seventeen_devices(alloc)?;
     let row = (
         "S 20 A 03 A S 22 A 03 A S 24 A 03 A S 26 A 03 A \
             S 28 A 03 A S 2a A 03 A S 2c A 03 A S 2e A 03 A \
@@ -199,7 +198,7 @@ fn a_group_has_sixteen_parts(rt: HostRuntime) -> Result<(), Fail> {
             S 38 A 03 A S 3a A 03 A S 3c A 03 A S 3e A 03 A S",
         "refusal at 80: WrongEvent, expected Stop\n",
     );
-    read(&rt, alloc, profile.as_str(), &[row])
+    read(&rt, alloc, SEVENTEEN_DEVICES, &[row])
 }
 
 /// Whether both readers answer alike to a capture and once more to it, and at the end of each front.

@@ -1,6 +1,6 @@
 //! Events that no packet begins with, and which events may come instead.
 
-use plain_packets::{LONG_FORMS, events, is_viable, kinds_after, seventeen_devices};
+use plain_packets::{LONG_FORMS, SEVENTEEN_DEVICES, events, is_viable, kinds_after};
 use pmb_bus::{Event, Kinds};
 use pmb_table::{Profile, SAMPLE};
 use std::alloc::{AllocError, Global};
@@ -203,7 +203,7 @@ fn each_refused_event_is_the_first_with_which_no_packet_begins(
 #[test]
 fn a_group_has_sixteen_parts(rt: HostRuntime) -> Result<(), Fail> {
     let alloc = rt.alloc();
-    let profile = Profile::from_toml(alloc, seventeen_devices(alloc)?.as_str().as_bytes())?;
+    let profile = Profile::from_toml(alloc, SEVENTEEN_DEVICES.as_bytes())?;
     let row = Row {
         profile: "",
         events: "S 20 A 03 A S 22 A 03 A S 24 A 03 A S 26 A 03 A \
