@@ -28,3 +28,12 @@ pub mod BytesAlone
 pub mod FirstEvents
 pub mod Packets
 pub mod Places
+pub mod Decided
+pub mod Finite
+pub mod DecidedBodies
+pub mod DecidedPackets
+pub mod FinitePackets
+pub mod KindSets
+pub mod SomeReading
+pub mod ReadFronts
+pub mod Onwards

@@ -1,5 +1,5 @@
 -- What a list of events reads as.
-use Rattle.std.specs.Prelude.{◌≡◌, ◌≢◌, ℕ, ◌+◌, ◌⊎◌, List, [], ◌∷◌, ◌++◌, length}
+use Rattle.std.specs.Prelude.{◌≡◌, ◌≢◌, ℕ, ◌+◌, ◌⊎◌, List, [], ◌∷◌, ◌++◌, length, map}
 use Rattle.pmb_bus.specs.declared.event.Event.{Event}
 use Rattle.pmb_bus.specs.declared.event.Event.TheVariants.{Stop}
 use Rattle.pmb_bus.specs.declared.kinds.Kinds.{Kinds}
@@ -10,7 +10,7 @@ use Rattle.pmb_transaction.specs.declared.reason.Reason.{Reason}
 use Rattle.pmb_transaction.specs.declared.reason.Reason.TheVariants.{Truncated}
 use Rattle.pmb_transaction.specs.Transaction.{TransactionData}
 use Rattle.pmb_transaction.specs.Packet.{Packet}
-use Rattle.pmb_transaction.specs.Capture.{HasNoStop, IsPacket, Viable, MayFollow}
+use Rattle.pmb_transaction.specs.Capture.{Capture, HasNoStop, IsPacket, Viable, MayFollow}
 use Rattle.pmb_transaction.specs.Reason.{IsReason}
 
 -- A refusal: its place, which stays at the greatest u64, why, and the kinds of the events that
@@ -70,3 +70,16 @@ module _ (profile : List DeviceParts) where
   -- the reading of a whole list of events
   abbrev pub Reading : List Event → List Outcome → Type 0
   Reading events outcomes = ReadsFrom 0 events outcomes
+
+  -- The reading of events, before which n came, as the first of some transactions: the capture of
+  -- these, and behind it nothing, or events that end inside one more packet, and are truncated.
+  pub record ReadsAsFront (n : ℕ) (ts : List TransactionData) (events : List Event) (outcomes : List Outcome) : Type 0 where
+    pub done : List TransactionData
+    pub others : List TransactionData
+    pub split : ts ≡ done ++ others
+    pub whole : List Event
+    pub begun : List Event
+    pub cut : events ≡ whole ++ begun
+    pub read : Capture profile done whole
+    pub end : ((begun ≡ []) × (outcomes ≡ map Accepted done))
+        ⊎ ((refusal : RefusalData) × TruncatedAt (n + length whole) begun refusal × (outcomes ≡ map Accepted done ++ Refusal refusal ∷ []))

@@ -22,10 +22,14 @@ pub use crate::following::{
     reads_may_be_taken, replies_end, replies_go_on, stop_follows_nack, stop_makes_a_packet,
     writes_end_with_stop,
 };
-pub use crate::reading::{captures_read_as_written, one_reading};
+pub use crate::reading::{
+    captures_go_on, captures_read_as_written, each_list_has_a_reading, fronts_read_as_fronts,
+    one_reading,
+};
 pub use crate::viability::{
     bytes_follow_inside_a_body, bytes_may_be_refused, bytes_taken_begin_a_body, events_take_turns,
-    fronts_are_viable, packets_begin_with_start, packets_go_no_further, viable_lists,
+    fronts_are_viable, packets_begin_with_start, packets_go_no_further, viability_is_decided,
+    viable_lists,
 };
 use pmb_bus::laws::pec_is_a_byte;
 

@@ -1,14 +1,14 @@
 //! Laws on what events read as: each function is its contract, and does nothing.
 
-ghost use Rattle.std.specs.Prelude.{◌≡◌, ◌↔◌, List, map};
+ghost use Rattle.std.specs.Prelude.{◌≡◌, ◌↔◌, ℕ, List, ◌∷◌, ◌++◌, map};
 ghost use Rattle.pmb_bus.specs.declared.event.Event.{Event};
 ghost use Rattle.pmb_command.specs.Parts.{DeviceParts};
 ghost use Rattle.pmb_command.specs.Bus.{IsBus};
 ghost use Rattle.pmb_transaction.specs.Transaction.{TransactionData};
-ghost use Rattle.pmb_transaction.specs.Capture.{Capture};
-ghost use Rattle.pmb_transaction.specs.Reading.{Accepted, Outcome, Reading};
+ghost use Rattle.pmb_transaction.specs.Capture.{Capture, MayFollow};
+ghost use Rattle.pmb_transaction.specs.Reading.{Accepted, IsUnderWay, Outcome, Reading, ReadsAsFront, ReadsFrom};
 
-use pmb_bus::laws::kinds_are_told_by_events;
+use pmb_bus::laws::{kinds_are_told_by_events, pec_is_a_byte};
 
 /// The capture of transactions reads as these, in order, and as nothing else, under a profile that
 /// is accepted.
@@ -26,3 +26,31 @@ pub fn one_reading()
 {
     kinds_are_told_by_events();
 }
+
+/// Each list of events reads as some outcomes under a profile that is accepted, however many events
+/// came before it.
+pub fn each_list_has_a_reading()
+    ensures { (profile : List DeviceParts) (n : ℕ) (events : List Event) → IsBus profile
+        → ((outcomes : List Outcome) × ReadsFrom profile n events outcomes) }
+{
+    pec_is_a_byte();
+}
+
+/// What begins the capture of transactions reads as the first of these, under a profile that is
+/// accepted: nothing is refused, but that the packet under way at its end, if one is, is truncated.
+pub fn fronts_read_as_fronts()
+    ensures { (profile : List DeviceParts) (ts : List TransactionData) (events more : List Event) (outcomes : List Outcome)
+        → IsBus profile → Capture profile ts (events ++ more) → Reading profile events outcomes
+        → ReadsAsFront profile 0 ts events outcomes }
+{
+    kinds_are_told_by_events();
+    pec_is_a_byte();
+}
+
+/// In the capture of transactions, behind the packets of some of them and the events of a packet
+/// under way, the next event may follow: no event is refused.
+pub fn captures_go_on()
+    ensures { (profile : List DeviceParts) (ts done : List TransactionData) (whole front : List Event) (event : Event)
+        (more : List Event) → Capture profile ts (whole ++ (front ++ event ∷ more)) → Capture profile done whole
+        → IsUnderWay profile front → MayFollow profile front event }
+{}

@@ -1,6 +1,6 @@
 //! Laws on which events begin a packet: each function is its contract, and does nothing.
 
-ghost use Rattle.std.specs.Prelude.{◌≡◌, ◌≢◌, ℕ, ◌≤◌, true, Some, List, [], ◌∷◌, ◌++◌, ◌↔◌, length, nat_eq};
+ghost use Rattle.std.specs.Prelude.{◌≡◌, ◌≢◌, ℕ, ◌≤◌, true, Some, List, [], ◌∷◌, ◌++◌, ◌⊎◌, ◌↔◌, length, nat_eq};
 ghost use Rattle.std.specs.List.{IsDistinct};
 ghost use Rattle.pmb_bus.specs.declared.event.Event.{Event};
 ghost use Rattle.pmb_bus.specs.declared.event.Event.TheVariants.{Start, Byte, Ack, Nack};
@@ -21,6 +21,15 @@ use pmb_bus::laws::pec_is_a_byte;
 pub fn viable_lists()
     ensures { (profile : List DeviceParts) (events : List Event) → IsBus profile → events ≢ []
         → (Viable profile events ↔ IsBeginning profile events) }
+{
+    pec_is_a_byte();
+}
+
+/// Under a profile that is accepted some packet begins with events, or none does: which of the two is
+/// decided.
+pub fn viability_is_decided()
+    ensures { (profile : List DeviceParts) (events : List Event) → IsBus profile
+        → Viable profile events ⊎ (Viable profile events → ⊥) }
 {
     pec_is_a_byte();
 }
