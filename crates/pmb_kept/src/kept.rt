@@ -1,0 +1,299 @@
+//! The transactions that are kept, one of each kind.
+//!
+//! The parts of the packet under way are the first ones of the kept write. Of a kept transaction of
+//! another kind nothing counts until its packet ends.
+
+ghost use Rattle.std.specs.Prelude.{◌≡◌, ◌<◌, ◌≤◌, ◌++◌, [], ◌∷◌, length, nat_eq};
+ghost use Rattle.std.specs.List.{list_any};
+ghost use Rattle.std.specs.Option.{option_to_list};
+ghost use Rattle.pmb_transaction.specs.Transaction.{Write as says_write, Read as says_read, Call as says_call, Refused as says_refused, Alert as says_alert, NoAlert as says_no_alert, transaction_data};
+ghost use Rattle.pmb_transaction.specs.Packet.{addresses};
+
+use crate::parts::{copy_parts, copy_sent, front_parts, put_part};
+use arrayvec::ArrayVec;
+use pmb_transaction::Transaction;
+use std::marker::Model;
+
+/// The kinds of transactions that are kept apart.
+#[derive(Clone, Copy)]
+pub(crate) enum Slot {
+    Write,
+    Read,
+    Call,
+    Refused,
+    Alert,
+    NoAlert,
+}
+
+/// The parts of the packet under way, and the transaction whose packet ended last.
+#[derive(Drop)]
+pub struct Kept {
+    /// Its first parts are those of the packet under way.
+    write: Transaction,
+    /// How many these are.
+    count: usize,
+    read: Transaction,
+    call: Transaction,
+    refused: Transaction,
+    alert: Transaction,
+    /// It says nothing else ever.
+    no_alert: Transaction,
+    /// Which of them ended last.
+    last: Slot,
+}
+
+impl Model for Kept {
+    ghost use Rattle.pmb_kept.specs.Kept.{KeptData};
+
+    ghost Value = { KeptData };
+
+    ghost use Rattle.pmb_kept.specs.machine.Kept.{kept_data, IsKept};
+
+    ghost view = { kept_data };
+
+    ghost invariant = { IsKept };
+}
+
+impl Kept {
+    /// No part, and no packet that ended.
+    pub fn new() -> Kept
+        ensures { result ≡ record { parts = []; last = says_no_alert } }
+    {
+        Kept {
+            write: Transaction::NoAlert,
+            count: 0,
+            read: Transaction::NoAlert,
+            call: Transaction::NoAlert,
+            refused: Transaction::NoAlert,
+            alert: Transaction::NoAlert,
+            no_alert: Transaction::NoAlert,
+            last: Slot::NoAlert,
+        }
+    }
+
+    /// The transaction whose packet ended last.
+    #[inline]
+    pub fn last(&self) -> &Transaction
+        ensures { transaction_data result.now ≡ self.now.last }
+    {
+        match self.last {
+            Slot::Write => &self.write,
+            Slot::Read => &self.read,
+            Slot::Call => &self.call,
+            Slot::Refused => &self.refused,
+            Slot::Alert => &self.alert,
+            Slot::NoAlert => &self.no_alert,
+        }
+    }
+
+    /// Gives it away.
+    pub fn take_last(&mut self) -> Transaction
+        ensures { transaction_data result ≡ self.old.last }
+    {
+        self.count = 0;
+        match self.last {
+            Slot::Write => std::mem::replace(&mut self.write, Transaction::NoAlert),
+            Slot::Read => std::mem::replace(&mut self.read, Transaction::NoAlert),
+            Slot::Call => std::mem::replace(&mut self.call, Transaction::NoAlert),
+            Slot::Refused => std::mem::replace(&mut self.refused, Transaction::NoAlert),
+            Slot::Alert => std::mem::replace(&mut self.alert, Transaction::NoAlert),
+            Slot::NoAlert => Transaction::NoAlert,
+        }
+    }
+
+    /// Begins a packet without parts.
+    #[inline]
+    pub fn begin(&mut self)
+        ensures { self.new.parts ≡ [] }
+    {
+        self.count = 0;
+    }
+
+    /// How many parts the packet under way has.
+    #[inline]
+    pub fn part_count(&self) -> usize
+        ensures { result ≡ length self.now.parts }
+    {
+        self.count
+    }
+
+    /// Whether one of them has an address.
+    pub fn has_part_at(&self, addr: u8) -> bool
+        ensures { result ≡ list_any (nat_eq addr) (addresses self.now.parts) }
+    {
+        for part in front_parts(&self.write, self.count) {
+            if part.addr == addr {
+                return true;
+            }
+        }
+        false
+    }
+
+    /// Adds a part.
+    pub fn push_part(&mut self, addr: u8, code: u8, data_bytes: &[u8], pec: bool)
+        requires room { length self.old.parts < 16 }
+        requires fits { length data_bytes.now ≤ 255 }
+        ensures { self.new.parts ≡ self.old.parts ++ record { addr = addr; code = code; bytes = data_bytes.now; pec = pec } ∷ [] }
+    {
+        let count = self.count;
+        if let Transaction::Write { parts } = &mut self.write {
+            put_part(parts, count, addr, code, data_bytes, pec);
+            self.count = count + 1;
+            return;
+        }
+        let mut parts = ArrayVec::new();
+        put_part(&mut parts, 0, addr, code, data_bytes, pec);
+        self.write = Transaction::Write { parts };
+        self.count = 1;
+    }
+
+    /// The packet was the write of its parts.
+    #[inline]
+    pub fn end_write(&mut self)
+        ensures { self.new.last ≡ says_write self.old.parts }
+    {
+        self.last = Slot::Write;
+        let count = self.count;
+        if let Transaction::Write { parts } = &mut self.write {
+            parts.truncate(count);
+            return;
+        }
+        self.write = Transaction::Write {
+            parts: ArrayVec::new(),
+        };
+    }
+
+    /// The packet was a read.
+    pub fn end_read(&mut self, address: u8, command: u8, data_bytes: &[u8], with_pec: bool)
+        requires { length data_bytes.now ≤ 255 }
+        ensures { self.new.last
+            ≡ says_read (record { addr = address; code = command; reply = data_bytes.now; pec = with_pec }) }
+    {
+        self.last = Slot::Read;
+        if let Transaction::Read {
+            addr,
+            code,
+            reply,
+            pec,
+        } = &mut self.read
+        {
+            *addr = address;
+            *code = command;
+            reply.clear();
+            let _ = reply.try_extend_from_slice(data_bytes);
+            *pec = with_pec;
+            return;
+        }
+        let mut reply = ArrayVec::new();
+        let _ = reply.try_extend_from_slice(data_bytes);
+        self.read = Transaction::Read {
+            addr: address,
+            code: command,
+            reply,
+            pec: with_pec,
+        };
+    }
+
+    /// The packet was a call.
+    pub fn end_call(
+        &mut self,
+        address: u8,
+        command: u8,
+        sent: &[u8],
+        data_bytes: &[u8],
+        with_pec: bool,
+    )
+        requires sent { length sent.now ≤ 255 }
+        requires reply { length data_bytes.now ≤ 255 }
+        ensures { self.new.last
+            ≡ says_call (record { addr = address; code = command; bytes = sent.now; reply = data_bytes.now; pec = with_pec }) }
+    {
+        self.last = Slot::Call;
+        if let Transaction::Call {
+            addr,
+            code,
+            bytes,
+            reply,
+            pec,
+        } = &mut self.call
+        {
+            *addr = address;
+            *code = command;
+            bytes.clear();
+            let _ = bytes.try_extend_from_slice(sent);
+            reply.clear();
+            let _ = reply.try_extend_from_slice(data_bytes);
+            *pec = with_pec;
+            return;
+        }
+        let mut bytes = ArrayVec::new();
+        let _ = bytes.try_extend_from_slice(sent);
+        let mut reply = ArrayVec::new();
+        let _ = reply.try_extend_from_slice(data_bytes);
+        self.call = Transaction::Call {
+            addr: address,
+            code: command,
+            bytes,
+            reply,
+            pec: with_pec,
+        };
+    }
+
+    /// The packet was refused behind its parts, where these bytes were taken, and the next one not,
+    /// or to be read was refused.
+    pub fn end_refused(&mut self, address: u8, taken: &[u8], refused: Option<u8>, to_read: bool)
+        requires parts { length self.old.parts ≤ 15 }
+        requires sent { length (taken.now ++ option_to_list refused) ≤ 258 }
+        ensures { self.new.last
+            ≡ says_refused (record { parts = self.old.parts; addr = address; sent = taken.now ++ option_to_list refused; at_read = to_read }) }
+    {
+        self.last = Slot::Refused;
+        let front = front_parts(&self.write, self.count);
+        if let Transaction::Refused {
+            parts,
+            addr,
+            sent,
+            at_read,
+        } = &mut self.refused
+        {
+            copy_parts(front, parts);
+            *addr = address;
+            copy_sent(taken, refused, sent);
+            *at_read = to_read;
+            return;
+        }
+        let mut parts = ArrayVec::new();
+        copy_parts(front, &mut parts);
+        let mut sent = ArrayVec::new();
+        copy_sent(taken, refused, &mut sent);
+        self.refused = Transaction::Refused {
+            parts,
+            addr: address,
+            sent,
+            at_read: to_read,
+        };
+    }
+
+    /// A device answered at the Alert Response Address.
+    pub fn end_alert(&mut self, answered: u8, with_pec: bool)
+        ensures { self.new.last ≡ says_alert (record { byte = answered; pec = with_pec }) }
+    {
+        self.last = Slot::Alert;
+        if let Transaction::Alert { byte, pec } = &mut self.alert {
+            *byte = answered;
+            *pec = with_pec;
+            return;
+        }
+        self.alert = Transaction::Alert {
+            byte: answered,
+            pec: with_pec,
+        };
+    }
+
+    /// No device answered there.
+    pub fn end_no_alert(&mut self)
+        ensures { self.new.last ≡ says_no_alert }
+    {
+        self.last = Slot::NoAlert;
+    }
+}
