@@ -314,6 +314,24 @@ module _ (profile : List DeviceParts) where
       has_read after (events ++ piece) AnyEvent outcomes w.behind w.stands
       (led events due outcomes read.standing piece w.behind w.not_held is w.leads (account_of before events due outcomes read))
 
+  -- no events lead nowhere
+  led_nowhere : (standing behind : Standing) → Leads standing [] behind → behind ≡ standing
+  led_nowhere (Open n front) behind leads = leads ∙ ap (λ (es : List Event). Open n es) (append-nil front)
+  led_nowhere (Held n refusal) behind leads = leads.1
+  led_nowhere (Passing n) behind (inl leads) =
+      let same : n + 0 ≡ n = omega arith in
+      leads.1 ∙ ap (λ (m : ℕ). Passing m) same
+  led_nowhere (Passing n) behind (inr leads) = absurd (no_stop_in_none leads.0 leads.1 leads.3)
+
+  pub none_is_read : (before after : Reader) (events : List Event) (due : Due) (outcomes : List Outcome) (used : ℕ)
+      → HasRead profile before events due outcomes
+      → ((standing : Standing) → StandsAt profile before standing → NeedsMore profile standing [] used after)
+      → HasRead profile after events due outcomes
+  none_is_read before after events due outcomes used read feeds =
+      let w = feeds read.standing read.stands in
+      has_read after events due outcomes read.standing (subst (StandsAt profile after) (led_nowhere read.standing w.behind w.leads) w.stands)
+      (account_of before events due outcomes read)
+
   -- the events used, up to with the one that ends a packet
   used_with : (piece front : List Event) (event : Event) (rest : List Event) (used : ℕ) → piece ≡ front ++ event ∷ rest → used ≡ length front + 1
       → front ++ event ∷ [] ≡ take used piece

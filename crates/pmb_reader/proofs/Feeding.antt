@@ -7,7 +7,9 @@ use Rattle.pmb_command.specs.Parts.{DeviceParts}
 use Rattle.pmb_transaction.specs.Transaction.{TransactionData}
 use Rattle.pmb_transaction.specs.Packet.{Packet}
 use Rattle.pmb_transaction.specs.Capture.{HasNoStop}
-use Rattle.pmb_transaction.specs.Reading.{RefusalData}
+use Rattle.pmb_transaction.specs.Reading.{IsUnderWay, RefusalData}
+use Rattle.pmb_under_way.specs.declared.under_way.UnderWay.{UnderWay}
+use Rattle.pmb_under_way.specs.UnderWay.{StandsIn}
 use Rattle.pmb_reader.specs.declared.reader.Reader.{Reader}
 use Rattle.pmb_reader.specs.declared.reader.Took.TheVariants as answers
 use Rattle.pmb_reader.specs.declared.refusal.Refusal.{Refusal}
@@ -93,6 +95,10 @@ pub record FedTo (before : Reader) (piece : List Event) (i : ℕ) (now : Reader)
 length_take_within : (i : ℕ) (piece : List Event) → i < length piece → length (take i piece) ≡ i
 length_take_within i piece within = length-take-le i piece (omega arith)
 
+-- some packet begins with the events of the one under way
+abbrev UnderWayHolds : Type 0
+UnderWayHolds = (profile : List DeviceParts) (u : UnderWay) (events : List Event) → StandsIn profile u events → IsUnderWay profile events
+
 module _ (before now : Reader) (piece : List Event) (i : ℕ) (d : Event) (fed : FedTo before piece i now) (within : i < length piece) where
   whole : piece ≡ take i piece ++ get_or piece i d ∷ drop (i + 1) piece
   whole =
@@ -112,11 +118,11 @@ module _ (before now : Reader) (piece : List Event) (i : ℕ) (d : Event) (fed :
     not_held = fed.not_held;
   }
 
-  open_packet : (profile : List DeviceParts) (standing behind : Standing) (ended after : Reader) (t : TransactionData)
+  open_packet : UnderWayHolds → (profile : List DeviceParts) (standing behind : Standing) (ended after : Reader) (t : TransactionData)
       → Leads standing (take i piece) behind → StandsAt profile now behind → Takes profile behind (get_or piece i d) answers.Packet ended
       → last_read ended ≡ t
       → ((n : ℕ) → StandsAt profile ended (Open n []) → StandsAt profile after (Open n [])) → EndsPacket profile standing piece (i + 1) after t
-  open_packet profile standing (Open n events) ended after t leads here takes is stands = record {
+  open_packet holds profile standing (Open n events) ended after t leads here takes is stands = record {
     front = take i piece;
     event = get_or piece i d;
     rest = drop (i + 1) piece;
@@ -125,22 +131,22 @@ module _ (before now : Reader) (piece : List Event) (i : ℕ) (d : Event) (fed :
     n = n;
     events = events;
     leads = leads;
-    under_way = here.inside.goes;
+    under_way = holds profile now.under_way events here.inside;
     packet = subst (λ (u : TransactionData). Packet profile u (events ++ get_or piece i d ∷ [])) is takes.0;
     stands = stands (n + length events + 1) takes.1;
   }
-  open_packet profile standing (Held n refusal) ended after t leads here takes is stands = absurd takes
-  open_packet profile standing (Passing n) ended after t leads here takes is stands = absurd takes
+  open_packet holds profile standing (Held n refusal) ended after t leads here takes is stands = absurd takes
+  open_packet holds profile standing (Passing n) ended after t leads here takes is stands = absurd takes
 
-  pub fed_packet : (ended after : Reader) (t : TransactionData)
+  pub fed_packet : UnderWayHolds → (ended after : Reader) (t : TransactionData)
       → ((profile : List DeviceParts) (standing : Standing) → StandsAt profile now standing
       → Takes profile standing (get_or piece i d) answers.Packet ended)
       → last_read ended ≡ t
       → ((profile : List DeviceParts) (n : ℕ) → StandsAt profile ended (Open n []) → StandsAt profile after (Open n []))
       → (profile : List DeviceParts) (standing : Standing) → StandsAt profile before standing → EndsPacket profile standing piece (i + 1) after t
-  fed_packet ended after t takes is stands profile standing at =
+  fed_packet holds ended after t takes is stands profile standing at =
       let here = fed.led profile standing at in
-      open_packet profile standing here.behind ended after t here.leads here.stands (takes profile here.behind here.stands) is (stands profile)
+      open_packet holds profile standing here.behind ended after t here.leads here.stands (takes profile here.behind here.stands) is (stands profile)
 
   open_refused : (profile : List DeviceParts) (standing behind : Standing) (after : Reader) (refusal : Refusal)
       → IsHeldAt standing None → Leads standing (take i piece) behind → StandsAt profile now behind

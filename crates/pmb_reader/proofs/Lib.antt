@@ -2,13 +2,3 @@ pub mod Modes
 pub mod Stopless
 pub mod Feeding
 pub mod Accounts
-pub mod KeptParts
-pub mod Steps
-pub mod WrittenLegs
-pub mod Devices
-pub mod AnsweredLegs
-pub mod Ends
-pub mod Reasons
-pub mod Expected
-pub mod OneKind
-pub mod NoAnswers

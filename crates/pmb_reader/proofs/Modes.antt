@@ -9,7 +9,7 @@ use Rattle.pmb_reader.specs.declared.reader.Mode.TheVariants as modes
 use Rattle.pmb_reader.specs.declared.reader.Reader.{Reader}
 use Rattle.pmb_reader.specs.declared.reader.Took.TheVariants as answers
 use Rattle.pmb_reader.specs.Reader.{Standing, Open, Held, Passing, StandsAt, CanCome, Takes, behind_passed}
-use Rattle.pmb_reader.specs.machine.UnderWay.{StandsIn}
+use Rattle.pmb_under_way.specs.UnderWay.{StandsIn}
 use Rattle.pmb_reader.specs.machine.Standing.{IsMode}
 
 module _ (profile : List DeviceParts) (reader : Reader) where

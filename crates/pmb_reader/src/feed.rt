@@ -9,6 +9,7 @@ use crate::reader::{Reader, Took};
 use crate::refusal::Refusal;
 use pmb_bus::Event;
 use pmb_transaction::Transaction;
+use pmb_under_way::laws::some_packet_is_under_way;
 
 /// What a piece of a capture came to.
 #[derive(Debug, Drop, PartialEq, Eq)]
@@ -40,6 +41,7 @@ impl<'p> Reader<'p> {
         ensures { (profile : List DeviceParts) (standing : Standing) → StandsAt profile self.old standing
             → Feeds profile standing events.now result.used result.outcome self.new }
     {
+        some_packet_is_under_way();
         if let Some(refusal) = self.held() {
             return Feed {
                 used: 0,

@@ -10,7 +10,7 @@ ghost use Rattle.pmb_command.specs.Bus.{IsBus};
 ghost use Rattle.pmb_transaction.specs.declared.transaction.Transaction.{Transaction};
 ghost use Rattle.pmb_transaction.specs.Transaction.{TransactionData, transaction_data};
 ghost use Rattle.pmb_transaction.specs.Capture.{Capture};
-ghost use Rattle.pmb_transaction.specs.Reading.{Accepted, Outcome, Reading, Refusal as refused_as};
+ghost use Rattle.pmb_transaction.specs.Reading.{Accepted, IsUnderWay, Outcome, Reading, Refusal as refused_as};
 ghost use Rattle.pmb_reader.specs.declared.feed.Outcome.TheVariants as fed;
 ghost use Rattle.pmb_reader.specs.declared.reader.Reader.{Reader};
 ghost use Rattle.pmb_reader.specs.declared.reader.Took.TheVariants as took;
@@ -21,6 +21,20 @@ ghost use Rattle.pmb_reader.specs.Feed.{Feeds};
 ghost use Rattle.pmb_reader.specs.Reading.{Due, AnyEvent, HeldEvent, HasRead, IsDue, IsNotHeld, due_behind_resync};
 
 use pmb_transaction::laws::captures_read_as_written;
+use pmb_under_way::laws::some_packet_is_under_way;
+
+// ---- the packet under way
+
+/// Where a reader reads a packet, some packet begins with its events so far, and they hold no whole
+/// one.
+pub fn some_packet_is_read()
+    ensures { (profile : List DeviceParts) (reader : Reader) (n : ℕ) (events : List Event) → StandsAt profile reader (Open n events)
+        → IsUnderWay profile events }
+{
+    some_packet_is_under_way();
+}
+
+// ---- the start
 
 /// A new reader has read nothing of no events.
 pub fn reading_begins()
@@ -80,6 +94,14 @@ pub fn pieces_go_on()
         → IsDue due piece
         → ((standing : Standing) → StandsAt profile before standing → Feeds profile standing piece used fed.More after)
         → HasRead profile after (events ++ piece) AnyEvent outcomes }
+{}
+
+/// With a piece of no events nothing more is read, and what is due stays so.
+pub fn empty_pieces_read_nothing()
+    ensures { (profile : List DeviceParts) (before after : Reader) (events : List Event) (due : Due)
+        (outcomes : List Outcome) (used : ℕ) → HasRead profile before events due outcomes
+        → ((standing : Standing) → StandsAt profile before standing → Feeds profile standing [] used fed.More after)
+        → HasRead profile after events due outcomes }
 {}
 
 /// With a piece in which a packet ends, up to its STOP, the transaction is read.

@@ -2,8 +2,7 @@
 //!
 //! A [`Reader`] takes the events of a capture in order. At each STOP that ends a packet it has the
 //! transaction; at the first event that no packet goes on with it answers why, and what might have
-//! come. It keeps no list of events: of the packet under way it keeps the parts so far, the bytes of
-//! the leg under way, and its packet error code.
+//! come. It keeps no list of events; the packet under way is kept by `pmb_under_way`.
 //!
 //! ```rust
 //! let profile = Profile::from_toml(rt.alloc(), SAMPLE.as_bytes())?;
@@ -17,15 +16,10 @@
 //! ```
 #![tactic(auto)]
 
-mod answering;
-mod expecting;
 mod feed;
-mod kept;
 pub mod laws;
 mod reader;
 mod refusal;
-mod under_way;
-mod writing;
 
 pub use feed::{Feed, Outcome};
 pub use reader::{Reader, Took};

@@ -1,8 +1,8 @@
 //! Reads packets.
 //!
 //! A [`Reader`] is between packets or inside one, or it holds a refusal, or it passes events over up
-//! to the next STOP. What it keeps of the packet under way is [`UnderWay`], which alone knows what a
-//! packet is; here events are counted and refusals are kept.
+//! to the next STOP. The packet under way is an [`UnderWay`], which alone knows what a packet is; here
+//! events are counted and refusals are kept.
 
 ghost use Rattle.std.specs.Prelude.{◌≡◌, ◌+◌, ℕ, List, [], length};
 ghost use Rattle.pmb_bus.specs.declared.event.Event.{Event as BusEvent};
@@ -15,10 +15,10 @@ ghost use Rattle.pmb_reader.specs.Refusal.{refusal_data};
 ghost use Rattle.pmb_reader.specs.Reader.{Standing, Open, Held, Passing, StandsAt, CanCome, Finishes, IsHeldAt, Takes, behind_passed, behind_resync, last_read};
 
 use crate::refusal::Refusal;
-use crate::under_way::{Move, UnderWay};
 use pmb_bus::{Event, Kinds};
 use pmb_table::Profile;
 use pmb_transaction::{Reason, Transaction};
+use pmb_under_way::{Move, UnderWay};
 
 /// What one event came to.
 #[derive(Clone, Copy, Debug, PartialEq, Eq)]

@@ -9,8 +9,7 @@ use Rattle.pmb_reader.specs.declared.reader.Mode.{Mode}
 use Rattle.pmb_reader.specs.declared.reader.Mode.TheVariants as modes
 use Rattle.pmb_reader.specs.declared.reader.Reader.{Reader}
 use Rattle.pmb_reader.specs.Refusal.{refusal_data}
-use Rattle.pmb_reader.specs.machine.Kept.{last_kept}
-use Rattle.pmb_reader.specs.machine.UnderWay.{StandsIn}
+use Rattle.pmb_under_way.specs.UnderWay.{StandsIn, packet_of}
 
 -- Where a reader stands: n events came, and then those of the packet under way, if there are any; or
 -- n events came, and it holds a refusal of the next, or passes over those up to the next STOP.
@@ -50,4 +49,4 @@ pub record StandsAt (profile : List DeviceParts) (reader : Reader) (standing : S
 
 -- the transaction of the packet that the last event ended
 abbrev pub last_read : Reader → TransactionData
-last_read reader = last_kept reader.under_way.kept
+last_read reader = packet_of reader.under_way

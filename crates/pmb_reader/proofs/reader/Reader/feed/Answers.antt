@@ -11,7 +11,7 @@ loop-i-preserved c =
 
 pub returns-in-Packet : goal.returns-in-Packet
 returns-in-Packet c =
-    fed_packet c.args.self.now c.loop-i.self c.args.events.now c.loop-i.i _ c.loop-i.invariant c.loop-i-test.true c.take.new.self c.take_packet.new.self _
+    fed_packet c.args.self.now c.loop-i.self c.args.events.now c.loop-i.i _ c.loop-i.invariant c.loop-i-test.true c.some_packet_is_under_way.ensures c.take.new.self c.take_packet.new.self _
     c.in-Packet.ensures (sym c.take_packet.ensures.read) c.take_packet.ensures.stands
 
 pub returns-in-Refused : goal.returns-in-Refused

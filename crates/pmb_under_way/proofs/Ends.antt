@@ -1,0 +1,26 @@
+-- Behind which events there is no place between packets.
+use Rattle.std.proofs.Common.{◌≡◌, List, [], ◌∷◌, ◌++◌, refl, sym, ◌∙◌}
+use Rattle.pmb_bus.specs.declared.event.Event.{Event}
+use Rattle.pmb_command.specs.Parts.{DeviceParts}
+use Rattle.pmb_under_way.specs.declared.under_way.Place.{Place}
+use Rattle.pmb_under_way.specs.declared.under_way.Place.TheVariants.{Between, Start, Address, Leg, LegByte, Restart, ReadAddress, Answer, AnswerByte, End}
+use Rattle.pmb_under_way.specs.declared.under_way.UnderWay.{UnderWay}
+use Rattle.pmb_under_way.specs.machine.UnderWay.{IsPlace}
+
+not_none : (front : List Event) (event : Event) (rest : List Event) → front ++ event ∷ rest ≡ [] → ⊥
+not_none [] event rest same = cc same
+not_none (e ∷ front) event rest same = cc same
+
+-- some events came at every other place
+pub some_events : (profile : List DeviceParts) (u : UnderWay) (place : Place) (events : List Event) → (place ≡ Between → ⊥) → IsPlace place profile u events
+    → events ≡ [] → ⊥
+some_events profile u Between events other here none = other refl
+some_events profile u Start events other here none = cc (sym here.0 ∙ none)
+some_events profile u (Address addr) events other here none = not_none here.legs _ _ (sym here.spelled ∙ none)
+some_events profile u Leg events other here none = not_none here.leg.legs _ _ (sym here.leg.spelled ∙ none)
+some_events profile u (LegByte byte) events other here none = not_none here.front _ _ (sym here.spelled ∙ none)
+some_events profile u Restart events other here none = not_none here.front _ _ (sym here.spelled ∙ none)
+some_events profile u (ReadAddress source) events other here none = not_none here.front _ _ (sym here.spelled ∙ none)
+some_events profile u (Answer source) events other here none = not_none here.front _ _ (sym here.spelled ∙ none)
+some_events profile u (AnswerByte source) events other here none = not_none _ _ _ (sym here.spelled ∙ none)
+some_events profile u End events other here none = not_none here.front _ _ (sym here.spelled ∙ none)

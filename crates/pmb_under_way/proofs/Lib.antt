@@ -1,0 +1,10 @@
+pub mod Places
+pub mod Steps
+pub mod WrittenLegs
+pub mod Devices
+pub mod AnsweredLegs
+pub mod Ends
+pub mod Reasons
+pub mod Expected
+pub mod OneKind
+pub mod NoAnswers

@@ -1,0 +1,127 @@
+-- One event more at a place.
+use Rattle.std.proofs.Common.{◌≡◌, ◌≢◌, ℕ, ◌⊎◌, inl, inr, true, false, List, [], ◌∷◌, ◌++◌, refl, sym, ap, subst, ◌∙◌, append_assoc}
+use Rattle.pmb_bus.specs.declared.event.Event.{Event}
+use Rattle.pmb_bus.specs.declared.event.Event.TheVariants.{Start, Byte, Ack, Nack, Stop}
+use Rattle.pmb_command.specs.Parts.{DeviceParts}
+use Rattle.pmb_transaction.specs.Transaction.{TransactionData}
+use Rattle.pmb_transaction.specs.Packet.{Packet, acked, leg}
+use Rattle.pmb_transaction.specs.Capture.{MayFollow}
+use Rattle.pmb_transaction.specs.Reading.{IsUnderWay}
+use Rattle.pmb_transaction.specs.Turns.{is_answer, is_byte, is_no_answer, is_stop, stands_behind}
+use Rattle.pmb_under_way.specs.declared.under_way.Place.{Place}
+use Rattle.pmb_under_way.specs.declared.under_way.Place.TheVariants as places
+use Rattle.pmb_under_way.specs.declared.under_way.UnderWay.{UnderWay}
+use Rattle.pmb_under_way.specs.machine.UnderWay.{IsPlace, StandsIn}
+
+no_front : (front rest : List Event) → [] ≡ front ++ rest → front ≡ []
+no_front [] rest split = refl
+no_front (e ∷ front) rest split = absurd (cc split)
+
+-- the place at which it stands
+pub at_place : (profile : List DeviceParts) (u : UnderWay) (events : List Event) (place : Place) → u.place ≡ place → StandsIn profile u events
+    → IsPlace place profile u events
+at_place profile u events place is stands = subst (λ (p : Place). IsPlace p profile u events) is stands.place
+
+-- an event that may follow leads on
+pub moves_on : (profile : List DeviceParts) (events : List Event) (event : Event) (after : UnderWay)
+    → ((profile : List DeviceParts) (events : List Event) (event : Event) → MayFollow profile events event → event ≢ Stop
+    → IsUnderWay profile (events ++ event ∷ []))
+    → after.profile.now ≡ profile → MayFollow profile events event → event ≢ Stop → IsPlace after.place profile after (events ++ event ∷ [])
+    → StandsIn profile after (events ++ event ∷ [])
+moves_on profile events event after go known follows other place =
+    record { known = known; goes = go profile events event follows other; place = place }
+
+-- It leads to a place, where nothing else changes.
+pub moves_to : (profile : List DeviceParts) (u : UnderWay) (place : Place) (events : List Event) (event : Event)
+    → ((profile : List DeviceParts) (events : List Event) (event : Event) → MayFollow profile events event → event ≢ Stop
+    → IsUnderWay profile (events ++ event ∷ []))
+    → u.profile.now ≡ profile → MayFollow profile events event → event ≢ Stop
+    → IsPlace place profile (record u { place = place }) (events ++ event ∷ [])
+    → StandsIn profile (record u { place = place }) (events ++ event ∷ [])
+moves_to profile u place events event go known follows other here =
+    moves_on profile events event (record u { place = place }) go known follows other here
+
+-- Between packets no event is under way.
+pub restarts : (profile : List DeviceParts) (u : UnderWay)
+    → ((profile : List DeviceParts) (t : TransactionData) (events : List Event) → Packet profile t events → events ≢ []) → u.profile.now ≡ profile
+    → u.place ≡ places.Between → StandsIn profile u []
+restarts profile u some known between = record {
+  known = known;
+  goes = record { viable = inl refl; no_packet = λ front rest split packet. some profile packet.0 front packet.1 (no_front front rest split) };
+  place = subst (λ (p : Place). IsPlace p profile u []) (sym between) refl;
+}
+
+-- a byte is no STOP
+pub byte_is_no_stop : (event : Event) (byte : ℕ) → event ≡ Byte byte → event ≢ Stop
+byte_is_no_stop event byte is stop = cc (is, stop)
+
+-- Behind one event another may follow in its turn alone.
+abbrev pub TakeTurns : Type 0
+TakeTurns =
+    (profile : List DeviceParts) (events : List Event) (before event : Event) → MayFollow profile (events ++ before ∷ []) event
+    → stands_behind before event ≡ true
+
+-- the last of some events
+pub record EndsWith (events : List Event) (last : Event) : Type 0 where
+  pub front : List Event
+  pub split : events ≡ front ++ last ∷ []
+
+pub not_its_turn : (turns : TakeTurns) (profile : List DeviceParts) (events : List Event) (before event : Event) → EndsWith events before
+    → stands_behind before event ≡ false → MayFollow profile events event → ⊥
+not_its_turn turns profile events before event ends unfit follows =
+    let turn = turns profile ends.front before event (subst (λ (es : List Event). MayFollow profile es event) ends.split follows) in
+    cc (unfit, turn)
+
+acked_ends : (front : List Event) (byte : ℕ) (bytes : List ℕ) → EndsWith (front ++ acked (byte ∷ bytes)) Ack
+acked_ends front byte [] = record { front = front ++ Byte byte ∷ []; split = sym (append_assoc front (Byte byte ∷ []) (Ack ∷ [])) }
+acked_ends front byte (b ∷ bytes) =
+    let more = acked_ends (front ++ Byte byte ∷ Ack ∷ []) b bytes in
+    record { front = more.front; split = sym (append_assoc front (Byte byte ∷ Ack ∷ []) (acked (b ∷ bytes))) ∙ more.split }
+
+-- a leg ends with ACK
+pub leg_ends : (front : List Event) (byte : ℕ) (bytes : List ℕ) → EndsWith (front ++ leg (byte ∷ bytes)) Ack
+leg_ends front byte bytes =
+    let more = acked_ends (front ++ Start ∷ []) byte bytes in
+    record { front = more.front; split = sym (append_assoc front (Start ∷ []) (acked (byte ∷ bytes))) ∙ more.split }
+
+acked_grows : (bytes : List ℕ) (byte : ℕ) → acked bytes ++ Byte byte ∷ Ack ∷ [] ≡ acked (bytes ++ byte ∷ [])
+acked_grows [] byte = refl
+acked_grows (b ∷ bytes) byte = ap (λ (es : List Event). Byte b ∷ Ack ∷ es) (acked_grows bytes byte)
+
+-- with a byte that was taken it is longer
+pub leg_grows : (front : List Event) (bytes : List ℕ) (byte : ℕ) → ((front ++ leg bytes) ++ Byte byte ∷ []) ++ Ack ∷ [] ≡ front ++ leg (bytes ++ byte ∷ [])
+leg_grows front bytes byte =
+    append_assoc (front ++ leg bytes) (Byte byte ∷ []) (Ack ∷ [])
+    ∙ append_assoc front (leg bytes) (Byte byte ∷ Ack ∷ [])
+    ∙ ap (λ (es : List Event). front ++ Start ∷ es) (acked_grows bytes byte)
+
+-- ---- events out of their turn
+
+pub no_answer_here : (event : Event) → (event ≡ Start) ⊎ (((b : ℕ) × (event ≡ Byte b)) ⊎ (event ≡ Stop)) → is_answer event ≡ false
+no_answer_here event (inl is) = ap is_answer is
+no_answer_here event (inr (inl is)) = ap is_answer is.1
+no_answer_here event (inr (inr is)) = ap is_answer is
+
+pub answer_here : (event : Event) → (event ≡ Ack) ⊎ (event ≡ Nack) → is_no_answer event ≡ false
+answer_here event (inl is) = ap is_no_answer is
+answer_here event (inr is) = ap is_no_answer is
+
+pub no_byte_here : (event : Event) → (event ≡ Start) ⊎ ((event ≡ Ack) ⊎ ((event ≡ Nack) ⊎ (event ≡ Stop))) → is_byte event ≡ false
+no_byte_here event (inl is) = ap is_byte is
+no_byte_here event (inr (inl is)) = ap is_byte is
+no_byte_here event (inr (inr (inl is))) = ap is_byte is
+no_byte_here event (inr (inr (inr is))) = ap is_byte is
+
+pub other_than_byte : (event : Event) → ((b : ℕ) → event ≡ Byte b → ⊥) → is_byte event ≡ false
+other_than_byte Start other = refl
+other_than_byte (Byte b) other = absurd (other b refl)
+other_than_byte Ack other = refl
+other_than_byte Nack other = refl
+other_than_byte Stop other = refl
+
+pub other_than_stop : (event : Event) → (event ≡ Stop → ⊥) → is_stop event ≡ false
+other_than_stop Start other = refl
+other_than_stop (Byte b) other = refl
+other_than_stop Ack other = refl
+other_than_stop Nack other = refl
+other_than_stop Stop other = absurd (other refl)

@@ -1,0 +1,68 @@
+use Rattle.std.proofs.Common.{◌<◌, ◌/◌, ℕ, List, [], ◌∷◌, ◌++◌, ap, subst, arith, refl, ◌∙◌}
+use Rattle.pmb_bus.specs.declared.event.Event.{Event}
+use Rattle.pmb_bus.specs.declared.event.Event.TheVariants.{Start, Byte}
+use Rattle.pmb_command.specs.Bus.{IsBus}
+use Rattle.pmb_transaction.specs.Capture.{MayFollow}
+use Rattle.pmb_transaction.specs.Following.{alert_first}
+use Rattle.pmb_under_way.specs.declared.under_way.Place.TheVariants as places
+use Rattle.pmb_under_way.specs.declared.under_way.Source.TheVariants as sources
+use Rattle.pmb_under_way.proofs.Steps.{at_place, byte_is_no_stop, moves_to, not_its_turn, other_than_byte}
+use Rattle.pmb_under_way.proofs.WrittenLegs.{even_address, first_address, first_follows, no_first_address}
+use Rattle.pmb_under_way.proofs.under_way.UnderWay.at_start.Goals as goal
+
+pub returns-in_default : goal.returns-in_default
+returns-in_default c = λ profile events at stands.
+    let here = at_place profile c.args.self.now events places.Start at stands in (
+      not_its_turn c.events_take_turns.ensures profile events Start c.args.event (record { front = []; split = here.0 })
+          (other_than_byte c.args.event c.in_default.not-Byte),
+      stands,
+    )
+
+pub returns-then-byte-eq0 : goal.returns-then-byte-eq0
+returns-then-byte-eq0 c = λ profile events at stands.
+    let bus = subst IsBus stands.known c.accepted_bus.ensures in
+    let here = at_place profile c.args.self.now events places.Start at stands in
+    let small : c.in-Byte.byte < 256 = omega arith in
+    moves_to profile c.args.self.now (places.Address (c.in-Byte.byte / 2)) events c.args.event c.packets_go_on.ensures stands.known
+    (
+    first_follows profile c.in-Byte.byte events c.args.event (c.first_addresses.ensures profile c.in-Byte.byte bus).1 here.0 c.in-Byte.is
+    (even_address c.in-Byte.byte small c.if-byte-eq0.true)
+    )
+    (byte_is_no_stop c.args.event c.in-Byte.byte c.in-Byte.is)
+    (first_address profile (record c.args.self.now { place = places.Address (c.in-Byte.byte / 2) }) c.in-Byte.byte events c.args.event small c.if-byte-eq0.true here.1 here.0 c.in-Byte.is)
+
+pub returns-then-byte-eq-ALERT_READ : goal.returns-then-byte-eq-ALERT_READ
+returns-then-byte-eq-ALERT_READ c = λ profile events at stands.
+    let bus = subst IsBus stands.known c.accepted_bus.ensures in
+    let here = at_place profile c.args.self.now events places.Start at stands in
+    moves_to profile c.args.self.now (places.ReadAddress sources.Alert) events c.args.event c.packets_go_on.ensures stands.known
+    (
+    first_follows profile c.in-Byte.byte events c.args.event (c.first_addresses.ensures profile c.in-Byte.byte bus).1 here.0 c.in-Byte.is
+    (alert_first c.if-byte-eq-ALERT_READ.true)
+    )
+    (byte_is_no_stop c.args.event c.in-Byte.byte c.in-Byte.is)
+    (
+    record {
+      front = [];
+      addr = 0x0c;
+      asked = (refl, refl);
+      spelled = ap (λ (es : List Event). es ++ c.args.event ∷ []) here.0 ∙ ap (λ (e : Event). Start ∷ e ∷ []) c.in-Byte.is
+          ∙ ap (λ (b : ℕ). Start ∷ Byte b ∷ []) c.if-byte-eq-ALERT_READ.true;
+    }
+    )
+
+pub returns-else-byte-eq-ALERT_READ : goal.returns-else-byte-eq-ALERT_READ
+returns-else-byte-eq-ALERT_READ c = λ profile events at stands.
+    let bus = subst IsBus stands.known c.accepted_bus.ensures in
+    let here = at_place profile c.args.self.now events places.Start at stands in (
+      λ follows.
+          no_first_address c.in-Byte.byte c.if-byte-eq0.false c.if-byte-eq-ALERT_READ.false
+          (
+          (c.first_addresses.ensures profile c.in-Byte.byte bus).0
+          (
+          subst (λ (es : List Event). MayFollow profile es (Byte c.in-Byte.byte)) here.0
+          (subst (λ (e : Event). MayFollow profile events e) c.in-Byte.is follows)
+          )
+          ),
+      stands,
+    )

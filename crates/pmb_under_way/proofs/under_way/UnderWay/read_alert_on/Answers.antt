@@ -1,0 +1,30 @@
+use Rattle.std.proofs.Common.{◌≡◌, ℕ, List, [], ◌∷◌, ◌++◌, ap, subst, sym, refl, ◌∙◌}
+use Rattle.pmb_bus.specs.declared.event.Event.{Event}
+use Rattle.pmb_bus.specs.declared.event.Event.TheVariants.{Start, Byte, Ack}
+use Rattle.pmb_command.specs.Bus.{IsBus}
+use Rattle.pmb_transaction.specs.Body.{read_address}
+use Rattle.pmb_transaction.specs.Packet.{alert_address, leg}
+use Rattle.pmb_transaction.specs.Capture.{MayFollow}
+use Rattle.pmb_under_way.specs.declared.under_way.Place.TheVariants as places
+use Rattle.pmb_under_way.specs.declared.under_way.Source.TheVariants as sources
+use Rattle.pmb_under_way.proofs.Steps.{at_place, moves_on}
+use Rattle.pmb_under_way.proofs.under_way.UnderWay.read_alert_on.Goals as goal
+
+pub returns : goal.returns
+returns c = λ profile events at stands.
+    let bus = subst IsBus stands.known c.accepted_bus.ensures in
+    let here = at_place profile c.args.self.now events (places.ReadAddress sources.Alert) at stands in
+    let is : events ≡ Start ∷ Byte (read_address alert_address) ∷ [] =
+    here.spelled ∙ ap (λ (es : List Event). es ++ Start ∷ Byte (read_address here.addr) ∷ []) here.asked.0 ∙ ap (λ (a : ℕ). Start ∷ Byte (read_address a) ∷ []) here.asked.1 in
+    let after = record c.args.self.now { place = places.Answer sources.Alert; answer = c.restart_at_alert.new.self } in
+    moves_on profile events Ack after c.packets_go_on.ensures stands.known
+    (subst (λ (es : List Event). MayFollow profile es Ack) (sym is) (c.alerts_may_be_taken.ensures profile bus)) (λ e. cc e)
+    (
+    record {
+      front = [];
+      addr = alert_address;
+      asked = (refl, refl);
+      answers = record { answers = c.restart_at_alert.ensures.answers; says = c.restart_at_alert.ensures.says };
+      spelled = ap (λ (es : List Event). es ++ Ack ∷ []) is ∙ ap (λ (bs : List ℕ). leg (read_address alert_address ∷ bs)) (sym c.restart_at_alert.ensures.fresh);
+    }
+    )

@@ -1,0 +1,45 @@
+use Rattle.std.proofs.Common.{◌<◌, subst, arith, refl}
+use Rattle.pmb_bus.specs.declared.event.Event.TheVariants.{Byte}
+use Rattle.pmb_command.specs.Bus.{IsBus}
+use Rattle.pmb_under_way.specs.declared.under_way.Place.TheVariants as places
+use Rattle.pmb_transaction.specs.Wire.{IsByte}
+use Rattle.pmb_transaction.specs.Viable.{IsInsideBody}
+use Rattle.pmb_under_way.proofs.Steps.{at_place, moves_to}
+use Rattle.pmb_under_way.proofs.WrittenLegs.{kept_leg, leg_law}
+use Rattle.pmb_under_way.proofs.under_way.UnderWay.send_byte.Goals as goal
+
+pub returns-then-not-goes_on : goal.returns-then-not-goes_on
+returns-then-not-goes_on c = λ profile events at stands.
+    let bus = subst IsBus stands.known c.accepted_bus.ensures in
+    let here = at_place profile c.args.self.now events places.Leg at stands in
+    let leg = kept_leg profile c.args.self.now c.in-Some.leg events c.in-Some.is here in
+    let law =
+    leg_law profile bus c.args.self.now.kept c.in-Some.leg leg.0 events leg.1 (Byte c.args.byte) (λ device parts addr bytes. IsInsideBody device parts bytes × IsByte c.args.byte)
+    (λ parts legs addr device bytes. c.bytes_follow_inside_a_body.ensures profile parts legs addr device bytes c.args.byte) in
+    let inside = c.goes_on.ensures.inside leg.0 leg.1.place in
+    (λ follows. cc (inside.1 (law.0 follows).0, c.if-not-goes_on.true), stands)
+
+pub returns : goal.returns
+returns c = λ profile events at stands.
+    let bus = subst IsBus stands.known c.accepted_bus.ensures in
+    let here = at_place profile c.args.self.now events places.Leg at stands in
+    let leg = kept_leg profile c.args.self.now c.in-Some.leg events c.in-Some.is here in
+    let law =
+    leg_law profile bus c.args.self.now.kept c.in-Some.leg leg.0 events leg.1 (Byte c.args.byte) (λ device parts addr bytes. IsInsideBody device parts bytes × IsByte c.args.byte)
+    (λ parts legs addr device bytes. c.bytes_follow_inside_a_body.ensures profile parts legs addr device bytes c.args.byte) in
+    let inside = (c.goes_on.ensures.inside leg.0 leg.1.place).0 c.if-not-goes_on.false in
+    let small : c.args.byte < 256 = omega arith in
+    moves_to profile c.args.self.now (places.LegByte c.args.byte) events (Byte c.args.byte) c.packets_go_on.ensures stands.known (law.1 (inside, small)) (λ e. cc e)
+    (
+    record {
+      written = c.in-Some.leg;
+      is = c.in-Some.is;
+      parts = leg.0;
+      front = events;
+      leg = leg.1;
+      small = small;
+      inside = inside;
+      room = c.goes_on.ensures.room c.if-not-goes_on.false;
+      spelled = refl;
+    }
+    )

@@ -1,0 +1,193 @@
+-- Where the packet under way stands, by what is kept of it.
+use Rattle.std.specs.Prelude.{◌≡◌, ℕ, ◌<◌, ◌≤◌, ◌↔◌, Bool, Some, List, [], ◌∷◌, ◌++◌, length, nat_eq}
+use Rattle.std.specs.List.{IsDistinct}
+use Rattle.pmb_bus.specs.declared.event.Event.{Event}
+use Rattle.pmb_bus.specs.declared.event.Event.TheVariants.{Start, Byte, Nack, Stop}
+use Rattle.pmb_command.specs.Parts.{DeviceParts, IsNew, device_with}
+use Rattle.pmb_transaction.specs.Transaction.{PartData, TransactionData}
+use Rattle.pmb_transaction.specs.Wire.{IsByte}
+use Rattle.pmb_transaction.specs.Body.{write_address, read_address, WriteBody, IsWriteBody}
+use Rattle.pmb_transaction.specs.Packet.{Packet, PartsEvents, addresses, alert_address, leg}
+use Rattle.pmb_transaction.specs.Viable.{IsAnswer, IsInsideBody}
+use Rattle.pmb_transaction.specs.Following.{IsAlertAnswer}
+use Rattle.pmb_transaction.specs.Reading.{IsUnderWay}
+use Rattle.pmb_leg.specs.declared.place.LegPlace.TheVariants.{First}
+use Rattle.pmb_leg.specs.Leg.{Written, IsRequest, place_of}
+use Rattle.pmb_leg.specs.Reply.{IsReply, SaysAlert, SaysAnswer, SaysReply}
+use Rattle.pmb_under_way.specs.declared.under_way.Source.{Source}
+use Rattle.pmb_under_way.specs.declared.under_way.Source.TheVariants as sources
+use Rattle.pmb_under_way.specs.declared.under_way.Place.{Place}
+use Rattle.pmb_under_way.specs.declared.under_way.Place.TheVariants as places
+use Rattle.pmb_under_way.specs.declared.under_way.UnderWay.{UnderWay}
+use Rattle.pmb_kept.specs.Kept.{KeptData}
+
+-- ---- legs that are written
+
+-- The parts that are kept are complete, and these are their events.
+pub record HasParts (profile : List DeviceParts) (kept : KeptData) (parts : List PartData) (legs : List Event) : Type 0 where
+  pub same : kept.parts ≡ parts
+  pub few : length parts ≤ 15
+  pub distinct : IsDistinct nat_eq (addresses parts)
+  pub each : PartsEvents profile parts legs
+
+-- Behind them the address byte of a write was sent.
+pub record AtAddress (profile : List DeviceParts) (u : UnderWay) (addr : ℕ) (events : List Event) : Type 0 where
+  pub parts : List PartData
+  pub legs : List Event
+  pub has : HasParts profile u.kept parts legs
+  pub seven : addr < 128
+  pub another : IsNew addr (addresses parts)
+  pub spelled : events ≡ legs ++ Start ∷ Byte (write_address addr) ∷ []
+
+-- Behind them stands a leg, of a known device.
+pub record IsLeg (profile : List DeviceParts) (kept : KeptData) (written : Written) (parts : List PartData) (events : List Event) : Type 0 where
+  pub legs : List Event
+  pub has : HasParts profile kept parts legs
+  pub another : IsNew written.device.address (addresses parts)
+  pub known : device_with written.device.address profile ≡ Some written.device
+  pub place : place_of parts ≡ written.place
+  pub spelled : events ≡ legs ++ leg (write_address written.device.address ∷ written.bytes)
+
+-- It is the leg that is kept.
+pub record InLeg (profile : List DeviceParts) (u : UnderWay) (events : List Event) : Type 0 where
+  pub written : Written
+  pub is : u.leg ≡ Some written
+  pub parts : List PartData
+  pub leg : IsLeg profile u.kept written parts events
+
+-- Behind that a byte was sent.
+pub record BehindByte (profile : List DeviceParts) (u : UnderWay) (byte : ℕ) (events : List Event) : Type 0 where
+  pub written : Written
+  pub is : u.leg ≡ Some written
+  pub parts : List PartData
+  pub front : List Event
+  pub leg : IsLeg profile u.kept written parts front
+  pub small : IsByte byte
+  pub inside : IsInsideBody written.device parts written.bytes
+  pub room : length written.bytes < 258
+  pub spelled : events ≡ front ++ Byte byte ∷ []
+
+-- Or START.
+pub record BehindStart (profile : List DeviceParts) (u : UnderWay) (events : List Event) : Type 0 where
+  pub written : Written
+  pub is : u.leg ≡ Some written
+  pub parts : List PartData
+  pub front : List Event
+  pub leg : IsLeg profile u.kept written parts front
+  pub spelled : events ≡ front ++ Start ∷ []
+
+-- ---- legs that are read
+
+-- The device of the leg that is kept, the packet's first, was asked, and these are its events.
+pub record HasAsked (profile : List DeviceParts) (u : UnderWay) (front : List Event) (addr : ℕ) : Type 0 where
+  pub alone : u.kept.parts ≡ []
+  pub written : Written
+  pub is : u.leg ≡ Some written
+  pub known : device_with written.device.address profile ≡ Some written.device
+  pub first : written.place ≡ First
+  pub request : IsRequest written.device written.bytes
+  pub at : addr ≡ written.device.address
+  pub spelled : front ≡ leg (write_address written.device.address ∷ written.bytes)
+
+-- what was asked in front of the leg, and the address that is read
+abbrev pub IsAsked : Source → List DeviceParts → UnderWay → List Event → ℕ → Type 0
+IsAsked sources.Device profile u front addr = HasAsked profile u front addr
+IsAsked sources.Alert profile u front addr = (front ≡ []) × (addr ≡ alert_address)
+
+-- the answer that is kept answers that
+pub record AnswersDevice (u : UnderWay) : Type 0 where
+  pub written : Written
+  pub is : u.leg ≡ Some written
+  pub answers : (all : List ℕ) → (IsReply u.answer.expected all ↔ IsAnswer written.device written.device.address written.bytes all)
+  pub says : (reply : List ℕ) (with_pec : Bool) (all : List ℕ)
+      → (SaysReply u.answer.expected reply with_pec all ↔ SaysAnswer written.device written.device.address written.bytes reply with_pec all)
+
+pub record AnswersAlert (u : UnderWay) : Type 0 where
+  pub answers : (all : List ℕ) → (IsReply u.answer.expected all ↔ IsAlertAnswer all)
+  pub says : (reply : List ℕ) (with_pec : Bool) (all : List ℕ) → (SaysReply u.answer.expected reply with_pec all ↔ SaysAlert reply with_pec all)
+
+abbrev pub Answers : Source → UnderWay → Type 0
+Answers sources.Device u = AnswersDevice u
+Answers sources.Alert u = AnswersAlert u
+
+-- The address byte was sent.
+pub record AtReadAddress (profile : List DeviceParts) (u : UnderWay) (source : Source) (events : List Event) : Type 0 where
+  pub front : List Event
+  pub addr : ℕ
+  pub asked : IsAsked source profile u front addr
+  pub spelled : events ≡ front ++ Start ∷ Byte (read_address addr) ∷ []
+
+-- The bytes of the answer were taken.
+pub record InAnswer (profile : List DeviceParts) (u : UnderWay) (source : Source) (events : List Event) : Type 0 where
+  pub front : List Event
+  pub addr : ℕ
+  pub asked : IsAsked source profile u front addr
+  pub answers : Answers source u
+  pub spelled : events ≡ front ++ leg (read_address addr ∷ u.answer.bytes)
+
+-- Its last byte was sent.
+pub record BehindAnswerByte (profile : List DeviceParts) (u : UnderWay) (source : Source) (events : List Event) : Type 0 where
+  pub front : List Event
+  pub addr : ℕ
+  pub asked : IsAsked source profile u front addr
+  pub answers : Answers source u
+  pub bytes : List ℕ
+  pub byte : ℕ
+  pub last : u.answer.bytes ≡ bytes ++ byte ∷ []
+  pub spelled : events ≡ front ++ leg (read_address addr ∷ bytes) ++ Byte byte ∷ []
+
+-- ---- the end
+
+-- NACK came, and with STOP this is the packet of the transaction that is kept.
+pub record AtEnd (profile : List DeviceParts) (u : UnderWay) (events : List Event) : Type 0 where
+  pub front : List Event
+  pub spelled : events ≡ front ++ Nack ∷ []
+  pub packet : Packet profile u.kept.last (events ++ Stop ∷ [])
+
+-- what each place says of the events
+abbrev pub IsPlace : Place → List DeviceParts → UnderWay → List Event → Type 0
+IsPlace places.Between profile u events = events ≡ []
+IsPlace places.Start profile u events = (events ≡ Start ∷ []) × (u.kept.parts ≡ [])
+IsPlace (places.Address addr) profile u events = AtAddress profile u addr events
+IsPlace places.Leg profile u events = InLeg profile u events
+IsPlace (places.LegByte byte) profile u events = BehindByte profile u byte events
+IsPlace places.Restart profile u events = BehindStart profile u events
+IsPlace (places.ReadAddress source) profile u events = AtReadAddress profile u source events
+IsPlace (places.Answer source) profile u events = InAnswer profile u source events
+IsPlace (places.AnswerByte source) profile u events = BehindAnswerByte profile u source events
+IsPlace places.End profile u events = AtEnd profile u events
+
+-- The events are those of the packet under way.
+pub record StandsIn (profile : List DeviceParts) (u : UnderWay) (events : List Event) : Type 0 where
+  pub known : u.profile.now ≡ profile
+  pub goes : IsUnderWay profile events
+  pub place : IsPlace u.place profile u events
+
+-- the transaction whose packet ended last
+abbrev pub packet_of : UnderWay → TransactionData
+packet_of u = u.kept.last
+
+-- ---- one part more
+
+-- The leg that is kept was pushed to the parts.
+pub record PushesPart (u : UnderWay) (after : UnderWay) : Type 0 where
+  pub written : Written
+  pub is : u.leg ≡ Some written
+  pub part : PartData
+  pub at : part.addr ≡ written.device.address
+  pub body : WriteBody written.device part.code part.bytes part.pec written.bytes
+  pub pushed : after.kept.parts ≡ u.kept.parts ++ part ∷ []
+  pub same_profile : after.profile.now ≡ u.profile.now
+  pub same_place : after.place ≡ u.place
+
+-- It is no part.
+abbrev pub SaysNoPart : UnderWay → Type 0
+SaysNoPart u = (written : Written) → u.leg ≡ Some written → IsWriteBody written.device written.bytes → ⊥
+
+-- ---- a leg that begins
+
+-- A leg of the device of which nothing was taken is kept in place of another one.
+pub record StartsLeg (device : DeviceParts) (u : UnderWay) (after : UnderWay) : Type 0 where
+  pub leg : after.leg ≡ Some (record { device = device; place = place_of u.kept.parts; bytes = [] })
+  pub same_kept : after.kept ≡ u.kept
+  pub same_profile : after.profile.now ≡ u.profile.now

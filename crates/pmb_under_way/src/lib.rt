@@ -1,0 +1,22 @@
+//! The packet under way on a bus, one event at a time.
+//!
+//! An [`UnderWay`] has the events of one packet so far, without keeping them: where they end, the
+//! parts, the bytes of the leg under way and the answer. It takes an event where some packet goes on
+//! with it, and tells which kinds may come and why another one may not.
+//!
+//! ```rust
+//! let mut under_way = UnderWay::new(&profile);
+//! assert_eq!(rt; under_way.step(Event::Start), Move::On);
+//! assert_eq!(rt; under_way.step(Event::Byte(0x41)), Move::No);
+//! assert_eq!(rt; under_way.reason(Event::Byte(0x41)), Reason::ReadFirst);
+//! ```
+#![tactic(auto)]
+
+mod answering;
+mod expecting;
+pub mod laws;
+mod legs;
+mod under_way;
+mod writing;
+
+pub use under_way::{Move, UnderWay};

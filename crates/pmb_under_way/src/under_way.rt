@@ -1,0 +1,149 @@
+//! The packet under way.
+//!
+//! [`Place`] says where its events end. What each place says of the events, of the leg under way and
+//! of the answer under way stands in `specs/machine/UnderWay`; a new place needs its line there, its
+//! arm in `step`, in `expected`, and in the three functions that tell reasons.
+
+ghost use Rattle.std.specs.Prelude.{◌≡◌, ◌↔◌, true, List, []};
+ghost use Rattle.pmb_bus.specs.declared.event.Event.{Event as BusEvent};
+ghost use Rattle.pmb_command.specs.Parts.{DeviceParts};
+ghost use Rattle.pmb_transaction.specs.Transaction.{transaction_data};
+ghost use Rattle.pmb_under_way.specs.UnderWay.{Moves, StandsIn, packet_of};
+
+use pmb_bus::Event;
+use pmb_kept::Kept;
+use pmb_leg::{Answer, WrittenLeg};
+use pmb_table::Profile;
+use pmb_transaction::Transaction;
+use pmb_transaction::laws::packet_is_not_empty;
+
+/// What an event does to the packet under way.
+#[derive(Clone, Copy, Debug, PartialEq, Eq)]
+pub enum Move {
+    /// The packet goes on.
+    On,
+    /// The packet ends.
+    Packet,
+    /// No packet goes on so.
+    No,
+}
+
+/// Who answers in a leg that is read.
+#[derive(Clone, Copy)]
+pub(crate) enum Source {
+    /// The device that was asked in the leg before.
+    Device,
+    /// Whichever device has something to tell, at the Alert Response Address.
+    Alert,
+}
+
+/// Where the events of the packet under way end.
+#[derive(Clone, Copy)]
+pub(crate) enum Place {
+    /// There are none.
+    Between,
+    /// Behind the first START.
+    Start,
+    /// Behind the byte that addresses a device for writing, with its address.
+    Address(u8),
+    /// In a written leg, behind an address or a byte that was taken.
+    Leg,
+    /// In a written leg, behind this byte.
+    LegByte(u8),
+    /// Behind a later START.
+    Restart,
+    /// Behind the byte that addresses a device for reading.
+    ReadAddress(Source),
+    /// In a leg that is read, behind an address or a byte that was taken.
+    Answer(Source),
+    /// In a leg that is read, behind a byte, which is the last of the answer so far.
+    AnswerByte(Source),
+    /// Behind NACK.
+    End,
+}
+
+/// The packet under way.
+#[derive(Drop)]
+pub struct UnderWay<'p> {
+    pub(crate) profile: &'p Profile,
+    pub(crate) place: Place,
+    /// The written leg under way, or the last one.
+    pub(crate) leg: Option<WrittenLeg<'p>>,
+    /// The answer under way.
+    pub(crate) answer: Answer,
+    pub(crate) kept: Kept,
+}
+
+impl<'p> UnderWay<'p> {
+    /// No event has come.
+    pub fn new(profile: &'p Profile) -> Self
+        ensures { StandsIn profile.now result [] }
+    {
+        packet_is_not_empty();
+        UnderWay {
+            profile,
+            place: Place::Between,
+            leg: None,
+            answer: Answer::at_alert(),
+            kept: Kept::new(),
+        }
+    }
+
+    /// Drops the packet under way.
+    pub fn restart(&mut self)
+        ensures { (profile : List DeviceParts) (events : List BusEvent) → StandsIn profile self.old events
+            → StandsIn profile self.new [] }
+    {
+        packet_is_not_empty();
+        self.place = Place::Between;
+    }
+
+    /// Whether no event has come.
+    pub fn is_between(&self) -> bool
+        ensures { (profile : List DeviceParts) (events : List BusEvent) → StandsIn profile self.now events
+            → (result ≡ true ↔ events ≡ []) }
+    {
+        let Place::Between = self.place else {
+            return false;
+        };
+        true
+    }
+
+    /// The transaction whose packet ended last.
+    #[inline]
+    pub fn packet(&self) -> &Transaction
+        ensures { transaction_data result.now ≡ packet_of self.now }
+    {
+        self.kept.last()
+    }
+
+    /// Gives it away, between packets.
+    pub fn take_packet(&mut self) -> Transaction
+        ensures read { transaction_data result ≡ packet_of self.old }
+        ensures stands { (profile : List DeviceParts) → StandsIn profile self.old [] → StandsIn profile self.new [] }
+    {
+        packet_is_not_empty();
+        self.place = Place::Between;
+        self.kept.take_last()
+    }
+
+    /// Takes an event.
+    #[inline]
+    pub fn step(&mut self, event: Event) -> Move
+        ensures { (profile : List DeviceParts) (events : List BusEvent) → StandsIn profile self.old events
+            → Moves profile events event result self.new }
+    {
+        match self.place {
+            Place::Between => self.begin(event),
+            Place::Start => self.at_start(event),
+            Place::Address(addr) => self.behind_address(addr, event),
+            Place::Leg => self.in_leg(event),
+            Place::LegByte(byte) => self.behind_leg_byte(byte, event),
+            Place::Restart => self.at_restart(event),
+            Place::ReadAddress(source) => self.behind_read_address(source, event),
+            Place::Answer(source) => self.in_answer(source, event),
+            Place::AnswerByte(source) => self.behind_answer_byte(source, event),
+            Place::End => self.at_end(event),
+        }
+    }
+}

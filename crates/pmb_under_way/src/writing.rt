@@ -1,0 +1,361 @@
+//! An event more, at the places of a leg that is written.
+
+ghost use Rattle.std.specs.Prelude.{◌≡◌, ◌<◌, ◌≤◌, ◌+◌, ◌*◌, ◌↔◌, IsTrue, true, false, List, ◌∷◌, length, nat_eq};
+ghost use Rattle.std.specs.List.{list_any};
+ghost use Rattle.pmb_bus.specs.declared.event.Event.{Event as BusEvent};
+ghost use Rattle.pmb_command.specs.Parts.{DeviceParts};
+ghost use Rattle.pmb_transaction.specs.Packet.{addresses};
+ghost use Rattle.pmb_leg.specs.Leg.{Written};
+ghost use Rattle.pmb_under_way.specs.UnderWay.{Moves, StandsIn};
+ghost use Rattle.pmb_under_way.specs.machine.UnderWay.{PushesPart, SaysNoPart, StartsLeg};
+
+use crate::legs::{MOST_BEFORE, is_asking, leg_may_follow, place_behind};
+use crate::under_way::{Move, Place, Source, UnderWay};
+use pmb_bus::Event;
+use pmb_leg::WrittenLeg;
+use pmb_table::DeviceProfile;
+use pmb_table::laws::accepted_bus;
+use pmb_transaction::laws::{
+    addresses_may_be_refused, addresses_taken_are_known, bytes_follow_inside_a_body,
+    bytes_may_be_refused, bytes_taken_begin_a_body, events_take_turns, first_addresses,
+    later_addresses, legs_follow_whole_bodies, one_part_more, packet_is_not_empty,
+    packets_begin_with_start, packets_go_on, refused_addresses_are_packets,
+    refused_bytes_are_packets, writes_are_packets, writes_end_with_stop,
+};
+
+/// The byte at the Alert Response Address, read (SMBus 3.0 appendix C).
+const ALERT_READ: u8 = 0x19;
+
+impl<'p> UnderWay<'p> {
+    /// Between packets.
+    #[inline]
+    pub(crate) fn begin(&mut self, event: Event) -> Move
+        ensures { (profile : List DeviceParts) (events : List BusEvent) → self.old.place ≡ Place.Between
+            → StandsIn profile self.old events → Moves profile events event result self.new }
+    {
+        accepted_bus(self.profile);
+        packets_begin_with_start();
+        packets_go_on();
+        let Event::Start = event else {
+            return Move::No;
+        };
+        self.kept.begin();
+        self.place = Place::Start;
+        Move::On
+    }
+
+    /// Behind the first START.
+    #[inline]
+    pub(crate) fn at_start(&mut self, event: Event) -> Move
+        ensures { (profile : List DeviceParts) (events : List BusEvent) → self.old.place ≡ Place.Start
+            → StandsIn profile self.old events → Moves profile events event result self.new }
+    {
+        accepted_bus(self.profile);
+        events_take_turns();
+        first_addresses();
+        packets_go_on();
+        let Event::Byte(byte) = event else {
+            return Move::No;
+        };
+        if byte % 2 == 0 {
+            self.place = Place::Address(byte / 2);
+            Move::On
+        } else if byte == ALERT_READ {
+            self.place = Place::ReadAddress(Source::Alert);
+            Move::On
+        } else {
+            Move::No
+        }
+    }
+
+    /// Behind the address byte of a write.
+    #[inline]
+    pub(crate) fn behind_address(&mut self, addr: u8, event: Event) -> Move
+        ensures { (profile : List DeviceParts) (events : List BusEvent) → self.old.place ≡ Place.Address addr
+            → StandsIn profile self.old events → Moves profile events event result self.new }
+    {
+        match event {
+            Event::Ack => self.take_address(addr),
+            Event::Nack => self.refuse_address(addr),
+            Event::Start | Event::Byte(_) | Event::Stop => {
+                events_take_turns();
+                Move::No
+            }
+        }
+    }
+
+    // An address is taken.
+    #[inline]
+    fn take_address(&mut self, addr: u8) -> Move
+        ensures { (profile : List DeviceParts) (events : List BusEvent) → self.old.place ≡ Place.Address addr
+            → StandsIn profile self.old events → Moves profile events BusEvent.Ack result self.new }
+    {
+        accepted_bus(self.profile);
+        addresses_taken_are_known();
+        packets_go_on();
+        let Some(device) = self.profile.device(addr) else {
+            return Move::No;
+        };
+        self.start_leg(device);
+        self.place = Place::Leg;
+        Move::On
+    }
+
+    // Begins the leg of a device behind the parts.
+    fn start_leg(&mut self, device: &'p DeviceProfile)
+        ensures { StartsLeg device.now self.old self.new }
+    {
+        let place = place_behind(self.kept.part_count());
+        if let Some(leg) = &mut self.leg {
+            leg.restart(device, place);
+            return;
+        }
+        self.leg = Some(WrittenLeg::new(device, place));
+    }
+
+    // An address is refused.
+    #[inline(never)]
+    fn refuse_address(&mut self, addr: u8) -> Move
+        ensures { (profile : List DeviceParts) (events : List BusEvent) → self.old.place ≡ Place.Address addr
+            → StandsIn profile self.old events → Moves profile events BusEvent.Nack result self.new }
+    {
+        accepted_bus(self.profile);
+        addresses_may_be_refused();
+        refused_addresses_are_packets();
+        packets_go_on();
+        if self.kept.part_count() > MOST_BEFORE {
+            return Move::No;
+        }
+        self.kept.end_refused(addr, &[], None, false);
+        self.place = Place::End;
+        Move::On
+    }
+
+    /// In a written leg, behind ACK.
+    #[inline]
+    pub(crate) fn in_leg(&mut self, event: Event) -> Move
+        ensures { (profile : List DeviceParts) (events : List BusEvent) → self.old.place ≡ Place.Leg
+            → StandsIn profile self.old events → Moves profile events event result self.new }
+    {
+        match event {
+            Event::Byte(byte) => self.send_byte(byte),
+            Event::Start => self.end_leg(),
+            Event::Stop => self.end_write(),
+            Event::Ack | Event::Nack => {
+                events_take_turns();
+                Move::No
+            }
+        }
+    }
+
+    // A byte is sent.
+    #[inline]
+    fn send_byte(&mut self, byte: u8) -> Move
+        ensures { (profile : List DeviceParts) (events : List BusEvent) → self.old.place ≡ Place.Leg
+            → StandsIn profile self.old events → Moves profile events (BusEvent.Byte byte) result self.new }
+    {
+        accepted_bus(self.profile);
+        bytes_follow_inside_a_body();
+        packets_go_on();
+        let Some(leg) = &self.leg else {
+            return Move::No;
+        };
+        if !leg.goes_on() {
+            return Move::No;
+        }
+        self.place = Place::LegByte(byte);
+        Move::On
+    }
+
+    // START behind a leg.
+    fn end_leg(&mut self) -> Move
+        ensures { (profile : List DeviceParts) (events : List BusEvent) → self.old.place ≡ Place.Leg
+            → StandsIn profile self.old events → Moves profile events BusEvent.Start result self.new }
+    {
+        accepted_bus(self.profile);
+        legs_follow_whole_bodies();
+        packets_go_on();
+        let Some(leg) = &self.leg else {
+            return Move::No;
+        };
+        if !leg_may_follow(leg, self.kept.part_count()) {
+            return Move::No;
+        }
+        self.place = Place::Restart;
+        Move::On
+    }
+
+    // STOP behind a leg.
+    fn end_write(&mut self) -> Move
+        ensures { (profile : List DeviceParts) (events : List BusEvent) → self.old.place ≡ Place.Leg
+            → StandsIn profile self.old events → Moves profile events BusEvent.Stop result self.new }
+    {
+        accepted_bus(self.profile);
+        writes_end_with_stop();
+        writes_are_packets();
+        packet_is_not_empty();
+        if self.push_part() {
+            self.kept.end_write();
+            self.place = Place::Between;
+            Move::Packet
+        } else {
+            Move::No
+        }
+    }
+
+    // Adds the leg under way to the parts where it is one, and tells whether it was.
+    fn push_part(&mut self) -> bool
+        ensures pushed { result ≡ true → PushesPart self.old self.new }
+        ensures same { result ≡ false → self.new ≡ self.old }
+        ensures none { result ≡ false → length self.old.kept.parts ≤ 15 → SaysNoPart self.old }
+    {
+        if self.kept.part_count() > MOST_BEFORE {
+            return false;
+        }
+        let Some(leg) = &self.leg else {
+            return false;
+        };
+        let Some(said) = leg.says() else {
+            return false;
+        };
+        self.kept
+            .push_part(leg.address(), said.code, said.bytes, said.pec);
+        true
+    }
+
+    /// In a written leg, behind a byte.
+    #[inline]
+    pub(crate) fn behind_leg_byte(&mut self, byte: u8, event: Event) -> Move
+        ensures { (profile : List DeviceParts) (events : List BusEvent) → self.old.place ≡ Place.LegByte byte
+            → StandsIn profile self.old events → Moves profile events event result self.new }
+    {
+        match event {
+            Event::Ack => self.take_byte(byte),
+            Event::Nack => self.refuse_byte(byte),
+            Event::Start | Event::Byte(_) | Event::Stop => {
+                events_take_turns();
+                Move::No
+            }
+        }
+    }
+
+    // A byte is taken.
+    #[inline]
+    fn take_byte(&mut self, byte: u8) -> Move
+        ensures { (profile : List DeviceParts) (events : List BusEvent) → self.old.place ≡ Place.LegByte byte
+            → StandsIn profile self.old events → Moves profile events BusEvent.Ack result self.new }
+    {
+        accepted_bus(self.profile);
+        bytes_taken_begin_a_body();
+        packets_go_on();
+        let Some(leg) = &mut self.leg else {
+            return Move::No;
+        };
+        if !leg.take(byte) {
+            return Move::No;
+        }
+        self.place = Place::Leg;
+        Move::On
+    }
+
+    // A byte is refused.
+    #[inline(never)]
+    fn refuse_byte(&mut self, byte: u8) -> Move
+        ensures { (profile : List DeviceParts) (events : List BusEvent) → self.old.place ≡ Place.LegByte byte
+            → StandsIn profile self.old events → Moves profile events BusEvent.Nack result self.new }
+    {
+        accepted_bus(self.profile);
+        bytes_may_be_refused();
+        refused_bytes_are_packets();
+        packets_go_on();
+        let Some(leg) = &self.leg else {
+            return Move::No;
+        };
+        if self.kept.part_count() > MOST_BEFORE {
+            return Move::No;
+        }
+        if leg.bytes().len() > 257 {
+            return Move::No;
+        }
+        self.kept
+            .end_refused(leg.address(), leg.bytes(), Some(byte), false);
+        self.place = Place::End;
+        Move::On
+    }
+
+    /// Behind a later START.
+    pub(crate) fn at_restart(&mut self, event: Event) -> Move
+        ensures { (profile : List DeviceParts) (events : List BusEvent) → self.old.place ≡ Place.Restart
+            → StandsIn profile self.old events → Moves profile events event result self.new }
+    {
+        match event {
+            Event::Byte(byte) => {
+                if byte % 2 == 0 {
+                    self.begin_part(byte / 2)
+                } else {
+                    self.read_device(byte / 2)
+                }
+            }
+            Event::Start | Event::Ack | Event::Nack | Event::Stop => {
+                events_take_turns();
+                Move::No
+            }
+        }
+    }
+
+    // The address byte of one more part.
+    fn begin_part(&mut self, addr: u8) -> Move
+        requires { addr < 128 }
+        ensures { (profile : List DeviceParts) (events : List BusEvent) → self.old.place ≡ Place.Restart
+            → StandsIn profile self.old events → Moves profile events (BusEvent.Byte (2 * addr)) result self.new }
+    {
+        accepted_bus(self.profile);
+        later_addresses();
+        one_part_more();
+        packets_go_on();
+        if self.kept.part_count() >= MOST_BEFORE {
+            return Move::No;
+        }
+        if self.has_leg_to(addr) {
+            return Move::No;
+        }
+        if !self.push_part() {
+            return Move::No;
+        }
+        self.place = Place::Address(addr);
+        Move::On
+    }
+
+    // Whether a part or the leg under way went to an address.
+    fn has_leg_to(&self, addr: u8) -> bool
+        ensures { (written : Written) → self.now.leg ≡ Some written
+            → (result ≡ list_any (nat_eq addr) (written.device.address ∷ addresses self.now.kept.parts)) }
+    {
+        match &self.leg {
+            Some(leg) => leg.address() == addr || self.kept.has_part_at(addr),
+            None => false,
+        }
+    }
+
+    // The address byte of the device that was asked.
+    fn read_device(&mut self, addr: u8) -> Move
+        requires { addr < 128 }
+        ensures { (profile : List DeviceParts) (events : List BusEvent) → self.old.place ≡ Place.Restart
+            → StandsIn profile self.old events → Moves profile events (BusEvent.Byte (2 * addr + 1)) result self.new }
+    {
+        accepted_bus(self.profile);
+        later_addresses();
+        packets_go_on();
+        let Some(leg) = &self.leg else {
+            return Move::No;
+        };
+        if leg.address() != addr {
+            return Move::No;
+        }
+        if !is_asking(leg) {
+            return Move::No;
+        }
+        self.place = Place::ReadAddress(Source::Device);
+        Move::On
+    }
+}
