@@ -15,4 +15,5 @@ pub mod Uniqueness
 pub mod PacketsWithin
 pub mod OneFault
 pub mod Lines
+pub mod Lengths
 pub mod Packets

@@ -1,5 +1,5 @@
 -- The line that is written for a transaction spells it.
-use Rattle.std.proofs.Common.{◌≡◌, ℕ, ◌<◌, ◌+◌, ◌*◌, ◌/◌, ◌%◌, Bool, true, false, not, ◌==◌, ◌&&◌, Option, Some, None, List, [], ◌∷◌, ◌++◌, map, length, slice_index, refl, sym, ap, subst, ◌∙◌, arith}
+use Rattle.std.proofs.Common.{◌≡◌, ℕ, ◌<◌, ◌+◌, ◌*◌, ◌/◌, ◌%◌, Bool, true, false, not, ◌==◌, ◌&&◌, Option, Some, None, List, [], ◌∷◌, ◌++◌, map, length, slice_index, refl, sym, ap, subst, ◌∙◌, arith, append-nil, append_assoc}
 use Rattle.std.specs.Prelude.{codes, if◌then◌else◌, unwrap_or}
 use Rattle.std.specs.List.{flat_map, AllByRecursion}
 use Rattle.std.proofs.lemmas.Bool.{agree_below, agree_below_at, and_parts, eqb-true}
@@ -116,26 +116,36 @@ all_go (b ∷ rest) plain =
 
 -- ---- words
 
-behind_ends : (ts : List Token) → EndsWord (behind ts)
-behind_ends [] some = absurd (omega arith)
-behind_ends (t ∷ ts) some = refl
-
 one_word : (at : ℕ) (text rest : List ℕ) → Shape text → AllGo text → EndsWord rest → words_from at (text ++ rest) ≡ record { at = at; text = text } ∷ words_from (at + length text) rest
 one_word at text rest shape go ends =
     subst (λ xs. words_from at (xs ++ rest) ≡ record { at = at; text = xs } ∷ words_from (at + length xs) rest) (sym shape.is)
     (word_then at shape.b shape.w rest (subst AllGo shape.is go) ends)
 
-words_behind : (at : ℕ) (ts : List Token) → AllByRecursion IsSmall ts → texts (words_from at (behind ts)) ≡ map token_text ts
-words_behind at [] small = refl
-words_behind at (t ∷ ts) small =
-    ap texts (one_word (at + 1) (token_text t) (behind ts) (token_shape t) (all_go (token_text t) (token_plain t small.0)) (behind_ends ts))
-    ∙ ap (λ xs. token_text t ∷ xs) (words_behind (at + 1 + length (token_text t)) ts small.1)
+-- a text at whose front a word ends, and that has no word of its own
+pub record IsWordless (tail : List ℕ) : Type 0 where
+  pub ends : EndsWord tail
+  pub none : (at : ℕ) → words_from at tail ≡ []
 
-words_spaced : (ts : List Token) → AllByRecursion IsSmall ts → texts (words_from 0 (spaced (map token_text ts))) ≡ map token_text ts
-words_spaced [] small = refl
-words_spaced (t ∷ ts) small =
-    ap texts (one_word 0 (token_text t) (behind ts) (token_shape t) (all_go (token_text t) (token_plain t small.0)) (behind_ends ts))
-    ∙ ap (λ xs. token_text t ∷ xs) (words_behind (0 + length (token_text t)) ts small.1)
+no_tail : IsWordless []
+no_tail = record { ends = λ some. absurd (omega arith); none = λ at. refl }
+
+tail_ends : (ts : List Token) (tail : List ℕ) → EndsWord tail → EndsWord (behind ts ++ tail)
+tail_ends [] tail ends = ends
+tail_ends (t ∷ ts) tail ends = λ some. refl
+
+words_behind : (at : ℕ) (ts : List Token) (tail : List ℕ) → AllByRecursion IsSmall ts → IsWordless tail → texts (words_from at (behind ts ++ tail)) ≡ map token_text ts
+words_behind at [] tail small wordless = ap texts (wordless.none at)
+words_behind at (t ∷ ts) tail small wordless =
+    ap (λ xs. texts (words_from at (32 ∷ xs))) (append_assoc (token_text t) (behind ts) tail)
+    ∙ ap texts (one_word (at + 1) (token_text t) (behind ts ++ tail) (token_shape t) (all_go (token_text t) (token_plain t small.0)) (tail_ends ts tail wordless.ends))
+    ∙ ap (λ xs. token_text t ∷ xs) (words_behind (at + 1 + length (token_text t)) ts tail small.1 wordless)
+
+words_spaced : (ts : List Token) (tail : List ℕ) → AllByRecursion IsSmall ts → IsWordless tail → texts (words_from 0 (spaced (map token_text ts) ++ tail)) ≡ map token_text ts
+words_spaced [] tail small wordless = ap texts (wordless.none 0)
+words_spaced (t ∷ ts) tail small wordless =
+    ap (λ xs. texts (words_from 0 xs)) (append_assoc (token_text t) (behind ts) tail)
+    ∙ ap texts (one_word 0 (token_text t) (behind ts ++ tail) (token_shape t) (all_go (token_text t) (token_plain t small.0)) (tail_ends ts tail wordless.ends))
+    ∙ ap (λ xs. token_text t ∷ xs) (words_behind (0 + length (token_text t)) ts tail small.1 wordless)
 
 -- ---- no CR
 
@@ -235,6 +245,29 @@ line_spells t has_line has_bytes =
     let small = small_tokens t has_bytes in
     record {
       has_line = has_line;
-      says = ap (λ xs. map token_of (texts (words_from 0 xs))) (whole_line (line t) (spaced_no_cr (tokens t) small))
-          ∙ ap (map token_of) (words_spaced (tokens t) small) ∙ all_say (tokens t) small;
+      says = ap (λ xs. map token_of (texts (words_from 0 xs))) (whole_line (line t) (spaced_no_cr (tokens t) small) ∙ sym (append-nil (line t)))
+          ∙ ap (map token_of) (words_spaced (tokens t) [] small no_tail) ∙ all_say (tokens t) small;
+    }
+
+-- ---- comments
+
+-- a CR at the end of a longer text is at the end of what is behind
+cr_behind : (front : List ℕ) (b : ℕ) (back : List ℕ) → without_cr (front ++ b ∷ back) ≡ front ++ without_cr (b ∷ back)
+cr_behind [] b back = refl
+cr_behind (x ∷ []) b back = refl
+cr_behind (x ∷ y ∷ front) b back = ap (λ xs. x ∷ xs) (cr_behind (y ∷ front) b back)
+
+-- a space and a comment have no word
+comment_wordless : (comment : List ℕ) → IsWordless (codes " #" ++ comment)
+comment_wordless comment = record { ends = λ some. refl; none = λ at. refl }
+
+-- with a comment behind it, the line spells the transaction too
+pub noted_line_spells : (t : TransactionData) (comment : List ℕ) → HasLine t → HasBytes t → Spells (texts (words (line t ++ (codes " # " ++ comment)))) t
+noted_line_spells t comment has_line has_bytes =
+    let small = small_tokens t has_bytes in
+    let rest = without_cr (32 ∷ comment) in
+    record {
+      has_line = has_line;
+      says = ap (λ xs. map token_of (texts (words_from 0 xs))) (cr_behind (line t) 32 (35 ∷ 32 ∷ comment))
+          ∙ ap (map token_of) (words_spaced (tokens t) (codes " #" ++ rest) small (comment_wordless rest)) ∙ all_say (tokens t) small;
     }

@@ -1,7 +1,9 @@
 //! Laws over the definitions of lines. Each function ensures one, and does nothing.
 
-ghost use Rattle.std.specs.Prelude.{◌≡◌, ℕ, List};
+ghost use Rattle.std.specs.Prelude.{◌≡◌, ◌≢◌, ◌≤◌, ℕ, List, ◌++◌, codes, length};
+ghost use Rattle.std.specs.List.{All};
 ghost use Rattle.pmb_bus.specs.declared.event.Event.{Event};
+ghost use Rattle.pmb_bus.specs.Event.{character};
 ghost use Rattle.pmb_command.specs.Bus.{IsBus};
 ghost use Rattle.pmb_command.specs.Parts.{DeviceParts};
 ghost use Rattle.pmb_transaction.specs.Packet.{Packet};
@@ -29,6 +31,18 @@ pub fn packet_has_line()
         → Spells (texts (words (line t))) t }
     ensures alone { (profile : List DeviceParts) (t u : TransactionData) (events : List Event) → IsBus profile → Packet profile t events
         → Spells (texts (words (line t))) u → t ≡ u }
+{}
+
+/// With a comment behind it, the line of such a transaction spells it too.
+pub fn comments_say_nothing()
+    ensures { (profile : List DeviceParts) (t : TransactionData) (events : List Event) (comment : List ℕ) → IsBus profile → Packet profile t events
+        → Spells (texts (words (line t ++ (codes " # " ++ comment)))) t }
+{}
+
+/// The line of such a transaction is one line, of 12,544 bytes at most.
+pub fn lines_are_short()
+    ensures one { (t : TransactionData) → All (λ b. b ≢ character "\n") (line t) }
+    ensures short { (profile : List DeviceParts) (t : TransactionData) (events : List Event) → Packet profile t events → length (line t) ≤ 12544 }
 {}
 
 /// A line has one fault at most, under any profile.

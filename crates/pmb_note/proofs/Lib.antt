@@ -1,4 +1,6 @@
 pub mod Texts
+pub mod OneLine
 pub mod StatusLemmas
 pub mod Standings
 pub mod Notes
+pub mod ShortNotes

@@ -1,21 +1,29 @@
--- The names of status bits are short.
-use Rattle.std.proofs.Common.{◌≡◌, ◌≢◌, Bor, option_map, ℕ, ◌+◌, ◌≤◌, sym, subst, Bool, true, false, cond, Option, Some, None, List, [], ◌∷◌, ◌++◌, length, reverse, nat_eq, slice_get, refl, ap, arith}
+-- The names of status bits are short and have no LF.
+use Rattle.std.proofs.Common.{◌≡◌, ◌≢◌, Bor, option_map, ℕ, ◌+◌, ◌≤◌, sym, subst, Bool, true, false, ◌&&◌, cond, Option, Some, None, List, [], ◌∷◌, ◌++◌, length, reverse, nat_eq, slice_get, refl, ap, arith}
 use Rattle.std.specs.Option.{option_flatten, IfSome}
 use Rattle.std.specs.List.{list_all}
 use Rattle.std.specs.Prelude.{nat_le, zero, suc}
 use Rattle.std.proofs.lemmas.Bool.{and_parts, leb-true}
 use Rattle.pmb_note.specs.Note.{set_bit_text, set_bits_text, status_text}
+use Rattle.pmb_note.proofs.OneLine.{no_lf}
 use Rattle.pmb_command.specs.StatusBits.{BitNames, status_bits, bit_text}
 
 abbrev is_short : Option (List ℕ) → Bool
 is_short None = true
-is_short (Some name) = nat_le (length name) 17
+is_short (Some name) = nat_le (length name) 17 && no_lf name
 
-short_at : (name : Option (List ℕ)) → is_short name ≡ true → IfSome name (λ text. length text ≤ 17)
+-- what is said of a name that is short
+record IsShortName (name : List ℕ) : Type 0 where
+  few : length name ≤ 17
+  one : no_lf name ≡ true
+
+short_at : (name : Option (List ℕ)) → is_short name ≡ true → IfSome name IsShortName
 short_at None is = tt
-short_at (Some name) is = leb-true (length name) 17 is
+short_at (Some name) is =
+    let parts = and_parts (nat_le (length name) 17) (no_lf name) is in
+    record { few = leb-true (length name) 17 parts.0; one = parts.1 }
 
-all_short : (names : BitNames) → list_all is_short names ≡ true → (bit : ℕ) → IfSome (option_flatten (slice_get names bit)) (λ text. length text ≤ 17)
+all_short : (names : BitNames) → list_all is_short names ≡ true → (bit : ℕ) → IfSome (option_flatten (slice_get names bit)) IsShortName
 all_short [] are bit = tt
 all_short (name ∷ names) are zero = short_at name (and_parts (is_short name) (list_all is_short names) are).0
 all_short (name ∷ names) are (suc bit) = all_short names (and_parts (is_short name) (list_all is_short names) are).1 bit
@@ -34,10 +42,21 @@ status_bits_are_short code =
     (chosen (nat_eq code 0x7b) (record { each = refl }) (chosen (nat_eq code 0x7c) (record { each = refl }) (chosen (nat_eq code 0x7d) (record { each = refl })
     (chosen (nat_eq code 0x7e) (record { each = refl }) (chosen (nat_eq code 0x81) (record { each = refl }) (record { each = refl }))))))))
 
+are_short_names : (code bit : ℕ) → IfSome (bit_text code bit) IsShortName
+unfolding bit_text
+are_short_names code bit = all_short (reverse (status_bits code)) (status_bits_are_short code).each bit
+
+weaker : {P Q : List ℕ → Type 0} (name : Option (List ℕ)) → ((text : List ℕ) → P text → Q text) → IfSome name P → IfSome name Q
+weaker None less is = tt
+weaker (Some text) less is = less text is
+
 -- no name of a status bit is longer than 17 characters
 pub names_are_short : (code bit : ℕ) → IfSome (bit_text code bit) (λ text. length text ≤ 17)
-unfolding bit_text
-names_are_short code bit = all_short (reverse (status_bits code)) (status_bits_are_short code).each bit
+names_are_short code bit = weaker (bit_text code bit) (λ text is. is.few) (are_short_names code bit)
+
+-- .. or has an LF
+pub names_have_no_lf : (code bit : ℕ) → IfSome (bit_text code bit) (λ text. no_lf text ≡ true)
+names_have_no_lf code bit = weaker (bit_text code bit) (λ text is. is.one) (are_short_names code bit)
 
 -- .. nor is a text that is one
 pub short_name : (found : Option (Bor (List ℕ))) (code bit : ℕ) → option_map (λ (text : Bor (List ℕ)). text.now) found ≡ bit_text code bit → IfSome found (λ text. length text.now ≤ 17)

@@ -17,6 +17,7 @@
 #![tactic(auto)]
 
 mod context;
+pub mod laws;
 mod note;
 mod paging;
 mod status;
