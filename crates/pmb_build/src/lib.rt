@@ -15,6 +15,7 @@
 
 mod builder;
 mod fault_line;
+pub mod laws;
 mod lines;
 mod packet;
 
