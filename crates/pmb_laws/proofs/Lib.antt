@@ -1,0 +1,2 @@
+pub mod ShownLines
+pub mod BuiltAgain
