@@ -14,6 +14,8 @@ mod lines;
 #[cfg(test)]
 mod profiles;
 #[cfg(test)]
+mod rounds;
+#[cfg(test)]
 mod run;
 #[cfg(test)]
 mod session;
