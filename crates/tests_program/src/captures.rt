@@ -80,7 +80,11 @@ fn prints_each_row_whole_and_byte_by_byte(rt: HostRuntime) {
 
 /// The captures of `examples/captures`: a name, the text, and what is printed of it.
 static EXAMPLES: [Row; 2] = [
-    ("a word", "S b0 A 21 A 00 A 18 A P\n", "write 58 21 00 18 # VOUT_COMMAND 12\n"),
+    (
+        "a word",
+        "S b0 A 21 A 00 A 18 A P\n",
+        "write 58 21 00 18 # VOUT_COMMAND 12\n",
+    ),
     (
         "a session on the bench",
         r#"# A bench session with the device 58h, whose output is set to 12 V (1800h at the exponent -9).
