@@ -1,5 +1,5 @@
 -- The text of outcomes and then others.
-use Rattle.std.proofs.Common.{◌≡◌, ◌+◌, Bool, not, List, [], ◌∷◌, ◌++◌, count_by, cond, sym, ap, ◌∙◌, refl, append_assoc, append-nil}
+use Rattle.std.proofs.Common.{◌≡◌, ℕ, ◌+◌, Bool, not, List, [], ◌∷◌, ◌++◌, count_by, codes, cond, sym, ap, ◌∙◌, refl, append_assoc, append-nil}
 use Rattle.std.proofs.lemmas.List.Elements.{filter-append}
 use Rattle.std.proofs.lemmas.List.Sums.{sum_by-append}
 use Rattle.pmb_transaction.specs.Reading.{Outcome, Accepted, Refusal}
@@ -30,6 +30,13 @@ pub texts_then : (output : OutputText) (outcomes a b : List Outcome)
 texts_then output outcomes a b =
     text_append output (accepted_in outcomes) a b
     ∙ ap (λ ts. text_behind output (accepted_in outcomes) a ++ text_behind output ts b) (sym (accepted_append outcomes a))
+
+-- a line is made from its start: a transaction's own, the mark of a comment, a note and LF
+pub noted : (line note cleared lined marked said ended : List ℕ) → cleared ≡ [] → lined ≡ cleared ++ line → marked ≡ lined ++ codes " # " → said ≡ marked ++ note → ended ≡ said ++ codes "\n"
+    → ended ≡ line ++ (codes " # " ++ (note ++ codes "\n"))
+noted line note cleared lined marked said ended clear own mark says end =
+    let so_far = says ∙ ap (λ l. l ++ note) (mark ∙ ap (λ l. l ++ codes " # ") (own ∙ ap (λ l. l ++ line) clear)) in
+    end ∙ (ap (λ l. l ++ codes "\n") so_far ∙ (append_assoc (line ++ codes " # ") note (codes "\n") ∙ append_assoc line (codes " # ") (note ++ codes "\n")))
 
 -- ---- counts
 
