@@ -1,6 +1,6 @@
 //! What the words of the command ask for.
 
-ghost use Rattle.std.specs.Prelude.{◌≡◌, ◌≢◌, ◌≤◌, ◌⊎◌, IfErr, IfOk, map};
+ghost use Rattle.std.specs.Prelude.{◌≡◌, ◌≤◌, ◌⊎◌, IfErr, IfOk, map};
 ghost use Rattle.clap.specs.Words.{subcommand_rows_of};
 ghost use Rattle.pmb_status.specs.Status.{IsTold, Tells};
 ghost use Rattle.pmb_io.specs.Count.{raised};

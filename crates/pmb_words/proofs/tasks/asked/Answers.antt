@@ -1,6 +1,6 @@
-use Rattle.std.proofs.Common.{◌≡◌, ap, inl, inr, refl, subst, arith}
-use Rattle.clap.specs.Words.{kind_of, subcommand_rows_of}
-use Rattle.pmb_words.specs.Asked.{Asks, AsksNothing, AsksTask, asking_of}
+use Rattle.std.proofs.Common.{inl, inr, subst, arith}
+use Rattle.clap.specs.Words.{kind_of}
+use Rattle.pmb_words.specs.Asked.{Asks, asking_of}
 use Rattle.pmb_words.proofs.AskedOnce.{is_telling, no_telling, only_memory, refused_is_no_telling}
 use Rattle.pmb_words.proofs.tasks.asked.Goals as goal
 
