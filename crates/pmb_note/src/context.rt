@@ -51,8 +51,8 @@ impl<'p> Context<'p> {
         take_transaction(self.profile, self.pagings.as_mut_slice(), transaction);
     }
 
-    /// The PAGE of the device with an address, a page or ffh for all of them; `None` where the profile
-    /// has no such device.
+    /// The value of PAGE of the device with an address, ffh for all pages, also where it has no page of
+    /// that number; `None` where the profile has no such device.
     pub fn page(&self, addr: u8) -> Option<u8>
         ensures { (profile : List DeviceParts) (ts : List TransactionData) → HasSeen self.now profile ts
             → result ≡ page_after profile ts addr }
