@@ -4,7 +4,7 @@ use Rattle.std.specs.Io.KnownBytes.{Consumes}
 use Rattle.pmb_bus.specs.Text.{BeginsText}
 use Rattle.pmb_command.specs.Parts.{DeviceParts}
 use Rattle.pmb_io.specs.Count.{raised}
-use Rattle.pmb_io.specs.Runs.{Ended, OpenBefore, Stopped, Through, Told}
+use Rattle.pmb_io.specs.Runs.{Ended, OpenBefore, Stopped, Through}
 use Rattle.pmb_io.specs.declared.tally.Tally.{Tally}
 use Rattle.pmb_io.proofs.Running.{raised_twice}
 use Rattle.pmb_io.proofs.Writing.{consumes_then}

@@ -1,4 +1,4 @@
-use Rattle.std.proofs.Common.{◌≡◌, inl, inr, subst, sym, Bool}
+use Rattle.std.proofs.Common.{inl, inr, subst, sym, Bool}
 use Rattle.pmb_table.specs.declared.sample.TheConstants.{SAMPLE}
 use Rattle.pmb_words.specs.Asked.{Traffic}
 use Rattle.pmb_cli.specs.Tasks.{WroteTask, WroteTaskPart}

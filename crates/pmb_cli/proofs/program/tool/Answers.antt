@@ -1,6 +1,6 @@
 use Rattle.std.proofs.Common.{◌≡◌, ◌∙◌, inl, inr, ap, map, subst}
 use Rattle.pmb_io.specs.Count.{raised}
-use Rattle.pmb_status.specs.Status.{IsTold, ReadOften}
+use Rattle.pmb_status.specs.Status.{IsTold}
 use Rattle.pmb_table.specs.declared.sample.TheConstants.{SAMPLE}
 use Rattle.pmb_words.specs.Asked.{AskFor, Asking, Decode, Encode, asking_of}
 use Rattle.pmb_cli.specs.Tasks.{WroteTask, WroteTaskPart}

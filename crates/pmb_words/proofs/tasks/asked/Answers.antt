@@ -1,7 +1,7 @@
 use Rattle.std.proofs.Common.{inl, inr, subst, arith}
 use Rattle.clap.specs.Words.{kind_of}
 use Rattle.pmb_words.specs.Asked.{Asks, asking_of}
-use Rattle.pmb_words.proofs.AskedOnce.{is_telling, no_telling, only_memory, refused_is_no_telling}
+use Rattle.pmb_words.proofs.AskedOnce.{is_telling, only_memory, refused_is_no_telling}
 use Rattle.pmb_words.proofs.tasks.asked.Goals as goal
 
 -- What is kept of the words is what they ask for.
