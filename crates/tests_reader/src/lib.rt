@@ -6,6 +6,8 @@
 #[cfg(test)]
 mod compared;
 #[cfg(test)]
+mod counted;
+#[cfg(test)]
 mod damaged;
 #[cfg(test)]
 mod every_order;

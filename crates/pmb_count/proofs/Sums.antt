@@ -1,0 +1,47 @@
+-- Counts of outcomes, one by one.
+use Rattle.std.proofs.Common.{◌≡◌, ◌+◌, ◌-◌, ◌^◌, min, List, [], ◌∷◌, ◌++◌, sym, ap, ◌∙◌, subst, arith}
+use Rattle.std.proofs.lemmas.List.{append-nil}
+use Rattle.pmb_transaction.specs.Transaction.{TransactionData}
+use Rattle.pmb_transaction.specs.Reading.{Accepted, Outcome, Refusal, RefusalData}
+use Rattle.pmb_count.specs.declared.whole.Counts.{Counts}
+use Rattle.pmb_count.specs.Count.{IsCountOf, packets, refusals}
+
+-- those of outcomes end to end are their sums
+pub packets-append : (a b : List Outcome) → packets (a ++ b) ≡ packets a + packets b
+packets-append [] b = omega arith
+packets-append (Accepted t ∷ a) b = let later : packets (a ++ b) ≡ packets a + packets b = packets-append a b in omega (arith, later)
+packets-append (Refusal refusal ∷ a) b = packets-append a b
+
+pub refusals-append : (a b : List Outcome) → refusals (a ++ b) ≡ refusals a + refusals b
+refusals-append [] b = omega arith
+refusals-append (Accepted t ∷ a) b = refusals-append a b
+refusals-append (Refusal refusal ∷ a) b = let later : refusals (a ++ b) ≡ refusals a + refusals b = refusals-append a b in omega (arith, later)
+
+-- what no outcome, a packet or a refusal more comes to
+pub none_more : (count : Counts) (outcomes added : List Outcome) → IsCountOf count outcomes → added ≡ [] → IsCountOf count (outcomes ++ added)
+none_more count outcomes added is none =
+    let same : outcomes ++ added ≡ outcomes = ap (λ (os : List Outcome). outcomes ++ os) none ∙ append-nil outcomes in
+    subst (IsCountOf count) (sym same) is
+
+pub packet_more : (count after : Counts) (outcomes added : List Outcome) (t : TransactionData) → IsCountOf count outcomes → added ≡ Accepted t ∷ []
+    → after.packets ≡ min (count.packets + 1) (2 ^ 64 - 1) → after.refusals ≡ count.refusals → IsCountOf after (outcomes ++ added)
+packet_more count after outcomes added t is one counted same =
+    let p : packets (outcomes ++ added) ≡ packets outcomes + 1 =
+    ap (λ (os : List Outcome). packets (outcomes ++ os)) one ∙ packets-append outcomes (Accepted t ∷ []) in
+    let r : refusals (outcomes ++ added) ≡ refusals outcomes + 0 =
+    ap (λ (os : List Outcome). refusals (outcomes ++ os)) one ∙ refusals-append outcomes (Accepted t ∷ []) in
+    let packets_before : count.packets ≡ min (packets outcomes) (2 ^ 64 - 1) = is.packets_are in
+    let refusals_before : count.refusals ≡ min (refusals outcomes) (2 ^ 64 - 1) = is.refusals_are in
+    record { packets_are = omega (arith, p, packets_before, counted); refusals_are = omega (arith, r, refusals_before, same) }
+
+pub refusal_more : (count after : Counts) (outcomes added : List Outcome) (refusal : RefusalData) → IsCountOf count outcomes
+    → added ≡ Refusal refusal ∷ [] → after.packets ≡ count.packets → after.refusals ≡ min (count.refusals + 1) (2 ^ 64 - 1)
+    → IsCountOf after (outcomes ++ added)
+refusal_more count after outcomes added refusal is one same counted =
+    let p : packets (outcomes ++ added) ≡ packets outcomes + 0 =
+    ap (λ (os : List Outcome). packets (outcomes ++ os)) one ∙ packets-append outcomes (Refusal refusal ∷ []) in
+    let r : refusals (outcomes ++ added) ≡ refusals outcomes + 1 =
+    ap (λ (os : List Outcome). refusals (outcomes ++ os)) one ∙ refusals-append outcomes (Refusal refusal ∷ []) in
+    let packets_before : count.packets ≡ min (packets outcomes) (2 ^ 64 - 1) = is.packets_are in
+    let refusals_before : count.refusals ≡ min (refusals outcomes) (2 ^ 64 - 1) = is.refusals_are in
+    record { packets_are = omega (arith, p, packets_before, same); refusals_are = omega (arith, r, refusals_before, counted) }

@@ -1,0 +1,18 @@
+//! Packets and refusals of a capture, counted.
+//!
+//! The whole of a capture is given at once, and read on behind each refusal. What is counted is what
+//! the capture reads as, with a packet that is truncated at its end among the refusals. In the
+//! capture of transactions nothing is refused.
+//!
+//! ```rust
+//! let profile = Profile::from_toml(rt.alloc(), SAMPLE.as_bytes())?;
+//! let refused_address = [Event::Start, Event::Byte(0x40), Event::Nack, Event::Stop];
+//! assert_eq!(rt; count(&profile, &refused_address), Counts { packets: 1, refusals: 0 });
+//! ```
+#![tactic(auto)]
+
+pub mod laws;
+mod one;
+mod whole;
+
+pub use whole::{Counts, count};
