@@ -14,10 +14,6 @@ mod lines;
 #[cfg(test)]
 mod profiles;
 #[cfg(test)]
-mod rounds;
-#[cfg(test)]
 mod run;
-#[cfg(test)]
-mod session;
 #[cfg(test)]
 mod words;
