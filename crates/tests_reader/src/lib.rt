@@ -1,4 +1,4 @@
-//! Tests of `pmb_reader`: captures with what they read as, told by hand; and captures of every
+//! Tests of `pmb_reader` and `pmb_count`: captures with what they read as, told by hand; and captures of every
 //! sort, whole, damaged and short ones in every order, against a reader that decides each event anew
 //! by the rules in words.
 #![tactic(auto)]
