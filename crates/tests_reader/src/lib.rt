@@ -1,6 +1,6 @@
-//! Tests of `pmb_reader` and `pmb_count`: captures with what they read as, told by hand; and captures of every
-//! sort, whole, damaged and short ones in every order, against a reader that decides each event anew
-//! by the rules in words.
+//! Tests of `pmb_reader` and `pmb_count`: captures with what they read as, told by hand; and
+//! captures of every sort, whole, damaged and short ones in every order, against a reader that
+//! decides each event anew by the rules in words.
 #![tactic(auto)]
 
 #[cfg(test)]
