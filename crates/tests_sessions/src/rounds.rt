@@ -46,12 +46,8 @@ fn run_on(
     input.extend_from_slice(profile.as_bytes())?;
     input.extend_from_slice(text)?;
     let words = ["pmb", command, "--sample"];
-    let words = if profile.is_empty() {
-        words.as_slice()
-    } else {
-        &words[..2]
-    };
-    let ran = run(alloc, words, &mut Io::new(input.as_slice()));
+    let count = if profile.is_empty() { 3 } else { 2 };
+    let ran = run(alloc, &words[..count], &mut Io::new(input.as_slice()));
     assert_eq!(rt;
         (ran.status, ran.told.as_slice()),
         (0, b"".as_slice()),
