@@ -34,7 +34,7 @@ S 9e A 40 A 00 A 20 A P
     ),
     (
         "a hot-swap controller",
-        r#"# The ADM1275, a hot-swap controller, at its lowest address, with voltages in its range up to 20 V and a sense resistor of
+        r#"# The ADM1275, a hot-swap controller, at its lowest address, with voltages in its range up to 6 V and a sense resistor of
 # 1 milliohm. An example, and not the vendor's file: it has only the commands listed here.
 
 [[device]]
@@ -91,12 +91,12 @@ m = 807
 b = 20475
 r = -1
 %%
-# VIN_OV_WARN_LIMIT 13 V: 6720 * 13 / 10 = 8736 = 2220h.
-S 20 A 57 A 20 A 22 A P
+# VIN_OV_WARN_LIMIT 5.5 V: 6720 * 5.5 / 10 = 3696 = 0e70h.
+S 20 A 57 A 70 A 0e A P
 # READ_VIN is not written.
 S 20 A 88 A 00 A 00 A P
 "#,
-        "write 10 57 20 22 # VIN_OV_WARN_LIMIT 13\n# refusal at 15: WrongEvent, expected Start\n",
+        "write 10 57 70 0e # VIN_OV_WARN_LIMIT 5.5\n# refusal at 15: WrongEvent, expected Start\n",
         "",
         1,
     ),
