@@ -67,7 +67,8 @@ known_digest() (
         return
     fi
     begun=release/out/begun.$$
-    { mkdir -p release/out && : >"$begun"; } 2>/dev/null
+    # (not `:`, which ends the shell where the folder can't be written)
+    { mkdir -p release/out && true >"$begun"; } 2>/dev/null
     sources=$(digest)
     echo "$sources"
     {
