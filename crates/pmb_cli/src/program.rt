@@ -39,17 +39,19 @@ pub fn tool<S: AsStr, R: Source, W: Sink, E: Sink>(
 ) -> u8
     ensures within { result ≤ 4 }
 
-    // The words are looked at first. Help and the version go to `out`.
+    // The words are looked at first. Where `clap` finds a fault in them, of which a call for help or the version is one, nothing
+    // is read; with 0 a text was told on `out`, and 1 is never answered.
+    ensures unread { faults_of (map S.text words.now) ≢ [] → reader.new ≡ reader.old }
+    ensures out_told { faults_of (map S.text words.now) ≢ [] → result ≡ 0 → Tells (W.contents out.old) (W.contents out.new) }
+    ensures not_one { faults_of (map S.text words.now) ≢ [] → result ≢ 1 }
+    ensures helped { AskToTell (map S.text words.now) → (result ≡ 0) ⊎ (result ≡ 3) ⊎ (result ≡ 4) }
     ensures refused { AreRefused (map S.text words.now) → (result ≡ 2) ⊎ (result ≡ 4) }
     ensures told { result ≡ 2 → (MayBeRefused (map S.text words.now) ⊎ AskForNothing (map S.text words.now)) ⊎ (HasBadFormat (map S.text words.now)
         ⊎ ((work : WorkOf) × AskFor (map S.text words.now) (Traffic work false) × HasBadProfile
         (λ reader. record { left = R.remaining reader; given = R.given reader; reads = R.reads reader })
         reader.old reader.new (R.has_ended reader.new))) }
-    ensures helped { AskToTell (map S.text words.now) → (result ≡ 0) ⊎ (result ≡ 3) ⊎ (result ≡ 4) }
-    ensures out_told { AskToTell (map S.text words.now) → result ≡ 0 → Tells (W.contents out.old) (W.contents out.new) }
     ensures nothing { AskForNothing (map S.text words.now) → (result ≡ 2) ⊎ (result ≡ 4) }
     ensures nothing_unread { AskForNothing (map S.text words.now) → reader.new ≡ reader.old }
-    ensures unread { faults_of (map S.text words.now) ≢ [] → reader.new ≡ reader.old }
     ensures unwritten { AreRefused (map S.text words.now) → out.new ≡ out.old }
 
     // Standard error is told something where anything went wrong, and else stays as it is; standard output stays as it is

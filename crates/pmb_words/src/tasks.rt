@@ -1,6 +1,6 @@
 //! What the words of the command ask for.
 
-ghost use Rattle.std.specs.Prelude.{◌≡◌, ◌≤◌, ◌⊎◌, IfErr, IfOk, map};
+ghost use Rattle.std.specs.Prelude.{◌≡◌, ◌≢◌, ◌≤◌, ◌⊎◌, IfErr, IfOk, map};
 ghost use Rattle.clap.specs.Words.{subcommand_rows_of};
 ghost use Rattle.pmb_status.specs.Status.{IsTold, Tells};
 ghost use Rattle.pmb_io.specs.Count.{raised};
@@ -43,7 +43,10 @@ pub fn asked<'a, S: AsStr, W: Sink, E: Sink>(
 ) -> Result<Task<'a>, u8>
     ensures ok { IfOk result (λ task. AskFor (map S.text words.entry.now) (asking_of task)) }
     ensures ok_quiet { IfOk result (λ _. (out.new ≡ out.old) × (err.new ≡ err.old)) }
+
+    // Whatever the words: help and the version are told with 0, and 1 is for what is read alone.
     ensures within { IfErr result (λ status. status ≤ 4) }
+    ensures not_one { IfErr result (λ status. status ≢ 1) }
 
     // Where they ask for something, only memory is lacking.
     ensures memory { IfErr result (λ status. (asking : Asking) → AskFor (map S.text words.entry.now) asking → status ≡ 4) }
@@ -53,7 +56,7 @@ pub fn asked<'a, S: AsStr, W: Sink, E: Sink>(
     ensures helped { IfErr result (λ status. AskToTell (map S.text words.entry.now) → (status ≡ 0) ⊎ (status ≡ 3) ⊎ (status ≡ 4)) }
 
     // Help and the version go to `out` alone, and a fault to `err`.
-    ensures out_told { IfErr result (λ status. AskToTell (map S.text words.entry.now) → status ≡ 0 → Tells (W.contents out.old) (W.contents out.new)) }
+    ensures out_told { IfErr result (λ status. status ≡ 0 → Tells (W.contents out.old) (W.contents out.new)) }
     ensures err_told { IfErr result (λ status. 2 ≤ status → IsTold (E.contents err.old) (E.contents err.new) (E.failures err.old) (E.failures err.new)) }
     ensures quiet { IfErr result (λ status. status ≤ 1 → err.new ≡ err.old) }
     ensures unwritten { IfErr result (λ status. AreRefused (map S.text words.entry.now) → out.new ≡ out.old) }

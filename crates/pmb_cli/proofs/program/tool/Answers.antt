@@ -78,7 +78,10 @@ pub returns-in-Ok-clause-helped : goal.returns-in-Ok-clause-helped
 returns-in-Ok-clause-helped g c ask = absurd (c.one_asking.ensures.not_told _ (asking_of c.in-Ok.task) c.in-Ok.ensures.ok ask)
 
 pub returns-in-Ok-clause-out_told : goal.returns-in-Ok-clause-out_told
-returns-in-Ok-clause-out_told g c ask done = absurd (c.one_asking.ensures.not_told _ (asking_of c.in-Ok.task) c.in-Ok.ensures.ok ask)
+returns-in-Ok-clause-out_told g c some done = absurd (some c.in-Ok.ensures.ok.no_fault)
+
+pub returns-in-Ok-clause-not_one : goal.returns-in-Ok-clause-not_one
+returns-in-Ok-clause-not_one g c some one = some c.in-Ok.ensures.ok.no_fault
 
 pub returns-in-Ok-clause-nothing : goal.returns-in-Ok-clause-nothing
 returns-in-Ok-clause-nothing g c none = absurd (c.one_asking.ensures.something _ (asking_of c.in-Ok.task) c.in-Ok.ensures.ok none)
