@@ -1,5 +1,5 @@
 -- What the status of a run says of its outcome.
-use Rattle.std.proofs.Common.{◌≡◌, ◌∙◌, ap, ℕ, ◌+◌, ◌≤◌, ◌⊎◌, ◌==◌, if◌then◌else◌, Bool, true, false, Result, Ok, Err, IfOk, subst, inl, inr, refl, sym, arith, Option, List, ◌++◌, length, length-append}
+use Rattle.std.proofs.Common.{◌≡◌, ◌≢◌, ◌∙◌, ap, ℕ, ◌+◌, ◌≤◌, ◌⊎◌, ◌==◌, if◌then◌else◌, Bool, true, false, Result, Ok, Err, IfOk, subst, inl, inr, refl, sym, arith, Option, List, ◌++◌, length, length-append}
 use Rattle.pmb_io.specs.declared.fault.ToolFault.{ToolFault}
 use Rattle.pmb_io.specs.declared.fault.ToolFault.TheVariants.{Read, Write, TooManyReads, ProfileTooLong, Memory}
 use Rattle.pmb_io.specs.declared.tally.Tally.{Tally}
@@ -65,9 +65,9 @@ write_or_read outcome three = elim (io_fault outcome three) [
   | inr (inr many) ↦ inr (inr many)
 ]
 
--- with status 0 or 1 there was no fault
-pub no_fault : (outcome : Result Tally ToolFault) (fault : ToolFault) → run_status outcome ≤ 1 → outcome ≡ Err fault → ⊥
-no_fault outcome fault within is = let well = ended_well outcome within in (let clash : Ok well.0 ≡ Err fault = sym well.1 ∙ is in cc)
+-- with a status other than 3 there was no fault that has it
+pub no_failure : (outcome : Result Tally ToolFault) (fault : ToolFault) → run_status outcome ≢ 3 → status_of fault ≡ 3 → outcome ≡ Err fault → ⊥
+no_failure outcome fault other three is = other (ap run_status is ∙ three)
 
 -- without a fault of memory or of the profile the status is neither 2 nor 4
 pub not_refused : (outcome : Result Tally ToolFault) → (outcome ≡ Err Memory → ⊥) → (outcome ≡ Err ProfileTooLong → ⊥) → (run_status outcome ≡ 2) ⊎ (run_status outcome ≡ 4) → ⊥
@@ -113,6 +113,14 @@ is_read Write no_write few three = absurd (no_write refl)
 is_read TooManyReads no_write few three = absurd (few refl)
 is_read ProfileTooLong no_write few three = absurd (omega (arith, three))
 is_read Memory no_write few three = absurd (omega (arith, three))
+
+-- and where the status is another, no read failed
+pub no_failed_read : {A : Type 0} (answer : Result A ToolFault) (fault : ToolFault) → status_of fault ≢ 3 → answer ≡ Err fault → answer ≡ Err Read → ⊥
+no_failed_read answer Read other is also = other refl
+no_failed_read answer Write other is also = other refl
+no_failed_read answer TooManyReads other is also = other refl
+no_failed_read answer ProfileTooLong other is also = let clash : Err ProfileTooLong ≡ Err Read = sym is ∙ also in cc
+no_failed_read answer Memory other is also = let clash : Err Memory ≡ Err Read = sym is ∙ also in cc
 
 -- no status is above 4
 pub four_at_most : (outcome : Result Tally ToolFault) → run_status outcome ≤ 4

@@ -1,6 +1,6 @@
 //! What the words ask for, done.
 
-ghost use Rattle.std.specs.Prelude.{◌≡◌, ◌≤◌, ◌⊎◌, Ok, false};
+ghost use Rattle.std.specs.Prelude.{◌≡◌, ◌≢◌, ◌≤◌, ◌⊎◌, Ok, false};
 ghost use Rattle.pmb_cli.specs.Matter.{HasBadProfile};
 ghost use Rattle.pmb_cli.specs.Tasks.{WroteTask, WroteTaskPart};
 ghost use Rattle.pmb_io.specs.Count.{raised};
@@ -43,7 +43,7 @@ pub(crate) fn run_task<R: Source, W: Sink, E: Sink>(
     ensures part { result ≡ 3 → (W.failures out.new ≡ raised (W.failures out.old) 1) ⊎ WroteTaskPart SAMPLE.now (asking_of task.entry)
         (record { left = R.remaining reader.old; given = R.given reader.old; held = W.contents out.old })
         (record { left = R.remaining reader.new; given = R.given reader.new; held = W.contents out.new }) }
-    ensures done { result ≤ 1 → (R.failures reader.new ≡ R.failures reader.old) × (W.failures out.new ≡ W.failures out.old) }
+    ensures none_failed { result ≢ 3 → (R.failures reader.new ≡ R.failures reader.old) × (W.failures out.new ≡ W.failures out.old) }
     ensures io_failed { result ≡ 3 → ((R.failures reader.new ≡ raised (R.failures reader.old) 1) × (R.has_ended reader.new ≡ R.has_ended reader.old))
         ⊎ ((W.failures out.new ≡ raised (W.failures out.old) 1) ⊎ ReadOften (R.reads reader.old) (R.reads reader.new) (R.remaining reader.old) (R.remaining reader.new)) }
 {
@@ -86,7 +86,7 @@ fn run_traffic<R: Source, W: Sink, E: Sink>(
     ensures part { result ≡ 3 → (W.failures out.new ≡ raised (W.failures out.old) 1) ⊎ WroteTaskPart SAMPLE.now (Traffic work sample)
         (record { left = R.remaining reader.old; given = R.given reader.old; held = W.contents out.old })
         (record { left = R.remaining reader.new; given = R.given reader.new; held = W.contents out.new }) }
-    ensures done { result ≤ 1 → (R.failures reader.new ≡ R.failures reader.old) × (W.failures out.new ≡ W.failures out.old) }
+    ensures none_failed { result ≢ 3 → (R.failures reader.new ≡ R.failures reader.old) × (W.failures out.new ≡ W.failures out.old) }
     ensures io_failed { result ≡ 3 → ((R.failures reader.new ≡ raised (R.failures reader.old) 1) × (R.has_ended reader.new ≡ R.has_ended reader.old))
         ⊎ ((W.failures out.new ≡ raised (W.failures out.old) 1) ⊎ ReadOften (R.reads reader.old) (R.reads reader.new) (R.remaining reader.old) (R.remaining reader.new)) }
 {

@@ -80,8 +80,8 @@ pub fn tool<S: AsStr, R: Source, W: Sink, E: Sink>(
         (record { left = R.remaining reader.old; given = R.given reader.old; held = W.contents out.old })
         (record { left = R.remaining reader.new; given = R.given reader.new; held = W.contents out.new }) }
 
-    // No read and no write on `out` failed where it answers 0 or 1, and one did, or there were too many reads, where 3.
-    ensures done { result ≤ 1 → (R.failures reader.new ≡ R.failures reader.old) × (W.failures out.new ≡ W.failures out.old) }
+    // No read and no write on `out` failed where it answers anything but 3, and one did, or there were too many reads, where 3.
+    ensures none_failed { result ≢ 3 → (R.failures reader.new ≡ R.failures reader.old) × (W.failures out.new ≡ W.failures out.old) }
     ensures io_failed { result ≡ 3 → ((R.failures reader.new ≡ raised (R.failures reader.old) 1) × (R.has_ended reader.new ≡ R.has_ended reader.old))
         ⊎ ((W.failures out.new ≡ raised (W.failures out.old) 1) ⊎ ReadOften (R.reads reader.old) (R.reads reader.new) (R.remaining reader.old) (R.remaining reader.new)) }
 {

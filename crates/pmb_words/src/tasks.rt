@@ -61,7 +61,7 @@ pub fn asked<'a, S: AsStr, W: Sink, E: Sink>(
     ensures quiet { IfErr result (λ status. status ≤ 1 → err.new ≡ err.old) }
     ensures unwritten { IfErr result (λ status. AreRefused (map S.text words.entry.now) → out.new ≡ out.old) }
     ensures refused_unwritten { IfErr result (λ status. (status ≡ 2) ⊎ (status ≡ 4) → out.new ≡ out.old) }
-    ensures done { IfErr result (λ status. status ≤ 1 → W.failures out.new ≡ W.failures out.old) }
+    ensures none_failed { IfErr result (λ status. status ≢ 3 → W.failures out.new ≡ W.failures out.old) }
     ensures io_failed { IfErr result (λ status. status ≡ 3 → W.failures out.new ≡ raised (W.failures out.old) 1) }
 {
     let matches = match parse(alloc, words) {

@@ -187,7 +187,7 @@ pub(crate) fn tell_words<S: AsStr, W: Sink, E: Sink>(
 ) -> u8
     ensures within { result ≤ 4 }
     ensures not_one { result ≢ 1 }
-    ensures done { result ≤ 1 → W.failures out.new ≡ W.failures out.old }
+    ensures none_failed { result ≢ 3 → W.failures out.new ≡ W.failures out.old }
     ensures io_failed { result ≡ 3 → W.failures out.new ≡ raised (W.failures out.old) 1 }
     ensures refused { (¬ IsTelling (kind_of error.now)) → (result ≡ 2) ⊎ (result ≡ 4) }
     ensures told { IsTelling (kind_of error.now) → (result ≡ 0) ⊎ (result ≡ 3) ⊎ (result ≡ 4) }

@@ -1,9 +1,9 @@
-use Rattle.std.proofs.Common.{◌≡◌, ◌∙◌, ◌≤◌, ℕ, [], inl, inr, ap, sym, subst}
+use Rattle.std.proofs.Common.{◌≡◌, ◌≢◌, ◌∙◌, refl, ◌≤◌, ℕ, [], inl, inr, ap, sym, subst}
 use Rattle.pmb_io.specs.Runs.{Ended}
 use Rattle.pmb_io.specs.declared.fault.ToolFault.TheVariants.{Read, Write}
 use Rattle.pmb_convert.specs.Lines.{AnswersInput}
 use Rattle.pmb_status.specs.Status.{run_status}
-use Rattle.pmb_cli.proofs.Statuses.{at_ok, ended_well, four_at_most, io_fault, no_fault, not_refused, read_often, write_or_read}
+use Rattle.pmb_cli.proofs.Statuses.{at_ok, ended_well, four_at_most, io_fault, no_failure, not_refused, read_often, write_or_read}
 use Rattle.pmb_cli.proofs.lines.run_lines.Goals as goal
 
 pub returns-clause-within : goal.returns-clause-within
@@ -33,10 +33,10 @@ returns-clause-part g c three =
       | inr failed ↦ inr (c.convert_lines.ensures.before failed)
     ]
 
-pub returns-clause-done : goal.returns-clause-done
-returns-clause-done g c done =
-    let status : run_status c.convert_lines.result ≤ 1 = subst (λ (n : ℕ). n ≤ 1) c.ended.ensures.status done in
-    (c.convert_lines.ensures.no_read (no_fault c.convert_lines.result Read status), c.convert_lines.ensures.no_write (no_fault c.convert_lines.result Write status))
+pub returns-clause-none_failed : goal.returns-clause-none_failed
+returns-clause-none_failed g c other =
+    let status : run_status c.convert_lines.result ≢ 3 = λ three. other (c.ended.ensures.status ∙ three) in
+    (c.convert_lines.ensures.no_read (no_failure c.convert_lines.result Read status refl), c.convert_lines.ensures.no_write (no_failure c.convert_lines.result Write status refl))
 
 pub returns-clause-io_failed : goal.returns-clause-io_failed
 returns-clause-io_failed g c three =

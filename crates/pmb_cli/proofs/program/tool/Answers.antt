@@ -42,9 +42,9 @@ returns-in-Ok-clause-quiet g c done = c.run_task.ensures.quiet done ∙ c.in-Ok.
 pub returns-in-Ok-clause-refused_unwritten : goal.returns-in-Ok-clause-refused_unwritten
 returns-in-Ok-clause-refused_unwritten g c refused = c.run_task.ensures.unwritten refused ∙ c.in-Ok.ensures.ok_quiet.0
 
-pub returns-in-Ok-clause-done : goal.returns-in-Ok-clause-done
-returns-in-Ok-clause-done g c done =
-    let same = c.run_task.ensures.done done in
+pub returns-in-Ok-clause-none_failed : goal.returns-in-Ok-clause-none_failed
+returns-in-Ok-clause-none_failed g c other =
+    let same = c.run_task.ensures.none_failed other in
     (same.0, same.1 ∙ ap (λ (out : g.row.W.Denot). g.W.Sink.failures out) c.in-Ok.ensures.ok_quiet.0)
 
 pub returns-in-Ok-clause-io_failed : goal.returns-in-Ok-clause-io_failed

@@ -1,4 +1,4 @@
-use Rattle.std.proofs.Common.{◌≡◌, ◌∙◌, ◌≤◌, ℕ, List, [], Some, true, Err, Ok, inl, inr, sym, ap, subst, refl, arith}
+use Rattle.std.proofs.Common.{◌≡◌, ◌≢◌, ◌∙◌, ◌≤◌, ℕ, List, [], Some, true, Err, Ok, inl, inr, sym, ap, subst, refl, arith}
 use Rattle.pmb_io.specs.Count.{raised}
 use Rattle.pmb_io.specs.Runs.{Through, most_reads}
 use Rattle.pmb_keys.specs.declared.fault.FaultKind.TheVariants.{OutOfMemory}
@@ -8,7 +8,7 @@ use Rattle.pmb_table.specs.Profile.{Says}
 use Rattle.pmb_status.specs.Status.{run_status}
 use Rattle.pmb_cli.specs.Traffic.{WritesFront, Wrote}
 use Rattle.pmb_cli.proofs.Behind.{behind_all, behind_mark, part_behind, part_of_profile}
-use Rattle.pmb_cli.proofs.Statuses.{at_ok, ended_well, io_fault, is_read, is_too_long, no_fault, not_refused, read_often_behind, two_or_more, write_or_read}
+use Rattle.pmb_cli.proofs.Statuses.{at_ok, ended_well, io_fault, is_read, is_too_long, no_failed_read, no_failure, not_refused, read_often_behind, two_or_more, write_or_read}
 use Rattle.pmb_cli.proofs.traffic.run_behind.Goals as goal
 
 pub returns-in-Ok-from_toml-clause-wrote : goal.returns-in-Ok-from_toml-clause-wrote
@@ -101,8 +101,10 @@ returns-in-Err-clause-told g c two = inl (c.in-Err.ensures.too_long (ap (λ (f :
 pub returns-in-Err-clause-wrote : goal.returns-in-Err-clause-wrote
 returns-in-Err-clause-wrote g c done = absurd (omega (arith, done, c.tell.ensures.status, two_or_more c.in-Err.fault))
 
-pub returns-in-Err-clause-done : goal.returns-in-Err-clause-done
-returns-in-Err-clause-done g c done = absurd (omega (arith, done, c.tell.ensures.status, two_or_more c.in-Err.fault))
+-- Status 3 is that of a failed read.
+pub returns-in-Err-clause-none_failed : goal.returns-in-Err-clause-none_failed
+returns-in-Err-clause-none_failed g c other =
+    (c.in-Err.ensures.no_read (no_failed_read _ c.in-Err.fault (λ three. other (c.tell.ensures.status ∙ three)) refl), refl)
 
 pub returns-in-Err-clause-part : goal.returns-in-Err-clause-part
 returns-in-Err-clause-part g c three =
@@ -125,10 +127,10 @@ returns-in-Ok-from_toml-clause-unwritten g c refused = absurd (not_refused c.run
   | inr four ↦ inr (sym c.ended.ensures.status ∙ four)
 ]))
 
-pub returns-in-Ok-from_toml-clause-done : goal.returns-in-Ok-from_toml-clause-done
-returns-in-Ok-from_toml-clause-done g c done =
-    let status : run_status c.run.result ≤ 1 = subst (λ (n : ℕ). n ≤ 1) c.ended.ensures.status done in
-    (c.run.ensures.no_read (no_fault c.run.result Read status) ∙ c.in-Ok.ensures.no_read (λ is. cc), c.run.ensures.no_write (no_fault c.run.result Write status))
+pub returns-in-Ok-from_toml-clause-none_failed : goal.returns-in-Ok-from_toml-clause-none_failed
+returns-in-Ok-from_toml-clause-none_failed g c other =
+    let status : run_status c.run.result ≢ 3 = λ three. other (c.ended.ensures.status ∙ three) in
+    (c.run.ensures.no_read (no_failure c.run.result Read status refl) ∙ c.in-Ok.ensures.no_read (λ is. cc), c.run.ensures.no_write (no_failure c.run.result Write status refl))
 
 pub returns-in-Ok-2-clause-told : goal.returns-in-Ok-2-clause-told
 returns-in-Ok-2-clause-told g c two = absurd (not_refused c.run-in-Ok-2.result c.run-in-Ok-2.ensures.memory c.run-in-Ok-2.ensures.profile (inl (sym c.ended-in-Ok-2.ensures.status ∙ two)))
@@ -139,10 +141,10 @@ returns-in-Ok-2-clause-unwritten g c refused = absurd (not_refused c.run-in-Ok-2
   | inr four ↦ inr (sym c.ended-in-Ok-2.ensures.status ∙ four)
 ]))
 
-pub returns-in-Ok-2-clause-done : goal.returns-in-Ok-2-clause-done
-returns-in-Ok-2-clause-done g c done =
-    let status : run_status c.run-in-Ok-2.result ≤ 1 = subst (λ (n : ℕ). n ≤ 1) c.ended-in-Ok-2.ensures.status done in
-    (c.in-Ok.ensures.no_read (λ is. cc), c.run-in-Ok-2.ensures.no_write (no_fault c.run-in-Ok-2.result Write status))
+pub returns-in-Ok-2-clause-none_failed : goal.returns-in-Ok-2-clause-none_failed
+returns-in-Ok-2-clause-none_failed g c other =
+    let status : run_status c.run-in-Ok-2.result ≢ 3 = λ three. other (c.ended-in-Ok-2.ensures.status ∙ three) in
+    (c.in-Ok.ensures.no_read (λ is. cc), c.run-in-Ok-2.ensures.no_write (no_failure c.run-in-Ok-2.result Write status refl))
 
 -- what has nothing fails in no read and gives nothing
 pub returns-in-Ok-2-clause-part : goal.returns-in-Ok-2-clause-part

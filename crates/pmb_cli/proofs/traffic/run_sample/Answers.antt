@@ -1,8 +1,8 @@
-use Rattle.std.proofs.Common.{◌≡◌, ◌∙◌, ◌≤◌, ℕ, [], inl, inr, ap, sym, subst}
+use Rattle.std.proofs.Common.{◌≡◌, ◌≢◌, ◌∙◌, refl, ◌≤◌, ℕ, [], inl, inr, ap, sym, subst}
 use Rattle.pmb_io.specs.declared.fault.ToolFault.TheVariants.{Read, Write}
 use Rattle.pmb_status.specs.Status.{run_status}
 use Rattle.pmb_cli.specs.Traffic.{Wrote}
-use Rattle.pmb_cli.proofs.Statuses.{at_ok, ended_well, io_fault, no_fault, not_refused, read_often, write_or_read}
+use Rattle.pmb_cli.proofs.Statuses.{at_ok, ended_well, io_fault, no_failure, not_refused, read_often, write_or_read}
 use Rattle.pmb_cli.proofs.traffic.run_sample.Goals as goal
 
 pub returns-in-Ok-clause-wrote : goal.returns-in-Ok-clause-wrote
@@ -37,10 +37,10 @@ returns-in-Ok-clause-unwritten g c refused = absurd (not_refused c.run.result c.
   | inr four ↦ inr (sym c.ended.ensures.status ∙ four)
 ]))
 
-pub returns-in-Ok-clause-done : goal.returns-in-Ok-clause-done
-returns-in-Ok-clause-done g c done =
-    let status : run_status c.run.result ≤ 1 = subst (λ (n : ℕ). n ≤ 1) c.ended.ensures.status done in
-    (c.run.ensures.no_read (no_fault c.run.result Read status), c.run.ensures.no_write (no_fault c.run.result Write status))
+pub returns-in-Ok-clause-none_failed : goal.returns-in-Ok-clause-none_failed
+returns-in-Ok-clause-none_failed g c other =
+    let status : run_status c.run.result ≢ 3 = λ three. other (c.ended.ensures.status ∙ three) in
+    (c.run.ensures.no_read (no_failure c.run.result Read status refl), c.run.ensures.no_write (no_failure c.run.result Write status refl))
 
 pub returns-in-Ok-clause-part : goal.returns-in-Ok-clause-part
 returns-in-Ok-clause-part g c three =
