@@ -1,10 +1,11 @@
 -- What was written where a run over a capture returns.
-use Rattle.std.proofs.Common.{◌≡◌, ◌≤◌, ℕ, ◌⊎◌, Bool, IfOk, Result, Err, List, ◌++◌, length, inl, inr, sym, ◌∙◌, ap, subst}
+use Rattle.std.proofs.Common.{◌≡◌, ◌≤◌, ℕ, ◌⊎◌, Bool, IfOk, Result, Err, Option, List, ◌++◌, length, inl, inr, sym, ◌∙◌, ap, subst}
 use Rattle.pmb_bus.specs.Text.{BeginsText}
 use Rattle.pmb_command.specs.Parts.{DeviceParts}
 use Rattle.pmb_io.specs.declared.fault.ToolFault.{ToolFault}
 use Rattle.pmb_io.specs.declared.tally.Tally.{Tally}
-use Rattle.pmb_io.specs.Runs.{Ended, OpenBefore, Stopped, Through, Told, most_reads}
+use Rattle.pmb_io.specs.Runs.{Ended, OpenBefore, ReaderTold, Stopped, Through, Told, most_reads, with_held}
+use Rattle.pmb_io.proofs.Running.{open_weaker}
 use Rattle.pmb_transaction.specs.Reading.{Outcome}
 use Rattle.pmb_transaction.specs.Transaction.{TransactionData}
 use Rattle.pmb_capture.specs.declared.capture.Capture.{Capture}
@@ -19,19 +20,19 @@ same_fault r answer fault wanted is answered same =
     is ∙ ap Err one
 
 -- `Ok`: the bytes ended, or a word of them is no token
-abbrev pub IsDone : OutputText → List DeviceParts → Tally → List ℕ → Told → Told → Bool → Type 0
-IsDone output profile tally first old new ended =
-    Ended (λ bytes text. WritesAtEnd output profile bytes text tally) first old new ended
-    ⊎ Stopped (λ bytes text. WritesUpToStop output profile bytes text tally) BeginsText first old new
+abbrev pub IsDone : {R : Type 0} → (R → ReaderTold) → OutputText → List DeviceParts → Tally → List ℕ → R → R → Option (List ℕ) → Option (List ℕ) → Bool → Type 0
+IsDone told output profile tally first old new h0 h1 ended =
+    Ended (λ bytes text. WritesAtEnd output profile bytes text tally) first (with_held (told old) h0) (with_held (told new) h1) ended
+    ⊎ Stopped told (λ bytes text. WritesUpToStop output profile bytes text tally) BeginsText first old new h0 h1
 
 -- too many reads gave as many bytes at least
 abbrev pub IsMany : OutputText → List DeviceParts → List ℕ → Told → Told → Type 0
 IsMany output profile first old new = (through : Through (WritesFront output profile) first old new) × (most_reads ≤ length through.read)
 
 -- of texts that are one
-pub done_by : (result : Result Tally ToolFault) (a b : OutputText) (profile : List DeviceParts) (first : List ℕ) (old new : Told) (ended : Bool) → a ≡ b
-    → IfOk result (λ tally. IsDone a profile tally first old new ended) → IfOk result (λ tally. IsDone b profile tally first old new ended)
-done_by result a b profile first old new ended same = subst (λ (output : OutputText). IfOk result (λ tally. IsDone output profile tally first old new ended)) same
+pub done_by : {R : Type 0} (told : R → ReaderTold) (result : Result Tally ToolFault) (a b : OutputText) (profile : List DeviceParts) (first : List ℕ) (old new : R) (h0 h1 : Option (List ℕ)) (ended : Bool) → a ≡ b
+    → IfOk result (λ tally. IsDone told a profile tally first old new h0 h1 ended) → IfOk result (λ tally. IsDone told b profile tally first old new h0 h1 ended)
+done_by told result a b profile first old new h0 h1 ended same = subst (λ (output : OutputText). IfOk result (λ tally. IsDone told output profile tally first old new h0 h1 ended)) same
 
 pub many_by : (a b : OutputText) (profile : List DeviceParts) (first : List ℕ) (old new : Told) → a ≡ b → IsMany a profile first old new → IsMany b profile first old new
 many_by a b profile first old new same = subst (λ (output : OutputText). IsMany output profile first old new) same
@@ -65,10 +66,10 @@ module _ {O : Type 0} (TextOf : O → OutputText) (StandsBehind : O → List Tra
   written_many start now first old new leaves many = (written_before start now first old new leaves many.0, many.1)
 
   -- what was written was so of a text that goes on
-  begins_text : (start : Capture O) (first read : List ℕ) → OpenBefore (λ bytes. (middle : Capture O) × (text : List ℕ) × HasWritten TextOf StandsBehind start middle bytes text) first read
-      → OpenBefore BeginsText first read
-  begins_text start first read (inl none) = inl none
-  begins_text start first read (inr one) = inr (one.0, one.1, one.2, one.3, one.4.2.stands.lexer.begins)
+  begins_text : {R : Type 0} (told : R → ReaderTold) (start : Capture O) (first : List ℕ) (old new : R) (read : List ℕ)
+      → OpenBefore told (λ bytes. (middle : Capture O) × (text : List ℕ) × HasWritten TextOf StandsBehind start middle bytes text) first old new read
+      → OpenBefore told BeginsText first old new read
+  begins_text told start first old new read = open_weaker told _ BeginsText first old new read (λ bytes written. written.2.stands.lexer.begins)
 
   -- of the output and the profile that it began with
   pub before_of : (start now : Capture O) (first : List ℕ) (old new : Told) (output : OutputText) (profile : List DeviceParts) → TextOf start.output ≡ output → profile_of start ≡ profile
@@ -85,22 +86,21 @@ module _ {O : Type 0} (TextOf : O → OutputText) (StandsBehind : O → List Tra
       (subst (λ (o : OutputText). IsMany o (profile_of start) first old new) same_output (written_many start now first old new leaves many))
 
   -- `Ok`
-  written_whole : (start now : Capture O) (tally : Tally) (first : List ℕ) (old new : Told) (ended : Bool) → tally ≡ now.tally
-      → Ended (HasEnded TextOf StandsBehind start now) first old new ended
-      ⊎ Stopped (HasStopped TextOf StandsBehind start now) (λ bytes. (middle : Capture O) × (text : List ℕ) × HasWritten TextOf StandsBehind start middle bytes text) first old new
-      → Ended (λ bytes text. WritesAtEnd (TextOf start.output) (profile_of start) bytes text tally) first old new ended
-      ⊎ Stopped (λ bytes text. WritesUpToStop (TextOf start.output) (profile_of start) bytes text tally) BeginsText first old new
-  written_whole start now tally first old new ended told (inl whole) =
-      inl (subst (λ (t : Tally). Ended (λ bytes text. WritesAtEnd (TextOf start.output) (profile_of start) bytes text t) first old new ended) (sym told) whole)
-  written_whole start now tally first old new ended told (inr stopped) =
-      inr (subst (λ (t : Tally). Stopped (λ bytes text. WritesUpToStop (TextOf start.output) (profile_of start) bytes text t) BeginsText first old new) (sym told)
-      (record { through = stopped.through; in_time = begins_text start first stopped.through.read stopped.in_time }))
+  written_whole : {R : Type 0} (told : R → ReaderTold) (start now : Capture O) (tally : Tally) (first : List ℕ) (old new : R) (h0 h1 : Option (List ℕ)) (ended : Bool) → tally ≡ now.tally
+      → Ended (HasEnded TextOf StandsBehind start now) first (with_held (told old) h0) (with_held (told new) h1) ended
+      ⊎ Stopped told (HasStopped TextOf StandsBehind start now) (λ bytes. (middle : Capture O) × (text : List ℕ) × HasWritten TextOf StandsBehind start middle bytes text) first old new h0 h1
+      → IsDone told (TextOf start.output) (profile_of start) tally first old new h0 h1 ended
+  written_whole told start now tally first old new h0 h1 ended counted (inl whole) =
+      inl (subst (λ (t : Tally). Ended (λ bytes text. WritesAtEnd (TextOf start.output) (profile_of start) bytes text t) first (with_held (told old) h0) (with_held (told new) h1) ended) (sym counted) whole)
+  written_whole told start now tally first old new h0 h1 ended counted (inr stopped) =
+      inr (subst (λ (t : Tally). Stopped told (λ bytes text. WritesUpToStop (TextOf start.output) (profile_of start) bytes text t) BeginsText first old new h0 h1) (sym counted)
+      (record { through = stopped.through; in_time = begins_text told start first old new stopped.through.read stopped.in_time }))
 
-  pub whole_of : (start now : Capture O) (tally : Tally) (first : List ℕ) (old new : Told) (ended : Bool) (output : OutputText) (profile : List DeviceParts)
+  pub whole_of : {R : Type 0} (told : R → ReaderTold) (start now : Capture O) (tally : Tally) (first : List ℕ) (old new : R) (h0 h1 : Option (List ℕ)) (ended : Bool) (output : OutputText) (profile : List DeviceParts)
       → TextOf start.output ≡ output → profile_of start ≡ profile → tally ≡ now.tally
-      → Ended (HasEnded TextOf StandsBehind start now) first old new ended
-      ⊎ Stopped (HasStopped TextOf StandsBehind start now) (λ bytes. (middle : Capture O) × (text : List ℕ) × HasWritten TextOf StandsBehind start middle bytes text) first old new
-      → IsDone output profile tally first old new ended
-  whole_of start now tally first old new ended output profile same_output same_profile told done =
-      subst (λ (p : List DeviceParts). IsDone output p tally first old new ended) same_profile
-      (subst (λ (o : OutputText). IsDone o (profile_of start) tally first old new ended) same_output (written_whole start now tally first old new ended told done))
+      → Ended (HasEnded TextOf StandsBehind start now) first (with_held (told old) h0) (with_held (told new) h1) ended
+      ⊎ Stopped told (HasStopped TextOf StandsBehind start now) (λ bytes. (middle : Capture O) × (text : List ℕ) × HasWritten TextOf StandsBehind start middle bytes text) first old new h0 h1
+      → IsDone told output profile tally first old new h0 h1 ended
+  whole_of told start now tally first old new h0 h1 ended output profile same_output same_profile counted done =
+      subst (λ (p : List DeviceParts). IsDone told output p tally first old new h0 h1 ended) same_profile
+      (subst (λ (o : OutputText). IsDone told o (profile_of start) tally first old new h0 h1 ended) same_output (written_whole told start now tally first old new h0 h1 ended counted done))

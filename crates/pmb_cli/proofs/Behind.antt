@@ -4,15 +4,14 @@ use Rattle.std.specs.Io.KnownBytes.{Consumes}
 use Rattle.pmb_bus.specs.Text.{BeginsText}
 use Rattle.pmb_command.specs.Parts.{DeviceParts}
 use Rattle.pmb_io.specs.Count.{raised}
-use Rattle.pmb_io.specs.Runs.{Ended, OpenBefore, Stopped, Through}
+use Rattle.pmb_io.specs.Runs.{Gave, OpenBefore, ReaderTold, Through}
 use Rattle.pmb_io.specs.declared.tally.Tally.{Tally}
-use Rattle.pmb_io.proofs.Running.{raised_twice}
+use Rattle.pmb_io.proofs.Running.{gave_no_more, gave_then, open_weaker, raised_twice}
 use Rattle.pmb_io.proofs.Writing.{consumes_then}
 use Rattle.pmb_table.specs.Profile.{Says}
-use Rattle.pmb_front.specs.Front.{EndsAtMark, EndsWithReader, FirstMark, Parts, ReadFront, ReadUndecided}
-use Rattle.pmb_front.specs.Front as front
+use Rattle.pmb_front.specs.Front.{EndsAtMark, EndsWithReader, FirstMark, Parts, ReadFront, ReadUndecided, Undecided}
 use Rattle.pmb_cli.specs.Matter.{Behind, PartBehind}
-use Rattle.pmb_cli.specs.Traffic.{OpenBehind, WritesAll, WritesUpToBadWord, WroteBehind}
+use Rattle.pmb_cli.specs.Traffic.{OpenBehind, WritesAll, WritesUpToBadWord, Wrote, WroteBehind}
 use Rattle.pmb_words.specs.declared.work.Work.{Work}
 use Rattle.pmb_front.proofs.Fronts.{stays}
 
@@ -29,7 +28,7 @@ at_end read parts left has_ended (inl mark) unmarked = absurd (let contrary : tr
 at_end read parts left has_ended (inr ends) unmarked = ends
 
 -- the profile was read, and then what stands behind it
-behind : {R : Type 0} (Holds : List DeviceParts → List ℕ → List ℕ → List ℕ → Type 0) (devices : List DeviceParts) (told : R → front.Told) (old mid : R) (Ran : List ℕ → List ℕ → Type 0) (l2 : Option (List ℕ)) (g2 : ℕ) (h0 h1 : Option (List ℕ)) (ended_before : Bool) (parts : Parts)
+behind : {R : Type 0} (Holds : List DeviceParts → List ℕ → List ℕ → List ℕ → Type 0) (devices : List DeviceParts) (told : R → ReaderTold) (old mid : R) (Ran : List ℕ → List ℕ → Type 0) (l2 : Option (List ℕ)) (g2 : ℕ) (h0 h1 : Option (List ℕ)) (ended_before : Bool) (parts : Parts)
     → (before : ReadFront told old mid ended_before parts) → parts.marked ≡ true → Says parts.profile (Ok devices)
     → (through : Through Ran parts.rest (record { left = (told mid).left; given = (told mid).given; held = h0 }) (record { left = l2; given = g2; held = h1 }))
     → (Ran (parts.rest ++ through.read) through.text → Holds devices (parts.rest ++ through.read) through.text (before.read ++ through.read))
@@ -57,7 +56,7 @@ none_read (Some left) (byte ∷ read) consumed = cc
 none_read None read consumed = absurd consumed
 
 -- all was profile, and nothing follows
-all_profile : {R : Type 0} (Holds : List DeviceParts → List ℕ → List ℕ → List ℕ → Type 0) (devices : List DeviceParts) (told : R → front.Told) (old new : R) (Ran : List ℕ → List ℕ → Type 0) (e0 e1 : Option (List ℕ)) (n0 n1 : ℕ) (h0 h1 : Option (List ℕ)) (has_ended : Bool) (parts : Parts)
+all_profile : {R : Type 0} (Holds : List DeviceParts → List ℕ → List ℕ → List ℕ → Type 0) (devices : List DeviceParts) (told : R → ReaderTold) (old new : R) (Ran : List ℕ → List ℕ → Type 0) (e0 e1 : Option (List ℕ)) (n0 n1 : ℕ) (h0 h1 : Option (List ℕ)) (has_ended : Bool) (parts : Parts)
     → (before : ReadFront told old new has_ended parts) → parts.marked ≡ false → Says parts.profile (Ok devices)
     → e0 ≡ Some [] → (through : Through Ran [] (record { left = e0; given = n0; held = h0 }) (record { left = e1; given = n1; held = h1 }))
     → (EndsWithReader before.read parts (told new).left has_ended → Ran parts.rest through.text → Holds devices parts.rest through.text before.read)
@@ -83,53 +82,63 @@ all_profile Holds devices told old new Ran e0 e1 n0 n1 h0 h1 has_ended parts bef
 
 module _ (work : Work) (devices : List DeviceParts) (tally : Tally) where
   -- a word that is no token was met with the last piece of all that was read
-  stopped_in_time : {R : Type 0} (told : R → front.Told) (old mid : R) (ended_before : Bool) (parts : Parts) (before : ReadFront told old mid ended_before parts)
-      → parts.marked ≡ true → (read : List ℕ) → OpenBefore BeginsText parts.rest read → OpenBefore OpenBehind [] (before.read ++ read)
-  stopped_in_time told old mid ended_before parts before marked read (inl none) =
-      subst (λ (t : List ℕ). OpenBefore OpenBehind [] t) (sym (ap (λ (t : List ℕ). before.read ++ t) none ∙ append-nil before.read))
+  stopped_in_time : {R : Type 0} (told : R → ReaderTold) (old mid new : R) (ended_before : Bool) (parts : Parts) (before : ReadFront told old mid ended_before parts)
+      → parts.marked ≡ true → (read : List ℕ) → Gave (told mid) (told new) read → OpenBefore told BeginsText parts.rest mid new read → OpenBefore told OpenBehind [] old new (before.read ++ read)
+  stopped_in_time told old mid new ended_before parts before marked read gave (inl none) =
+      subst (λ (t : List ℕ). OpenBefore told OpenBehind [] old new t) (sym (ap (λ (t : List ℕ). before.read ++ t) none.0 ∙ append-nil before.read))
       (elim before.reads.in_time [
-        | inl nothing ↦ inl nothing
-        | inr time ↦ inr (time.before, time.piece, time.whole, time.small, inl time.undecided)
+        | inl nothing ↦ inl (nothing.0, none.1 ∙ nothing.1)
+        | inr last ↦ inr (record {
+          before = last.before;
+          piece = last.piece;
+          whole = last.whole;
+          is_open = inl last.is_open;
+          middle = last.middle;
+          gave_before = last.gave_before;
+          gave_piece = gave_no_more (told last.middle) (told mid) (told new) last.piece last.gave_piece (subst (λ (t : List ℕ). Gave (told mid) (told new) t) none.0 gave);
+          one_read = none.1 ∙ last.one_read;
+          small = last.small;
+        })
       ])
-  stopped_in_time told old mid ended_before parts before marked read (inr one) = inr (
-    before.read ++ one.0,
-    one.1,
-    ap (λ (t : List ℕ). before.read ++ t) one.2 ∙ sym (append_assoc before.read one.0 one.1),
-    one.3,
-    inr (parts.profile, parts.rest ++ one.0, stays before.read parts.profile parts.rest one.0 (at_mark before.read parts _ ended_before before.ends marked), one.4),
-  )
+  stopped_in_time told old mid new ended_before parts before marked read gave (inr last) = inr (record {
+    before = before.read ++ last.before;
+    piece = last.piece;
+    whole = ap (λ (t : List ℕ). before.read ++ t) last.whole ∙ sym (append_assoc before.read last.before last.piece);
+    is_open = inr (parts.profile, parts.rest ++ last.before, stays before.read parts.profile parts.rest last.before (at_mark before.read parts _ ended_before before.ends marked), last.is_open);
+    middle = last.middle;
+    gave_before = gave_then (told old) (told mid) (told last.middle) before.read last.before before.reads.gave last.gave_before;
+    gave_piece = last.gave_piece;
+    one_read = last.one_read;
+    small = last.small;
+  })
 
-  pub behind_mark : {R : Type 0} (told : R → front.Told) (old mid : R) (l2 : Option (List ℕ)) (g2 : ℕ) (h0 h1 : Option (List ℕ)) (ended_before has_ended : Bool) (parts : Parts)
-      → ReadFront told old mid ended_before parts → parts.marked ≡ true → Says parts.profile (Ok devices)
-      → Ended (WritesAll work devices tally) parts.rest (record { left = (told mid).left; given = (told mid).given; held = h0 }) (record { left = l2; given = g2; held = h1 }) has_ended
-      ⊎ Stopped (WritesUpToBadWord work devices tally) BeginsText parts.rest (record { left = (told mid).left; given = (told mid).given; held = h0 }) (record { left = l2; given = g2; held = h1 })
-      → WroteBehind work (record { left = (told old).left; given = (told old).given; held = h0 }) (record { left = l2; given = g2; held = h1 }) has_ended tally
-  behind_mark told old mid l2 g2 h0 h1 ended_before has_ended parts before marked says (inl ended) =
-      behind _ devices told old mid (WritesAll work devices tally) l2 g2 h0 h1 ended_before parts before marked says ended.through (λ holds. inl (holds, ended.ended, ended.at_end))
-  behind_mark told old mid l2 g2 h0 h1 ended_before has_ended parts before marked says (inr stopped) =
-      behind _ devices told old mid (WritesUpToBadWord work devices tally) l2 g2 h0 h1 ended_before parts before marked says stopped.through (λ holds. inr (holds, stopped_in_time told old mid ended_before parts before marked stopped.through.read stopped.in_time))
-
-  pub behind_all : {R : Type 0} (told : R → front.Told) (old new : R) (e0 e1 : Option (List ℕ)) (n0 n1 : ℕ) (h0 h1 : Option (List ℕ)) (has_ended empty_ended : Bool) (parts : Parts)
-      → ReadFront told old new has_ended parts → parts.marked ≡ false → Says parts.profile (Ok devices)
-      → e0 ≡ Some []
-      → Ended (WritesAll work devices tally) [] (record { left = e0; given = n0; held = h0 }) (record { left = e1; given = n1; held = h1 }) empty_ended
-      ⊎ Stopped (WritesUpToBadWord work devices tally) BeginsText [] (record { left = e0; given = n0; held = h0 }) (record { left = e1; given = n1; held = h1 })
-      → WroteBehind work (record { left = (told old).left; given = (told old).given; held = h0 }) (record { left = (told new).left; given = (told new).given; held = h1 }) has_ended tally
-  behind_all told old new e0 e1 n0 n1 h0 h1 has_ended empty_ended parts before unmarked says empty (inl ended) =
-      all_profile _ devices told old new (WritesAll work devices tally) e0 e1 n0 n1 h0 h1 has_ended parts before unmarked says empty ended.through (λ ends holds. inl (holds, ends.ended, ends.at_end))
-  behind_all told old new e0 e1 n0 n1 h0 h1 has_ended empty_ended parts before unmarked says empty (inr stopped) =
-      all_profile _ devices told old new (WritesUpToBadWord work devices tally) e0 e1 n0 n1 h0 h1 has_ended parts before unmarked says empty stopped.through (λ ends holds. inr (
+  pub behind_mark : {R : Type 0} (told : R → ReaderTold) (old mid new : R) (h0 h1 : Option (List ℕ)) (ended_before has_ended : Bool) (parts : Parts)
+      → ReadFront told old mid ended_before parts → parts.marked ≡ true → Says parts.profile (Ok devices) → Wrote told work devices tally parts.rest mid new h0 h1 has_ended
+      → WroteBehind told work old new h0 h1 has_ended tally
+  behind_mark told old mid new h0 h1 ended_before has_ended parts before marked says (inl ended) =
+      behind _ devices told old mid (WritesAll work devices tally) (told new).left (told new).given h0 h1 ended_before parts before marked says ended.through (λ holds. inl (holds, ended.ended, ended.at_end))
+  behind_mark told old mid new h0 h1 ended_before has_ended parts before marked says (inr stopped) =
+      behind _ devices told old mid (WritesUpToBadWord work devices tally) (told new).left (told new).given h0 h1 ended_before parts before marked says stopped.through
+      (λ holds. inr (
         holds,
-        elim before.reads.in_time [
-          | inl nothing ↦ inl nothing
-          | inr time ↦ inr (time.before, time.piece, time.whole, time.small, inl time.undecided)
-        ],
+        stopped_in_time told old mid new ended_before parts before marked stopped.through.read (record { consumed = stopped.through.consumed; given = stopped.through.given }) stopped.in_time,
       ))
+
+  -- of what has nothing, nothing more was read
+  pub behind_all : {R S : Type 0} (told : R → ReaderTold) (old new : R) (told_empty : S → ReaderTold) (empty empty_new : S) (h0 h1 : Option (List ℕ)) (has_ended empty_ended : Bool) (parts : Parts)
+      → ReadFront told old new has_ended parts → parts.marked ≡ false → Says parts.profile (Ok devices) → (told_empty empty).left ≡ Some []
+      → Wrote told_empty work devices tally [] empty empty_new h0 h1 empty_ended → WroteBehind told work old new h0 h1 has_ended tally
+  behind_all told old new told_empty empty empty_new h0 h1 has_ended empty_ended parts before unmarked says none (inl ended) =
+      all_profile _ devices told old new (WritesAll work devices tally) (told_empty empty).left (told_empty empty_new).left (told_empty empty).given (told_empty empty_new).given h0 h1 has_ended parts before unmarked says none ended.through
+      (λ ends holds. inl (holds, ends.ended, ends.at_end))
+  behind_all told old new told_empty empty empty_new h0 h1 has_ended empty_ended parts before unmarked says none (inr stopped) =
+      all_profile _ devices told old new (WritesUpToBadWord work devices tally) (told_empty empty).left (told_empty empty_new).left (told_empty empty).given (told_empty empty_new).given h0 h1 has_ended parts before unmarked says none stopped.through
+      (λ ends holds. inr (holds, open_weaker told Undecided OpenBehind [] old new before.read (λ bytes undecided. inl undecided) before.reads.in_time))
 
 -- ---- where a read failed, or there were too many
 
 -- within the profile
-pub part_of_profile : {R : Type 0} (Holds : List DeviceParts → List ℕ → List ℕ → Type 0) (told : R → front.Told) (old new : R) (held : Option (List ℕ)) → ReadUndecided told old new
+pub part_of_profile : {R : Type 0} (Holds : List DeviceParts → List ℕ → List ℕ → Type 0) (told : R → ReaderTold) (old new : R) (held : Option (List ℕ)) → ReadUndecided told old new
     → PartBehind Holds (record { left = (told old).left; given = (told old).given; held = held }) (record { left = (told new).left; given = (told new).given; held = held })
 part_of_profile Holds told old new held before = inl (record {
   read = before.read;
@@ -140,7 +149,7 @@ part_of_profile Holds told old new held before = inl (record {
 })
 
 -- behind it
-pub part_behind : {R : Type 0} (Holds : List DeviceParts → List ℕ → List ℕ → Type 0) (told : R → front.Told) (old mid : R) (l2 : Option (List ℕ)) (g2 : ℕ) (h0 h1 : Option (List ℕ)) (ended_before : Bool) (parts : Parts) (devices : List DeviceParts)
+pub part_behind : {R : Type 0} (Holds : List DeviceParts → List ℕ → List ℕ → Type 0) (told : R → ReaderTold) (old mid : R) (l2 : Option (List ℕ)) (g2 : ℕ) (h0 h1 : Option (List ℕ)) (ended_before : Bool) (parts : Parts) (devices : List DeviceParts)
     → (before : ReadFront told old mid ended_before parts) → parts.marked ≡ true → Says parts.profile (Ok devices)
     → Through (Holds devices) parts.rest (record { left = (told mid).left; given = (told mid).given; held = h0 }) (record { left = l2; given = g2; held = h1 })
     → PartBehind Holds (record { left = (told old).left; given = (told old).given; held = h0 }) (record { left = l2; given = g2; held = h1 })

@@ -3,11 +3,10 @@ use Rattle.std.specs.Prelude.{◌≡◌, ◌≤◌, ◌⊎◌, ℕ, Bool, Ok, Er
 use Rattle.std.specs.Io.KnownBytes.{Appends, Consumes}
 use Rattle.pmb_command.specs.Parts.{DeviceParts}
 use Rattle.pmb_io.specs.Count.{raised}
-use Rattle.pmb_io.specs.Runs.{Told}
+use Rattle.pmb_io.specs.Runs.{ReaderTold, Told}
 use Rattle.pmb_table.specs.Profile.{Says}
 use Rattle.pmb_table.specs.declared.fault.ProfileFault.{ProfileFault}
 use Rattle.pmb_front.specs.Front.{FirstMark, IsFront, Parts, ReadFront, ReadTooMuch, Undecided, most_profile}
-use Rattle.pmb_front.specs.Front as front
 
 -- This holds of the sample profile, as it is read.
 pub record UnderSample (Holds : List DeviceParts → Type 0) (sample : List ℕ) : Type 0 where
@@ -32,14 +31,14 @@ pub record Behind (Holds : List DeviceParts → List ℕ → List ℕ → List �
   pub holds : Holds devices matter text read
 
 -- What was read is the front of an input, and what stands there as a profile has this fault.
-pub record HasFault {R : Type 0} (told : R → front.Told) (old new : R) (has_ended : Bool) : Type 0 where
+pub record HasFault {R : Type 0} (told : R → ReaderTold) (old new : R) (has_ended : Bool) : Type 0 where
   pub parts : Parts
   pub fault : ProfileFault
   pub reads : ReadFront told old new has_ended parts
   pub says : Says parts.profile (Err fault)
 
 -- the profile is too long, or has a fault
-abbrev pub HasBadProfile : {R : Type 0} → (R → front.Told) → R → R → Bool → Type 0
+abbrev pub HasBadProfile : {R : Type 0} → (R → ReaderTold) → R → R → Bool → Type 0
 HasBadProfile told old new has_ended = ReadTooMuch told old new has_ended ⊎ HasFault told old new has_ended
 
 -- ---- where a read failed, or there were too many

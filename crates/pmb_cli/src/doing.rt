@@ -36,10 +36,9 @@ pub(crate) fn run_task<R: Source, W: Sink, E: Sink>(
     ensures unwritten { (result ≡ 2) ⊎ (result ≡ 4) → out.new ≡ out.old }
     ensures bad_format { NamesNone (asking_of task.entry) → result ≡ 2 }
     ensures bad_format_unread { NamesNone (asking_of task.entry) → reader.new ≡ reader.old }
-    ensures wrote { result ≤ 1 → (tally : TallyOf) × (result ≡ run_status (Ok tally)) × WroteTask SAMPLE.now (asking_of task.entry)
-        (record { left = R.remaining reader.old; given = R.given reader.old; held = W.contents out.old })
-        (record { left = R.remaining reader.new; given = R.given reader.new; held = W.contents out.new })
-        (R.has_ended reader.new) tally }
+    ensures wrote { result ≤ 1 → (tally : TallyOf) × (result ≡ run_status (Ok tally)) × WroteTask
+        (λ reader. record { left = R.remaining reader; given = R.given reader; reads = R.reads reader })
+        SAMPLE.now (asking_of task.entry) reader.old reader.new (W.contents out.old) (W.contents out.new) (R.has_ended reader.new) tally }
     ensures part { result ≡ 3 → (W.failures out.new ≡ raised (W.failures out.old) 1) ⊎ WroteTaskPart SAMPLE.now (asking_of task.entry)
         (record { left = R.remaining reader.old; given = R.given reader.old; held = W.contents out.old })
         (record { left = R.remaining reader.new; given = R.given reader.new; held = W.contents out.new }) }
@@ -79,10 +78,9 @@ fn run_traffic<R: Source, W: Sink, E: Sink>(
     ensures err_told { 2 ≤ result → IsTold (E.contents err.old) (E.contents err.new) (E.failures err.old) (E.failures err.new) }
     ensures quiet { result ≤ 1 → err.new ≡ err.old }
     ensures unwritten { (result ≡ 2) ⊎ (result ≡ 4) → out.new ≡ out.old }
-    ensures wrote { result ≤ 1 → (tally : TallyOf) × (result ≡ run_status (Ok tally)) × WroteTask SAMPLE.now (Traffic work sample)
-        (record { left = R.remaining reader.old; given = R.given reader.old; held = W.contents out.old })
-        (record { left = R.remaining reader.new; given = R.given reader.new; held = W.contents out.new })
-        (R.has_ended reader.new) tally }
+    ensures wrote { result ≤ 1 → (tally : TallyOf) × (result ≡ run_status (Ok tally)) × WroteTask
+        (λ reader. record { left = R.remaining reader; given = R.given reader; reads = R.reads reader })
+        SAMPLE.now (Traffic work sample) reader.old reader.new (W.contents out.old) (W.contents out.new) (R.has_ended reader.new) tally }
     ensures part { result ≡ 3 → (W.failures out.new ≡ raised (W.failures out.old) 1) ⊎ WroteTaskPart SAMPLE.now (Traffic work sample)
         (record { left = R.remaining reader.old; given = R.given reader.old; held = W.contents out.old })
         (record { left = R.remaining reader.new; given = R.given reader.new; held = W.contents out.new }) }

@@ -69,10 +69,9 @@ pub fn tool<S: AsStr, R: Source, W: Sink, E: Sink>(
     // the sample profile or under the one in front of them, or the answers to the lines that are encoded or decoded. The status
     // is 1 exactly where the tally has refusals.
     ensures wrote { (asking : Asking) → AskFor (map S.text words.now) asking → result ≤ 1
-        → (tally : TallyOf) × (result ≡ run_status (Ok tally)) × WroteTask SAMPLE.now asking
-        (record { left = R.remaining reader.old; given = R.given reader.old; held = W.contents out.old })
-        (record { left = R.remaining reader.new; given = R.given reader.new; held = W.contents out.new })
-        (R.has_ended reader.new) tally }
+        → (tally : TallyOf) × (result ≡ run_status (Ok tally)) × WroteTask
+        (λ reader. record { left = R.remaining reader; given = R.given reader; reads = R.reads reader })
+        SAMPLE.now asking reader.old reader.new (W.contents out.old) (W.contents out.new) (R.has_ended reader.new) tally }
 
     // Where a read failed or there were too many, it is so much of that.
     ensures part { (asking : Asking) → AskFor (map S.text words.now) asking → result ≡ 3

@@ -31,10 +31,9 @@ fn run<R: Source, W: Sink>(
     reader: &mut R,
     out: &mut W,
 ) -> Result<Tally, ToolFault>
-    ensures ok { IfOk result (λ tally. Wrote work profile.now tally first.now
-        (record { left = R.remaining reader.old; given = R.given reader.old; held = W.contents out.old })
-        (record { left = R.remaining reader.new; given = R.given reader.new; held = W.contents out.new })
-        (R.has_ended reader.new)) }
+    ensures ok { IfOk result (λ tally. Wrote
+        (λ reader. record { left = R.remaining reader; given = R.given reader; reads = R.reads reader })
+        work profile.now tally first.now reader.old reader.new (W.contents out.old) (W.contents out.new) (R.has_ended reader.new)) }
     ensures read { result ≡ Err ToolFault.Read → R.failures reader.new ≡ raised (R.failures reader.old) 1 }
     ensures no_read { result ≢ Err ToolFault.Read → R.failures reader.new ≡ R.failures reader.old }
     ensures write { result ≡ Err ToolFault.Write → W.failures out.new ≡ raised (W.failures out.old) 1 }
@@ -70,10 +69,9 @@ pub(crate) fn run_sample<R: Source, W: Sink, E: Sink>(
 ) -> u8
     ensures within { result ≤ 4 }
     ensures no_fault { result ≢ 2 }
-    ensures wrote { result ≤ 1 → (tally : TallyOf) × (result ≡ run_status (Ok tally)) × WroteSample SAMPLE.now work
-        (record { left = R.remaining reader.old; given = R.given reader.old; held = W.contents out.old })
-        (record { left = R.remaining reader.new; given = R.given reader.new; held = W.contents out.new })
-        (R.has_ended reader.new) tally }
+    ensures wrote { result ≤ 1 → (tally : TallyOf) × (result ≡ run_status (Ok tally)) × WroteSample
+        (λ reader. record { left = R.remaining reader; given = R.given reader; reads = R.reads reader })
+        SAMPLE.now work reader.old reader.new (W.contents out.old) (W.contents out.new) (R.has_ended reader.new) tally }
     ensures part { result ≡ 3 → (W.failures out.new ≡ raised (W.failures out.old) 1) ⊎ WroteSamplePart SAMPLE.now work
         (record { left = R.remaining reader.old; given = R.given reader.old; held = W.contents out.old })
         (record { left = R.remaining reader.new; given = R.given reader.new; held = W.contents out.new }) }
@@ -103,10 +101,9 @@ pub(crate) fn run_behind<R: Source, W: Sink, E: Sink>(
     ensures told { result ≡ 2 → HasBadProfile
         (λ reader. record { left = R.remaining reader; given = R.given reader; reads = R.reads reader })
         reader.old reader.new (R.has_ended reader.new) }
-    ensures wrote { result ≤ 1 → (tally : TallyOf) × (result ≡ run_status (Ok tally)) × WroteBehind work
-        (record { left = R.remaining reader.old; given = R.given reader.old; held = W.contents out.old })
-        (record { left = R.remaining reader.new; given = R.given reader.new; held = W.contents out.new })
-        (R.has_ended reader.new) tally }
+    ensures wrote { result ≤ 1 → (tally : TallyOf) × (result ≡ run_status (Ok tally)) × WroteBehind
+        (λ reader. record { left = R.remaining reader; given = R.given reader; reads = R.reads reader })
+        work reader.old reader.new (W.contents out.old) (W.contents out.new) (R.has_ended reader.new) tally }
     ensures part { result ≡ 3 → (W.failures out.new ≡ raised (W.failures out.old) 1) ⊎ WrotePart work
         (record { left = R.remaining reader.old; given = R.given reader.old; held = W.contents out.old })
         (record { left = R.remaining reader.new; given = R.given reader.new; held = W.contents out.new }) }

@@ -1,58 +1,46 @@
 -- A run of `front` over a reader, piece by piece.
-use Rattle.std.proofs.Common.{◌≡◌, ◌≢◌, ◌↔◌, IsTrue, ℕ, ◌+◌, ◌<◌, ◌≤◌, min, Bool, true, false, Result, Ok, Err, IfOk, OnErr, ◌⊎◌, List, [], ◌++◌, length, take, drop, inl, inr, refl, sym, ap, ◌∙◌, subst, arith}
+use Rattle.std.proofs.Common.{◌≡◌, ◌≢◌, ◌↔◌, IsTrue, ℕ, ◌+◌, ◌<◌, ◌≤◌, min, Bool, true, false, Result, Ok, Err, IfOk, OnErr, List, [], ◌++◌, length, take, drop, inl, inr, refl, sym, ap, ◌∙◌, subst, arith}
 use Rattle.std.specs.Prelude.{if◌then◌else◌}
 use Rattle.std.specs.Result.{is_ok, is_err}
 use Rattle.std.specs.declared.alloc.AllocError.{AllocError}
 use Rattle.std.specs.Io.KnownBytes.{Consumes, IsAtEnd, Keeps}
-use Rattle.std.proofs.lemmas.List.{append-nil, length-append, length-take-le}
+use Rattle.std.proofs.lemmas.List.{length-take-le}
 use Rattle.pmb_io.specs.Count.{raised}
-use Rattle.pmb_io.specs.Runs.{most_piece}
+use Rattle.pmb_io.specs.Runs.{Gave, OpenBefore, ReaderTold, most_piece}
 use Rattle.pmb_io.specs.declared.fault.ToolFault.{ToolFault}
 use Rattle.pmb_io.specs.declared.fault.ToolFault.TheVariants.{ProfileTooLong}
-use Rattle.pmb_io.proofs.Running.{bytes_more, one_read_more, raised_by_none, raised_twice}
-use Rattle.pmb_io.proofs.Writing.{consumes_then, consumes_nothing, keeps_consumes}
-use Rattle.pmb_front.specs.Front.{FirstMark, Gave, InTime, MayFit, NoMark, Parts, ReadFront, ReadTooMuch, Reads, Told, most_profile}
+use Rattle.pmb_io.proofs.Running.{bytes_more, gave_no_more, gave_nothing, gave_then, one_read_more, raised_by_none}
+use Rattle.pmb_io.proofs.Writing.{keeps_consumes}
+use Rattle.pmb_front.specs.Front.{FirstMark, MayFit, NoMark, Parts, ReadFront, ReadTooMuch, Reads, Undecided, most_profile}
 use Rattle.pmb_front.proofs.Limits.{late_cannot_fit}
 
 -- ---- what a reader gave
 
-gave_nothing : (told : Told) → Gave told told []
-gave_nothing told = record { consumed = consumes_nothing told.left; given = sym (raised_by_none told.given) }
-
-gave_then : (old mid new : Told) (read piece : List ℕ) → Gave old mid read → Gave mid new piece → Gave old new (read ++ piece)
-gave_then old mid new read piece first second = record {
-  consumed = consumes_then old.left mid.left new.left read piece first.consumed second.consumed;
-  given = second.given ∙ (ap (λ n. raised n (length piece)) first.given ∙ (raised_twice old.given (length read) (length piece) ∙ ap (raised old.given) (sym (length-append read piece))));
-}
-
-gave_no_more : (old mid new : Told) (read : List ℕ) → Gave old mid read → Gave mid new [] → Gave old new read
-gave_no_more old mid new read first second = subst (λ (t : List ℕ). Gave old new t) (append-nil read) (gave_then old mid new read [] first second)
-
 -- a read gives a piece
-pub gave_piece : (old new : Told) (count : ℕ) (buffer : List ℕ) → count ≤ length buffer → Consumes old.left new.left (take count buffer) → new.given ≡ raised old.given count
+pub gave_piece : (old new : ReaderTold) (count : ℕ) (buffer : List ℕ) → count ≤ length buffer → Consumes old.left new.left (take count buffer) → new.given ≡ raised old.given count
     → Gave old new (take count buffer)
 gave_piece old new count buffer within consumed given = record { consumed = consumed; given = bytes_more old.given new.given count buffer within given }
 
 -- or nothing
-pub gave_none : (old new : Told) (count : ℕ) (buffer : List ℕ) → count ≡ 0 → Consumes old.left new.left (take count buffer) → new.given ≡ raised old.given count → Gave old new []
+pub gave_none : (old new : ReaderTold) (count : ℕ) (buffer : List ℕ) → count ≡ 0 → Consumes old.left new.left (take count buffer) → new.given ≡ raised old.given count → Gave old new []
 gave_none old new count buffer none consumed given = record {
   consumed = subst (λ (n : ℕ). Consumes old.left new.left (take n buffer)) none consumed;
   given = given ∙ ap (raised old.given) none;
 }
 
 -- or fails
-pub gave_no_bytes : (old mid new : Told) (read : List ℕ) → Gave old mid read → Keeps mid.left new.left → new.given ≡ mid.given → Gave old new read
+pub gave_no_bytes : (old mid new : ReaderTold) (read : List ℕ) → Gave old mid read → Keeps mid.left new.left → new.given ≡ mid.given → Gave old new read
 gave_no_bytes old mid new read first kept same =
     gave_no_more old mid new read first (record { consumed = keeps_consumes mid.left new.left kept; given = same ∙ sym (raised_by_none mid.given) })
 
 -- ---- what was read
 
 -- nothing is read
-pub reads_nothing : {R : Type 0} (told : R → Told) (reader : R) → Reads told reader reader []
-reads_nothing told reader = record { gave = gave_nothing (told reader); in_time = inl refl }
+pub reads_nothing : {R : Type 0} (told : R → ReaderTold) (reader : R) → Reads told reader reader []
+reads_nothing told reader = record { gave = gave_nothing (told reader); in_time = inl (refl, refl) }
 
 -- the bytes of one read more, where nothing was decided
-pub reads_piece : {R : Type 0} (told : R → Told) (old mid new : R) (read : List ℕ) (count : ℕ) (buffer : List ℕ) → Reads told old mid read → NoMark read → MayFit read
+pub reads_piece : {R : Type 0} (told : R → ReaderTold) (old mid new : R) (read : List ℕ) (count : ℕ) (buffer : List ℕ) → Reads told old mid read → NoMark read → MayFit read
     → count ≤ length buffer → length buffer ≤ most_piece → count ≢ 0
     → Consumes (told mid).left (told new).left (take count buffer) → (told new).given ≡ raised (told mid).given count → (told new).reads ≡ raised (told mid).reads (min count 1)
     → Reads told old new (read ++ take count buffer)
@@ -64,7 +52,7 @@ reads_piece told old mid new read count buffer reads none fit within small some 
         before = read;
         piece = take count buffer;
         whole = refl;
-        undecided = record { none = none; may_fit = fit };
+        is_open = record { none = none; may_fit = fit };
         middle = mid;
         gave_before = reads.gave;
         gave_piece = gave;
@@ -74,14 +62,14 @@ reads_piece told old mid new read count buffer reads none fit within small some 
     }
 
 -- a read that gives nothing
-still_in_time : {R : Type 0} (told : R → Told) (old mid new : R) (read : List ℕ) → (read ≡ []) ⊎ InTime told old mid read → Gave (told mid) (told new) [] → (told new).reads ≡ (told mid).reads
-    → (read ≡ []) ⊎ InTime told old new read
-still_in_time told old mid new read (inl nothing) gave same = inl nothing
+still_in_time : {R : Type 0} (told : R → ReaderTold) (old mid new : R) (read : List ℕ) → OpenBefore told Undecided [] old mid read → Gave (told mid) (told new) [] → (told new).reads ≡ (told mid).reads
+    → OpenBefore told Undecided [] old new read
+still_in_time told old mid new read (inl nothing) gave same = inl (nothing.0, same ∙ nothing.1)
 still_in_time told old mid new read (inr last) gave same = inr (record {
   before = last.before;
   piece = last.piece;
   whole = last.whole;
-  undecided = last.undecided;
+  is_open = last.is_open;
   middle = last.middle;
   gave_before = last.gave_before;
   gave_piece = gave_no_more (told last.middle) (told mid) (told new) last.piece last.gave_piece gave;
@@ -89,7 +77,7 @@ still_in_time told old mid new read (inr last) gave same = inr (record {
   small = last.small;
 })
 
-pub reads_no_more : {R : Type 0} (told : R → Told) (old mid new : R) (read : List ℕ) (count : ℕ) → Reads told old mid read → Gave (told mid) (told new) []
+pub reads_no_more : {R : Type 0} (told : R → ReaderTold) (old mid new : R) (read : List ℕ) (count : ℕ) → Reads told old mid read → Gave (told mid) (told new) []
     → (told new).reads ≡ raised (told mid).reads (min count 1) → count ≡ 0 → Reads told old new read
 reads_no_more told old mid new read count reads gave counted none = record {
   gave = gave_no_more (told old) (told mid) (told new) read reads.gave gave;
@@ -118,7 +106,7 @@ same_reads most more old mid new few is room = (few.0, omega (arith, few.1), is 
 -- ---- what it comes to
 
 -- the reader ended, and all is profile
-pub all_within : {R : Type 0} (result : Result Parts ToolFault) (told : R → Told) (old new : R) (ended : Bool) (read : List ℕ) → Reads told old new read → NoMark read → ended ≡ true → IsAtEnd (told new).left
+pub all_within : {R : Type 0} (result : Result Parts ToolFault) (told : R → ReaderTold) (old new : R) (ended : Bool) (read : List ℕ) → Reads told old new read → NoMark read → ended ≡ true → IsAtEnd (told new).left
     → IfOk result (λ front. front.profile ≡ read) → IfOk result (λ front. front.rest ≡ []) → IfOk result (λ front. front.marked ≡ false) → IfOk result (λ _. length read ≤ most_profile)
     → IfOk result (ReadFront told old new ended)
 all_within (Ok front) told old new ended read reads none is_ended at_end profile rest unmarked within = record {
@@ -130,7 +118,7 @@ all_within (Ok front) told old new ended read reads none is_ended at_end profile
 all_within (Err fault) told old new ended read reads none is_ended at_end profile rest unmarked within = tt
 
 -- or is too long
-pub all_past_limit : {R : Type 0} (result : Result Parts ToolFault) (told : R → Told) (old new : R) (ended : Bool) (read : List ℕ) → Reads told old new read → NoMark read → ended ≡ true → IsAtEnd (told new).left
+pub all_past_limit : {R : Type 0} (result : Result Parts ToolFault) (told : R → ReaderTold) (old new : R) (ended : Bool) (read : List ℕ) → Reads told old new read → NoMark read → ended ≡ true → IsAtEnd (told new).left
     → OnErr result (most_profile < length read) → result ≡ Err ProfileTooLong → ReadTooMuch told old new ended
 all_past_limit (Ok front) told old new ended read reads none is_ended at_end long is = absurd (cc)
 all_past_limit (Err fault) told old new ended read reads none is_ended at_end long is = record {
@@ -140,7 +128,7 @@ all_past_limit (Err fault) told old new ended read reads none is_ended at_end lo
 }
 
 -- what `cut` leaves at `Ok`
-pub cut_within : {R : Type 0} (result : Result Parts ToolFault) (told : R → Told) (old new : R) (ended : Bool) (read : List ℕ) (start end : ℕ) → Reads told old new read
+pub cut_within : {R : Type 0} (result : Result Parts ToolFault) (told : R → ReaderTold) (old new : R) (ended : Bool) (read : List ℕ) (start end : ℕ) → Reads told old new read
     → FirstMark read (take start read) (drop end read) → start ≤ length read
     → IfOk result (λ front. front.profile ≡ take start read) → IfOk result (λ front. front.rest ≡ drop end read) → IfOk result (λ front. front.marked ≡ true) → IfOk result (λ _. start ≤ most_profile)
     → IfOk result (ReadFront told old new ended)
@@ -153,7 +141,7 @@ cut_within (Ok front) told old new ended read start end reads first inside profi
 cut_within (Err fault) told old new ended read start end reads first inside profile rest marked within = tt
 
 -- what `cut` refuses
-pub cut_past_limit : {R : Type 0} (result : Result Parts ToolFault) (told : R → Told) (old new : R) (ended : Bool) (read : List ℕ) (start end : ℕ) → Reads told old new read
+pub cut_past_limit : {R : Type 0} (result : Result Parts ToolFault) (told : R → ReaderTold) (old new : R) (ended : Bool) (read : List ℕ) (start end : ℕ) → Reads told old new read
     → FirstMark read (take start read) (drop end read) → start ≤ length read → OnErr result (most_profile < start) → result ≡ Err ProfileTooLong → ReadTooMuch told old new ended
 cut_past_limit (Ok front) told old new ended read start end reads first inside long is = absurd (cc)
 cut_past_limit (Err fault) told old new ended read start end reads first inside long is = record {

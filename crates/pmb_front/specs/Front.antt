@@ -1,8 +1,8 @@
 -- Where the profile at the front of a capture ends: at the first line `%%`.
 use Rattle.std.specs.Prelude.{◌≡◌, ℕ, ◌+◌, ◌<◌, ◌≤◌, ◌⊎◌, Bool, true, false, Option, List, [], ◌++◌, length, codes}
-use Rattle.std.specs.Io.KnownBytes.{Consumes, IsAtEnd}
+use Rattle.std.specs.Io.KnownBytes.{IsAtEnd}
 use Rattle.pmb_io.specs.Count.{raised}
-use Rattle.pmb_io.specs.Runs.{most_piece}
+use Rattle.pmb_io.specs.Runs.{Gave, OpenBefore, ReaderTold}
 
 -- how many bytes a profile may have
 abbrev pub most_profile : ℕ
@@ -77,33 +77,10 @@ pub record Undecided (text : List ℕ) : Type 0 where
 
 -- ---- what `front` read
 
--- what a reader tells: the bytes that it has left, how many it has given, and in how many reads
-pub record Told : Type 0 where
-  pub left : Option (List ℕ)
-  pub given : ℕ
-  pub reads : ℕ
-
--- these bytes were read
-pub record Gave (old new : Told) (read : List ℕ) : Type 0 where
-  pub consumed : Consumes old.left new.left read
-  pub given : new.given ≡ raised old.given (length read)
-
--- one read gave the last of the bytes, and nothing was decided before it
-pub record InTime {R : Type 0} (told : R → Told) (old new : R) (read : List ℕ) : Type 0 where
-  pub before : List ℕ
-  pub piece : List ℕ
-  pub whole : read ≡ before ++ piece
-  pub undecided : Undecided before
-  pub middle : R
-  pub gave_before : Gave (told old) (told middle) before
-  pub gave_piece : Gave (told middle) (told new) piece
-  pub one_read : (told new).reads ≡ raised (told middle).reads 1
-  pub small : length piece ≤ most_piece
-
--- these bytes were read, if any
-pub record Reads {R : Type 0} (told : R → Told) (old new : R) (read : List ℕ) : Type 0 where
+-- these bytes were read, if any, and nothing was decided before the last of them, which one read gave
+pub record Reads {R : Type 0} (told : R → ReaderTold) (old new : R) (read : List ℕ) : Type 0 where
   pub gave : Gave (told old) (told new) read
-  pub in_time : (read ≡ []) ⊎ InTime told old new read
+  pub in_time : OpenBefore told Undecided [] old new read
 
 -- the profile has ended at a line `%%`
 pub record EndsAtMark (read : List ℕ) (front : Parts) : Type 0 where
@@ -118,7 +95,7 @@ pub record EndsWithReader (read : List ℕ) (front : Parts) (left : Option (List
   pub at_end : IsAtEnd left
 
 -- `Ok`
-pub record ReadFront {R : Type 0} (told : R → Told) (old new : R) (has_ended : Bool) (front : Parts) : Type 0 where
+pub record ReadFront {R : Type 0} (told : R → ReaderTold) (old new : R) (has_ended : Bool) (front : Parts) : Type 0 where
   pub read : List ℕ
   pub reads : Reads told old new read
   pub ends : EndsAtMark read front ⊎ EndsWithReader read front (told new).left has_ended
@@ -132,18 +109,18 @@ pub record EndsPastLimit (read : List ℕ) (left : Option (List ℕ)) (has_ended
   pub at_end : IsAtEnd left
 
 -- `ProfileTooLong`
-pub record ReadTooMuch {R : Type 0} (told : R → Told) (old new : R) (has_ended : Bool) : Type 0 where
+pub record ReadTooMuch {R : Type 0} (told : R → ReaderTold) (old new : R) (has_ended : Bool) : Type 0 where
   pub read : List ℕ
   pub reads : Reads told old new read
   pub too_long : (MayFit read → ⊥) ⊎ EndsPastLimit read (told new).left has_ended
 
 -- `Memory`: nothing was decided before the last piece
-pub record ReadSome {R : Type 0} (told : R → Told) (old new : R) : Type 0 where
+pub record ReadSome {R : Type 0} (told : R → ReaderTold) (old new : R) : Type 0 where
   pub read : List ℕ
   pub reads : Reads told old new read
 
 -- `Read`: nothing was decided
-pub record ReadUndecided {R : Type 0} (told : R → Told) (old new : R) : Type 0 where
+pub record ReadUndecided {R : Type 0} (told : R → ReaderTold) (old new : R) : Type 0 where
   pub read : List ℕ
   pub gave : Gave (told old) (told new) read
   pub undecided : Undecided read

@@ -4,7 +4,7 @@ use Rattle.std.specs.Io.KnownBytes.{Consumes}
 use Rattle.pmb_io.specs.Count.{raised}
 use Rattle.pmb_io.specs.Engines.{PutsOut, WritesOut}
 use Rattle.pmb_io.specs.Outgoing.{Writes}
-use Rattle.pmb_io.specs.Runs.{Stopped, Through, Told, most_piece}
+use Rattle.pmb_io.specs.Runs.{Gave, OpenBefore, ReaderTold, Stopped, Through, Told, most_piece, with_held}
 use Rattle.pmb_io.proofs.Writing.{appends_then, consumes_then, consumes_nothing, writes_then, writes_as, writes_all}
 
 -- a count raised twice
@@ -68,23 +68,72 @@ takes_more Held Holds first piece l0 l1 l2 g0 g1 g2 h0 h1 h2 so_far consumed giv
 -- ---- what the loop has
 
 -- nothing more is wanted of `first`
-pub stops_in_first : {E : Type 0} (Stands Stops : E → List ℕ → List ℕ → Type 0) (after : E) (first : List ℕ) (left : Option (List ℕ)) (given : ℕ) (h0 h1 : Option (List ℕ))
+pub stops_in_first : {E R : Type 0} (told : R → ReaderTold) (Stands Stops : E → List ℕ → List ℕ → Type 0) (after : E) (first : List ℕ) (reader : R) (h0 h1 : Option (List ℕ))
     → WritesOut (λ more. Stops after first more) h0 h1
-    → Stopped (Stops after) (λ bytes. (middle : E) × (text : List ℕ) × Stands middle bytes text) first (record { left = left; given = given; held = h0 }) (record { left = left; given = given; held = h1 })
+    → Stopped told (Stops after) (λ bytes. (middle : E) × (text : List ℕ) × Stands middle bytes text) first reader reader h0 h1
 unfolding takes_first
-stops_in_first Stands Stops after first left given h0 h1 written = record { through = takes_first (Stops after) first left given h0 h1 written; in_time = inl refl }
+stops_in_first told Stands Stops after first reader h0 h1 written = record {
+  through = takes_first (Stops after) first (told reader).left (told reader).given h0 h1 written;
+  in_time = inl (refl, refl);
+}
 
 -- nothing more is wanted behind a piece
-pub stops_behind : {E : Type 0} (Stands Stops : E → List ℕ → List ℕ → Type 0) (before after : E) (first piece : List ℕ) (l0 l1 l2 : Option (List ℕ)) (g0 g1 g2 : ℕ) (h0 h1 h2 : Option (List ℕ))
-    → (so_far : Through (Stands before) first (record { left = l0; given = g0; held = h0 }) (record { left = l1; given = g1; held = h1 }))
-    → Consumes l1 l2 piece → g2 ≡ raised g1 (length piece) → length piece ≤ most_piece
+pub stops_behind : {E R : Type 0} (told : R → ReaderTold) (Stands Stops : E → List ℕ → List ℕ → Type 0) (before after : E) (first piece : List ℕ) (old mid new : R) (h0 h1 h2 : Option (List ℕ))
+    → (so_far : Through (Stands before) first (with_held (told old) h0) (with_held (told mid) h1))
+    → Consumes (told mid).left (told new).left piece → (told new).given ≡ raised (told mid).given (length piece) → (told new).reads ≡ raised (told mid).reads 1 → length piece ≤ most_piece
     → WritesOut (λ more. Stops after ((first ++ so_far.read) ++ piece) (so_far.text ++ more)) h1 h2
-    → Stopped (Stops after) (λ bytes. (middle : E) × (text : List ℕ) × Stands middle bytes text) first (record { left = l0; given = g0; held = h0 }) (record { left = l2; given = g2; held = h2 })
+    → Stopped told (Stops after) (λ bytes. (middle : E) × (text : List ℕ) × Stands middle bytes text) first old new h0 h2
 unfolding takes_more
-stops_behind Stands Stops before after first piece l0 l1 l2 g0 g1 g2 h0 h1 h2 so_far consumed given small written = record {
-  through = takes_more (Stands before) (Stops after) first piece l0 l1 l2 g0 g1 g2 h0 h1 h2 so_far consumed given written;
-  in_time = inr (so_far.read, piece, refl, small, (before, so_far.text, so_far.holds));
+stops_behind told Stands Stops before after first piece old mid new h0 h1 h2 so_far consumed given one_read small written = record {
+  through = takes_more (Stands before) (Stops after) first piece (told old).left (told mid).left (told new).left (told old).given (told mid).given (told new).given h0 h1 h2 so_far consumed given written;
+  in_time = inr (record {
+    before = so_far.read;
+    piece = piece;
+    whole = refl;
+    is_open = (before, so_far.text, so_far.holds);
+    middle = mid;
+    gave_before = record { consumed = so_far.consumed; given = so_far.given };
+    gave_piece = record { consumed = consumed; given = given };
+    one_read = one_read;
+    small = small;
+  });
 }
+
+-- what was open under one name is so under another
+pub open_weaker : {R : Type 0} (told : R → ReaderTold) (P Q : List ℕ → Type 0) (first : List ℕ) (old new : R) (read : List ℕ) → ((bytes : List ℕ) → P bytes → Q bytes)
+    → OpenBefore told P first old new read → OpenBefore told Q first old new read
+open_weaker told P Q first old new read weaker (inl none) = inl none
+open_weaker told P Q first old new read weaker (inr last) = inr (record {
+  before = last.before;
+  piece = last.piece;
+  whole = last.whole;
+  is_open = weaker (first ++ last.before) last.is_open;
+  middle = last.middle;
+  gave_before = last.gave_before;
+  gave_piece = last.gave_piece;
+  one_read = last.one_read;
+  small = last.small;
+})
+
+-- ---- what a reader gave
+
+pub gave_nothing : (told : ReaderTold) → Gave told told []
+gave_nothing told = record { consumed = consumes_nothing told.left; given = sym (raised_by_none told.given) }
+
+pub gave_then : (old mid new : ReaderTold) (read piece : List ℕ) → Gave old mid read → Gave mid new piece → Gave old new (read ++ piece)
+gave_then old mid new read piece first second = record {
+  consumed = consumes_then old.left mid.left new.left read piece first.consumed second.consumed;
+  given = second.given ∙ (ap (λ n. raised n (length piece)) first.given ∙ (raised_twice old.given (length read) (length piece) ∙ ap (raised old.given) (sym (length-append read piece))));
+}
+
+pub gave_no_more : (old mid new : ReaderTold) (read : List ℕ) → Gave old mid read → Gave mid new [] → Gave old new read
+gave_no_more old mid new read first second = subst (λ (t : List ℕ). Gave old new t) (append-nil read) (gave_then old mid new read [] first second)
+
+-- ---- how often
+
+-- a read that gives bytes is one
+pub one_read_given : (before after n : ℕ) → after ≡ raised before (min n 1) → n ≢ 0 → after ≡ raised before 1
+one_read_given before after n is some = is ∙ ap (raised before) (omega (arith, some))
 
 -- a read that gives bytes, counted
 pub one_read_more : (start before after count n : ℕ) → before ≡ raised start count → after ≡ raised before (min n 1) → n ≢ 0 → after ≡ raised start (count + 1)

@@ -35,15 +35,15 @@ pub fn each_piece<E: Engine, R: Source, W: Sink>(
 ) -> Result<(), ToolFault>
     requires { E.Stands engine.old engine.old [] [] }
 
-    // The reader ended, or the engine wanted no more.
+    // The reader ended, or the engine wanted no more, from its last read on.
     ensures ok { OnOk result (
         Ended (E.Ends engine.old engine.new) first.now
         (record { left = R.remaining reader.old; given = R.given reader.old; held = W.contents writer.old })
         (record { left = R.remaining reader.new; given = R.given reader.new; held = W.contents writer.new })
         (R.has_ended reader.new)
-        ⊎ Stopped (E.Stops engine.old engine.new) (λ bytes. (middle : E) × (text : List ℕ) × E.Stands engine.old middle bytes text) first.now
-        (record { left = R.remaining reader.old; given = R.given reader.old; held = W.contents writer.old })
-        (record { left = R.remaining reader.new; given = R.given reader.new; held = W.contents writer.new })) }
+        ⊎ Stopped (λ reader. record { left = R.remaining reader; given = R.given reader; reads = R.reads reader })
+        (E.Stops engine.old engine.new) (λ bytes. (middle : E) × (text : List ℕ) × E.Stands engine.old middle bytes text) first.now
+        reader.old reader.new (W.contents writer.old) (W.contents writer.new)) }
 
     // The reader failed in this call exactly where it answers `Read`, the writer where it answers `Write`.
     ensures read { result ≡ Err ToolFault.Read → R.failures reader.new ≡ raised (R.failures reader.old) 1 }

@@ -29,15 +29,15 @@ pub fn show<R: Source, W: Sink>(
     writer: &mut W,
 ) -> Result<Tally, ToolFault>
     // What was written is what is shown of `first` and the bytes read, however the reader cut them:
-    // they ended, or a word is no token.
+    // they ended, or a word is no token, and the last read gave bytes of it.
     ensures ok { IfOk result (λ tally.
         Ended (λ bytes text. ShowsAtEnd profile.now bytes text tally) first.now
         (record { left = R.remaining reader.old; given = R.given reader.old; held = W.contents writer.old })
         (record { left = R.remaining reader.new; given = R.given reader.new; held = W.contents writer.new })
         (R.has_ended reader.new)
-        ⊎ Stopped (λ bytes text. StopsAtBadWord profile.now bytes text tally) BeginsText first.now
-        (record { left = R.remaining reader.old; given = R.given reader.old; held = W.contents writer.old })
-        (record { left = R.remaining reader.new; given = R.given reader.new; held = W.contents writer.new })) }
+        ⊎ Stopped (λ reader. record { left = R.remaining reader; given = R.given reader; reads = R.reads reader })
+        (λ bytes text. StopsAtBadWord profile.now bytes text tally) BeginsText first.now
+        reader.old reader.new (W.contents writer.old) (W.contents writer.new)) }
 
     // The reader failed in this call exactly where it answers `Read`, the writer where it answers
     // `Write`.

@@ -28,15 +28,15 @@ pub(crate) fn write_capture<O: Output + Drop, R: Source, W: Sink>(
     requires { O.Stands output [] }
 
     // What was written is what is written for `first` and the bytes read, however the reader cut them:
-    // they ended, or a word is no token.
+    // they ended, or a word is no token, and the last read gave bytes of it.
     ensures ok { IfOk result (λ tally.
         Ended (λ bytes text. WritesAtEnd (O.text output) profile.now bytes text tally) first.now
         (record { left = R.remaining reader.old; given = R.given reader.old; held = W.contents writer.old })
         (record { left = R.remaining reader.new; given = R.given reader.new; held = W.contents writer.new })
         (R.has_ended reader.new)
-        ⊎ Stopped (λ bytes text. WritesUpToStop (O.text output) profile.now bytes text tally) BeginsText first.now
-        (record { left = R.remaining reader.old; given = R.given reader.old; held = W.contents writer.old })
-        (record { left = R.remaining reader.new; given = R.given reader.new; held = W.contents writer.new })) }
+        ⊎ Stopped (λ reader. record { left = R.remaining reader; given = R.given reader; reads = R.reads reader })
+        (λ bytes text. WritesUpToStop (O.text output) profile.now bytes text tally) BeginsText first.now
+        reader.old reader.new (W.contents writer.old) (W.contents writer.new)) }
 
     // The reader failed in this call exactly where it answers `Read`, the writer where it answers
     // `Write`.

@@ -11,7 +11,7 @@ use Rattle.pmb_cli.proofs.doing.run_task.Goals as goal
 pub returns-in-Traffic-clause-wrote : goal.returns-in-Traffic-clause-wrote
 returns-in-Traffic-clause-wrote g c done =
     let wrote = c.run_traffic.ensures.wrote done in
-    (wrote.0, wrote.1, subst (λ (t : Task). WroteTask SAMPLE.now (asking_of t) (record { left = g.R.Source.remaining c.args.reader.now; given = g.R.Source.given c.args.reader.now; held = g.W.Sink.contents c.args.out.now }) (record { left = g.R.Source.remaining c.run_traffic.new.reader; given = g.R.Source.given c.run_traffic.new.reader; held = g.W.Sink.contents c.run_traffic.new.out }) (g.R.Source.has_ended c.run_traffic.new.reader) wrote.0) (sym c.in-Traffic.is) wrote.2)
+    (wrote.0, wrote.1, subst (λ (t : Task). WroteTask (λ reader. record { left = g.R.Source.remaining reader; given = g.R.Source.given reader; reads = g.R.Source.reads reader }) SAMPLE.now (asking_of t) c.args.reader.now c.run_traffic.new.reader (g.W.Sink.contents c.args.out.now) (g.W.Sink.contents c.run_traffic.new.out) (g.R.Source.has_ended c.run_traffic.new.reader) wrote.0) (sym c.in-Traffic.is) wrote.2)
 
 pub returns-in-Traffic-clause-part : goal.returns-in-Traffic-clause-part
 returns-in-Traffic-clause-part g c three = elim (c.run_traffic.ensures.part three) [
@@ -35,7 +35,7 @@ returns-in-Traffic-clause-bad_format_unread g c none = absurd (subst (λ (t : Ta
 pub returns-in-Ok-clause-wrote : goal.returns-in-Ok-clause-wrote
 returns-in-Ok-clause-wrote g c done =
     let wrote = c.run_lines.ensures.wrote done in
-    (wrote.0, wrote.1, subst (λ (t : Task). WroteTask SAMPLE.now (asking_of t) (record { left = g.R.Source.remaining c.args.reader.now; given = g.R.Source.given c.args.reader.now; held = g.W.Sink.contents c.args.out.now }) (record { left = g.R.Source.remaining c.run_lines.new.reader; given = g.R.Source.given c.run_lines.new.reader; held = g.W.Sink.contents c.run_lines.new.out }) (g.R.Source.has_ended c.run_lines.new.reader) wrote.0) (sym c.in-Encode.is) (record { format = c.in-Ok.format; names = c.in-Ok.ensures; holds = wrote.2 }))
+    (wrote.0, wrote.1, subst (λ (t : Task). WroteTask (λ reader. record { left = g.R.Source.remaining reader; given = g.R.Source.given reader; reads = g.R.Source.reads reader }) SAMPLE.now (asking_of t) c.args.reader.now c.run_lines.new.reader (g.W.Sink.contents c.args.out.now) (g.W.Sink.contents c.run_lines.new.out) (g.R.Source.has_ended c.run_lines.new.reader) wrote.0) (sym c.in-Encode.is) (record { format = c.in-Ok.format; names = c.in-Ok.ensures; holds = wrote.2 }))
 
 pub returns-in-Ok-clause-part : goal.returns-in-Ok-clause-part
 returns-in-Ok-clause-part g c three = elim (c.run_lines.ensures.part three) [
@@ -57,7 +57,7 @@ returns-in-Ok-clause-bad_format_unread g c none = absurd (none_is_named c.one_fo
 pub returns-in-Ok-parse-clause-wrote : goal.returns-in-Ok-parse-clause-wrote
 returns-in-Ok-parse-clause-wrote g c done =
     let wrote = c.run_lines-in-Ok-parse.ensures.wrote done in
-    (wrote.0, wrote.1, subst (λ (t : Task). WroteTask SAMPLE.now (asking_of t) (record { left = g.R.Source.remaining c.args.reader.now; given = g.R.Source.given c.args.reader.now; held = g.W.Sink.contents c.args.out.now }) (record { left = g.R.Source.remaining c.run_lines-in-Ok-parse.new.reader; given = g.R.Source.given c.run_lines-in-Ok-parse.new.reader; held = g.W.Sink.contents c.run_lines-in-Ok-parse.new.out }) (g.R.Source.has_ended c.run_lines-in-Ok-parse.new.reader) wrote.0) (sym c.in-Decode.is) (record { format = c.in-Ok-parse.format; names = c.in-Ok-parse.ensures; holds = wrote.2 }))
+    (wrote.0, wrote.1, subst (λ (t : Task). WroteTask (λ reader. record { left = g.R.Source.remaining reader; given = g.R.Source.given reader; reads = g.R.Source.reads reader }) SAMPLE.now (asking_of t) c.args.reader.now c.run_lines-in-Ok-parse.new.reader (g.W.Sink.contents c.args.out.now) (g.W.Sink.contents c.run_lines-in-Ok-parse.new.out) (g.R.Source.has_ended c.run_lines-in-Ok-parse.new.reader) wrote.0) (sym c.in-Decode.is) (record { format = c.in-Ok-parse.format; names = c.in-Ok-parse.ensures; holds = wrote.2 }))
 
 pub returns-in-Ok-parse-clause-part : goal.returns-in-Ok-parse-clause-part
 returns-in-Ok-parse-clause-part g c three = elim (c.run_lines-in-Ok-parse.ensures.part three) [

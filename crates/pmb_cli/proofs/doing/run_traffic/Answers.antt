@@ -9,7 +9,7 @@ use Rattle.pmb_cli.proofs.doing.run_traffic.Goals as goal
 pub returns-then-sample-clause-wrote : goal.returns-then-sample-clause-wrote
 returns-then-sample-clause-wrote g c done =
     let wrote = c.run_sample.ensures.wrote done in
-    (wrote.0, wrote.1, subst (λ (b : Bool). WroteTask SAMPLE.now (Traffic c.args.work b) (record { left = g.R.Source.remaining c.args.reader.now; given = g.R.Source.given c.args.reader.now; held = g.W.Sink.contents c.args.out.now }) (record { left = g.R.Source.remaining c.run_sample.new.reader; given = g.R.Source.given c.run_sample.new.reader; held = g.W.Sink.contents c.run_sample.new.out }) (g.R.Source.has_ended c.run_sample.new.reader) wrote.0) (sym c.if-sample.true) wrote.2)
+    (wrote.0, wrote.1, subst (λ (b : Bool). WroteTask (λ reader. record { left = g.R.Source.remaining reader; given = g.R.Source.given reader; reads = g.R.Source.reads reader }) SAMPLE.now (Traffic c.args.work b) c.args.reader.now c.run_sample.new.reader (g.W.Sink.contents c.args.out.now) (g.W.Sink.contents c.run_sample.new.out) (g.R.Source.has_ended c.run_sample.new.reader) wrote.0) (sym c.if-sample.true) wrote.2)
 
 pub returns-then-sample-clause-part : goal.returns-then-sample-clause-part
 returns-then-sample-clause-part g c three = elim (c.run_sample.ensures.part three) [
@@ -25,7 +25,7 @@ returns-then-sample-clause-told g c two = absurd (c.run_sample.ensures.no_fault 
 pub returns-else-sample-clause-wrote : goal.returns-else-sample-clause-wrote
 returns-else-sample-clause-wrote g c done =
     let wrote = c.run_behind.ensures.wrote done in
-    (wrote.0, wrote.1, subst (λ (b : Bool). WroteTask SAMPLE.now (Traffic c.args.work b) (record { left = g.R.Source.remaining c.args.reader.now; given = g.R.Source.given c.args.reader.now; held = g.W.Sink.contents c.args.out.now }) (record { left = g.R.Source.remaining c.run_behind.new.reader; given = g.R.Source.given c.run_behind.new.reader; held = g.W.Sink.contents c.run_behind.new.out }) (g.R.Source.has_ended c.run_behind.new.reader) wrote.0) (sym c.if-sample.false) wrote.2)
+    (wrote.0, wrote.1, subst (λ (b : Bool). WroteTask (λ reader. record { left = g.R.Source.remaining reader; given = g.R.Source.given reader; reads = g.R.Source.reads reader }) SAMPLE.now (Traffic c.args.work b) c.args.reader.now c.run_behind.new.reader (g.W.Sink.contents c.args.out.now) (g.W.Sink.contents c.run_behind.new.out) (g.R.Source.has_ended c.run_behind.new.reader) wrote.0) (sym c.if-sample.false) wrote.2)
 
 pub returns-else-sample-clause-part : goal.returns-else-sample-clause-part
 returns-else-sample-clause-part g c three = elim (c.run_behind.ensures.part three) [

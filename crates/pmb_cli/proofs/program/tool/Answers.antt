@@ -14,8 +14,8 @@ returns-in-Ok-clause-wrote g c asking ask done =
     let same : asking_of c.in-Ok.task ≡ asking = c.one_asking.ensures.one _ (asking_of c.in-Ok.task) asking c.in-Ok.ensures.ok ask in (
       wrote.0,
       wrote.1,
-      subst (λ (out : g.row.W.Denot). WroteTask SAMPLE.now asking (record { left = g.R.Source.remaining c.args.reader.now; given = g.R.Source.given c.args.reader.now; held = g.W.Sink.contents out }) (record { left = g.R.Source.remaining c.run_task.new.reader; given = g.R.Source.given c.run_task.new.reader; held = g.W.Sink.contents c.run_task.new.out }) (g.R.Source.has_ended c.run_task.new.reader) wrote.0) c.in-Ok.ensures.ok_quiet.0
-          (subst (λ (a : Asking). WroteTask SAMPLE.now a (record { left = g.R.Source.remaining c.args.reader.now; given = g.R.Source.given c.args.reader.now; held = g.W.Sink.contents c.asked.new.out }) (record { left = g.R.Source.remaining c.run_task.new.reader; given = g.R.Source.given c.run_task.new.reader; held = g.W.Sink.contents c.run_task.new.out }) (g.R.Source.has_ended c.run_task.new.reader) wrote.0) same wrote.2),
+      subst (λ (out : g.row.W.Denot). WroteTask (λ reader. record { left = g.R.Source.remaining reader; given = g.R.Source.given reader; reads = g.R.Source.reads reader }) SAMPLE.now asking c.args.reader.now c.run_task.new.reader (g.W.Sink.contents out) (g.W.Sink.contents c.run_task.new.out) (g.R.Source.has_ended c.run_task.new.reader) wrote.0) c.in-Ok.ensures.ok_quiet.0
+          (subst (λ (a : Asking). WroteTask (λ reader. record { left = g.R.Source.remaining reader; given = g.R.Source.given reader; reads = g.R.Source.reads reader }) SAMPLE.now a c.args.reader.now c.run_task.new.reader (g.W.Sink.contents c.asked.new.out) (g.W.Sink.contents c.run_task.new.out) (g.R.Source.has_ended c.run_task.new.reader) wrote.0) same wrote.2),
     )
 
 pub returns-in-Ok-clause-part : goal.returns-in-Ok-clause-part

@@ -1,6 +1,7 @@
 use Rattle.std.proofs.Common.{◌≡◌, ◌≢◌, ◌∙◌, ◌≤◌, ℕ, List, [], Some, true, Err, Ok, inl, inr, sym, ap, subst, refl, arith}
 use Rattle.pmb_io.specs.Count.{raised}
-use Rattle.pmb_io.specs.Runs.{Through, most_reads}
+use Rattle.pmb_io.specs.declared.empty.Empty.{Empty}
+use Rattle.pmb_io.specs.Runs.{ReaderTold, Through, most_reads}
 use Rattle.pmb_keys.specs.declared.fault.FaultKind.TheVariants.{OutOfMemory}
 use Rattle.pmb_io.specs.declared.fault.ToolFault.{ToolFault}
 use Rattle.pmb_io.specs.declared.fault.ToolFault.TheVariants.{Read, Write}
@@ -11,22 +12,25 @@ use Rattle.pmb_cli.proofs.Behind.{behind_all, behind_mark, part_behind, part_of_
 use Rattle.pmb_cli.proofs.Statuses.{at_ok, ended_well, io_fault, is_read, is_too_long, no_failed_read, no_failure, not_refused, read_often_behind, two_or_more, write_or_read}
 use Rattle.pmb_cli.proofs.traffic.run_behind.Goals as goal
 
+-- what a reader that has nothing tells
+abbrev nothing_told : Empty → ReaderTold
+nothing_told empty = record { left = Some []; given = 0; reads = 0 }
+
 pub returns-in-Ok-from_toml-clause-wrote : goal.returns-in-Ok-from_toml-clause-wrote
 returns-in-Ok-from_toml-clause-wrote g c done =
     let status : run_status c.run.result ≤ 1 = subst (λ (n : ℕ). n ≤ 1) c.ended.ensures.status done in
     let well = ended_well c.run.result status in
     let devices = c.in-Ok-from_toml.profile in
-    let wrote = at_ok (λ tally. Wrote c.args.work devices tally c.rest.result.now (record { left = g.R.Source.remaining c.front.new.reader; given = g.R.Source.given c.front.new.reader; held = g.W.Sink.contents c.args.out.now }) (record { left = g.R.Source.remaining c.run.new.reader; given = g.R.Source.given c.run.new.reader; held = g.W.Sink.contents c.run.new.out }) (g.R.Source.has_ended c.run.new.reader)) c.run.result well.0 well.1 c.run.ensures.ok in
+    let wrote = at_ok (λ tally. Wrote (λ reader. record { left = g.R.Source.remaining reader; given = g.R.Source.given reader; reads = g.R.Source.reads reader }) c.args.work devices tally c.rest.result.now c.front.new.reader c.run.new.reader (g.W.Sink.contents c.args.out.now) (g.W.Sink.contents c.run.new.out) (g.R.Source.has_ended c.run.new.reader)) c.run.result well.0 well.1 c.run.ensures.ok in
     let says : Says c.profile.result.now (Ok devices) = elim c.in-Ok-from_toml.ensures.says [
       | inl memory ↦ absurd (cc)
       | inr says ↦ says
     ] in (
       well.0,
       c.ended.ensures.status ∙ ap run_status well.1,
-      behind_mark c.args.work devices well.0 (λ reader. record { left = g.R.Source.remaining reader; given = g.R.Source.given reader; reads = g.R.Source.reads reader }) c.args.reader.now c.front.new.reader _ _ _ _ _ (g.R.Source.has_ended c.run.new.reader) c.in-Ok.front c.in-Ok.ensures.ok (sym c.has_capture.ensures ∙ c.if-has_capture.true)
+      behind_mark c.args.work devices well.0 (λ reader. record { left = g.R.Source.remaining reader; given = g.R.Source.given reader; reads = g.R.Source.reads reader }) c.args.reader.now c.front.new.reader c.run.new.reader _ _ _ (g.R.Source.has_ended c.run.new.reader) c.in-Ok.front c.in-Ok.ensures.ok (sym c.has_capture.ensures ∙ c.if-has_capture.true)
           (subst (λ (text : List ℕ). Says text (Ok devices)) c.profile.ensures says)
-          (subst (λ (rest : List ℕ). Wrote c.args.work devices well.0 rest (record { left = g.R.Source.remaining c.front.new.reader; given = g.R.Source.given c.front.new.reader; held = g.W.Sink.contents c.args.out.now })
-          (record { left = g.R.Source.remaining c.run.new.reader; given = g.R.Source.given c.run.new.reader; held = g.W.Sink.contents c.run.new.out }) (g.R.Source.has_ended c.run.new.reader)) c.rest.ensures wrote),
+          (subst (λ (rest : List ℕ). Wrote (λ reader. record { left = g.R.Source.remaining reader; given = g.R.Source.given reader; reads = g.R.Source.reads reader }) c.args.work devices well.0 rest c.front.new.reader c.run.new.reader (g.W.Sink.contents c.args.out.now) (g.W.Sink.contents c.run.new.out) (g.R.Source.has_ended c.run.new.reader)) c.rest.ensures wrote),
     )
 
 -- Nothing failed in front of it, so what failed did so behind the profile.
@@ -65,7 +69,7 @@ returns-in-Ok-2-clause-wrote g c done =
     let status : run_status c.run-in-Ok-2.result ≤ 1 = subst (λ (n : ℕ). n ≤ 1) c.ended-in-Ok-2.ensures.status done in
     let well = ended_well c.run-in-Ok-2.result status in
     let devices = c.in-Ok-from_toml.profile in
-    let wrote = at_ok (λ tally. Wrote c.args.work devices tally [] (record { left = Some []; given = 0; held = g.W.Sink.contents c.args.out.now }) (record { left = Some []; given = 0; held = g.W.Sink.contents c.run-in-Ok-2.new.out }) true)
+    let wrote = at_ok (λ tally. Wrote nothing_told c.args.work devices tally [] _ c.run-in-Ok-2.new.reader (g.W.Sink.contents c.args.out.now) (g.W.Sink.contents c.run-in-Ok-2.new.out) true)
     c.run-in-Ok-2.result well.0 well.1 c.run-in-Ok-2.ensures.ok in
     let says : Says c.profile.result.now (Ok devices) = elim c.in-Ok-from_toml.ensures.says [
       | inl memory ↦ absurd (cc)
@@ -73,7 +77,7 @@ returns-in-Ok-2-clause-wrote g c done =
     ] in (
       well.0,
       c.ended-in-Ok-2.ensures.status ∙ ap run_status well.1,
-      behind_all c.args.work devices well.0 (λ reader. record { left = g.R.Source.remaining reader; given = g.R.Source.given reader; reads = g.R.Source.reads reader }) c.args.reader.now c.front.new.reader _ _ _ _ _ _ _ _ c.in-Ok.front c.in-Ok.ensures.ok (sym c.has_capture.ensures ∙ c.if-has_capture.false)
+      behind_all c.args.work devices well.0 (λ reader. record { left = g.R.Source.remaining reader; given = g.R.Source.given reader; reads = g.R.Source.reads reader }) c.args.reader.now c.front.new.reader nothing_told _ _ _ _ _ _ c.in-Ok.front c.in-Ok.ensures.ok (sym c.has_capture.ensures ∙ c.if-has_capture.false)
           (subst (λ (text : List ℕ). Says text (Ok devices)) c.profile.ensures says) refl wrote,
     )
 

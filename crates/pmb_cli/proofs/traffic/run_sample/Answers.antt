@@ -14,8 +14,7 @@ returns-in-Ok-clause-wrote g c done =
       record {
         profile = c.in-Ok.profile;
         says = c.in-Ok.ensures.ok;
-        holds = at_ok (λ tally. Wrote c.args.work c.in-Ok.profile tally [] (record { left = g.R.Source.remaining c.args.reader.now; given = g.R.Source.given c.args.reader.now; held = g.W.Sink.contents c.args.out.now })
-            (record { left = g.R.Source.remaining c.run.new.reader; given = g.R.Source.given c.run.new.reader; held = g.W.Sink.contents c.run.new.out }) (g.R.Source.has_ended c.run.new.reader)) c.run.result well.0 well.1 c.run.ensures.ok;
+        holds = at_ok (λ tally. Wrote (λ reader. record { left = g.R.Source.remaining reader; given = g.R.Source.given reader; reads = g.R.Source.reads reader }) c.args.work c.in-Ok.profile tally [] c.args.reader.now c.run.new.reader (g.W.Sink.contents c.args.out.now) (g.W.Sink.contents c.run.new.out) (g.R.Source.has_ended c.run.new.reader)) c.run.result well.0 well.1 c.run.ensures.ok;
       },
     )
 

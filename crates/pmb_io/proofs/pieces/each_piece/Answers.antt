@@ -3,7 +3,7 @@ use Rattle.std.proofs.lemmas.Bool.Decides.{nat_tests}
 use Rattle.pmb_io.specs.Engines.{Either, WritesOut}
 use Rattle.pmb_io.specs.Count.{raised}
 use Rattle.pmb_io.specs.Runs.{most_piece, most_reads}
-use Rattle.pmb_io.proofs.Running.{bytes_more, no_read_more, one_read_more, raised_by_none, reads_some, stops_behind, stops_in_first, takes_first, takes_more}
+use Rattle.pmb_io.proofs.Running.{bytes_more, no_read_more, one_read_given, one_read_more, raised_by_none, reads_some, stops_behind, stops_in_first, takes_first, takes_more}
 use Rattle.pmb_io.proofs.Writing.{told_no_end}
 use Rattle.pmb_io.proofs.pieces.each_piece.Goals as goal
 
@@ -12,7 +12,7 @@ returns-in-Stop-clause-ok g c =
     let taken = subst (λ flow. WritesOut (λ more. Either (g.E.Engine.Stands c.args.engine.now c.take_piece.new.engine c.args.first.now more) (g.E.Engine.Stops c.args.engine.now c.take_piece.new.engine c.args.first.now more) flow)
     (g.W.Sink.contents c.args.writer.now) (g.W.Sink.contents c.take_piece.new.writer)) c.in-Stop.is
     (c.in_ok-take_piece.ensures.takes c.args.engine.now [] [] c.requires) in
-    inr (stops_in_first (g.E.Engine.Stands c.args.engine.now) (g.E.Engine.Stops c.args.engine.now) c.take_piece.new.engine c.args.first.now _ _ _ _ taken)
+    inr (stops_in_first (λ reader. record { left = g.R.Source.remaining reader; given = g.R.Source.given reader; reads = g.R.Source.reads reader }) (g.E.Engine.Stands c.args.engine.now) (g.E.Engine.Stops c.args.engine.now) c.take_piece.new.engine c.args.first.now c.args.reader.now _ _ taken)
 
 pub reads-init : goal.reads-init
 reads-init g c =
@@ -37,9 +37,10 @@ returns-in-Stop-2-clause-ok g c =
     (g.E.Engine.Stops c.args.engine.now c.take_piece-in-reads.new.engine ((c.args.first.now ++ so_far.read) ++ piece) (so_far.text ++ more)) flow)
     (g.W.Sink.contents c.reads.writer) (g.W.Sink.contents c.take_piece-in-reads.new.writer)) c.in-Stop-2.is
     (c.in_ok-take_piece-2.ensures.takes c.args.engine.now (c.args.first.now ++ so_far.read) so_far.text so_far.holds) in
+    let some : c.in-Ok.count ≢ 0 = grind (arith, nat_tests, c.if-count-eq0.false) in
     let small : length piece ≤ most_piece = rw (length-take-le c.in-Ok.count c.read.new.buffer c.in-Ok.ensures.within) (omega (arith, c.in-Ok.ensures.within)) in
-    inr (stops_behind (g.E.Engine.Stands c.args.engine.now) (g.E.Engine.Stops c.args.engine.now) c.reads.engine c.take_piece-in-reads.new.engine c.args.first.now piece _ _ _ _ _ _ _ _ _ so_far
-    c.in-Ok.ensures.bytes.0 (bytes_more _ _ c.in-Ok.count c.read.new.buffer c.in-Ok.ensures.within c.in-Ok.ensures.given) small taken)
+    inr (stops_behind (λ reader. record { left = g.R.Source.remaining reader; given = g.R.Source.given reader; reads = g.R.Source.reads reader }) (g.E.Engine.Stands c.args.engine.now) (g.E.Engine.Stops c.args.engine.now) c.reads.engine c.take_piece-in-reads.new.engine c.args.first.now piece c.args.reader.now c.reads.reader c.read.new.self _ _ _ so_far
+    c.in-Ok.ensures.bytes.0 (bytes_more _ _ c.in-Ok.count c.read.new.buffer c.in-Ok.ensures.within c.in-Ok.ensures.given) (one_read_given _ _ c.in-Ok.count c.in-Ok.ensures.read some) small taken)
 
 pub reads-preserved : goal.reads-preserved
 unfolding takes_more

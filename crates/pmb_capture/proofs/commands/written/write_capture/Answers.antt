@@ -6,7 +6,7 @@ use Rattle.pmb_capture.proofs.commands.written.write_capture.Goals as goal
 pub returns-in-Ok-clause-ok : goal.returns-in-Ok-clause-ok
 returns-in-Ok-clause-ok g c =
     let began = c.new-capture.ensures in
-    whole_of g.O.Output.text g.O.Output.Stands c.new-capture.result c.each_piece.new.engine c.tally.result c.args.first.now _ _ _ (g.O.Output.text c.args.output) c.args.profile.now
+    whole_of g.O.Output.text g.O.Output.Stands (λ reader. record { left = g.R.Source.remaining reader; given = g.R.Source.given reader; reads = g.R.Source.reads reader }) c.new-capture.result c.each_piece.new.engine c.tally.result c.args.first.now c.args.reader.now c.each_piece.new.reader _ _ _ (g.O.Output.text c.args.output) c.args.profile.now
     (ap g.O.Output.text began.output) began.profile c.tally.ensures c.in-Ok.ensures.ok
 
 pub returns-clause-before : goal.returns-clause-before
