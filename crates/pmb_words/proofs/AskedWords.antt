@@ -11,7 +11,7 @@ use Rattle.clap.specs.Words.{Kinds, Row, Rule, Shape, Text, subcommand_of}
 use Rattle.clap.proofs.OnLiterals.{clap_on_literals}
 use Rattle.pmb_words.specs.Asked.{AskFor, Decode, Encode, Traffic, format_in, has_sample}
 use Rattle.pmb_words.specs.declared.work.Work.TheVariants.{Show, Check, Build}
-use Rattle.clap.specs.declared.error.kind.ErrorKind.TheVariants.{DisplayHelp, DisplayVersion}
+use Rattle.clap.specs.declared.error.kind.ErrorKind.TheVariants.{DisplayHelp, DisplayVersion, InvalidSubcommand}
 use Rattle.pmb_words.specs.Words.{AskToTell, IsFlag, help, version, faults_of, lines_app, pmb_app}
 
 -- a word without a hyphen in front
@@ -249,3 +249,8 @@ asks_for_help name = help (help_fault name)
 
 pub asks_for_version : (name : Text) → AskToTell (name ∷ codes "--version" ∷ [])
 asks_for_version name = version (version_fault name)
+
+-- Behind `help` any words may be a call for help or name no command.
+pub has_help_fault : (name : Text) (words : List Text) → faults_of (name ∷ codes "help" ∷ words) ≡ DisplayHelp ∷ InvalidSubcommand ∷ []
+unfolding clap_on_literals
+has_help_fault name words = refl

@@ -3,12 +3,14 @@
 ghost use Rattle.std.specs.Prelude.{◌≡◌, ◌∷◌, [], List, codes, false, true};
 ghost use Rattle.clap.specs.Words.{Text};
 ghost use Rattle.pmb_words.specs.Asked.{AskFor, AskForNothing, Asking, Decode, Encode, HasBadFormat, NamesNone, Traffic};
-ghost use Rattle.pmb_words.specs.Words.{AreRefused, AskToTell, IsFlag};
+ghost use Rattle.clap.specs.declared.error.kind.ErrorKind.TheVariants.{DisplayHelp, InvalidSubcommand};
+ghost use Rattle.pmb_words.specs.Words.{AreRefused, AskToTell, IsFlag, faults_of};
 ghost use Rattle.pmb_words.specs.declared.work.Work.TheVariants.{Show, Check, Build};
 
 /// The words `pmb show`, `pmb check` and `pmb build`, each with `--sample` or without it, `pmb encode
 /// FORMAT` and `pmb decode FORMAT` have no fault of `clap`'s and ask for just that, where FORMAT does
-/// not begin with `-`; `pmb --help` and `pmb --version` ask to be told about it.
+/// not begin with `-`; `pmb --help` and `pmb --version` ask to be told about it. Of `pmb help` and
+/// whatever words behind it `clap`'s definition says that they may ask for help or be refused.
 pub fn words_ask()
     ensures show_sample { (name : Text) → AskFor (name ∷ codes "show" ∷ codes "--sample" ∷ []) (Traffic Show true) }
     ensures show { (name : Text) → AskFor (name ∷ codes "show" ∷ []) (Traffic Show false) }
@@ -20,6 +22,7 @@ pub fn words_ask()
     ensures decode { (name format : Text) → (IsFlag format → ⊥) → AskFor (name ∷ codes "decode" ∷ format ∷ []) (Decode format) }
     ensures help { (name : Text) → AskToTell (name ∷ codes "--help" ∷ []) }
     ensures version { (name : Text) → AskToTell (name ∷ codes "--version" ∷ []) }
+    ensures help_words { (name : Text) (words : List Text) → faults_of (name ∷ codes "help" ∷ words) ≡ DisplayHelp ∷ InvalidSubcommand ∷ [] }
 {}
 
 /// Words ask for one thing at most: those that ask for something to be done have no fault, ask for

@@ -1,4 +1,4 @@
-use Rattle.pmb_words.proofs.AskedWords.{asks_to_check, asks_to_check_sample, asks_to_build, asks_to_build_sample, asks_to_decode, asks_to_encode, asks_to_show, asks_to_show_sample, asks_for_help, asks_for_version}
+use Rattle.pmb_words.proofs.AskedWords.{asks_to_check, asks_to_check_sample, asks_to_build, asks_to_build_sample, asks_to_decode, asks_to_encode, asks_to_show, asks_to_show_sample, asks_for_help, asks_for_version, has_help_fault}
 use Rattle.pmb_words.proofs.laws.words_ask.Goals as goal
 
 pub returns-clause-show_sample : goal.returns-clause-show_sample
@@ -30,3 +30,6 @@ returns-clause-help c = asks_for_help
 
 pub returns-clause-version : goal.returns-clause-version
 returns-clause-version c = asks_for_version
+
+pub returns-clause-help_words : goal.returns-clause-help_words
+returns-clause-help_words c = has_help_fault
