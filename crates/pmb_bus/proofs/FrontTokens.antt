@@ -1,18 +1,18 @@
 -- A token in front of a piece of text, and its separator, taken at once.
-use Rattle.std.proofs.Common.{◌≡◌, ℕ, ◌+◌, ◌-◌, ◌*◌, ◌≤◌, inl, inr, true, false, Some, List, [], ◌∷◌, ◌++◌, length, take, get_or, refl, sym, ap, subst, ◌∙◌, arith}
+use Rattle.std.proofs.Common.{◌≡◌, ℕ, ◌+◌, ◌-◌, ◌*◌, ◌≤◌, inl, inr, true, false, Option, Some, None, IfSome, List, [], ◌∷◌, ◌++◌, length, take, drop, get_or, refl, sym, ap, subst, ◌∙◌, arith}
 use Rattle.std.proofs.lemmas.List.{append_assoc, take_at, length-append}
 use Rattle.std.proofs.lemmas.Bool.{cases_eq, ne_eqb}
 use Rattle.hex.specs.Hex.{hex_digit_value}
 use Rattle.pmb_bus.specs.declared.event.Event.{Event}
-use Rattle.pmb_bus.specs.declared.event.Event.TheVariants.{Byte}
+use Rattle.pmb_bus.specs.declared.event.Event.TheVariants.{Byte, Ack}
 use Rattle.pmb_bus.specs.declared.lexer.Place.{Place}
 use Rattle.pmb_bus.specs.declared.lexer.Place.TheVariants as places
 use Rattle.pmb_bus.specs.declared.lexer.Lexer.{Lexer}
 use Rattle.pmb_bus.specs.Count.{capped}
 use Rattle.pmb_bus.specs.Event.{letter_event, byte_event, event_of}
 use Rattle.pmb_bus.specs.Text.{is_separator, ends_in_comment, open_word, EndedWordsSpell}
-use Rattle.pmb_bus.specs.Lexer.{EndsWord}
-use Rattle.pmb_bus.specs.machine.Bytes.{ends_word, starts_token, BeginsWithToken}
+use Rattle.pmb_bus.specs.Lexer.{EndsWord, FeedsAcked}
+use Rattle.pmb_bus.specs.machine.Bytes.{ends_word, starts_token, option_event, BeginsWithToken}
 use Rattle.pmb_bus.specs.machine.Standing.{IsPlace, StandsAt}
 use Rattle.pmb_bus.specs.machine.Steps.{place_behind}
 use Rattle.pmb_bus.proofs.Tokens.{letter_goes_on, digit_goes_on, letter_starts, digit_starts, digits_of}
@@ -36,6 +36,37 @@ front_digits (a ∷ b ∷ c ∷ rest) byte long token separates = record {
   separates = separates;
   counted = refl;
 }
+
+-- the same, and ACK and a separator behind it
+pub front_digits_acked : (text : List ℕ) (byte : ℕ) → 5 ≤ length text
+    → byte_event (hex_digit_value (get_or text 0 0)) (hex_digit_value (get_or text 1 0)) ≡ Some (Byte byte)
+    → is_separator (get_or text 2 0) ≡ true → get_or text 3 0 ≡ 65 → is_separator (get_or text 4 0) ≡ true
+    → BeginsWithToken text (Byte byte) 3 × BeginsWithToken (drop 3 text) Ack 2
+front_digits_acked [] byte long token separates letter separates_again = absurd (omega arith)
+front_digits_acked (a ∷ []) byte long token separates letter separates_again = absurd (omega arith)
+front_digits_acked (a ∷ b ∷ []) byte long token separates letter separates_again = absurd (omega arith)
+front_digits_acked (a ∷ b ∷ c ∷ []) byte long token separates letter separates_again = absurd (omega arith)
+front_digits_acked (a ∷ b ∷ c ∷ d ∷ []) byte long token separates letter separates_again = absurd (omega arith)
+front_digits_acked (a ∷ b ∷ c ∷ d ∷ e ∷ rest) byte long token separates letter separates_again =
+    let ack : BeginsWithToken (d ∷ e ∷ rest) Ack 2 = record {
+      word = d ∷ [];
+      separator = e;
+      rest = rest;
+      split = refl;
+      token = ap letter_event letter;
+      separates = separates_again;
+      counted = refl;
+    } in
+    (front_digits (a ∷ b ∷ c ∷ d ∷ e ∷ rest) byte (omega arith) token separates, ack)
+
+-- and what is found of the digits
+pub front_acked_found : (text : List ℕ) (found : Option ℕ) → 5 ≤ length text
+    → option_event found ≡ byte_event (hex_digit_value (get_or text 0 0)) (hex_digit_value (get_or text 1 0))
+    → is_separator (get_or text 2 0) ≡ true → get_or text 3 0 ≡ 65 → is_separator (get_or text 4 0) ≡ true
+    → IfSome found (λ byte. BeginsWithToken text (Byte byte) 3 × BeginsWithToken (drop 3 text) Ack 2)
+front_acked_found text None long token separates letter separates_again = tt
+front_acked_found text (Some byte) long token separates letter separates_again =
+    front_digits_acked text byte long (sym token) separates letter separates_again
 
 -- behind a separator is between words
 separator_behind : (b : ℕ) → is_separator b ≡ true → place_behind b ≡ places.Between
@@ -172,3 +203,17 @@ front_token_ends before after n text events piece used event stands between begi
         begins.separates split counted is
         )
     by_word (a ∷ b ∷ c ∷ more) split token counted = cc token
+
+-- A byte, ACK and a separator behind each in front of a piece: five steps are these two.
+pub front_acked_feeds : (before after : Lexer) (n : ℕ) (text : List ℕ) (events : List Event) (piece : List ℕ) (byte : ℕ)
+    → StandsAt before n text events → before.place ≡ places.Between → BeginsWithToken piece (Byte byte) 3 × BeginsWithToken (drop 3 piece) Ack 2
+    → after ≡ record { place = places.Between; used = capped (before.used + 5) } → FeedsAcked n text events piece byte after
+front_acked_feeds before after n text events piece byte stands between begins is =
+    let middle : Lexer = record { place = places.Between; used = capped (before.used + 3) } in
+    let first = front_token_ends before middle n text events piece 3 (Byte byte) stands between begins.0 refl in
+    let count : capped (before.used + 5) ≡ capped (middle.used + 2) = omega arith in record {
+      between = middle;
+      ends_byte = first;
+      ends_ack = front_token_ends middle after (n + 3) (text ++ take 3 piece) (events ++ Byte byte ∷ []) (drop 3 piece) 2 Ack first.stands refl begins.1
+          (is ∙ ap (λ (k : ℕ). record { place = places.Between; used = k }) count);
+    }

@@ -5,8 +5,9 @@
 -- some text that spells events begins so. The end of the input stands in `text` as a space, and
 -- doesn't count in n. `IsFaulted lexer fault` says that the lexer has met a fault. What both say of
 -- a lexer's own fields is in `machine`, and nothing here needs it to be understood.
-use Rattle.std.specs.Prelude.{◌≡◌, ℕ, ◌+◌, ◌-◌, ◌<◌, ◌≤◌, Option, Some, None, Result, Ok, Err, List, [], ◌∷◌, ◌++◌, length, take, codes}
+use Rattle.std.specs.Prelude.{◌≡◌, ℕ, ◌+◌, ◌-◌, ◌<◌, ◌≤◌, Option, Some, None, Result, Ok, Err, List, [], ◌∷◌, ◌++◌, length, take, drop, codes}
 use Rattle.pmb_bus.specs.declared.event.Event.{Event}
+use Rattle.pmb_bus.specs.declared.event.Event.TheVariants.{Byte, Ack}
 use Rattle.pmb_bus.specs.declared.lexer.LexFault.{LexFault}
 use Rattle.pmb_bus.specs.declared.lexer.Step.{Step}
 use Rattle.pmb_bus.specs.declared.lexer.Step.TheVariants as answers
@@ -42,6 +43,12 @@ abbrev pub Feeds : ℕ → List ℕ → List Event → List ℕ → ℕ → Step
 Feeds n text events piece used answers.Need after = NeedsMore n text events piece used after
 Feeds n text events piece used (answers.Event event) after = EndsWord n text events piece used after event
 Feeds n text events piece used (answers.Fault fault) after = Refuses n text events piece used after fault
+
+-- A byte and its ACK are in front of a piece, five bytes with a separator behind each: what two calls of `feed` answer.
+pub record FeedsAcked (n : ℕ) (text : List ℕ) (events : List Event) (piece : List ℕ) (byte : ℕ) (after : Lexer) : Type 0 where
+  pub between : Lexer
+  pub ends_byte : EndsWord n text events piece 3 between (Byte byte)
+  pub ends_ack : EndsWord (n + 3) (text ++ take 3 piece) (events ++ Byte byte ∷ []) (drop 3 piece) 2 after Ack
 
 -- what `finish` answers to a lexer that stands at a text: no word is under way, the word under way
 -- ends, or it is no token

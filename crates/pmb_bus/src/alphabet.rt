@@ -4,7 +4,7 @@
 //! are, 16 bytes a row, so that it is checked by looking at it; the proofs of `digit` and
 //! `is_separator` compute over the whole table that it is what the definitions say.
 
-ghost use Rattle.std.specs.Prelude.{◌≡◌, ℕ, ◌<◌, ◌≤◌, IfSome, None, length};
+ghost use Rattle.std.specs.Prelude.{◌≡◌, ℕ, ◌<◌, ◌≤◌, IfSome, None, drop, length};
 ghost use Rattle.pmb_bus.specs.declared.event.Event.{Event as BusEvent};
 ghost use Rattle.hex.specs.Hex.{hex_digit_value};
 ghost use Rattle.pmb_bus.specs.Event.{letter_event, byte_event};
@@ -105,7 +105,7 @@ pub(crate) struct FrontToken {
 
 /// The token in front of a text of three bytes or more, where it and a separator behind it lie in
 /// the first three.
-#[inline]
+#[inline(always)]
 pub(crate) fn front_token(bytes: &[u8]) -> Option<FrontToken>
     ensures token { IfSome result (λ token. BeginsWithToken bytes.now token.event token.used) }
     ensures missed { result ≡ None → 3 ≤ length bytes.now → (event : BusEvent) → (used : ℕ) → used ≤ 3
@@ -126,4 +126,26 @@ pub(crate) fn front_token(bytes: &[u8]) -> Option<FrontToken>
         });
     }
     None
+}
+
+/// The byte that stands with ACK behind it in front of a text, where both and a separator behind each
+/// lie in the first five.
+#[inline(always)]
+pub(crate) fn front_acked(bytes: &[u8]) -> Option<u8>
+    ensures tokens { IfSome result (λ byte. BeginsWithToken bytes.now (BusEvent.Byte byte) 3 × BeginsWithToken (drop 3 bytes.now) BusEvent.Ack 2) }
+    ensures within { IfSome result (λ byte. 5 ≤ length bytes.now) }
+{
+    let [first, second, behind, ack, last, ..] = bytes else {
+        return None;
+    };
+    if *ack != b'A' {
+        return None;
+    }
+    if !is_separator(*behind) {
+        return None;
+    }
+    if !is_separator(*last) {
+        return None;
+    }
+    digits(*first, *second)
 }

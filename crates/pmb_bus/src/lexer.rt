@@ -8,16 +8,16 @@
 //! Most of a capture is tokens with one separator each. Between words `feed` takes such a token at
 //! once, where it and its separator lie in the next three bytes. All else goes byte by byte.
 
-ghost use Rattle.std.specs.Prelude.{◌≡◌, ◌+◌, ◌<◌, ◌≤◌, ℕ, length, true, false, List, [], Err};
+ghost use Rattle.std.specs.Prelude.{◌≡◌, ◌+◌, ◌<◌, ◌≤◌, ℕ, IfSome, None, length, true, false, List, [], Err};
 ghost use Rattle.pmb_bus.specs.declared.event.Event.{Event as BusEvent};
 ghost use Rattle.pmb_bus.specs.Count.{capped};
 ghost use Rattle.pmb_bus.specs.Text.{ends_in_comment};
-ghost use Rattle.pmb_bus.specs.Lexer.{StandsAt, IsFaulted, Feeds, Finishes};
+ghost use Rattle.pmb_bus.specs.Lexer.{StandsAt, IsFaulted, Feeds, FeedsAcked, Finishes};
 ghost use Rattle.pmb_bus.specs.machine.Bytes.{ends_word};
 ghost use Rattle.pmb_bus.specs.machine.Standing.{IsPlace};
 ghost use Rattle.pmb_bus.specs.machine.Steps.{Steps, OpenWordComesTo, Lengthens, place_behind};
 
-use crate::alphabet::{digits, ends_word, front_token, letter, starts_token};
+use crate::alphabet::{digits, ends_word, front_acked, front_token, letter, starts_token};
 use crate::event::Event;
 
 /// A word that is no token.
@@ -147,7 +147,7 @@ impl Lexer {
     ///
     /// A piece is used up to the end of its first word, or whole: the bytes behind `used` are to be
     /// given again. After a fault every call answers that fault and uses nothing.
-    #[inline]
+    #[inline(always)]
     pub fn feed(&mut self, bytes: &[u8]) -> Lexed
         ensures stands { (n : ℕ) (text : List ℕ) (events : List BusEvent) → StandsAt self.old n text events
             → Feeds n text events bytes.now result.used result.step self.new }
@@ -167,6 +167,26 @@ impl Lexer {
             }
         }
         self.feed_bytes(bytes)
+    }
+
+    /// Takes a byte and its ACK that stand in front of a piece with a separator behind each, where no
+    /// word is under way, and answers the byte: what two calls of [`feed`](Lexer::feed) do. Five bytes
+    /// of the piece are used then. Else nothing changes.
+    ///
+    /// Most words of a capture are such bytes.
+    #[inline(always)]
+    pub fn feed_acked(&mut self, bytes: &[u8]) -> Option<u8>
+        ensures feeds { (n : ℕ) (text : List ℕ) (events : List BusEvent) → StandsAt self.old n text events
+            → IfSome result (λ byte. FeedsAcked n text events bytes.now byte self.new) }
+        ensures within { IfSome result (λ byte. 5 ≤ length bytes.now) }
+        ensures same { result ≡ None → self.new ≡ self.old }
+    {
+        let Place::Between = self.place else {
+            return None;
+        };
+        let byte = front_acked(bytes)?;
+        self.used = self.used.saturating_add(5);
+        Some(byte)
     }
 
     // Takes the next piece of the text, one byte after the other.

@@ -1,9 +1,10 @@
 -- A piece of a text that is taken event by event.
-use Rattle.std.proofs.Common.{◌≡◌, ℕ, ◌+◌, ◌≤◌, Option, List, [], ◌∷◌, ◌++◌, length, take, drop, sym, ◌∙◌, ap, subst, refl, append_assoc, append-nil, length-append, length-take-le, take-append-drop, arith}
+use Rattle.std.proofs.Common.{◌≡◌, ℕ, ◌+◌, ◌≤◌, Option, List, [], ◌∷◌, ◌++◌, length, take, drop, sym, ◌∙◌, ap, subst, refl, append_assoc, append-nil, length-append, length-take-le, take-append-drop, drop-drop, arith}
 use Rattle.pmb_bus.specs.declared.event.Event.{Event}
+use Rattle.pmb_bus.specs.declared.event.Event.TheVariants.{Byte, Ack}
 use Rattle.pmb_bus.specs.declared.lexer.Lexer.{Lexer}
 use Rattle.pmb_bus.specs.declared.lexer.LexFault.{LexFault}
-use Rattle.pmb_bus.specs.Lexer.{StandsAt as LexerStandsAt, NeedsMore, EndsWord, Refuses, IsFaultOf}
+use Rattle.pmb_bus.specs.Lexer.{StandsAt as LexerStandsAt, NeedsMore, EndsWord, FeedsAcked, Refuses, IsFaultOf}
 use Rattle.pmb_command.specs.Parts.{DeviceParts}
 use Rattle.pmb_io.specs.Outgoing.{Writes as PutsText}
 use Rattle.pmb_io.specs.Tally.{with_refusal}
@@ -72,6 +73,35 @@ module _ {O : Type 0} (TextOf : O → OutputText) (StandsBehind : O → List Tra
         };
         puts = writes_as _ _ _ _ _ _ _ refl (sym (texts_then output outcomes took.more taken.more)) (writes_then _ _ _ _ _ _ _ _ took.puts taken.puts);
       }
+
+  -- the word that ends in what is left of a piece, counted by the text in front
+  word_as : (n : ℕ) (a b : List ℕ) (events : List Event) (piece : List ℕ) (used : ℕ) (lexer : Lexer) (event : Event) → a ≡ b → n ≡ length a
+      → EndsWord n a events piece used lexer event → EndsWord (length b) b events piece used lexer event
+  word_as n a b events piece used lexer event e counted word =
+      subst (λ (t : List ℕ). EndsWord (length t) t events piece used lexer event) e (subst (λ (k : ℕ). EndsWord k a events piece used lexer event) counted word)
+
+  -- a byte of it and the ACK behind it are taken
+  pub took_acked : (before middle after : Capture O) (lexer : Lexer) (bytes : List ℕ) (outcomes : List Outcome) (piece rest left : List ℕ) (byte : ℕ) (h0 h1 h2 h3 : Option (List ℕ)) (w0 w1 w2 w3 : List ℕ)
+      → (took : TookUpTo bytes outcomes piece rest h0 w0 h1 w1 before)
+      → FeedsAcked (length (bytes ++ took.used)) (bytes ++ took.used) took.stands.events rest byte lexer
+      → TakesEvent TextOf StandsBehind output profile took.stands.events (outcomes ++ took.more) (Byte byte) h1 w1 h2 w2 middle
+      → ((events : List Event) (others : List Outcome) → Reads TextOf StandsBehind output profile middle events others → TakesEvent TextOf StandsBehind output profile events others Ack h2 w2 h3 w3 after)
+      → after.lexer ≡ lexer → left ≡ drop 5 rest
+      → TookUpTo bytes outcomes piece left h0 w0 h3 w3 after
+  unfolding took_event
+  took_acked before middle after lexer bytes outcomes piece rest left byte h0 h1 h2 h3 w0 w1 w2 w3 took fed taken takes_ack same_lexer left_is =
+      let text = bytes ++ took.used in
+      let between : Capture O = record middle { lexer = fed.between } in
+      let byte_taken : TakesEvent TextOf StandsBehind output profile took.stands.events (outcomes ++ took.more) (Byte byte) h1 w1 h2 w2 between = record {
+        more = taken.more;
+        reads = reads_same TextOf StandsBehind output profile middle between _ _ refl refl refl taken.reads;
+        puts = taken.puts;
+      } in
+      let first = took_event before between fed.between bytes outcomes piece rest (drop 3 rest) 3 (Byte byte) h0 h1 h2 w0 w1 w2 took fed.ends_byte byte_taken refl refl in
+      let reads = reads_same TextOf StandsBehind output profile between middle first.stands.events (outcomes ++ first.more) refl refl refl first.stands.reads in
+      let word = word_as (length text + 3) (text ++ take 3 rest) (bytes ++ first.used) first.stands.events (drop 3 rest) 2 lexer Ack (append_assoc bytes took.used (take 3 rest))
+      (counts_text text rest 3 fed.ends_byte.within) fed.ends_ack in
+      took_event between after lexer bytes outcomes piece (drop 3 rest) left 2 Ack h0 h2 h3 w0 w2 w3 first word (takes_ack _ _ reads) same_lexer (left_is ∙ sym (drop-drop 2 3 rest))
 
   -- all of it is taken
   pub took_all : (before after : Capture O) (bytes : List ℕ) (outcomes : List Outcome) (piece rest : List ℕ) (used : ℕ) (h0 h1 : Option (List ℕ)) (w0 w1 : List ℕ)

@@ -86,22 +86,31 @@ impl<'p, O: Output> Capture<'p, O> {
         ensures failed { WriterTells (W.failures writer.old) (W.failures writer.new) result }
     {
         let mut rest = piece;
-        loop {
-            let lexed = self.lexer.feed(rest);
-            match lexed.step {
-                Step::Need => return Ok(Flow::More),
-                Step::Event(event) => self.take_event(event, waiting, writer)?,
-                Step::Fault(fault) => {
-                    self.stop_at(fault, waiting, writer)?;
-                    return Ok(Flow::Stop);
+        'words: loop {
+            match self.lexer.feed_acked(rest) {
+                Some(byte) => {
+                    self.take_event(Event::Byte(byte), waiting, writer)?;
+                    self.take_event(Event::Ack, waiting, writer)?;
+                    rest = &rest[5..];
+                }
+                None => {
+                    let lexed = self.lexer.feed(rest);
+                    match lexed.step {
+                        Step::Need => return Ok(Flow::More),
+                        Step::Event(event) => self.take_event(event, waiting, writer)?,
+                        Step::Fault(fault) => {
+                            self.stop_at(fault, waiting, writer)?;
+                            return Ok(Flow::Stop);
+                        }
+                    }
+                    rest = &rest[lexed.used..];
                 }
             }
-            rest = &rest[lexed.used..];
         }
     }
 
     /// Takes an event, and puts out the text of what it completes.
-    #[inline]
+    #[inline(always)]
     fn take_event<W: Sink>(
         &mut self,
         event: Event,

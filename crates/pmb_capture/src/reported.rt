@@ -15,7 +15,7 @@ use pmb_bus::Event;
 use pmb_reader::{Reader, Refusal, Took};
 
 /// Hands an event to a reader, and after a refusal has it pass over events, the refused one first.
-#[inline]
+#[inline(always)]
 pub(crate) fn report(reader: &mut Reader, event: Event) -> Took
     ensures { (profile : List DeviceParts) (standing : Standing) → StandsAt profile reader.old standing → IsReading standing
         → (after : Standing) × StandsAt profile reader.new after × Leads profile standing event (outcomes_of (last_read reader.new) result) after }

@@ -95,7 +95,7 @@ impl Answer {
     }
 
     /// Whether the bytes so far and one more begin an answer.
-    #[inline]
+    #[inline(always)]
     pub fn begins(&self, byte: u8) -> bool
         ensures { IsTrue result ↔ BeginsAnswer (IsReply self.now.expected) (self.now.bytes ++ byte ∷ []) }
     {
@@ -103,7 +103,7 @@ impl Answer {
     }
 
     /// Takes one more byte of an answer.
-    #[inline]
+    #[inline(always)]
     pub fn take(&mut self, byte: u8)
         requires { BeginsAnswer (IsReply self.old.expected) (self.old.bytes ++ byte ∷ []) }
         ensures { self.new ≡ record self.old { bytes = self.old.bytes ++ byte ∷ [] } }
@@ -115,7 +115,7 @@ impl Answer {
 
     /// Whether an answer begins with the bytes so far and goes on, so that one more byte may come,
     /// and the last one is to be acknowledged.
-    #[inline]
+    #[inline(always)]
     pub fn goes_on(&self) -> bool
         ensures { IsTrue result ↔ IsInsideAnswer (IsReply self.now.expected) self.now.bytes }
     {

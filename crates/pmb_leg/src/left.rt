@@ -52,7 +52,7 @@ impl Left {
     }
 
     /// Whether the byte may come next, where `crc` is the packet error code so far.
-    #[inline]
+    #[inline(always)]
     pub fn takes(self, crc: u8, byte: u8) -> bool
         ensures { result ≡ takes self crc byte }
     {
@@ -64,7 +64,7 @@ impl Left {
     }
 
     /// What is left behind one byte more.
-    #[inline]
+    #[inline(always)]
     pub fn after(self, mode: PecMode, crc: u8, byte: u8) -> Left
         ensures { result ≡ after self mode crc byte }
     {
@@ -95,7 +95,7 @@ impl Left {
     }
 
     /// Whether some byte may come next.
-    #[inline]
+    #[inline(always)]
     pub fn goes_on(self) -> bool
         ensures { result ≡ goes_on self }
     {
@@ -135,7 +135,7 @@ impl Left {
 }
 
 /// Whether some byte may come next in one of two.
-#[inline]
+#[inline(always)]
 pub(crate) fn one_goes_on(write: Left, call: Left) -> bool
     ensures { result ≡ goes_on write || goes_on call }
 {
@@ -143,7 +143,7 @@ pub(crate) fn one_goes_on(write: Left, call: Left) -> bool
 }
 
 /// Whether the byte may come next in one of two, where `crc` is the packet error code so far.
-#[inline]
+#[inline(always)]
 pub(crate) fn one_takes(write: Left, call: Left, crc: u8, byte: u8) -> bool
     ensures { result ≡ takes write crc byte || takes call crc byte }
 {

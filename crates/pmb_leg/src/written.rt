@@ -158,7 +158,7 @@ impl<'p> WrittenLeg<'p> {
 
     /// Whether a byte more may come, be it taken or refused: whether nothing was taken yet, or a body
     /// that is allowed here begins with what was taken and goes on.
-    #[inline]
+    #[inline(always)]
     pub fn goes_on(&self) -> bool
         ensures inside { (parts : List PartData) → place_of parts ≡ self.now.place
             → (IsTrue result ↔ IsInsideBody self.now.device parts self.now.bytes) }
@@ -186,7 +186,7 @@ impl<'p> WrittenLeg<'p> {
 
     /// Takes a byte more where a body that is allowed here begins so, and tells whether it did. Else
     /// nothing changes.
-    #[inline]
+    #[inline(always)]
     pub fn take(&mut self, byte: u8) -> bool
         ensures begins { (parts : List PartData) → place_of parts ≡ self.old.place
             → (IsTrue result ↔ BeginsBody self.old.device parts (self.old.bytes ++ byte ∷ [])) }
@@ -201,6 +201,7 @@ impl<'p> WrittenLeg<'p> {
     }
 
     /// Takes the code, where nothing was taken yet.
+    #[inline(never)]
     fn take_code(&mut self, code: u8) -> bool
         requires { self.old.bytes ≡ [] }
         ensures begins { (parts : List PartData) → place_of parts ≡ self.old.place
@@ -222,7 +223,7 @@ impl<'p> WrittenLeg<'p> {
     }
 
     /// Takes a byte behind the code.
-    #[inline]
+    #[inline(always)]
     fn take_data(&mut self, byte: u8) -> bool
         requires { self.old.bytes ≢ [] }
         ensures begins { (parts : List PartData) → place_of parts ≡ self.old.place

@@ -66,7 +66,7 @@ impl<'p> Reader<'p> {
     /// Takes one event.
     ///
     /// While a refusal is held, every call answers it and uses nothing.
-    #[inline]
+    #[inline(always)]
     pub fn take(&mut self, event: Event) -> Took
         ensures { (profile : List DeviceParts) (standing : Standing) → StandsAt profile self.old standing
             → Takes profile standing event result self.new }
@@ -161,7 +161,7 @@ impl<'p> Reader<'p> {
     }
 
     // Takes an event of a packet.
-    #[inline]
+    #[inline(always)]
     fn read(&mut self, event: Event) -> Took
         ensures { (profile : List DeviceParts) (n : ℕ) (events : List BusEvent) → StandsAt profile self.old (Open n events)
             → Takes profile (Open n events) event result self.new }

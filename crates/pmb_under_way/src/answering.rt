@@ -108,7 +108,7 @@ impl<'p> UnderWay<'p> {
     }
 
     /// In a leg that is read, behind ACK.
-    #[inline]
+    #[inline(always)]
     pub(crate) fn in_answer(&mut self, source: Source, event: Event) -> Move
         ensures { (profile : List DeviceParts) (events : List BusEvent) → self.old.place ≡ Place.Answer source
             → StandsIn profile self.old events → Moves profile events event result self.new }
@@ -148,9 +148,9 @@ impl<'p> UnderWay<'p> {
         }
     }
 
-    // The answer goes on.
-    #[inline]
-    fn answer_on(&mut self, source: Source) -> Move
+    /// The answer goes on.
+    #[inline(always)]
+    pub(crate) fn answer_on(&mut self, source: Source) -> Move
         ensures { (profile : List DeviceParts) (events : List BusEvent) → self.old.place ≡ Place.AnswerByte source
             → StandsIn profile self.old events → Moves profile events BusEvent.Ack result self.new }
     {

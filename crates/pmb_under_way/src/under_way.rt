@@ -128,8 +128,31 @@ impl<'p> UnderWay<'p> {
     }
 
     /// Takes an event.
-    #[inline]
+    ///
+    /// Most events are bytes of a leg and their ACK, so these are tried first, without a call.
+    #[inline(always)]
     pub fn step(&mut self, event: Event) -> Move
+        ensures { (profile : List DeviceParts) (events : List BusEvent) → StandsIn profile self.old events
+            → Moves profile events event result self.new }
+    {
+        match event {
+            Event::Byte(byte) => match self.place {
+                Place::Leg => self.send_byte(byte),
+                Place::Answer(source) => self.in_answer(source, event),
+                _ => self.step_by_place(event),
+            },
+            Event::Ack => match self.place {
+                Place::LegByte(byte) => self.take_byte(byte),
+                Place::AnswerByte(source) => self.answer_on(source),
+                _ => self.step_by_place(event),
+            },
+            Event::Start | Event::Nack | Event::Stop => self.step_by_place(event),
+        }
+    }
+
+    // Takes an event, by the place.
+    #[inline(never)]
+    fn step_by_place(&mut self, event: Event) -> Move
         ensures { (profile : List DeviceParts) (events : List BusEvent) → StandsIn profile self.old events
             → Moves profile events event result self.new }
     {

@@ -148,9 +148,9 @@ impl<'p> UnderWay<'p> {
         }
     }
 
-    // A byte is sent.
-    #[inline]
-    fn send_byte(&mut self, byte: u8) -> Move
+    /// A byte is sent.
+    #[inline(always)]
+    pub(crate) fn send_byte(&mut self, byte: u8) -> Move
         ensures { (profile : List DeviceParts) (events : List BusEvent) → self.old.place ≡ Place.Leg
             → StandsIn profile self.old events → Moves profile events (BusEvent.Byte byte) result self.new }
     {
@@ -239,9 +239,9 @@ impl<'p> UnderWay<'p> {
         }
     }
 
-    // A byte is taken.
-    #[inline]
-    fn take_byte(&mut self, byte: u8) -> Move
+    /// A byte is taken.
+    #[inline(always)]
+    pub(crate) fn take_byte(&mut self, byte: u8) -> Move
         ensures { (profile : List DeviceParts) (events : List BusEvent) → self.old.place ≡ Place.LegByte byte
             → StandsIn profile self.old events → Moves profile events BusEvent.Ack result self.new }
     {

@@ -7,12 +7,12 @@ use Rattle.pmb_capture.proofs.Taking.{TookUpTo}
 use Rattle.pmb_capture.proofs.capture.Capture.take_piece.Given as goal
 
 -- what is left of the piece
-abbrev pub decreases-loop-event : goal.decreases-loop-event
-decreases-loop-event g l = length l.rest
+abbrev pub decreases-words : goal.decreases-words
+decreases-words g l = length l.rest
 
 -- the text of what was used of the piece are on their way, and no write has failed
-abbrev pub invariant-loop-event : goal.invariant-loop-event
-invariant-loop-event g l = record {
+abbrev pub invariant-words : goal.invariant-words
+invariant-words g l = record {
   failures : g.W.Sink.failures l.writer ≡ g.W.Sink.failures l.fn.writer;
   took : (output : OutputText) (profile : List DeviceParts) (bytes : List ℕ) (outcomes : List Outcome) → Stands g.O.Output.text g.O.Output.Stands output profile l.fn.self bytes outcomes
       → TookUpTo g.O.Output.text g.O.Output.Stands output profile bytes outcomes l.fn.piece l.rest (g.W.Sink.contents l.fn.writer) l.fn.waiting.items (g.W.Sink.contents l.writer) l.waiting.items l.self;
