@@ -41,6 +41,7 @@ impl<'p> UnderWay<'p> {
     }
 
     // The device that was asked answers.
+    #[inline(never)]
     fn read_device_on(&mut self) -> Move
         ensures { (profile : List DeviceParts) (events : List BusEvent) → self.old.place ≡ Place.ReadAddress Source.Device
             → StandsIn profile self.old events → Moves profile events BusEvent.Ack result self.new }
@@ -60,6 +61,7 @@ impl<'p> UnderWay<'p> {
     }
 
     // Some device answers at the Alert Response Address.
+    #[inline(never)]
     fn read_alert_on(&mut self) -> Move
         ensures { (profile : List DeviceParts) (events : List BusEvent) → self.old.place ≡ Place.ReadAddress Source.Alert
             → StandsIn profile self.old events → Moves profile events BusEvent.Ack result self.new }
@@ -166,6 +168,7 @@ impl<'p> UnderWay<'p> {
     }
 
     // The reply of a device ends.
+    #[inline(never)]
     fn end_reply(&mut self) -> Move
         ensures { (profile : List DeviceParts) (events : List BusEvent) → self.old.place ≡ Place.AnswerByte Source.Device
             → StandsIn profile self.old events → Moves profile events BusEvent.Nack result self.new }
@@ -200,6 +203,7 @@ impl<'p> UnderWay<'p> {
     }
 
     // The answer at the Alert Response Address ends.
+    #[inline(never)]
     fn end_alert(&mut self) -> Move
         ensures { (profile : List DeviceParts) (events : List BusEvent) → self.old.place ≡ Place.AnswerByte Source.Alert
             → StandsIn profile self.old events → Moves profile events BusEvent.Nack result self.new }

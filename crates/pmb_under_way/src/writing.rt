@@ -85,7 +85,7 @@ impl<'p> UnderWay<'p> {
     }
 
     // An address is taken.
-    #[inline]
+    #[inline(never)]
     fn take_address(&mut self, addr: u8) -> Move
         ensures { (profile : List DeviceParts) (events : List BusEvent) → self.old.place ≡ Place.Address addr
             → StandsIn profile self.old events → Moves profile events BusEvent.Ack result self.new }
@@ -168,6 +168,7 @@ impl<'p> UnderWay<'p> {
     }
 
     // START behind a leg.
+    #[inline(never)]
     fn end_leg(&mut self) -> Move
         ensures { (profile : List DeviceParts) (events : List BusEvent) → self.old.place ≡ Place.Leg
             → StandsIn profile self.old events → Moves profile events BusEvent.Start result self.new }
@@ -186,6 +187,7 @@ impl<'p> UnderWay<'p> {
     }
 
     // STOP behind a leg.
+    #[inline(never)]
     fn end_write(&mut self) -> Move
         ensures { (profile : List DeviceParts) (events : List BusEvent) → self.old.place ≡ Place.Leg
             → StandsIn profile self.old events → Moves profile events BusEvent.Stop result self.new }
@@ -304,6 +306,7 @@ impl<'p> UnderWay<'p> {
     }
 
     // The address byte of one more part.
+    #[inline(never)]
     fn begin_part(&mut self, addr: u8) -> Move
         requires { addr < 128 }
         ensures { (profile : List DeviceParts) (events : List BusEvent) → self.old.place ≡ Place.Restart
@@ -338,6 +341,7 @@ impl<'p> UnderWay<'p> {
     }
 
     // The address byte of the device that was asked.
+    #[inline(never)]
     fn read_device(&mut self, addr: u8) -> Move
         requires { addr < 128 }
         ensures { (profile : List DeviceParts) (events : List BusEvent) → self.old.place ≡ Place.Restart
