@@ -134,6 +134,8 @@ pub(crate) fn front_token(bytes: &[u8]) -> Option<FrontToken>
 pub(crate) fn front_acked(bytes: &[u8]) -> Option<u8>
     ensures tokens { IfSome result (λ byte. BeginsWithToken bytes.now (BusEvent.Byte byte) 3 × BeginsWithToken (drop 3 bytes.now) BusEvent.Ack 2) }
     ensures within { IfSome result (λ byte. 5 ≤ length bytes.now) }
+    ensures missed { result ≡ None → (byte : ℕ) → BeginsWithToken bytes.now (BusEvent.Byte byte) 3
+        → BeginsWithToken (drop 3 bytes.now) BusEvent.Ack 2 → ⊥ }
 {
     let [first, second, behind, ack, last, ..] = bytes else {
         return None;

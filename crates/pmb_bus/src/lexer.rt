@@ -6,7 +6,8 @@
 //! specs: a new place needs its line there, and its arm in `Place::end` and `Place::lengthened`.
 //!
 //! Most of a capture is tokens with one separator each. Between words `feed` takes such a token at
-//! once, where it and its separator lie in the next three bytes. All else goes byte by byte.
+//! once, where it and its separator lie in the next three bytes, and `feed_acked` a byte and its ACK,
+//! in five. All else goes byte by byte.
 
 ghost use Rattle.std.specs.Prelude.{◌≡◌, ◌+◌, ◌<◌, ◌≤◌, ℕ, IfSome, None, length, true, false, List, [], Err};
 ghost use Rattle.pmb_bus.specs.declared.event.Event.{Event as BusEvent};
@@ -169,11 +170,11 @@ impl Lexer {
         self.feed_bytes(bytes)
     }
 
-    /// Takes a byte and its ACK that stand in front of a piece with a separator behind each, where no
-    /// word is under way, and answers the byte: what two calls of [`feed`](Lexer::feed) do. Five bytes
-    /// of the piece are used then. Else nothing changes.
+    /// Takes a byte and its ACK in front of a piece, with a separator behind each, as two calls of
+    /// [`feed`](Lexer::feed) would, and answers the byte: five bytes of the piece are used. Else
+    /// nothing changes, and the piece is to be given to `feed`.
     ///
-    /// Most words of a capture are such bytes.
+    /// Most words of a capture are bytes and their ACK, which come faster so.
     #[inline(always)]
     pub fn feed_acked(&mut self, bytes: &[u8]) -> Option<u8>
         ensures feeds { (n : ℕ) (text : List ℕ) (events : List BusEvent) → StandsAt self.old n text events

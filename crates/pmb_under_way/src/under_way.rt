@@ -2,7 +2,7 @@
 //!
 //! [`Place`] says where its events end. What each place says of the events, of the leg under way and
 //! of the answer under way stands in `specs/machine/UnderWay`; a new place needs its line there, its
-//! arm in `step`, in `expected`, and in the three functions that tell reasons.
+//! arm in `step_by_place`, in `expected`, and in the three functions that tell reasons.
 
 ghost use Rattle.std.specs.Prelude.{◌≡◌, ◌↔◌, true, List, []};
 ghost use Rattle.pmb_bus.specs.declared.event.Event.{Event as BusEvent};

@@ -68,6 +68,46 @@ fn each_piece_is_used_up_to_the_end_of_its_first_word(rt: HostRuntime) {
     }
 }
 
+/// A name, the text in front, a piece, and the byte that it begins with, its ACK behind it.
+fn acked_bytes() -> &'static [(&'static str, &'static [u8], &'static [u8], Option<u8>)] {
+    &[
+        ("a byte and ACK", b"", b"b0 A ", Some(0xb0)),
+        ("and more behind them", b"S ", b"21 A 00 A ", Some(0x21)),
+        ("in upper case", b"", b"F8\tA\nS ", Some(0xf8)),
+        ("behind a comment", b"# b0\n", b"0d\rA\r\n", Some(0x0d)),
+        ("NACK", b"", b"b0 N ", None),
+        ("two separators", b"", b"b0  A ", None),
+        ("nothing behind ACK", b"", b"b0 A", None),
+        ("a comment behind ACK", b"", b"b0 A#", None),
+        ("a comment behind the byte", b"", b"b0#A\n", None),
+        ("a separator in front", b"", b" b0 A ", None),
+        ("no digit", b"", b"g0 A ", None),
+        ("no second digit", b"", b"0g A ", None),
+        ("within a word", b"b", b"0 A A ", None),
+        ("within a comment", b"#", b"b0 A ", None),
+        ("behind a fault", b"x", b"b0 A ", None),
+        ("nothing", b"", b"", None),
+    ]
+}
+
+#[test]
+fn a_byte_and_its_ack_are_taken_at_once(rt: HostRuntime) {
+    for &(name, before, piece, wanted) in acked_bytes() {
+        let mut lexer = Lexer::new();
+        let _ = lexer.feed(before);
+        let mut other = lexer;
+        assert_eq!(rt; lexer.feed_acked(piece), wanted, "{name}");
+        if let Some(byte) = wanted {
+            let first = other.feed(piece);
+            assert_eq!(rt; first.step, Step::Event(Byte(byte)), "{name}");
+            let second = other.feed(&piece[first.used..]);
+            assert_eq!(rt; second.step, Step::Event(Ack), "{name}");
+            assert_eq!(rt; first.used + second.used, 5, "{name}");
+        }
+        assert_eq!(rt; lexer, other, "{name}");
+    }
+}
+
 #[test]
 fn answers_a_fault_again(rt: HostRuntime) {
     let mut lexer = Lexer::new();
