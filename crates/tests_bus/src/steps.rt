@@ -73,8 +73,10 @@ fn acked_bytes() -> &'static [(&'static str, &'static [u8], &'static [u8], Optio
     &[
         ("a byte and ACK", b"", b"b0 A ", Some(0xb0)),
         ("and more behind them", b"S ", b"21 A 00 A ", Some(0x21)),
-        ("in upper case", b"", b"F8\tA\nS ", Some(0xf8)),
-        ("behind a comment", b"# b0\n", b"0d\rA\r\n", Some(0x0d)),
+        ("in upper case", b"", b"F8 A P\n", Some(0xf8)),
+        ("behind a comment", b"# b0\n", b"0d A ", Some(0x0d)),
+        ("a tab behind the byte", b"", b"b0\tA ", None),
+        ("LF behind ACK", b"", b"b0 A\n", None),
         ("NACK", b"", b"b0 N ", None),
         ("two separators", b"", b"b0  A ", None),
         ("nothing behind ACK", b"", b"b0 A", None),
