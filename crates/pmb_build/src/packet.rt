@@ -11,7 +11,7 @@ ghost use Rattle.pmb_writer.specs.Invalid.{HasPacket};
 ghost use Rattle.pmb_build.specs.Answer.{IsPacketText};
 
 use pmb_bus::Event;
-use pmb_io::{Sink, ToolFault, Waiting, send};
+use pmb_io::{ROOM, Sink, ToolFault, Waiting, make_room};
 use pmb_table::Profile;
 use pmb_transaction::Transaction;
 use pmb_writer::events_of;
@@ -43,9 +43,7 @@ fn put_event<W: Sink>(event: Event, waiting: &mut Waiting, writer: &mut W) -> Re
     ensures writes { OnOk result (Writes (W.contents writer.old) waiting.old.items (W.contents writer.new) waiting.new.items (text_of event)) }
     ensures failed { WriterTells (W.failures writer.old) (W.failures writer.new) result }
 {
-    if waiting.remaining_capacity() < MOST {
-        send(waiting, writer)?;
-    }
+    make_room(waiting, MOST, writer)?;
     append_event(event, waiting);
     Ok(())
 }
@@ -53,7 +51,7 @@ fn put_event<W: Sink>(event: Event, waiting: &mut Waiting, writer: &mut W) -> Re
 /// Appends the canonical text of an event, as `event_text` of `pmb_bus` makes it.
 #[inline]
 fn append_event(event: Event, text: &mut Waiting)
-    requires { length text.old.items + 3 ≤ 8192 }
+    requires { length text.old.items + 3 ≤ ROOM }
     ensures { text.new.items ≡ text.old.items ++ text_of event }
 {
     match event {
@@ -68,7 +66,7 @@ fn append_event(event: Event, text: &mut Waiting)
 /// Appends a letter and what separates it from the next event.
 #[inline]
 fn append_letter(letter: u8, separator: u8, text: &mut Waiting)
-    requires { length text.old.items + 3 ≤ 8192 }
+    requires { length text.old.items + 3 ≤ ROOM }
     ensures { text.new.items ≡ text.old.items ++ letter ∷ separator ∷ [] }
 {
     text.push(letter);
@@ -78,7 +76,7 @@ fn append_letter(letter: u8, separator: u8, text: &mut Waiting)
 /// Appends the two digits of a byte and a space.
 #[inline]
 fn append_byte(byte: u8, text: &mut Waiting)
-    requires { length text.old.items + 3 ≤ 8192 }
+    requires { length text.old.items + 3 ≤ ROOM }
     ensures { text.new.items ≡ text.old.items ++ text_of (Event.Byte byte) }
 {
     text.push(digit(byte / 16));

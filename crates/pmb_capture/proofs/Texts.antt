@@ -31,12 +31,14 @@ texts_then output outcomes a b =
     text_append output (accepted_in outcomes) a b
     ∙ ap (λ ts. text_behind output (accepted_in outcomes) a ++ text_behind output ts b) (sym (accepted_append outcomes a))
 
--- a line is made from its start: a transaction's own, the mark of a comment, a note and LF
-pub noted : (line note cleared lined marked said ended : List ℕ) → cleared ≡ [] → lined ≡ cleared ++ line → marked ≡ lined ++ codes " # " → said ≡ marked ++ note → ended ≡ said ++ codes "\n"
-    → ended ≡ line ++ (codes " # " ++ (note ++ codes "\n"))
-noted line note cleared lined marked said ended clear own mark says end =
-    let so_far = says ∙ ap (λ l. l ++ note) (mark ∙ ap (λ l. l ++ codes " # ") (own ∙ ap (λ l. l ++ line) clear)) in
-    end ∙ (ap (λ l. l ++ codes "\n") so_far ∙ (append_assoc (line ++ codes " # ") note (codes "\n") ∙ append_assoc line (codes " # ") (note ++ codes "\n")))
+-- a line is made behind what waits: a transaction's own, the mark of a comment, a note and LF
+pub noted : (line note waited lined marked said ended : List ℕ) → lined ≡ waited ++ line → marked ≡ lined ++ codes " # " → said ≡ marked ++ note → ended ≡ said ++ codes "\n"
+    → ended ≡ waited ++ (line ++ (codes " # " ++ (note ++ codes "\n")))
+noted line note waited lined marked said ended own mark says end =
+    let so_far = says ∙ ap (λ l. l ++ note) (mark ∙ ap (λ l. l ++ codes " # ") own) in
+    let last = note ++ codes "\n" in
+    end ∙ (ap (λ l. l ++ codes "\n") so_far ∙ (append_assoc ((waited ++ line) ++ codes " # ") note (codes "\n")
+    ∙ (append_assoc (waited ++ line) (codes " # ") last ∙ append_assoc waited line (codes " # " ++ last))))
 
 -- ---- counts
 

@@ -1,6 +1,6 @@
 //! A line with a note for each packet.
 
-ghost use Rattle.std.specs.Prelude.{◌≡◌, ◌++◌, ◌∷◌, [], List, OnOk};
+ghost use Rattle.std.specs.Prelude.{◌≡◌, ◌+◌, ◌≤◌, ◌++◌, ◌∷◌, [], List, length, OnOk};
 ghost use Rattle.pmb_io.specs.Calls.{WriterTells};
 ghost use Rattle.pmb_io.specs.Outgoing.{Writes};
 ghost use Rattle.pmb_note.specs.Context.{HasSeen};
@@ -9,15 +9,11 @@ ghost use Rattle.pmb_capture.specs.Show.{noted_line, shown};
 
 use crate::lines::append;
 use crate::output::Output;
-use arrayvec::ArrayVec;
-use pmb_io::{Sink, Tally, ToolFault, Waiting, put};
+use pmb_io::{ROOM, Sink, Tally, ToolFault, Waiting, make_room};
 use pmb_line::append_line;
 use pmb_note::Context;
 use pmb_table::Profile;
 use pmb_transaction::Transaction;
-
-/// How many bytes are put out at once, the most that [`put`] takes.
-const PIECE: usize = 8192;
 
 /// The most bytes of what is written of a packet: a transaction's line, the mark of a comment, a note
 /// and LF.
@@ -29,8 +25,6 @@ pub(crate) struct PacketLines<'p> {
     profile: &'p Profile,
     /// What the transactions so far tell, which the note of the next is made by.
     context: Context<'p>,
-    /// The line that goes out. It is kept, since most lines are short and its room is not.
-    line: ArrayVec<u8, MOST>,
 }
 
 impl<'p> PacketLines<'p> {
@@ -41,23 +35,23 @@ impl<'p> PacketLines<'p> {
         PacketLines {
             profile,
             context: Context::new(profile),
-            line: ArrayVec::new(),
         }
     }
 
-    /// Makes the line that goes out of the next packet's transaction, and takes what that one tells.
-    fn take_transaction(&mut self, transaction: &Transaction)
+    /// Has the line of the next packet's transaction wait behind what waits, and takes what that one
+    /// tells.
+    fn append_transaction(&mut self, transaction: &Transaction, waiting: &mut Waiting)
+        requires { length waiting.old.items + MOST ≤ ROOM }
         ensures profile { self.new.profile ≡ self.old.profile }
         ensures line { (before : List TransactionData) → HasSeen self.old.context self.old.profile.now before
-            → self.new.line.items ≡ noted_line self.old.profile.now before (transaction_data transaction.now) }
+            → waiting.new.items ≡ waiting.old.items ++ noted_line self.old.profile.now before (transaction_data transaction.now) }
         ensures seen { (before : List TransactionData) → HasSeen self.old.context self.old.profile.now before
             → HasSeen self.new.context self.old.profile.now (before ++ transaction_data transaction.now ∷ []) }
     {
-        self.line.clear();
-        append_line(transaction, &mut self.line);
-        append(&mut self.line, b" # ");
-        self.context.append_note(transaction, &mut self.line);
-        append(&mut self.line, b"\n");
+        append_line(transaction, waiting);
+        append(waiting, b" # ");
+        self.context.append_note(transaction, waiting);
+        append(waiting, b"\n");
         self.context.observe(transaction);
     }
 }
@@ -73,8 +67,9 @@ impl<'p> Output for PacketLines<'p> {
         waiting: &mut Waiting,
         writer: &mut W,
     ) -> Result<(), ToolFault> {
-        self.take_transaction(transaction);
-        put_long(waiting, self.line.as_slice(), writer)
+        make_room(waiting, MOST, writer)?;
+        self.append_transaction(transaction, waiting);
+        Ok(())
     }
 
     fn put_end<W: Sink>(
@@ -85,18 +80,4 @@ impl<'p> Output for PacketLines<'p> {
     ) -> Result<(), ToolFault> {
         Ok(())
     }
-}
-
-/// Puts out a text of any length.
-fn put_long<W: Sink>(waiting: &mut Waiting, text: &[u8], writer: &mut W) -> Result<(), ToolFault>
-    ensures puts { OnOk result (Writes (W.contents writer.old) waiting.old.items (W.contents writer.new) waiting.new.items text.now) }
-    ensures failed { WriterTells (W.failures writer.old) (W.failures writer.new) result }
-{
-    let mut rest = text;
-    while rest.len() > PIECE {
-        let (front, behind) = rest.split_at(PIECE);
-        put(waiting, front, writer)?;
-        rest = behind;
-    }
-    put(waiting, rest, writer)
 }

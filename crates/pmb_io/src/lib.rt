@@ -26,7 +26,7 @@ pub use io::Io;
 pub use line::{Line, without_return};
 pub use line_task::LineTask;
 pub use lines::Lines;
-pub use outgoing::{Waiting, put, send};
+pub use outgoing::{ROOM, Waiting, make_room, put, send};
 pub use pieces::each_piece;
 pub use sink::Sink;
 pub use source::Source;

@@ -9,10 +9,10 @@ use crate::sink::Sink;
 use arrayvec::ArrayVec;
 
 /// How many bytes wait at most.
-pub const ROOM: usize = 8192;
+pub const ROOM: usize = 32768;
 
 /// Bytes that are still to be written.
-pub type Waiting = ArrayVec<u8, 8192>;
+pub type Waiting = ArrayVec<u8, 32768>;
 
 /// Sends to the writer what waits for it.
 ///
@@ -57,9 +57,36 @@ pub fn put<W: Sink>(waiting: &mut Waiting, text: &[u8], writer: &mut W) -> Resul
     ensures unwritten { length waiting.old.items + length text.now ≤ ROOM → writer.new ≡ writer.old }
     ensures failed { WriterTells (W.failures writer.old) (W.failures writer.new) result }
 {
-    if waiting.try_extend_from_slice(text).is_err() {
-        send(waiting, writer)?;
-        let _ = waiting.try_extend_from_slice(text);
+    make_room(waiting, text.len(), writer)?;
+    let _ = waiting.try_extend_from_slice(text);
+    Ok(())
+}
+
+/// Has room for so many bytes, at most [`ROOM`], behind what waits, which is sent first where there
+/// is less.
+///
+/// # Errors
+///
+/// `Write` where the writer failed: a front of what waited went out, and all of it still waits.
+pub fn make_room<W: Sink>(
+    waiting: &mut Waiting,
+    count: usize,
+    writer: &mut W,
+) -> Result<(), ToolFault>
+    requires { count ≤ ROOM }
+    ensures ok { OnOk result (Writes (W.contents writer.old) waiting.old.items (W.contents writer.new) waiting.new.items []) }
+    ensures room { OnOk result (length waiting.new.items + count ≤ ROOM) }
+    ensures kept { OnErr result (waiting.new.items ≡ waiting.old.items) }
+    ensures front { OnErr result (WritesFront (W.contents writer.old) (W.contents writer.new) waiting.old.items) }
+
+    // Where there is room already, nothing is written.
+    ensures fits { length waiting.old.items + count ≤ ROOM → result ≡ Ok tt }
+    ensures waits { length waiting.old.items + count ≤ ROOM → waiting.new.items ≡ waiting.old.items }
+    ensures unwritten { length waiting.old.items + count ≤ ROOM → writer.new ≡ writer.old }
+    ensures failed { WriterTells (W.failures writer.old) (W.failures writer.new) result }
+{
+    if waiting.len() + count > ROOM {
+        return send(waiting, writer);
     }
     Ok(())
 }

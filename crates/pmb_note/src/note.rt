@@ -1,11 +1,12 @@
 //! Notes of transactions.
 
-ghost use Rattle.std.specs.Prelude.{◌≡◌, ◌+◌, ◌*◌, ◌/◌, ◌≤◌, ◌++◌, ◌∷◌, [], List, codes, flat_map, length, map};
+ghost use Rattle.std.specs.Prelude.{◌≡◌, ◌+◌, ◌*◌, ◌/◌, ◌≤◌, ◌++◌, ◌∷◌, [], ℕ, List, Option, codes, flat_map, length, map};
 ghost use Rattle.hex.specs.Hex.{encode_lower};
+ghost use Rattle.pmb_coefficients.specs.Coefficients.{Coefficients};
 ghost use Rattle.pmb_command.specs.Parts.{DeviceParts, device_with};
 ghost use Rattle.pmb_transaction.specs.Transaction.{TransactionData, part_data, transaction_data};
 ghost use Rattle.pmb_note.specs.Context.{HasSeen};
-ghost use Rattle.pmb_note.specs.Note.{command_text, joined, note, of_device, part_before, part_text, refused_text, text_under};
+ghost use Rattle.pmb_note.specs.Note.{command_text, data_text, joined, note, of_device, part_before, part_text, refused_text, text_under};
 ghost use Rattle.pmb_note.specs.machine.Standing.{mode_in};
 ghost use Rattle.pmb_note.specs.machine.Written.{Appends};
 
@@ -13,6 +14,7 @@ use crate::context::Context;
 use crate::text::append;
 use crate::value::append_value;
 use arrayvec::{ArrayString, ArrayVec};
+use pmb_command::Kind;
 use pmb_transaction::{Part, Transaction};
 
 /// The text of a note.
@@ -92,7 +94,20 @@ impl<'p> Context<'p> {
         };
         match device.entry(code) {
             None => {}
-            Some(entry) => append_value(out, self.kept_mode(addr), device, entry, bytes),
+            Some(entry) => append_value(out, self.mode_for(entry.kind, addr), device, entry, bytes),
+        }
+    }
+
+    // The VOUT_MODE that the data of a command are read by: of interest to output voltages alone.
+    #[inline]
+    fn mode_for(&self, kind: Kind, addr: u8) -> Option<u8>
+        ensures { (coefficients : Option Coefficients) (code : ℕ) (bytes : List ℕ)
+            → data_text coefficients result code kind bytes ≡ data_text coefficients (mode_in self.now addr) code kind bytes }
+    {
+        match kind {
+            Kind::Vout | Kind::VoutSigned => self.kept_mode(addr),
+            Kind::Raw | Kind::Linear11 | Kind::Linear11Fixed(_) | Kind::Direct(_) | Kind::Status =>
+                None,
         }
     }
 
