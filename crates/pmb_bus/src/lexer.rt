@@ -147,7 +147,7 @@ impl Lexer {
     /// Takes the next piece of the text.
     ///
     /// A piece is used up to the end of its first word, or whole: the bytes behind `used` are to be
-    /// given again. After a fault every call answers that fault and uses nothing.
+    /// given again. After a fault every such call answers that fault and uses nothing.
     #[inline(always)]
     pub fn feed(&mut self, bytes: &[u8]) -> Lexed
         ensures stands { (n : ℕ) (text : List ℕ) (events : List BusEvent) → StandsAt self.old n text events
@@ -170,16 +170,18 @@ impl Lexer {
         self.feed_bytes(bytes)
     }
 
-    /// Takes a byte and its ACK in front of a piece, with a space behind each, as two calls of
-    /// [`feed`](Lexer::feed) would, and answers the byte: five bytes of the piece are used. Else
-    /// nothing changes, and the piece is to be given to `feed`.
+    /// Takes a byte and its ACK in front of a piece as two calls of [`feed`](Lexer::feed) would, and
+    /// answers the byte: five bytes of the piece are used. Else nothing changes, and the piece is to be
+    /// given to `feed`.
     ///
-    /// Most words of a capture are bytes and their ACK, which come faster so.
+    /// Most words of a capture are bytes and their ACK. Those are taken so that have a space behind
+    /// each, where no word is under way.
     #[inline(always)]
     pub fn feed_acked(&mut self, bytes: &[u8]) -> Option<u8>
         ensures feeds { (n : ℕ) (text : List ℕ) (events : List BusEvent) → StandsAt self.old n text events
             → IfSome result (λ byte. FeedsAcked n text events bytes.now byte self.new) }
         ensures within { IfSome result (λ byte. 5 ≤ length bytes.now) }
+        ensures faulted { (fault : LexFault) → IsFaulted self.old fault → result ≡ None }
         ensures same { result ≡ None → self.new ≡ self.old }
     {
         let Place::Between = self.place else {

@@ -68,7 +68,7 @@ abbrev pub OpenBefore : {R : Type 0} → (R → ReaderTold) → (List ℕ → Ty
 OpenBefore told IsOpen first old new read =
     ((read ≡ []) × ((told new).reads ≡ (told old).reads)) ⊎ InTime told IsOpen first old new read
 
--- No more of the input was wanted, and this was so from its last piece on, which came by one read.
+-- No more of the input was wanted: so it was at `first`, and nothing was read, or at the last piece, which came by one read.
 pub record Stopped {R : Type 0} (told : R → ReaderTold) (Holds : List ℕ → List ℕ → Type 0) (IsOpen : List ℕ → Type 0) (first : List ℕ) (old new : R) (held_old held_new : Option (List ℕ)) : Type 0 where
   pub through : Through Holds first (with_held (told old) held_old) (with_held (told new) held_new)
   pub in_time : OpenBefore told IsOpen first old new through.read

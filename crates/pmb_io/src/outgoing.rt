@@ -1,6 +1,6 @@
 //! Text on its way to a writer, in a buffer of fixed size.
 
-ghost use Rattle.std.specs.Prelude.{◌≡◌, ◌+◌, ◌≤◌, ◌++◌, [], length, Ok, OnOk, OnErr};
+ghost use Rattle.std.specs.Prelude.{◌≡◌, ◌+◌, ◌<◌, ◌≤◌, ◌++◌, [], length, Ok, OnOk, OnErr};
 ghost use Rattle.pmb_io.specs.Calls.{WriterTells, WritesFront};
 ghost use Rattle.pmb_io.specs.Outgoing.{Writes};
 
@@ -76,6 +76,7 @@ pub fn make_room<W: Sink>(
     requires { count ≤ ROOM }
     ensures ok { OnOk result (Writes (W.contents writer.old) waiting.old.items (W.contents writer.new) waiting.new.items []) }
     ensures room { OnOk result (length waiting.new.items + count ≤ ROOM) }
+    ensures empty { ROOM < length waiting.old.items + count → OnOk result (waiting.new.items ≡ []) }
     ensures kept { OnErr result (waiting.new.items ≡ waiting.old.items) }
     ensures front { OnErr result (WritesFront (W.contents writer.old) (W.contents writer.new) waiting.old.items) }
 

@@ -44,7 +44,7 @@ pub fn asked<'a, S: AsStr, W: Sink, E: Sink>(
     ensures ok { IfOk result (λ task. AskFor (map S.text words.entry.now) (asking_of task)) }
     ensures ok_quiet { IfOk result (λ _. (out.new ≡ out.old) × (err.new ≡ err.old)) }
 
-    // Whatever the words: help and the version are told with 0, and 1 is for what is read alone.
+    // Whatever the words, 1 is never answered: it is for what is read alone.
     ensures within { IfErr result (λ status. status ≤ 4) }
     ensures not_one { IfErr result (λ status. status ≢ 1) }
 

@@ -13,3 +13,5 @@ mod formats;
 mod lines;
 #[cfg(test)]
 mod runs;
+#[cfg(test)]
+mod waiting;

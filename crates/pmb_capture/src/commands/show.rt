@@ -29,7 +29,8 @@ pub fn show<R: Source, W: Sink>(
     writer: &mut W,
 ) -> Result<Tally, ToolFault>
     // What was written is what is shown of `first` and the bytes read, however the reader cut them:
-    // they ended, or a word is no token, and the last read gave bytes of it.
+    // they ended, or a word is no token; then nothing was read, or before the last read that gave
+    // bytes the text might have gone on.
     ensures ok { IfOk result (λ tally.
         Ended (λ bytes text. ShowsAtEnd profile.now bytes text tally) first.now
         (record { left = R.remaining reader.old; given = R.given reader.old; held = W.contents writer.old })

@@ -28,7 +28,8 @@ pub(crate) fn write_capture<O: Output + Drop, R: Source, W: Sink>(
     requires { O.Stands output [] }
 
     // What was written is what is written for `first` and the bytes read, however the reader cut them:
-    // they ended, or a word is no token, and the last read gave bytes of it.
+    // they ended, or a word is no token; then nothing was read, or before the last read that gave
+    // bytes the text might have gone on.
     ensures ok { IfOk result (λ tally.
         Ended (λ bytes text. WritesAtEnd (O.text output) profile.now bytes text tally) first.now
         (record { left = R.remaining reader.old; given = R.given reader.old; held = W.contents writer.old })
