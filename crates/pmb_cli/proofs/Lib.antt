@@ -1,3 +1,4 @@
 pub mod Statuses
 pub mod Behind
 pub mod Formats
+pub mod Often

@@ -1,3 +1,4 @@
 pub mod Matter
+pub mod Often
 pub mod Tasks
 pub mod Traffic

@@ -2,6 +2,7 @@
 
 ghost use Rattle.std.specs.Prelude.{◌≡◌, ◌≢◌, ◌≤◌, ◌⊎◌, Ok, false};
 ghost use Rattle.pmb_cli.specs.Matter.{HasBadProfile};
+ghost use Rattle.pmb_cli.specs.Often.{MadeReadsInAll};
 ghost use Rattle.pmb_cli.specs.Tasks.{WroteTask, WroteTaskPart};
 ghost use Rattle.pmb_io.specs.Count.{raised};
 ghost use Rattle.pmb_io.specs.declared.tally.Tally.{Tally as TallyOf};
@@ -44,7 +45,8 @@ pub(crate) fn run_task<R: Source, W: Sink, E: Sink>(
         (record { left = R.remaining reader.new; given = R.given reader.new; held = W.contents out.new }) }
     ensures none_failed { result ≢ 3 → (R.failures reader.new ≡ R.failures reader.old) × (W.failures out.new ≡ W.failures out.old) }
     ensures io_failed { result ≡ 3 → ((R.failures reader.new ≡ raised (R.failures reader.old) 1) × (R.has_ended reader.new ≡ R.has_ended reader.old))
-        ⊎ ((W.failures out.new ≡ raised (W.failures out.old) 1) ⊎ ReadOften (R.reads reader.old) (R.reads reader.new) (R.remaining reader.old) (R.remaining reader.new)) }
+        ⊎ ((W.failures out.new ≡ raised (W.failures out.old) 1) ⊎ (ReadOften (R.reads reader.old) (R.reads reader.new) (R.remaining reader.old) (R.remaining reader.new) × (R.has_ended reader.new ≡ R.has_ended reader.old))) }
+    ensures reads { MadeReadsInAll (R.reads reader.old) (R.reads reader.new) }
 {
     // A text names one format at most.
     one_format();
@@ -86,7 +88,8 @@ fn run_traffic<R: Source, W: Sink, E: Sink>(
         (record { left = R.remaining reader.new; given = R.given reader.new; held = W.contents out.new }) }
     ensures none_failed { result ≢ 3 → (R.failures reader.new ≡ R.failures reader.old) × (W.failures out.new ≡ W.failures out.old) }
     ensures io_failed { result ≡ 3 → ((R.failures reader.new ≡ raised (R.failures reader.old) 1) × (R.has_ended reader.new ≡ R.has_ended reader.old))
-        ⊎ ((W.failures out.new ≡ raised (W.failures out.old) 1) ⊎ ReadOften (R.reads reader.old) (R.reads reader.new) (R.remaining reader.old) (R.remaining reader.new)) }
+        ⊎ ((W.failures out.new ≡ raised (W.failures out.old) 1) ⊎ (ReadOften (R.reads reader.old) (R.reads reader.new) (R.remaining reader.old) (R.remaining reader.new) × (R.has_ended reader.new ≡ R.has_ended reader.old))) }
+    ensures reads { MadeReadsInAll (R.reads reader.old) (R.reads reader.new) }
 {
     if sample {
         run_sample(work, alloc, reader, out, err)

@@ -3,7 +3,7 @@
 ghost use Rattle.std.specs.Prelude.{◌≡◌, ◌≢◌, ◌≤◌, ◌⊎◌, [], Ok};
 ghost use Rattle.pmb_convert.specs.Lines.{AnswersEnded, AnswersInput};
 ghost use Rattle.pmb_io.specs.Count.{raised};
-ghost use Rattle.pmb_io.specs.Runs.{Ended, Through};
+ghost use Rattle.pmb_io.specs.Runs.{Ended, MadeReads, Through};
 ghost use Rattle.pmb_io.specs.declared.tally.Tally.{Tally as TallyOf};
 ghost use Rattle.pmb_status.specs.Status.{IsTold, ReadOften, run_status};
 
@@ -31,7 +31,8 @@ pub(crate) fn run_lines<R: Source, W: Sink, E: Sink>(
         (record { left = R.remaining reader.new; given = R.given reader.new; held = W.contents out.new }) }
     ensures none_failed { result ≢ 3 → (R.failures reader.new ≡ R.failures reader.old) × (W.failures out.new ≡ W.failures out.old) }
     ensures io_failed { result ≡ 3 → ((R.failures reader.new ≡ raised (R.failures reader.old) 1) × (R.has_ended reader.new ≡ R.has_ended reader.old))
-        ⊎ ((W.failures out.new ≡ raised (W.failures out.old) 1) ⊎ ReadOften (R.reads reader.old) (R.reads reader.new) (R.remaining reader.old) (R.remaining reader.new)) }
+        ⊎ ((W.failures out.new ≡ raised (W.failures out.old) 1) ⊎ (ReadOften (R.reads reader.old) (R.reads reader.new) (R.remaining reader.old) (R.remaining reader.new) × (R.has_ended reader.new ≡ R.has_ended reader.old))) }
+    ensures reads { MadeReads (R.reads reader.old) (R.reads reader.new) }
 {
     ended(convert_lines(conversion, &[], reader, out), err)
 }

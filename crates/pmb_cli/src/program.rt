@@ -2,6 +2,7 @@
 
 ghost use Rattle.std.specs.Prelude.{◌≡◌, ◌≢◌, ◌≤◌, ◌⊎◌, [], Ok, false, map};
 ghost use Rattle.pmb_cli.specs.Matter.{HasBadProfile};
+ghost use Rattle.pmb_cli.specs.Often.{MadeReadsInAll};
 ghost use Rattle.pmb_cli.specs.Tasks.{WroteTask, WroteTaskPart};
 ghost use Rattle.pmb_io.specs.Count.{raised};
 ghost use Rattle.pmb_io.specs.declared.tally.Tally.{Tally as TallyOf};
@@ -82,7 +83,10 @@ pub fn tool<S: AsStr, R: Source, W: Sink, E: Sink>(
     // No read and no write on `out` failed where it answers anything but 3, and one did, or there were too many reads, where 3.
     ensures none_failed { result ≢ 3 → (R.failures reader.new ≡ R.failures reader.old) × (W.failures out.new ≡ W.failures out.old) }
     ensures io_failed { result ≡ 3 → ((R.failures reader.new ≡ raised (R.failures reader.old) 1) × (R.has_ended reader.new ≡ R.has_ended reader.old))
-        ⊎ ((W.failures out.new ≡ raised (W.failures out.old) 1) ⊎ ReadOften (R.reads reader.old) (R.reads reader.new) (R.remaining reader.old) (R.remaining reader.new)) }
+        ⊎ ((W.failures out.new ≡ raised (W.failures out.old) 1) ⊎ (ReadOften (R.reads reader.old) (R.reads reader.new) (R.remaining reader.old) (R.remaining reader.new) × (R.has_ended reader.new ≡ R.has_ended reader.old))) }
+
+    // The reads that gave bytes are those of `front` and of the work behind it at most.
+    ensures reads { MadeReadsInAll (R.reads reader.old) (R.reads reader.new) }
 {
     one_asking();
     match asked(alloc, words, out, err) {

@@ -3,9 +3,10 @@
 
 ghost use Rattle.std.specs.Prelude.{◌≡◌, ◌≢◌, ◌≤◌, ◌⊎◌, IfOk, Ok, Err, length};
 ghost use Rattle.pmb_io.specs.Count.{raised};
-ghost use Rattle.pmb_io.specs.Runs.{Through, most_reads};
+ghost use Rattle.pmb_io.specs.Runs.{MadeReads, Through, most_reads};
 ghost use Rattle.pmb_io.specs.declared.tally.Tally.{Tally as TallyOf};
 ghost use Rattle.pmb_cli.specs.Matter.{HasBadProfile};
+ghost use Rattle.pmb_cli.specs.Often.{MadeReadsInAll};
 ghost use Rattle.pmb_status.specs.Status.{IsTold, ReadOften, run_status};
 ghost use Rattle.pmb_cli.specs.Traffic.{WritesFront, Wrote, WroteBehind, WrotePart, WroteSample, WroteSamplePart};
 
@@ -40,7 +41,9 @@ fn run<R: Source, W: Sink>(
     ensures no_write { result ≢ Err ToolFault.Write → W.failures out.new ≡ W.failures out.old }
     ensures memory { result ≢ Err ToolFault.Memory }
     ensures profile { result ≢ Err ToolFault.ProfileTooLong }
+    ensures reads { MadeReads (R.reads reader.old) (R.reads reader.new) }
     ensures too_many { result ≡ Err ToolFault.TooManyReads → R.reads reader.new ≡ raised (R.reads reader.old) most_reads }
+    ensures not_ended { result ≡ Err ToolFault.TooManyReads → R.has_ended reader.new ≡ R.has_ended reader.old }
     ensures read_not_ended { result ≡ Err ToolFault.Read → R.has_ended reader.new ≡ R.has_ended reader.old }
     ensures before { (result ≡ Err ToolFault.Read) ⊎ (result ≡ Err ToolFault.TooManyReads)
         → Through (WritesFront work profile.now) first.now
@@ -80,7 +83,8 @@ pub(crate) fn run_sample<R: Source, W: Sink, E: Sink>(
     ensures unwritten { (result ≡ 2) ⊎ (result ≡ 4) → out.new ≡ out.old }
     ensures none_failed { result ≢ 3 → (R.failures reader.new ≡ R.failures reader.old) × (W.failures out.new ≡ W.failures out.old) }
     ensures io_failed { result ≡ 3 → ((R.failures reader.new ≡ raised (R.failures reader.old) 1) × (R.has_ended reader.new ≡ R.has_ended reader.old))
-        ⊎ ((W.failures out.new ≡ raised (W.failures out.old) 1) ⊎ ReadOften (R.reads reader.old) (R.reads reader.new) (R.remaining reader.old) (R.remaining reader.new)) }
+        ⊎ ((W.failures out.new ≡ raised (W.failures out.old) 1) ⊎ (ReadOften (R.reads reader.old) (R.reads reader.new) (R.remaining reader.old) (R.remaining reader.new) × (R.has_ended reader.new ≡ R.has_ended reader.old))) }
+    ensures reads { MadeReads (R.reads reader.old) (R.reads reader.new) }
 {
     match sample_profile(alloc) {
         Ok(profile) => ended(run(work, &profile, &[], reader, out), err),
@@ -112,7 +116,8 @@ pub(crate) fn run_behind<R: Source, W: Sink, E: Sink>(
     ensures unwritten { (result ≡ 2) ⊎ (result ≡ 4) → out.new ≡ out.old }
     ensures none_failed { result ≢ 3 → (R.failures reader.new ≡ R.failures reader.old) × (W.failures out.new ≡ W.failures out.old) }
     ensures io_failed { result ≡ 3 → ((R.failures reader.new ≡ raised (R.failures reader.old) 1) × (R.has_ended reader.new ≡ R.has_ended reader.old))
-        ⊎ ((W.failures out.new ≡ raised (W.failures out.old) 1) ⊎ ReadOften (R.reads reader.old) (R.reads reader.new) (R.remaining reader.old) (R.remaining reader.new)) }
+        ⊎ ((W.failures out.new ≡ raised (W.failures out.old) 1) ⊎ (ReadOften (R.reads reader.old) (R.reads reader.new) (R.remaining reader.old) (R.remaining reader.new) × (R.has_ended reader.new ≡ R.has_ended reader.old))) }
+    ensures reads { MadeReadsInAll (R.reads reader.old) (R.reads reader.new) }
 {
     let front = match front(alloc, reader) {
         Ok(front) => front,

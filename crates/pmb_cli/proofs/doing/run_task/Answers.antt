@@ -4,6 +4,7 @@ use Rattle.pmb_words.specs.Asked.{NamesNone, Traffic, asking_of}
 use Rattle.pmb_words.specs.declared.tasks.Task.{Task}
 use Rattle.pmb_cli.specs.Tasks.{WroteTask, WroteTaskPart}
 use Rattle.pmb_cli.proofs.Formats.{none_is_named}
+use Rattle.pmb_cli.proofs.Often.{none_in_all, reads_of_work}
 use Rattle.pmb_cli.proofs.doing.run_task.Goals as goal
 
 -- ---- a capture or lines under a profile
@@ -79,3 +80,17 @@ returns-in-Err-clause-told g c two = inl (subst (λ (t : Task). NamesNone (askin
 
 pub returns-in-Err-parse-clause-told : goal.returns-in-Err-parse-clause-told
 returns-in-Err-parse-clause-told g c two = inl (subst (λ (t : Task). NamesNone (asking_of t)) (sym c.in-Decode.is) (c.in-Err-parse.fault, c.in-Err-parse.ensures))
+
+-- ---- how often
+
+pub returns-in-Ok-clause-reads : goal.returns-in-Ok-clause-reads
+returns-in-Ok-clause-reads g c = reads_of_work _ _ c.run_lines.ensures.reads
+
+pub returns-in-Ok-parse-clause-reads : goal.returns-in-Ok-parse-clause-reads
+returns-in-Ok-parse-clause-reads g c = reads_of_work _ _ c.run_lines-in-Ok-parse.ensures.reads
+
+pub returns-in-Err-clause-reads : goal.returns-in-Err-clause-reads
+returns-in-Err-clause-reads g c = none_in_all _
+
+pub returns-in-Err-parse-clause-reads : goal.returns-in-Err-parse-clause-reads
+returns-in-Err-parse-clause-reads g c = none_in_all _

@@ -2,6 +2,7 @@ use Rattle.std.proofs.Common.{inl, inr, subst, sym, Bool}
 use Rattle.pmb_table.specs.declared.sample.TheConstants.{SAMPLE}
 use Rattle.pmb_words.specs.Asked.{Traffic}
 use Rattle.pmb_cli.specs.Tasks.{WroteTask, WroteTaskPart}
+use Rattle.pmb_cli.proofs.Often.{reads_of_work}
 use Rattle.pmb_cli.proofs.doing.run_traffic.Goals as goal
 
 -- ---- under the sample profile
@@ -35,3 +36,8 @@ returns-else-sample-clause-part g c three = elim (c.run_behind.ensures.part thre
 
 pub returns-else-sample-clause-told : goal.returns-else-sample-clause-told
 returns-else-sample-clause-told g c two = (c.if-sample.false, c.run_behind.ensures.told two)
+
+-- ---- how often
+
+pub returns-then-sample-clause-reads : goal.returns-then-sample-clause-reads
+returns-then-sample-clause-reads g c = reads_of_work _ _ c.run_sample.ensures.reads

@@ -44,5 +44,5 @@ returns-clause-io_failed g c three =
     elim (io_fault c.convert_lines.result status) [
       | inl read ↦ inl (c.convert_lines.ensures.read read, c.convert_lines.ensures.read_not_ended read)
       | inr (inl write) ↦ inr (inl (c.convert_lines.ensures.write write))
-      | inr (inr often) ↦ inr (inr (read_often _ _ _ _ (c.convert_lines.ensures.many often).0.read (c.convert_lines.ensures.too_many often) (c.convert_lines.ensures.many often).0.consumed (c.convert_lines.ensures.many often).1))
+      | inr (inr often) ↦ inr (inr (read_often _ _ _ _ (c.convert_lines.ensures.many often).0.read (c.convert_lines.ensures.too_many often) (c.convert_lines.ensures.many often).0.consumed (c.convert_lines.ensures.many often).1, c.convert_lines.ensures.not_ended often))
     ]

@@ -4,6 +4,7 @@ use Rattle.pmb_status.specs.Status.{IsTold}
 use Rattle.pmb_table.specs.declared.sample.TheConstants.{SAMPLE}
 use Rattle.pmb_words.specs.Asked.{AskFor, Asking, Decode, Encode, asking_of}
 use Rattle.pmb_cli.specs.Tasks.{WroteTask, WroteTaskPart}
+use Rattle.pmb_cli.proofs.Often.{none_in_all}
 use Rattle.pmb_cli.proofs.program.tool.Goals as goal
 
 -- ---- words that ask for something: nothing was told yet, and it was done
@@ -105,3 +106,6 @@ returns-in-Err-clause-bad_format_unwritten g c bad = elim bad.asks [
   | inl ask ↦ c.in-Err.ensures.refused_unwritten (inr (c.in-Err.ensures.memory (Encode bad.format) ask))
   | inr ask ↦ c.in-Err.ensures.refused_unwritten (inr (c.in-Err.ensures.memory (Decode bad.format) ask))
 ]
+
+pub returns-in-Err-clause-reads : goal.returns-in-Err-clause-reads
+returns-in-Err-clause-reads g c = none_in_all _

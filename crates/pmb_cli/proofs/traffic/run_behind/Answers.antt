@@ -10,6 +10,7 @@ use Rattle.pmb_status.specs.Status.{run_status}
 use Rattle.pmb_cli.specs.Traffic.{WritesFront, Wrote}
 use Rattle.pmb_cli.proofs.Behind.{behind_all, behind_mark, part_behind, part_of_profile}
 use Rattle.pmb_cli.proofs.Statuses.{at_ok, ended_well, io_fault, is_read, is_too_long, no_failed_read, no_failure, not_refused, read_often_behind, two_or_more, write_or_read}
+use Rattle.pmb_cli.proofs.Often.{reads_behind, reads_of_front}
 use Rattle.pmb_cli.proofs.traffic.run_behind.Goals as goal
 
 -- what a reader that has nothing tells
@@ -44,7 +45,8 @@ returns-in-Ok-from_toml-clause-io_failed g c three =
       )
       | inr (inl write) ↦ inr (inl (c.run.ensures.write write))
       | inr (inr often) ↦ inr (inr (read_often_behind _ _ _ _ _ _ c.in-Ok.ensures.ok.read (c.run.ensures.many often).0.read c.in-Ok.ensures.reads (c.run.ensures.too_many often)
-          c.in-Ok.ensures.ok.reads.gave.consumed (c.run.ensures.many often).0.consumed (c.run.ensures.many often).1))
+          c.in-Ok.ensures.ok.reads.gave.consumed (c.run.ensures.many often).0.consumed (c.run.ensures.many often).1,
+        c.run.ensures.not_ended often ∙ c.in-Ok.ensures.mark_not_ended (sym c.has_capture.ensures ∙ c.if-has_capture.true)))
     ]
 
 -- What was written before that is the text of what has ended.
@@ -164,3 +166,17 @@ returns-in-Ok-2-clause-io_failed g c three = elim (io_fault c.run-in-Ok-2.result
   | inr (inl write) ↦ inr (inl (c.run-in-Ok-2.ensures.write write))
   | inr (inr often) ↦ let never : 0 ≡ raised 0 most_reads = c.run-in-Ok-2.ensures.too_many often in absurd (omega (arith, never))
 ]
+
+-- ---- how often
+
+pub returns-in-Ok-from_toml-clause-reads : goal.returns-in-Ok-from_toml-clause-reads
+returns-in-Ok-from_toml-clause-reads g c = reads_behind _ _ _ c.in-Ok.ensures.reads c.run.ensures.reads
+
+pub returns-in-Ok-2-clause-reads : goal.returns-in-Ok-2-clause-reads
+returns-in-Ok-2-clause-reads g c = reads_of_front _ _ c.in-Ok.ensures.reads
+
+pub returns-clause-reads : goal.returns-clause-reads
+returns-clause-reads g c = reads_of_front _ _ c.in-Ok.ensures.reads
+
+pub returns-in-Err-clause-reads : goal.returns-in-Err-clause-reads
+returns-in-Err-clause-reads g c = reads_of_front _ _ c.in-Err.ensures.reads

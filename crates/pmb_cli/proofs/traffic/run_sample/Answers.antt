@@ -3,6 +3,7 @@ use Rattle.pmb_io.specs.declared.fault.ToolFault.TheVariants.{Read, Write}
 use Rattle.pmb_status.specs.Status.{run_status}
 use Rattle.pmb_cli.specs.Traffic.{Wrote}
 use Rattle.pmb_cli.proofs.Statuses.{at_ok, ended_well, io_fault, no_failure, not_refused, read_often, write_or_read}
+use Rattle.pmb_cli.proofs.Often.{no_reads}
 use Rattle.pmb_cli.proofs.traffic.run_sample.Goals as goal
 
 pub returns-in-Ok-clause-wrote : goal.returns-in-Ok-clause-wrote
@@ -24,7 +25,7 @@ returns-in-Ok-clause-io_failed g c three =
     elim (io_fault c.run.result status) [
       | inl read ↦ inl (c.run.ensures.read read, c.run.ensures.read_not_ended read)
       | inr (inl write) ↦ inr (inl (c.run.ensures.write write))
-      | inr (inr often) ↦ inr (inr (read_often _ _ _ _ (c.run.ensures.many often).0.read (c.run.ensures.too_many often) (c.run.ensures.many often).0.consumed (c.run.ensures.many often).1))
+      | inr (inr often) ↦ inr (inr (read_often _ _ _ _ (c.run.ensures.many often).0.read (c.run.ensures.too_many often) (c.run.ensures.many often).0.consumed (c.run.ensures.many often).1, c.run.ensures.not_ended often))
     ]
 
 pub returns-in-Ok-clause-no_fault : goal.returns-in-Ok-clause-no_fault
@@ -48,3 +49,6 @@ returns-in-Ok-clause-part g c three =
       | inl write ↦ inl (c.run.ensures.write write)
       | inr failed ↦ inr (record { profile = c.in-Ok.profile; says = c.in-Ok.ensures.ok; holds = c.run.ensures.before failed })
     ]
+
+pub returns-in-Err-clause-reads : goal.returns-in-Err-clause-reads
+returns-in-Err-clause-reads g c = no_reads _
