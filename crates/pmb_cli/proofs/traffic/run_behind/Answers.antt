@@ -44,9 +44,11 @@ returns-in-Ok-from_toml-clause-io_failed g c three =
         c.run.ensures.read_not_ended read ∙ c.in-Ok.ensures.mark_not_ended (sym c.has_capture.ensures ∙ c.if-has_capture.true),
       )
       | inr (inl write) ↦ inr (inl (c.run.ensures.write write))
-      | inr (inr often) ↦ inr (inr (read_often_behind _ _ _ _ _ _ c.in-Ok.ensures.ok.read (c.run.ensures.many often).0.read c.in-Ok.ensures.reads (c.run.ensures.too_many often)
-          c.in-Ok.ensures.ok.reads.gave.consumed (c.run.ensures.many often).0.consumed (c.run.ensures.many often).1,
-        c.run.ensures.not_ended often ∙ c.in-Ok.ensures.mark_not_ended (sym c.has_capture.ensures ∙ c.if-has_capture.true)))
+      | inr (inr often) ↦ inr (inr (
+        read_often_behind _ _ _ _ _ _ c.in-Ok.ensures.ok.read (c.run.ensures.many often).0.read c.in-Ok.ensures.reads (c.run.ensures.too_many often)
+            c.in-Ok.ensures.ok.reads.gave.consumed (c.run.ensures.many often).0.consumed (c.run.ensures.many often).1,
+        c.run.ensures.not_ended often ∙ c.in-Ok.ensures.mark_not_ended (sym c.has_capture.ensures ∙ c.if-has_capture.true),
+      ))
     ]
 
 -- What was written before that is the text of what has ended.
