@@ -13,5 +13,3 @@ mod formats;
 mod lines;
 #[cfg(test)]
 mod runs;
-#[cfg(test)]
-mod waiting;
