@@ -4,11 +4,13 @@
 //! with them, and they, in `tests_transactions`, with events that were written by hand.
 #![tactic(auto)]
 
+mod captures;
 mod legs;
 mod packets;
 mod texts;
 mod viability;
 
+pub use captures::{CapturedRow, LONG, PACKETS, REFUSALS};
 pub use legs::NoPacket;
 pub use packets::packet;
 pub use texts::{LONG_FORMS, SEVENTEEN_DEVICES, events};

@@ -1,18 +1,8 @@
-//! Tests of `pmb_reader`: captures with what they read as, told by hand; and captures of every sort,
-//! whole, damaged and short ones in every order, against a reader that decides each event anew by the
-//! rules in words.
+//! Tests of `pmb_reader`: captures with what they read as, told by hand, however they are cut.
 #![tactic(auto)]
 
 #[cfg(test)]
-mod compared;
-#[cfg(test)]
-mod damaged;
-#[cfg(test)]
-mod every_order;
-#[cfg(test)]
 mod example;
-#[cfg(test)]
-mod plain;
 #[cfg(test)]
 mod rows;
 #[cfg(test)]

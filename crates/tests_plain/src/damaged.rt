@@ -1,8 +1,7 @@
 //! Captures that were damaged at random, from a fixed seed, against a reader by the rules in words.
 
 use crate::compared::first_difference;
-use crate::rows::{LONG, PACKETS, REFUSALS, Row};
-use plain_packets::{LONG_FORMS, events};
+use plain_packets::{CapturedRow, LONG, LONG_FORMS, PACKETS, REFUSALS, events};
 use pmb_bus::Event;
 use pmb_table::{Profile, SAMPLE};
 use std::alloc::{AllocError, Global};
@@ -97,8 +96,8 @@ fn compares<R: Abort>(
     alloc: Global,
     profile: &Profile,
     random: &mut Random,
-    row: Row,
-    neighbour: Row,
+    row: CapturedRow,
+    neighbour: CapturedRow,
 ) -> Result<(), Fail> {
     let (name, _) = row;
     let (behind, _) = neighbour;
@@ -117,7 +116,7 @@ fn compare<R: Abort>(
     alloc: Global,
     profile: &str,
     random: &mut Random,
-    rows: &[Row],
+    rows: &[CapturedRow],
 ) -> Result<(), Fail> {
     let profile = Profile::from_toml(alloc, profile.as_bytes())?;
     let mut neighbour = ("", "");
