@@ -1,5 +1,5 @@
 -- What was written where a run over a capture returns.
-use Rattle.std.proofs.Common.{◌≡◌, ◌≤◌, ℕ, ◌⊎◌, Bool, IfOk, Result, Err, Option, List, ◌++◌, length, inl, inr, sym, ◌∙◌, ap, subst}
+use Rattle.std.proofs.Common.{◌≡◌, ◌≢◌, ◌≤◌, ℕ, ◌⊎◌, Bool, IfOk, Result, Ok, Err, Option, List, ◌++◌, length, inl, inr, sym, ◌∙◌, ap, subst}
 use Rattle.pmb_bus.specs.Text.{BeginsText}
 use Rattle.pmb_command.specs.Parts.{DeviceParts}
 use Rattle.pmb_io.specs.declared.fault.ToolFault.{ToolFault}
@@ -13,11 +13,25 @@ use Rattle.pmb_capture.specs.Output.{OutputText, text_of}
 use Rattle.pmb_capture.specs.Written.{WritesAtEnd, WritesFront, WritesUpToStop}
 use Rattle.pmb_capture.specs.machine.Capture.{Stands, HasWritten, HasStopped, HasEnded, profile_of}
 
+-- a tally is no fault
+pub no_fault : {A : Type 0} (tally : Tally) (fault : ToolFault) → Ok tally ≡ Err fault → A
+no_fault tally fault is = cc
+
+-- nor is the end of the loop one
+pub no_such : (r : Result Unit ToolFault) (wanted : ToolFault) {done : Unit {0}} → r ≡ Ok done → r ≢ Err wanted
+no_such r wanted is was = cc
+
 -- a fault of the loop is the fault that is answered
 pub same_fault : (r : Result Unit ToolFault) (answer : Result Tally ToolFault) (fault wanted : ToolFault) → r ≡ Err fault → answer ≡ Err fault → answer ≡ Err wanted → r ≡ Err wanted
 same_fault r answer fault wanted is answered same =
     let one : fault ≡ wanted = cc in
     is ∙ ap Err one
+
+-- and no other
+pub other_fault : (r : Result Unit ToolFault) (answer : Result Tally ToolFault) (fault wanted : ToolFault) → r ≡ Err fault → answer ≡ Err fault → answer ≢ Err wanted → r ≢ Err wanted
+other_fault r answer fault wanted is answered other was =
+    let one : fault ≡ wanted = cc in
+    other (answered ∙ ap Err one)
 
 -- `Ok`: the bytes ended, or a word of them is no token
 abbrev pub IsDone : {R : Type 0} → (R → ReaderTold) → OutputText → List DeviceParts → Tally → List ℕ → R → R → Option (List ℕ) → Option (List ℕ) → Bool → Type 0

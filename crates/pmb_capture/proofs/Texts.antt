@@ -40,6 +40,11 @@ noted line note waited lined marked said ended own mark says end =
     end ∙ (ap (λ l. l ++ codes "\n") so_far ∙ (append_assoc ((waited ++ line) ++ codes " # ") note (codes "\n")
     ∙ (append_assoc (waited ++ line) (codes " # ") last ∙ append_assoc waited line (codes " # " ++ last))))
 
+-- pieces, each behind those before it
+pub of_seven : (a b c d e f g l0 l1 l2 l3 l4 l5 l6 l7 : List ℕ) → l0 ≡ [] → l1 ≡ l0 ++ a → l2 ≡ l1 ++ b → l3 ≡ l2 ++ c → l4 ≡ l3 ++ d → l5 ≡ l4 ++ e → l6 ≡ l5 ++ f → l7 ≡ l6 ++ g
+    → l7 ≡ a ++ b ++ c ++ d ++ e ++ f ++ g
+of_seven a b c d e f g l0 l1 l2 l3 l4 l5 l6 l7 none first second third fourth fifth sixth seventh = cc
+
 -- ---- counts
 
 count_by-append : (p : Outcome → Bool) (xs ys : List Outcome) → count_by p (xs ++ ys) ≡ count_by p xs + count_by p ys

@@ -15,3 +15,9 @@ returns-clause-can_end g c profile standing stands reading = (end_outcomes c.rep
 
 pub returns-in_err-take_fault-clause-can_end : goal.returns-in_err-take_fault-clause-can_end
 returns-in_err-take_fault-clause-can_end g c profile standing stands reading = (end_outcomes c.report_end.result, c.report_end.ensures profile standing stands reading)
+
+pub returns-clause-counted : goal.returns-clause-counted
+returns-clause-counted g c = c.in_ok-take_fault.ensures.counted
+
+pub returns-in_err-take_fault-clause-counted : goal.returns-in_err-take_fault-clause-counted
+returns-in_err-take_fault-clause-counted g c = c.in_err-take_fault.ensures.counted

@@ -1,3 +1,4 @@
+use Rattle.std.proofs.Common.{ap, length, arith, length-append}
 use Rattle.pmb_line.specs.Spelling.{line}
 use Rattle.pmb_note.specs.Note.{note}
 use Rattle.pmb_transaction.specs.Transaction.{transaction_data}
@@ -12,3 +13,16 @@ returns-clause-line c before seen =
 
 pub returns-clause-seen : goal.returns-clause-seen
 returns-clause-seen c before = c.observe.ensures c.args.self.now.profile.now before
+
+-- there is room for each
+pub append_line-requires : goal.append_line-requires
+append_line-requires c = omega arith
+
+pub append-requires : goal.append-requires
+append-requires c = omega arith
+
+pub append_note-requires : goal.append_note-requires
+append_note-requires c = omega (arith, simp length-append at (ap length c.append.ensures))
+
+pub append-requires-2 : goal.append-requires-2
+append-requires-2 c = omega (arith, simp length-append at (ap length c.append.ensures))

@@ -1,5 +1,4 @@
 use Rattle.std.proofs.Common.{Bor, List, [], ◌∷◌, ◌++◌, subst, sym}
-use Rattle.std.proofs.lemmas.Result.{on_ok_weaker}
 use Rattle.pmb_command.specs.Parts.{DeviceParts}
 use Rattle.pmb_note.specs.Context.{HasSeen}
 use Rattle.pmb_transaction.specs.Transaction.{transaction_data}
