@@ -46,9 +46,9 @@ fn write_events(alloc: Global, profile: &Profile, parts: &[Part]) -> Result<Vec<
     ensures { IfOk result (λ events. EndsAtStop events.items) }
 {
     require(!parts.is_empty())?;
-    let mut events = parts_events(alloc, profile, parts)?;
-    events.push(Event::Stop)?;
-    Ok(events)
+    let mut group = parts_events(alloc, profile, parts)?;
+    group.push(Event::Stop)?;
+    Ok(group)
 }
 
 /// Appends the last leg, whose last byte has NACK, and STOP.

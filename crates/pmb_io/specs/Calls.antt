@@ -4,7 +4,7 @@ use Rattle.std.specs.Io.KnownBytes.{Appends}
 use Rattle.pmb_io.specs.Count.{raised}
 use Rattle.pmb_io.specs.declared.fault.IoFault.{IoFault}
 use Rattle.pmb_io.specs.declared.fault.ToolFault.{ToolFault}
-use Rattle.pmb_io.specs.declared.fault.ToolFault.TheVariants.{Write}
+use Rattle.pmb_io.specs.declared.fault.ToolFault.TheVariants.{Read, Write}
 use Rattle.pmb_io.specs.declared.io.Io.{Io}
 
 -- a call that fails is counted, and no other
@@ -38,6 +38,26 @@ pub record WritesFront (held_old held_new : Option (List ℕ)) (bytes : List ℕ
 abbrev pub WriterTells : {A : Type 0} → ℕ → ℕ → Result A ToolFault → Type 0
 WriterTells old new (Ok x) = new ≡ old
 WriterTells old new (Err fault) = (fault ≡ Write) × (new ≡ raised old 1)
+
+-- A call of ours that reads: the reader failed exactly where it answers `Read`, its only fault.
+abbrev pub ReaderTells : {A : Type 0} → ℕ → ℕ → Result A ToolFault → Type 0
+ReaderTells old new (Ok x) = new ≡ old
+ReaderTells old new (Err fault) = (fault ≡ Read) × (new ≡ raised old 1)
+
+-- It made this one read, which is counted where it gave bytes,
+abbrev pub ReadsOnce : ℕ → ℕ → Result ℕ ToolFault → Type 0
+ReadsOnce old new (Ok n) = new ≡ raised old (min n 1)
+ReadsOnce old new (Err fault) = new ≡ old
+
+-- and so are they.
+abbrev pub ReadsBytes : ℕ → ℕ → Result ℕ ToolFault → Type 0
+ReadsBytes old new (Ok n) = new ≡ raised old n
+ReadsBytes old new (Err fault) = new ≡ old
+
+-- It has ended from then on where that read gave 0 bytes into a buffer with room.
+abbrev pub ReadsToEnd : Bool → Bool → Result ℕ ToolFault → List ℕ → Type 0
+ReadsToEnd old new (Ok n) buffer = new ≡ (old || (n == 0 && nat_lt 0 (length buffer)))
+ReadsToEnd old new (Err fault) buffer = new ≡ old
 
 -- what an `Io` has inside, and what it has counted so far
 abbrev pub io_inner : {T : Type 0} → Io T → T

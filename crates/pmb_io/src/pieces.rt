@@ -1,7 +1,8 @@
 //! The loop over what a reader gives.
 
 ghost use Rattle.std.specs.Prelude.{◌≡◌, ◌≢◌, ◌≤◌, ◌⊎◌, ℕ, List, length, [], ◌++◌, IfOk, OnOk, Err};
-ghost use Rattle.pmb_io.specs.Calls.{WriterTells};
+ghost use Rattle.std.specs.Io.KnownBytes.{ReadConsumes};
+ghost use Rattle.pmb_io.specs.Calls.{ReaderTells, ReadsBytes, ReadsOnce, ReadsToEnd, WriterTells};
 ghost use Rattle.pmb_io.specs.Count.{raised};
 ghost use Rattle.pmb_io.specs.Engines.{Either, WritesOut};
 ghost use Rattle.pmb_io.specs.Runs.{Ended, MadeReads, Stopped, Through, most_reads};
@@ -79,10 +80,7 @@ pub fn each_piece<E: Engine, R: Source, W: Sink>(
     }
     let mut piece = [0; PIECE];
     'reads: for _ in 0..MOST_READS {
-        let count = match reader.read(&mut piece) {
-            Ok(count) => count,
-            Err(_) => return Err(ToolFault::Read),
-        };
+        let count = next_piece(reader, &mut piece)?;
         if count == 0 {
             return take_end(engine, &mut waiting, writer);
         }
@@ -92,6 +90,21 @@ pub fn each_piece<E: Engine, R: Source, W: Sink>(
         }
     }
     Err(ToolFault::TooManyReads)
+}
+
+/// Reads once, and answers how many bytes that gave; 0 is the end.
+fn next_piece<R: Source>(reader: &mut R, piece: &mut [u8]) -> Result<usize, ToolFault>
+    ensures within { IfOk result (λ n. n ≤ length piece.new) }
+    ensures bytes { ReadConsumes (R.remaining reader.old) (R.remaining reader.new) result piece.new }
+    ensures failed { ReaderTells (R.failures reader.old) (R.failures reader.new) result }
+    ensures read { ReadsOnce (R.reads reader.old) (R.reads reader.new) result }
+    ensures given { ReadsBytes (R.given reader.old) (R.given reader.new) result }
+    ensures ended { ReadsToEnd (R.has_ended reader.old) (R.has_ended reader.new) result piece.new }
+{
+    let Ok(count) = reader.read(piece) else {
+        return Err(ToolFault::Read);
+    };
+    Ok(count)
 }
 
 /// Hands a piece to an engine, and writes what it puts out.

@@ -1,4 +1,4 @@
-use Rattle.std.proofs.Common.{ℕ, List, Ok, inl, inr, subst}
+use Rattle.std.proofs.Common.{ℕ, List, Ok, inl, inr, refl, subst}
 use Rattle.pmb_table.specs.Profile.{Says}
 use Rattle.pmb_front.proofs.sample.sample_profile.Goals as goal
 
@@ -8,3 +8,7 @@ returns-in-Ok-clause-ok c = elim c.in-Ok.ensures.says [
   | inl memory ↦ absurd (cc)
   | inr says ↦ subst (λ (text : List ℕ). Says text (Ok c.in-Ok.profile)) c.as_bytes.ensures.value says
 ]
+
+-- What was not read lacked memory.
+pub returns-in-Err-clause-memory : goal.returns-in-Err-clause-memory
+returns-in-Err-clause-memory c = refl
