@@ -13,17 +13,17 @@ CountsFailure old new (Ok x) = new ≡ old
 CountsFailure old new (Err fault) = new ≡ raised old 1
 
 -- so is a read that gives bytes, as one
-abbrev pub CountsRead : ℕ → ℕ → Result ℕ IoFault → Type 0
+abbrev pub CountsRead : {F : Type 0} → ℕ → ℕ → Result ℕ F → Type 0
 CountsRead old new (Ok n) = new ≡ raised old (min n 1)
 CountsRead old new (Err fault) = new ≡ old
 
 -- and so are the bytes that it gives
-abbrev pub CountsBytes : ℕ → ℕ → Result ℕ IoFault → Type 0
+abbrev pub CountsBytes : {F : Type 0} → ℕ → ℕ → Result ℕ F → Type 0
 CountsBytes old new (Ok n) = new ≡ raised old n
 CountsBytes old new (Err fault) = new ≡ old
 
 -- a reader has ended from the first read that gave 0 bytes into a buffer with room
-abbrev pub TellsEnd : Bool → Bool → Result ℕ IoFault → List ℕ → Type 0
+abbrev pub TellsEnd : {F : Type 0} → Bool → Bool → Result ℕ F → List ℕ → Type 0
 TellsEnd old new (Ok n) buffer = new ≡ (old || (n == 0 && nat_lt 0 (length buffer)))
 TellsEnd old new (Err fault) buffer = new ≡ old
 
@@ -43,21 +43,6 @@ WriterTells old new (Err fault) = (fault ≡ Write) × (new ≡ raised old 1)
 abbrev pub ReaderTells : {A : Type 0} → ℕ → ℕ → Result A ToolFault → Type 0
 ReaderTells old new (Ok x) = new ≡ old
 ReaderTells old new (Err fault) = (fault ≡ Read) × (new ≡ raised old 1)
-
--- It made this one read, which is counted where it gave bytes,
-abbrev pub ReadsOnce : ℕ → ℕ → Result ℕ ToolFault → Type 0
-ReadsOnce old new (Ok n) = new ≡ raised old (min n 1)
-ReadsOnce old new (Err fault) = new ≡ old
-
--- and so are they.
-abbrev pub ReadsBytes : ℕ → ℕ → Result ℕ ToolFault → Type 0
-ReadsBytes old new (Ok n) = new ≡ raised old n
-ReadsBytes old new (Err fault) = new ≡ old
-
--- It has ended from then on where that read gave 0 bytes into a buffer with room.
-abbrev pub ReadsToEnd : Bool → Bool → Result ℕ ToolFault → List ℕ → Type 0
-ReadsToEnd old new (Ok n) buffer = new ≡ (old || (n == 0 && nat_lt 0 (length buffer)))
-ReadsToEnd old new (Err fault) buffer = new ≡ old
 
 -- what an `Io` has inside, and what it has counted so far
 abbrev pub io_inner : {T : Type 0} → Io T → T

@@ -2,7 +2,7 @@
 
 ghost use Rattle.std.specs.Prelude.{◌≡◌, ◌≢◌, ◌≤◌, ◌⊎◌, ℕ, List, length, [], ◌++◌, IfOk, OnOk, Err};
 ghost use Rattle.std.specs.Io.KnownBytes.{ReadConsumes};
-ghost use Rattle.pmb_io.specs.Calls.{ReaderTells, ReadsBytes, ReadsOnce, ReadsToEnd, WriterTells};
+ghost use Rattle.pmb_io.specs.Calls.{CountsBytes, CountsRead, ReaderTells, TellsEnd, WriterTells};
 ghost use Rattle.pmb_io.specs.Count.{raised};
 ghost use Rattle.pmb_io.specs.Engines.{Either, WritesOut};
 ghost use Rattle.pmb_io.specs.Runs.{Ended, MadeReads, Stopped, Through, most_reads};
@@ -97,9 +97,9 @@ fn next_piece<R: Source>(reader: &mut R, piece: &mut [u8]) -> Result<usize, Tool
     ensures within { IfOk result (λ n. n ≤ length piece.new) }
     ensures bytes { ReadConsumes (R.remaining reader.old) (R.remaining reader.new) result piece.new }
     ensures failed { ReaderTells (R.failures reader.old) (R.failures reader.new) result }
-    ensures read { ReadsOnce (R.reads reader.old) (R.reads reader.new) result }
-    ensures given { ReadsBytes (R.given reader.old) (R.given reader.new) result }
-    ensures ended { ReadsToEnd (R.has_ended reader.old) (R.has_ended reader.new) result piece.new }
+    ensures read { CountsRead (R.reads reader.old) (R.reads reader.new) result }
+    ensures given { CountsBytes (R.given reader.old) (R.given reader.new) result }
+    ensures ended { TellsEnd (R.has_ended reader.old) (R.has_ended reader.new) result piece.new }
 {
     let Ok(count) = reader.read(piece) else {
         return Err(ToolFault::Read);
