@@ -3,6 +3,7 @@ pub mod Steps
 pub mod Completions
 pub mod Completeness
 pub mod Faults
+pub mod Told
 pub mod Standing
 pub mod Digits
 pub mod WordLemmas

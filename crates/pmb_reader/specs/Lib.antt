@@ -1,4 +1,5 @@
 pub mod Refusal
+pub mod Standing
 pub mod Reader
 pub mod Feed
 pub mod Reading

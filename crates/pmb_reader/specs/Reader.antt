@@ -18,7 +18,8 @@ use Rattle.pmb_reader.specs.declared.reader.Took.TheVariants as answers
 use Rattle.pmb_reader.specs.declared.reader.Reader.{Reader}
 use Rattle.pmb_reader.specs.declared.refusal.Refusal.{Refusal}
 use Rattle.pmb_reader.specs.Refusal.{refusal_data}
-pub use Rattle.pmb_reader.specs.machine.Standing.{Standing, Open, Held, Passing, StandsAt, last_read}
+pub use Rattle.pmb_reader.specs.Standing.{Standing, Open, Held, Passing}
+pub use Rattle.pmb_reader.specs.machine.Standing.{StandsAt, last_read}
 
 -- where it stands behind an event that is passed over
 abbrev pub behind_passed : ℕ → Event → Standing

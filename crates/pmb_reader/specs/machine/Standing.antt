@@ -1,22 +1,15 @@
--- Where a reader stands.
+-- What the fields of a reader say of where it stands.
 use Rattle.std.specs.Prelude.{◌≡◌, ℕ, ◌+◌, List, [], length}
 use Rattle.pmb_bus.specs.declared.event.Event.{Event}
 use Rattle.pmb_bus.specs.Count.{capped}
 use Rattle.pmb_command.specs.Parts.{DeviceParts}
 use Rattle.pmb_transaction.specs.Transaction.{TransactionData}
-use Rattle.pmb_transaction.specs.Reading.{RefusalData}
 use Rattle.pmb_reader.specs.declared.reader.Mode.{Mode}
 use Rattle.pmb_reader.specs.declared.reader.Mode.TheVariants as modes
 use Rattle.pmb_reader.specs.declared.reader.Reader.{Reader}
 use Rattle.pmb_reader.specs.Refusal.{refusal_data}
+use Rattle.pmb_reader.specs.Standing.{Standing, Open, Held, Passing}
 use Rattle.pmb_under_way.specs.UnderWay.{StandsIn, packet_of}
-
--- Where a reader stands: n events came, and then those of the packet under way, if there are any; or
--- n events came, and it holds a refusal of the next, or passes over those up to the next STOP.
-pub data Standing : Type 0 where
-  Open : (n : ℕ) → (events : List Event) → Standing
-  Held : (n : ℕ) → (refusal : RefusalData) → Standing
-  Passing : (n : ℕ) → Standing
 
 -- the events of the packet under way
 abbrev pub events_of : Standing → List Event
