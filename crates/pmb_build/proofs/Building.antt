@@ -3,42 +3,42 @@ use Rattle.std.proofs.Common.{◌≡◌, ℕ, ◌+◌, Bool, cond, List, [], ◌
 use Rattle.std.proofs.lemmas.List.Sums.{fold-append}
 use Rattle.std.specs.Borrow.{Bor}
 use Rattle.std.specs.Prelude.{Option}
-use Rattle.pmb_io.specs.Count.{counted}
+use Rattle.pmb_io.specs.Count.{capped}
 use Rattle.pmb_io.specs.Engines.{PutsOut}
 use Rattle.pmb_io.specs.Lines.{TextLine}
-use Rattle.pmb_io.specs.Tally.{Counts}
+use Rattle.pmb_io.specs.Tally.{IsTallyOf}
 use Rattle.pmb_io.specs.declared.tally.Tally.{Tally}
 use Rattle.pmb_command.specs.Parts.{DeviceParts}
-use Rattle.pmb_build.specs.Answer.{Answer, AnswersLine, AnswersText, Built, Refused, Nothing, answer_text, is_built, is_refused}
-use Rattle.pmb_build.specs.Lines.{AnswersCounted, AnswersEach, AnswersLines, text_behind}
+use Rattle.pmb_build.specs.Answer.{BuildAnswer, BuildsLine, BuildsText, Built, Refused, Nothing, answer_text, is_built, is_refused}
+use Rattle.pmb_build.specs.Lines.{BuildsCounted, BuildsEach, BuildsLines, answers_behind}
 use Rattle.pmb_build.specs.declared.builder.Builder.{Builder}
-use Rattle.pmb_build.specs.machine.Building.{Stands, Takes, counted_in}
+use Rattle.pmb_build.specs.machine.Building.{BuilderStands, BuilderTakes, counted_in}
 
 -- the answers to lines and then to others
-answers-append : (profile : List DeviceParts) (given others : List TextLine) (answers more : List Answer) → AnswersEach profile given answers → AnswersEach profile others more
-    → AnswersEach profile (given ++ others) (answers ++ more)
+answers-append : (profile : List DeviceParts) (given others : List TextLine) (answers more : List BuildAnswer) → BuildsEach profile given answers → BuildsEach profile others more
+    → BuildsEach profile (given ++ others) (answers ++ more)
 answers-append profile [] others [] more each next = next
 answers-append profile [] others (answer ∷ answers) more each next = absurd each
 answers-append profile (line ∷ given) others [] more each next = absurd each
 answers-append profile (line ∷ given) others (answer ∷ answers) more each next = (each.0, answers-append profile given others answers more each.1 next)
 
 -- the text of answers and of one more
-text-push : (before n : ℕ) (answers : List Answer) (answer : Answer) → n ≡ before + length answers + 1
-    → text_behind before (answers ++ answer ∷ []) ≡ text_behind before answers ++ answer_text (counted n) answer
+text-push : (before n : ℕ) (answers : List BuildAnswer) (answer : BuildAnswer) → n ≡ before + length answers + 1
+    → answers_behind before (answers ++ answer ∷ []) ≡ answers_behind before answers ++ answer_text (capped n) answer
 text-push before n [] answer count =
     let same : before + 1 ≡ n = omega (arith, count) in
-    append-nil (answer_text (counted (before + 1)) answer) ∙ ap (λ (m : ℕ). answer_text (counted m) answer) same
+    append-nil (answer_text (capped (before + 1)) answer) ∙ ap (λ (m : ℕ). answer_text (capped m) answer) same
 text-push before n (a ∷ answers) answer count =
     let count_behind : n ≡ before + 1 + length answers + 1 = omega (arith, count) in
-    ap (λ (t : List ℕ). answer_text (counted (before + 1)) a ++ t) (text-push (before + 1) n answers answer count_behind)
-    ∙ sym (append_assoc (answer_text (counted (before + 1)) a) (text_behind (before + 1) answers) (answer_text (counted n) answer))
+    ap (λ (t : List ℕ). answer_text (capped (before + 1)) a ++ t) (text-push (before + 1) n answers answer count_behind)
+    ∙ sym (append_assoc (answer_text (capped (before + 1)) a) (answers_behind (before + 1) answers) (answer_text (capped n) answer))
 
 -- one answer more is counted
-one_more : (p : Answer → Bool) (answers : List Answer) (answer : Answer) → count_by p (answers ++ answer ∷ []) ≡ count_by p answers + cond (p answer) 1 0
-one_more p answers answer = fold-append (λ (n : ℕ) (a : Answer). n + cond (p a) 1 0) 0 answers (answer ∷ [])
+one_more : (p : BuildAnswer → Bool) (answers : List BuildAnswer) (answer : BuildAnswer) → count_by p (answers ++ answer ∷ []) ≡ count_by p answers + cond (p answer) 1 0
+one_more p answers answer = fold-append (λ (n : ℕ) (a : BuildAnswer). n + cond (p a) 1 0) 0 answers (answer ∷ [])
 
-counts_more : (tally : Tally) (answers : List Answer) (answer : Answer) → Counts (count_by is_built answers) (count_by is_refused answers) tally
-    → Counts (count_by is_built (answers ++ answer ∷ [])) (count_by is_refused (answers ++ answer ∷ [])) (counted_in answer tally)
+counts_more : (tally : Tally) (answers : List BuildAnswer) (answer : BuildAnswer) → IsTallyOf (count_by is_built answers) (count_by is_refused answers) tally
+    → IsTallyOf (count_by is_built (answers ++ answer ∷ [])) (count_by is_refused (answers ++ answer ∷ [])) (counted_in answer tally)
 counts_more tally answers (Built events) counts =
     let packets = one_more is_built answers (Built events) in
     let refusals = one_more is_refused answers (Built events) in record {
@@ -59,13 +59,13 @@ counts_more tally answers Nothing counts =
     }
 
 -- a line more
-pub answers_more : (start before after : Builder) (given : List TextLine) (text : List ℕ) (line : TextLine) (answer : Answer) (number : ℕ)
-    → number ≡ counted (before.lines + 1) → after.profile.now ≡ before.profile.now → after.lines ≡ number → after.tally ≡ counted_in answer before.tally
-    → AnswersLine before.profile.now line answer → Stands start before given text → Stands start after (given ++ line ∷ []) (text ++ answer_text number answer)
+pub answers_more : (start before after : Builder) (given : List TextLine) (text : List ℕ) (line : TextLine) (answer : BuildAnswer) (number : ℕ)
+    → number ≡ capped (before.lines + 1) → after.profile.now ≡ before.profile.now → after.lines ≡ number → after.tally ≡ counted_in answer before.tally
+    → BuildsLine before.profile.now line answer → BuilderStands start before given text → BuilderStands start after (given ++ line ∷ []) (text ++ answer_text number answer)
 answers_more start before after given text line answer number number_is same lines_are tally_is answered stands =
     let was = stands.answered.given in
-    let numbered : number ≡ counted (length was.answers + 1) = omega (arith, number_is, stands.number) in
-    let one = subst (λ (p : List DeviceParts). AnswersLine p line answer) stands.same answered in record {
+    let numbered : number ≡ capped (length was.answers + 1) = omega (arith, number_is, stands.number) in
+    let one = subst (λ (p : List DeviceParts). BuildsLine p line answer) stands.same answered in record {
       same = same ∙ stands.same;
       answered = record {
         given = record {
@@ -73,34 +73,34 @@ answers_more start before after given text line answer number number_is same lin
           each = answers-append start.profile.now given (line ∷ []) was.answers (answer ∷ []) was.each (one, tt);
           whole = (λ i. was.whole i ++ answer_text (numbered i) answer) ∙ sym (text-push 0 (length was.answers + 1) was.answers answer (omega arith));
         };
-        counts = subst (λ (t : Tally). Counts (count_by is_built (was.answers ++ answer ∷ [])) (count_by is_refused (was.answers ++ answer ∷ [])) t) (sym tally_is)
+        counts = subst (λ (t : Tally). IsTallyOf (count_by is_built (was.answers ++ answer ∷ [])) (count_by is_refused (was.answers ++ answer ∷ [])) t) (sym tally_is)
             (counts_more before.tally was.answers answer stands.answered.counts);
       };
-      number = lines_are ∙ (numbered ∙ ap (λ (n : ℕ). counted n) (sym (length-append was.answers (answer ∷ []))));
+      number = lines_are ∙ (numbered ∙ ap (λ (n : ℕ). capped n) (sym (length-append was.answers (answer ∷ []))));
     }
 
 -- what was put out for a line that was counted
 pub puts_more : (start before counting after : Builder) (given : List TextLine) (text : List ℕ) (line : TextLine) (said : List ℕ) (held_old : Option (List ℕ)) (waiting_old : List ℕ) (held_new : Option (List ℕ)) (waiting_new : List ℕ)
-    → counting.profile ≡ before.profile → counting.lines ≡ counted (before.lines + 1) → counting.tally ≡ before.tally
-    → ((answer : Answer) → AnswersText before.profile.now said answer → AnswersLine before.profile.now line answer)
-    → Stands start before given text → Takes counting after said held_old waiting_old held_new waiting_new
-    → PutsOut (λ more. Stands start after (given ++ line ∷ []) (text ++ more)) held_old waiting_old held_new waiting_new
+    → counting.profile ≡ before.profile → counting.lines ≡ capped (before.lines + 1) → counting.tally ≡ before.tally
+    → ((answer : BuildAnswer) → BuildsText before.profile.now said answer → BuildsLine before.profile.now line answer)
+    → BuilderStands start before given text → BuilderTakes counting after said held_old waiting_old held_new waiting_new
+    → PutsOut (λ more. BuilderStands start after (given ++ line ∷ []) (text ++ more)) held_old waiting_old held_new waiting_new
 puts_more start before counting after given text line said held_old waiting_old held_new waiting_new same lines_are tally_is says stands takes =
     let profile_is = ap (λ (p : Bor (List DeviceParts)). p.now) same in record {
       text = answer_text counting.lines takes.answer;
       writes = takes.writes;
       holds = answers_more start before after given text line takes.answer counting.lines lines_are (ap (λ (p : Bor (List DeviceParts)). p.now) takes.same ∙ profile_is) takes.lines
           (takes.tally ∙ ap (counted_in takes.answer) tally_is)
-          (says takes.answer (subst (λ (p : List DeviceParts). AnswersText p said takes.answer) profile_is takes.answers)) stands;
+          (says takes.answer (subst (λ (p : List DeviceParts). BuildsText p said takes.answer) profile_is takes.answers)) stands;
     }
 
 -- ---- what was built from the beginning
 
-pub answers_of : (profile : List DeviceParts) (start now : Builder) (given : List TextLine) (text : List ℕ) → start.profile.now ≡ profile → Stands start now given text → AnswersLines profile given text
-answers_of profile start now given text is stands = subst (λ (p : List DeviceParts). AnswersLines p given text) is stands.answered.given
+pub answers_of : (profile : List DeviceParts) (start now : Builder) (given : List TextLine) (text : List ℕ) → start.profile.now ≡ profile → BuilderStands start now given text → BuildsLines profile given text
+answers_of profile start now given text is stands = subst (λ (p : List DeviceParts). BuildsLines p given text) is stands.answered.given
 
-pub answers_to : (profile : List DeviceParts) (start now : Builder) (tally : Tally) (given : List TextLine) (text : List ℕ) → start.profile.now ≡ profile → tally ≡ now.tally → Stands start now given text
-    → AnswersCounted profile tally given text
+pub answers_to : (profile : List DeviceParts) (start now : Builder) (tally : Tally) (given : List TextLine) (text : List ℕ) → start.profile.now ≡ profile → tally ≡ now.tally → BuilderStands start now given text
+    → BuildsCounted profile tally given text
 answers_to profile start now tally given text is same stands =
-    subst (λ (t : Tally). AnswersCounted profile t given text) (sym same)
-    (subst (λ (p : List DeviceParts). AnswersCounted p now.tally given text) is stands.answered)
+    subst (λ (t : Tally). BuildsCounted profile t given text) (sym same)
+    (subst (λ (p : List DeviceParts). BuildsCounted p now.tally given text) is stands.answered)

@@ -8,36 +8,36 @@ use Rattle.pmb_transaction.specs.Packet.{Packet}
 use Rattle.pmb_transaction.specs.Transaction.{TransactionData}
 use Rattle.pmb_line.specs.LineFault as names
 use Rattle.pmb_line.specs.LineFault.{IsLineFault}
-use Rattle.pmb_line.specs.Spelling.{Spells}
-use Rattle.pmb_line.specs.Words.{texts, words}
+use Rattle.pmb_line.specs.Spelling.{SpellsTransaction}
+use Rattle.pmb_line.specs.Words.{texts, line_words}
 use Rattle.pmb_line.specs.declared.line_fault.LineFault.{LineFault}
 use Rattle.pmb_line.specs.declared.line_fault.LineFault.TheVariants as fault
 
 -- the events of a packet, or why there is none, or nothing
-pub data Answer : Type 0 where
-  Built : List Event → Answer
-  Refused : LineFault → Answer
-  Nothing : Answer
+pub data BuildAnswer : Type 0 where
+  Built : List Event → BuildAnswer
+  Refused : LineFault → BuildAnswer
+  Nothing : BuildAnswer
 
 -- ---- how it is written
 
 -- a fault, behind the number of its line
-abbrev pub fault_text : ℕ → LineFault → List ℕ
-fault_text number why = codes "# line " ++ (decimal number ++ (codes ": " ++ (names.fault_text why ++ codes "\n")))
+abbrev pub numbered_fault : ℕ → LineFault → List ℕ
+numbered_fault number why = codes "# line " ++ (decimal number ++ (codes ": " ++ (names.fault_text why ++ codes "\n")))
 
 -- the answer to the line with a number
-abbrev pub answer_text : ℕ → Answer → List ℕ
+abbrev pub answer_text : ℕ → BuildAnswer → List ℕ
 answer_text number (Built events) = canonical_text events
-answer_text number (Refused why) = fault_text number why
+answer_text number (Refused why) = numbered_fault number why
 answer_text number Nothing = []
 
 -- which answers count as packets, and which as refusals
-abbrev pub is_built : Answer → Bool
+abbrev pub is_built : BuildAnswer → Bool
 is_built (Built events) = true
 is_built (Refused why) = false
 is_built Nothing = false
 
-abbrev pub is_refused : Answer → Bool
+abbrev pub is_refused : BuildAnswer → Bool
 is_refused (Built events) = false
 is_refused (Refused why) = true
 is_refused Nothing = false
@@ -45,8 +45,8 @@ is_refused Nothing = false
 -- ---- which answer it is
 
 -- the most bytes of a line, a CR at its end counted
-abbrev pub most_bytes : ℕ
-most_bytes = 32768
+abbrev pub most_build_line : ℕ
+most_build_line = 32768
 
 module _ (profile : List DeviceParts) where
   -- the canonical text of a transaction's packet
@@ -58,7 +58,7 @@ module _ (profile : List DeviceParts) where
   -- The line spells a transaction, and the events are its packet.
   pub record Builds (line : List ℕ) (events : List Event) : Type 0 where
     pub t : TransactionData
-    pub spells : Spells (texts (words line)) t
+    pub spells : SpellsTransaction (texts (line_words line)) t
     pub packet : Packet profile t events
 
   -- The line has words, and this is their first fault, or that of the transaction that they spell.
@@ -67,14 +67,14 @@ module _ (profile : List DeviceParts) where
     pub has_words : why ≢ fault.Blank
 
   -- what is answered to what a line says
-  abbrev pub AnswersText : List ℕ → Answer → Type 0
-  AnswersText line (Built events) = Builds line events
-  AnswersText line (Refused why) = IsRefused line why
-  AnswersText line Nothing = words line ≡ []
+  abbrev pub BuildsText : List ℕ → BuildAnswer → Type 0
+  BuildsText line (Built events) = Builds line events
+  BuildsText line (Refused why) = IsRefused line why
+  BuildsText line Nothing = line_words line ≡ []
 
   -- What is answered to a line. One of more bytes is too long behind the last that it may have,
   -- whatever it says.
-  abbrev pub AnswersLine : lines.TextLine → Answer → Type 0
-  AnswersLine (lines.Ended line) answer = AnswersText line answer
-  AnswersLine (lines.Last line) answer = AnswersText line answer
-  AnswersLine lines.TooLong answer = answer ≡ Refused (fault.TooLong most_bytes)
+  abbrev pub BuildsLine : lines.TextLine → BuildAnswer → Type 0
+  BuildsLine (lines.Ended line) answer = BuildsText line answer
+  BuildsLine (lines.Last line) answer = BuildsText line answer
+  BuildsLine lines.TooLong answer = answer ≡ Refused (fault.TooLong most_build_line)

@@ -4,11 +4,11 @@ ghost use Rattle.std.specs.Prelude.{◌≡◌, ◌≢◌, ℕ, ◌++◌, ◌∷�
 ghost use Rattle.pmb_io.specs.Calls.{WriterTells};
 ghost use Rattle.pmb_io.specs.Count.{raised};
 ghost use Rattle.pmb_io.specs.Engines.{PutsOut};
-ghost use Rattle.pmb_io.specs.Outgoing.{Writes};
+ghost use Rattle.pmb_io.specs.Outgoing.{PutsText};
 ghost use Rattle.pmb_io.specs.Tally.{with_refusal};
 ghost use Rattle.pmb_line.specs.LineFault.{IsLineFault};
-ghost use Rattle.pmb_build.specs.Answer.{fault_text};
-ghost use Rattle.pmb_build.specs.machine.Building.{Stands, Takes};
+ghost use Rattle.pmb_build.specs.Answer.{numbered_fault};
+ghost use Rattle.pmb_build.specs.machine.Building.{BuilderStands, BuilderTakes};
 
 use crate::fault_line::fault_line;
 use crate::packet::put_packet;
@@ -34,7 +34,7 @@ impl<'a> Builder<'a> {
     /// No line was taken yet.
     pub(crate) fn new(profile: &'a Profile) -> Builder<'a>
         ensures profile { result.profile.now ≡ profile.entry.now }
-        ensures begins { Stands result result [] [] }
+        ensures begins { BuilderStands result result [] [] }
     {
         Builder {
             profile,
@@ -58,7 +58,7 @@ impl<'a> Builder<'a> {
         waiting: &mut Waiting,
         writer: &mut W,
     ) -> Result<(), ToolFault>
-        ensures takes { OnOk result (Takes self.old self.new line.now (W.contents writer.old) waiting.old.items (W.contents writer.new) waiting.new.items) }
+        ensures takes { OnOk result (BuilderTakes self.old self.new line.now (W.contents writer.old) waiting.old.items (W.contents writer.new) waiting.new.items) }
         ensures failed { WriterTells (W.failures writer.old) (W.failures writer.new) result }
     {
         match self.reader.read(self.profile, line) {
@@ -86,7 +86,7 @@ impl<'a> Builder<'a> {
         ensures profile { self.new.profile ≡ self.old.profile }
         ensures lines { self.new.lines ≡ self.old.lines }
         ensures counted { self.new.tally ≡ with_refusal self.old.tally }
-        ensures writes { OnOk result (Writes (W.contents writer.old) waiting.old.items (W.contents writer.new) waiting.new.items (fault_text self.old.lines fault)) }
+        ensures writes { OnOk result (PutsText (W.contents writer.old) waiting.old.items (W.contents writer.new) waiting.new.items (numbered_fault self.old.lines fault)) }
         ensures failed { WriterTells (W.failures writer.old) (W.failures writer.new) result }
     {
         self.tally.count_refusal();
@@ -96,7 +96,7 @@ impl<'a> Builder<'a> {
 }
 
 impl<'a> LineTask for Builder<'a> {
-    ghost Stands = { Stands };
+    ghost Stands = { BuilderStands };
 
     fn take_line<W: Sink>(
         &mut self,

@@ -1,7 +1,7 @@
 //! The line that tells a line's fault.
 
 ghost use Rattle.std.specs.Prelude.{◌≡◌, ◌+◌, ◌≤◌, ◌++◌, length};
-ghost use Rattle.pmb_build.specs.Answer.{fault_text};
+ghost use Rattle.pmb_build.specs.Answer.{numbered_fault};
 
 use arrayvec::ArrayVec;
 use itoa::Buffer;
@@ -12,7 +12,7 @@ pub(crate) type FaultLine = ArrayVec<u8, 64>;
 
 /// The line that tells the fault of the line with a number.
 pub(crate) fn fault_line(number: u64, fault: LineFault) -> FaultLine
-    ensures { result.items ≡ fault_text number fault }
+    ensures { result.items ≡ numbered_fault number fault }
 {
     let mut line = FaultLine::new();
     append(&mut line, b"# line ");

@@ -5,7 +5,7 @@ ghost use Rattle.hex.specs.Hex.{lower_digits};
 ghost use Rattle.pmb_bus.specs.Event.{text_of};
 ghost use Rattle.pmb_io.specs.Calls.{WriterTells};
 ghost use Rattle.pmb_io.specs.Engines.{PutsOut};
-ghost use Rattle.pmb_io.specs.Outgoing.{Writes};
+ghost use Rattle.pmb_io.specs.Outgoing.{PutsText};
 ghost use Rattle.pmb_transaction.specs.Transaction.{transaction_data};
 ghost use Rattle.pmb_writer.specs.Invalid.{HasPacket};
 ghost use Rattle.pmb_build.specs.Answer.{IsPacketText};
@@ -40,7 +40,7 @@ pub(crate) fn put_packet<W: Sink>(
 /// Puts out an event. What waits is sent first where the event's text doesn't fit behind it.
 #[inline]
 fn put_event<W: Sink>(event: Event, waiting: &mut Waiting, writer: &mut W) -> Result<(), ToolFault>
-    ensures writes { OnOk result (Writes (W.contents writer.old) waiting.old.items (W.contents writer.new) waiting.new.items (text_of event)) }
+    ensures writes { OnOk result (PutsText (W.contents writer.old) waiting.old.items (W.contents writer.new) waiting.new.items (text_of event)) }
     ensures failed { WriterTells (W.failures writer.old) (W.failures writer.new) result }
 {
     make_room(waiting, MOST, writer)?;

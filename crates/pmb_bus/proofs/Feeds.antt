@@ -6,15 +6,15 @@ use Rattle.pmb_bus.specs.declared.lexer.LexFault.{LexFault}
 use Rattle.pmb_bus.specs.declared.lexer.Step.TheVariants as answers
 use Rattle.pmb_bus.specs.declared.lexer.Lexer.{Lexer}
 use Rattle.pmb_bus.specs.Text.{EndedWordsSpell, BeginsText}
-use Rattle.pmb_bus.specs.machine.Standing.{StandsAt, IsFaulted}
+use Rattle.pmb_bus.specs.machine.Standing.{LexerStandsAt, IsFaulted}
 use Rattle.pmb_bus.specs.LexFault.{OpenWordIsBad}
 use Rattle.pmb_bus.specs.machine.Steps.{Steps}
 use Rattle.pmb_bus.specs.Lexer.{NeedsMore, EndsWord, Refuses}
 
 -- a lexer with no fault that was given the first i bytes of a piece, and has ended no word
 pub record FedTo (before : Lexer) (piece : List ℕ) (i : ℕ) (now : Lexer) : Type 0 where
-  pub stands : (n : ℕ) (text : List ℕ) (events : List Event) → StandsAt before n text events
-      → StandsAt now (n + i) (text ++ take i piece) events
+  pub stands : (n : ℕ) (text : List ℕ) (events : List Event) → LexerStandsAt before n text events
+      → LexerStandsAt now (n + i) (text ++ take i piece) events
   pub sound : (fault : LexFault) → IsFaulted before fault → ⊥
 
 module _ (before now : Lexer) (piece : List ℕ) (i d : ℕ) (fed : FedTo before piece i now) (within : i < length piece) where
@@ -25,16 +25,16 @@ module _ (before now : Lexer) (piece : List ℕ) (i d : ℕ) (fed : FedTo before
 
   -- where a lexer stands behind one byte more
   behind : (n : ℕ) (text : List ℕ) (events : List Event) (after : Lexer)
-      → StandsAt after ((n + i) + 1) ((text ++ take i piece) ++ get_or piece i d ∷ []) events
-      → StandsAt after (n + (i + 1)) (text ++ take (i + 1) piece) events
+      → LexerStandsAt after ((n + i) + 1) ((text ++ take i piece) ++ get_or piece i d ∷ []) events
+      → LexerStandsAt after (n + (i + 1)) (text ++ take (i + 1) piece) events
   behind n text events after stands =
       let count : (n + i) + 1 ≡ n + (i + 1) = omega arith in
-      subst (λ (m : ℕ). StandsAt after m (text ++ take (i + 1) piece) events) count
-      (subst (λ (all : List ℕ). StandsAt after ((n + i) + 1) all events) (one_more text) stands)
+      subst (λ (m : ℕ). LexerStandsAt after m (text ++ take (i + 1) piece) events) count
+      (subst (λ (all : List ℕ). LexerStandsAt after ((n + i) + 1) all events) (one_more text) stands)
 
   -- one byte more, and no word has ended
   pub fed_more : (after : Lexer)
-      → ((n : ℕ) (text : List ℕ) (events : List Event) → StandsAt now n text events → Steps n text events (get_or piece i d) answers.Need after)
+      → ((n : ℕ) (text : List ℕ) (events : List Event) → LexerStandsAt now n text events → Steps n text events (get_or piece i d) answers.Need after)
       → FedTo before piece (i + 1) after
   fed_more after steps = record {
     stands = λ n text events stands. behind n text events after (steps (n + i) (text ++ take i piece) events (fed.stands n text events stands));
@@ -43,8 +43,8 @@ module _ (before now : Lexer) (piece : List ℕ) (i d : ℕ) (fed : FedTo before
 
   -- one byte more ends a word
   pub fed_event : (after : Lexer) (event : Event)
-      → ((n : ℕ) (text : List ℕ) (events : List Event) → StandsAt now n text events → Steps n text events (get_or piece i d) (answers.Event event) after)
-      → (n : ℕ) (text : List ℕ) (events : List Event) → StandsAt before n text events → EndsWord n text events piece (i + 1) after event
+      → ((n : ℕ) (text : List ℕ) (events : List Event) → LexerStandsAt now n text events → Steps n text events (get_or piece i d) (answers.Event event) after)
+      → (n : ℕ) (text : List ℕ) (events : List Event) → LexerStandsAt before n text events → EndsWord n text events piece (i + 1) after event
   fed_event after event steps n text events stands =
       let here = fed.stands n text events stands in
       let last : i ≡ (i + 1) - 1 = omega arith in record {
@@ -67,8 +67,8 @@ module _ (before now : Lexer) (piece : List ℕ) (i d : ℕ) (fed : FedTo before
 
   -- the next byte is refused
   pub fed_fault : (after : Lexer) (fault : LexFault)
-      → ((n : ℕ) (text : List ℕ) (events : List Event) → StandsAt now n text events → Steps n text events (get_or piece i d) (answers.Fault fault) after)
-      → (n : ℕ) (text : List ℕ) (events : List Event) → StandsAt before n text events → Refuses n text events piece i after fault
+      → ((n : ℕ) (text : List ℕ) (events : List Event) → LexerStandsAt now n text events → Steps n text events (get_or piece i d) (answers.Fault fault) after)
+      → (n : ℕ) (text : List ℕ) (events : List Event) → LexerStandsAt before n text events → Refuses n text events piece i after fault
   fed_fault after fault steps n text events stands =
       let here = fed.stands n text events stands in
       let stops = steps (n + i) (text ++ take i piece) events here in record {
@@ -85,8 +85,8 @@ module _ (before now : Lexer) (piece : List ℕ) (i d : ℕ) (fed : FedTo before
 
 -- the whole piece
 pub fed_all : (before now : Lexer) (piece : List ℕ) (i : ℕ) → FedTo before piece i now → i ≡ length piece
-    → (n : ℕ) (text : List ℕ) (events : List Event) → StandsAt before n text events → NeedsMore n text events piece (length piece) now
+    → (n : ℕ) (text : List ℕ) (events : List Event) → LexerStandsAt before n text events → NeedsMore n text events piece (length piece) now
 fed_all before now piece i fed last n text events stands =
     let whole : take i piece ≡ piece = take_all i piece (omega arith) in
-    let here = subst (λ (part : List ℕ). StandsAt now (n + i) (text ++ part) events) whole (fed.stands n text events stands) in
-    record { all = refl; stands = subst (λ (k : ℕ). StandsAt now (n + k) (text ++ piece) events) last here }
+    let here = subst (λ (part : List ℕ). LexerStandsAt now (n + i) (text ++ part) events) whole (fed.stands n text events stands) in
+    record { all = refl; stands = subst (λ (k : ℕ). LexerStandsAt now (n + k) (text ++ piece) events) last here }

@@ -9,7 +9,7 @@ use Rattle.pmb_bus.specs.declared.lexer.Place.TheVariants as places
 use Rattle.pmb_bus.specs.declared.lexer.Lexer.{Lexer}
 use Rattle.pmb_bus.specs.Event.{event_of}
 use Rattle.pmb_bus.specs.Text.{is_separator, in_comment, ends_in_comment, is_word, open_word, AreTokens}
-use Rattle.pmb_bus.specs.machine.Standing.{IsPlace, StandsAt}
+use Rattle.pmb_bus.specs.machine.Standing.{IsPlace, LexerStandsAt}
 use Rattle.pmb_bus.specs.machine.Steps.{OpenWordComesTo}
 use Rattle.pmb_bus.specs.Lexer.{FinishesBetween, FinishesWord, FinishRefuses}
 use Rattle.pmb_bus.proofs.Words.{blank, cut_by, ends_in_comment_by}
@@ -30,8 +30,8 @@ space_stays false = refl
 
 -- a lexer behind the end of a text, as if a space of no bytes stood there
 stands_at_end : (before : Lexer) (n : ℕ) (text : List ℕ) (events found : List Event) (place : Place)
-    → StandsAt before n text events → AreTokens (filter is_word (open_word text ∷ [])) found → IsPlace place n (text ++ 32 ∷ [])
-    → StandsAt (record before { place = place }) n (text ++ 32 ∷ []) (events ++ found)
+    → LexerStandsAt before n text events → AreTokens (filter is_word (open_word text ∷ [])) found → IsPlace place n (text ++ 32 ∷ [])
+    → LexerStandsAt (record before { place = place }) n (text ++ 32 ∷ []) (events ++ found)
 stands_at_end before n text events found place stands word here =
     let ended = ended_by text 32 events found (space_cuts (ends_in_comment text)) stands.ended word in record {
       ended = ended;
@@ -58,16 +58,16 @@ place_stays (places.Two at byte) n text is none = cc (none, is.2)
 place_stays (places.Faulted fault) n text is none = absurd is
 
 -- no word is under way
-pub finishes_between : (lexer : Lexer) (n : ℕ) (text : List ℕ) (events : List Event) → StandsAt lexer n text events
+pub finishes_between : (lexer : Lexer) (n : ℕ) (text : List ℕ) (events : List Event) → LexerStandsAt lexer n text events
     → open_word text ≡ [] → FinishesBetween n text events lexer
 finishes_between lexer n text events stands none = record {
   spells = spells_ended text events stands.ended none;
-  stands = subst (λ (all : List Event). StandsAt lexer n (text ++ 32 ∷ []) all) (append-nil events)
+  stands = subst (λ (all : List Event). LexerStandsAt lexer n (text ++ 32 ∷ []) all) (append-nil events)
       (stands_at_end lexer n text events [] lexer.place stands (no_word text none) (place_stays lexer.place n text stands.place none));
 }
 
 -- the word under way ends
-pub finishes_word : (lexer : Lexer) (n : ℕ) (text : List ℕ) (events : List Event) (event : Event) → StandsAt lexer n text events
+pub finishes_word : (lexer : Lexer) (n : ℕ) (text : List ℕ) (events : List Event) (event : Event) → LexerStandsAt lexer n text events
     → event_of (open_word text) ≡ Some event → FinishesWord n text events (record lexer { place = places.Between }) event
 finishes_word lexer n text events event stands token = record {
   spells = spells_open text events event stands.ended token;
@@ -76,7 +76,7 @@ finishes_word lexer n text events event stands token = record {
 }
 
 -- the word under way is no token
-pub finish_refuses : (lexer : Lexer) (n : ℕ) (text : List ℕ) (events : List Event) (fault : LexFault) → StandsAt lexer n text events
+pub finish_refuses : (lexer : Lexer) (n : ℕ) (text : List ℕ) (events : List Event) (fault : LexFault) → LexerStandsAt lexer n text events
     → OpenWordComesTo n text (Err fault) → FinishRefuses n text events (record lexer { place = places.Faulted fault }) fault
 finish_refuses lexer n text events fault stands none =
     let bad = open_word_bad_here text events stands.ended none.0 none.1 in record {

@@ -13,8 +13,8 @@ use Rattle.pmb_bus.specs.Event.{letter_event, byte_event, event_of}
 use Rattle.pmb_bus.specs.Text.{is_separator, ends_in_comment, open_word, EndedWordsSpell}
 use Rattle.pmb_bus.specs.Lexer.{EndsWord, FeedsAcked}
 use Rattle.pmb_bus.specs.machine.Bytes.{ends_word, starts_token, option_event, BeginsWithToken}
-use Rattle.pmb_bus.specs.machine.Standing.{IsPlace, StandsAt}
-use Rattle.pmb_bus.specs.machine.Steps.{place_behind}
+use Rattle.pmb_bus.specs.machine.Standing.{IsPlace, LexerStandsAt}
+use Rattle.pmb_bus.specs.machine.Steps.{place_behind_word}
 use Rattle.pmb_bus.proofs.Tokens.{letter_goes_on, digit_goes_on, letter_starts, digit_starts, digits_of}
 use Rattle.pmb_bus.proofs.Spelling.{one_word}
 use Rattle.pmb_bus.proofs.Stands.{advanced, stands_end, stands_longer}
@@ -69,7 +69,7 @@ front_acked_found text (Some byte) long token separates letter separates_again =
     front_digits_acked text byte long (sym token) separates letter separates_again
 
 -- behind a separator is between words
-separator_behind : (b : ℕ) → is_separator b ≡ true → place_behind b ≡ places.Between
+separator_behind : (b : ℕ) → is_separator b ≡ true → place_behind_word b ≡ places.Between
 separator_behind b separates =
     elim (cases_eq b 35) [
       | inl hash ↦ cc (sym (ap is_separator hash) ∙ separates)
@@ -82,19 +82,19 @@ separator_ends b separates = rw separates refl
 
 -- a lexer stands behind a word that is a token, and that no byte has ended
 record BehindWord (now : Lexer) (n : ℕ) (text : List ℕ) (events : List Event) (word : List ℕ) (event : Event) (used : ℕ) : Type 0 where
-  stands : StandsAt now (n + length word) (text ++ word) events
+  stands : LexerStandsAt now (n + length word) (text ++ word) events
   outside : ends_in_comment (text ++ word) ≡ false
   token : event_of (open_word (text ++ word)) ≡ Some event
   counted : now.used ≡ capped (used + length word)
 
-module _ (before : Lexer) (n : ℕ) (text : List ℕ) (events : List Event) (stands : StandsAt before n text events) (between : before.place ≡ places.Between) where
+module _ (before : Lexer) (n : ℕ) (text : List ℕ) (events : List Event) (stands : LexerStandsAt before n text events) (between : before.place ≡ places.Between) where
   -- between words
   here : IsPlace places.Between n text
   here = subst (λ (place : Place). IsPlace place n text) between stands.place
 
   -- behind the first byte of a token
   behind_first : (b : ℕ) → ends_word b ≡ false → starts_token b ≡ true
-      → StandsAt (advanced before (places.One before.used b)) (n + 1) (text ++ b ∷ []) events
+      → LexerStandsAt (advanced before (places.One before.used b)) (n + 1) (text ++ b ∷ []) events
   behind_first b goes_on starts =
       stands_longer before (advanced before (places.One before.used b)) n text b events (places.One before.used b) stands refl here.1 goes_on
       (lengthens_first n text b before.used stands.counted here.0 here.1 goes_on starts)
@@ -112,7 +112,7 @@ module _ (before : Lexer) (n : ℕ) (text : List ℕ) (events : List Event) (sta
 
   -- behind the second digit of a token
   behind_second : (a b high low : ℕ) → hex_digit_value a ≡ Some high → hex_digit_value b ≡ Some low
-      → StandsAt (advanced (advanced before (places.One before.used a)) (places.Two before.used (high * 16 + low))) (n + 2) (text ++ a ∷ b ∷ []) events
+      → LexerStandsAt (advanced (advanced before (places.One before.used a)) (places.Two before.used (high * 16 + low))) (n + 2) (text ++ a ∷ b ∷ []) events
   behind_second a b high low is_high is_low =
       let value = high * 16 + low in
       let byte : byte_event (hex_digit_value a) (hex_digit_value b) ≡ Some (Byte value) = cc (is_high, is_low) in
@@ -124,8 +124,8 @@ module _ (before : Lexer) (n : ℕ) (text : List ℕ) (events : List Event) (sta
       (lengthens_digit (n + 1) (text ++ a ∷ []) b before.used a value first.place first.place.1 goes_on (sym byte)) in
       let whole : (text ++ a ∷ []) ++ b ∷ [] ≡ text ++ a ∷ b ∷ [] = append_assoc text (a ∷ []) (b ∷ []) in
       let count : (n + 1) + 1 ≡ n + 2 = omega arith in
-      subst (λ (m : ℕ). StandsAt two m (text ++ a ∷ b ∷ []) events) count
-      (subst (λ (all : List ℕ). StandsAt two ((n + 1) + 1) all events) whole second)
+      subst (λ (m : ℕ). LexerStandsAt two m (text ++ a ∷ b ∷ []) events) count
+      (subst (λ (all : List ℕ). LexerStandsAt two ((n + 1) + 1) all events) whole second)
 
   -- behind two digits
   behind_digits : (a b high low : ℕ) → hex_digit_value a ≡ Some high → hex_digit_value b ≡ Some low
@@ -166,8 +166,8 @@ ends_behind : (now after : Lexer) (n : ℕ) (text : List ℕ) (events : List Eve
 ends_behind now after n text events word event start piece rest separator used behind separates split counted is =
     let took = took_token piece word rest separator used split counted in
     let count : capped (start + used) ≡ capped (now.used + 1) = omega (arith, behind.counted, counted) in
-    let lexer : after ≡ advanced now (place_behind separator) = is ∙ cc (count, separator_behind separator separates) in
-    let stands : StandsAt after ((n + length word) + 1) ((text ++ word) ++ separator ∷ []) (events ++ event ∷ []) =
+    let lexer : after ≡ advanced now (place_behind_word separator) = is ∙ cc (count, separator_behind separator separates) in
+    let stands : LexerStandsAt after ((n + length word) + 1) ((text ++ word) ++ separator ∷ []) (events ++ event ∷ []) =
     stands_end now after (n + length word) (text ++ word) separator events (event ∷ []) behind.stands lexer behind.outside
     (separator_ends separator separates) (one_word (text ++ word) event behind.token) in
     let all : (text ++ word) ++ separator ∷ [] ≡ text ++ take used piece =
@@ -176,13 +176,13 @@ ends_behind now after n text events word event start piece rest separator used b
       some = omega (arith, counted);
       within = took.within;
       before = subst (λ (part : List ℕ). EndedWordsSpell (text ++ part) events) (sym took.word_is) behind.stands.ended;
-      stands = subst (λ (m : ℕ). StandsAt after m (text ++ take used piece) (events ++ event ∷ [])) total
-          (subst (λ (t : List ℕ). StandsAt after ((n + length word) + 1) t (events ++ event ∷ [])) all stands);
+      stands = subst (λ (m : ℕ). LexerStandsAt after m (text ++ take used piece) (events ++ event ∷ [])) total
+          (subst (λ (t : List ℕ). LexerStandsAt after ((n + length word) + 1) t (events ++ event ∷ [])) all stands);
     }
 
 -- A token and a separator in front of a piece: two or three steps are this one.
 pub front_token_ends : (before after : Lexer) (n : ℕ) (text : List ℕ) (events : List Event) (piece : List ℕ) (used : ℕ) (event : Event)
-    → StandsAt before n text events → before.place ≡ places.Between → BeginsWithToken piece event used
+    → LexerStandsAt before n text events → before.place ≡ places.Between → BeginsWithToken piece event used
     → after ≡ record { place = places.Between; used = capped (before.used + used) } → EndsWord n text events piece used after event
 front_token_ends before after n text events piece used event stands between begins is =
     by_word begins.word begins.split begins.token begins.counted
@@ -206,7 +206,7 @@ front_token_ends before after n text events piece used event stands between begi
 
 -- A byte, ACK and a separator behind each in front of a piece: five steps are these two.
 pub front_acked_feeds : (before after : Lexer) (n : ℕ) (text : List ℕ) (events : List Event) (piece : List ℕ) (byte : ℕ)
-    → StandsAt before n text events → before.place ≡ places.Between → BeginsWithToken piece (Byte byte) 3 × BeginsWithToken (drop 3 piece) Ack 2
+    → LexerStandsAt before n text events → before.place ≡ places.Between → BeginsWithToken piece (Byte byte) 3 × BeginsWithToken (drop 3 piece) Ack 2
     → after ≡ record { place = places.Between; used = capped (before.used + 5) } → FeedsAcked n text events piece byte after
 front_acked_feeds before after n text events piece byte stands between begins is =
     let middle : Lexer = record { place = places.Between; used = capped (before.used + 3) } in

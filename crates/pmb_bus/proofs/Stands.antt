@@ -12,9 +12,9 @@ use Rattle.pmb_bus.specs.Event.{event_of}
 use Rattle.pmb_bus.specs.Text.{is_separator, in_comment, ends_in_comment, is_word, open_word, ended_words, AreTokens, Spells, EndedWordsSpell, BeginsText, blanked_from}
 use Rattle.pmb_bus.specs.machine.Bytes.{ends_word}
 use Rattle.pmb_bus.specs.Count.{capped}
-use Rattle.pmb_bus.specs.machine.Standing.{IsPlace, StandsAt}
+use Rattle.pmb_bus.specs.machine.Standing.{IsPlace, LexerStandsAt}
 use Rattle.pmb_bus.specs.LexFault.{IsFaultOf, OpenWordIsBad}
-use Rattle.pmb_bus.specs.machine.Steps.{BeginsToken, place_behind, OpenWordComesTo, Lengthens, Stops}
+use Rattle.pmb_bus.specs.machine.Steps.{BeginsToken, place_behind_word, OpenWordComesTo, Lengthens, Stops}
 use Rattle.pmb_bus.proofs.Splits.{glue, slice_split-HasRuns}
 use Rattle.pmb_bus.proofs.Words.{runs_from, runs_from-cut, runs_from-kept, blank, cut_by, longer_by, ends_in_comment_by, in_comment_from_out, ends_word_cuts, word_byte, blank_inside_cuts}
 use Rattle.pmb_bus.proofs.Tokens.{AreTokens-append, is_word-append}
@@ -47,12 +47,12 @@ counts used n same = omega arith
 
 -- behind a byte that ends the word under way
 pub stands_behind : (before after : Lexer) (n : ℕ) (text : List ℕ) (b : ℕ) (events found : List Event) (place : Place)
-    → StandsAt before n text events → after ≡ advanced before place → is_separator (blank (ends_in_comment text) b) ≡ true
+    → LexerStandsAt before n text events → after ≡ advanced before place → is_separator (blank (ends_in_comment text) b) ≡ true
     → AreTokens (filter is_word (open_word text ∷ [])) found → IsPlace place (n + 1) (text ++ b ∷ [])
-    → StandsAt after (n + 1) (text ++ b ∷ []) (events ++ found)
+    → LexerStandsAt after (n + 1) (text ++ b ∷ []) (events ++ found)
 stands_behind before after n text b events found place stands is cuts word here =
     let ended = ended_by text b events found cuts stands.ended word in
-    subst (λ (lexer : Lexer). StandsAt lexer (n + 1) (text ++ b ∷ []) (events ++ found)) (sym is)
+    subst (λ (lexer : Lexer). LexerStandsAt lexer (n + 1) (text ++ b ∷ []) (events ++ found)) (sym is)
     (
     record {
       ended = ended;
@@ -65,7 +65,7 @@ stands_behind before after n text b events found place stands is cuts word here 
 
 -- the place behind a byte that ends a word
 pub place_behind_is : (n : ℕ) (text : List ℕ) (b : ℕ) → ends_in_comment text ≡ false → ends_word b ≡ true
-    → IsPlace (place_behind b) n (text ++ b ∷ [])
+    → IsPlace (place_behind_word b) n (text ++ b ∷ [])
 place_behind_is n text b outside ends =
     let cuts : is_separator (blank (ends_in_comment text) b) ≡ true =
     subst (λ (v : Bool). is_separator (blank v b) ≡ true) (sym outside) (ends_word_cuts b ends) in
@@ -73,33 +73,33 @@ place_behind_is n text b outside ends =
     let inside = ends_in_comment_by text b ∙ ap (λ (v : Bool). in_comment v b) outside in
     elim (cases_eq b 35) [
       | inl hash ↦
-          subst (λ (place : Place). IsPlace place n (text ++ b ∷ [])) (sym (ap place_behind hash))
+          subst (λ (place : Place). IsPlace place n (text ++ b ∷ [])) (sym (ap place_behind_word hash))
           (opened, inside ∙ (in_comment_from_out b).0 hash)
       | inr other ↦
-          let between : places.Between ≡ place_behind b = rw (ne_eqb b 35 other) refl in
+          let between : places.Between ≡ place_behind_word b = rw (ne_eqb b 35 other) refl in
           subst (λ (place : Place). IsPlace place n (text ++ b ∷ [])) between
           (opened, inside ∙ (in_comment_from_out b).1 other)
     ]
 
 -- behind a byte that ends the word under way, if there is one
-pub stands_end : (before after : Lexer) (n : ℕ) (text : List ℕ) (b : ℕ) (events found : List Event) → StandsAt before n text events
-    → after ≡ advanced before (place_behind b) → ends_in_comment text ≡ false → ends_word b ≡ true
-    → AreTokens (filter is_word (open_word text ∷ [])) found → StandsAt after (n + 1) (text ++ b ∷ []) (events ++ found)
+pub stands_end : (before after : Lexer) (n : ℕ) (text : List ℕ) (b : ℕ) (events found : List Event) → LexerStandsAt before n text events
+    → after ≡ advanced before (place_behind_word b) → ends_in_comment text ≡ false → ends_word b ≡ true
+    → AreTokens (filter is_word (open_word text ∷ [])) found → LexerStandsAt after (n + 1) (text ++ b ∷ []) (events ++ found)
 stands_end before after n text b events found stands is outside ends word =
     let cuts : is_separator (blank (ends_in_comment text) b) ≡ true =
     subst (λ (v : Bool). is_separator (blank v b) ≡ true) (sym outside) (ends_word_cuts b ends) in
-    stands_behind before after n text b events found (place_behind b) stands is cuts word (place_behind_is (n + 1) text b outside ends)
+    stands_behind before after n text b events found (place_behind_word b) stands is cuts word (place_behind_is (n + 1) text b outside ends)
 
 -- behind a byte of a comment
 pub stands_in_comment : (before after : Lexer) (n : ℕ) (text : List ℕ) (b : ℕ) (events : List Event) (place : Place)
-    → StandsAt before n text events → before.place ≡ places.Comment → after ≡ advanced before place
+    → LexerStandsAt before n text events → before.place ≡ places.Comment → after ≡ advanced before place
     → (open_word (text ++ b ∷ []) ≡ [] → ends_in_comment (text ++ b ∷ []) ≡ in_comment true b → IsPlace place (n + 1) (text ++ b ∷ []))
-    → StandsAt after (n + 1) (text ++ b ∷ []) events
+    → LexerStandsAt after (n + 1) (text ++ b ∷ []) events
 stands_in_comment before after n text b events place stands comment is here =
     let was : IsPlace places.Comment n text = subst (λ (at : Place). IsPlace at n text) comment stands.place in
     let cuts : is_separator (blank (ends_in_comment text) b) ≡ true =
     subst (λ (v : Bool). is_separator (blank v b) ≡ true) (sym was.1) (blank_inside_cuts b) in
-    subst (λ (all : List Event). StandsAt after (n + 1) (text ++ b ∷ []) all) (append-nil events)
+    subst (λ (all : List Event). LexerStandsAt after (n + 1) (text ++ b ∷ []) all) (append-nil events)
     (
     stands_behind before after n text b events [] place stands is cuts (no_word text was.0)
     (here (cut_by text b cuts).opened (ends_in_comment_by text b ∙ ap (λ (v : Bool). in_comment v b) was.1))
@@ -122,15 +122,15 @@ begins_word text events ended outside begins =
 
 -- behind one more byte of a word
 pub stands_longer : (before after : Lexer) (n : ℕ) (text : List ℕ) (b : ℕ) (events : List Event) (place : Place)
-    → StandsAt before n text events → after ≡ advanced before place → ends_in_comment text ≡ false → ends_word b ≡ false
-    → Lengthens n text b (Ok place) → StandsAt after (n + 1) (text ++ b ∷ []) events
+    → LexerStandsAt before n text events → after ≡ advanced before place → ends_in_comment text ≡ false → ends_word b ≡ false
+    → Lengthens n text b (Ok place) → LexerStandsAt after (n + 1) (text ++ b ∷ []) events
 stands_longer before after n text b events place stands is outside goes_on lengthens =
     let byte = word_byte b goes_on in
     let out : in_comment (ends_in_comment text) b ≡ false = ap (λ (v : Bool). in_comment v b) outside ∙ byte.0 in
     let longer = longer_by text b out byte.1 in
     let ended = subst (λ (ws : List (List ℕ)). AreTokens ws events) (sym longer.ended) stands.ended in
     let begins = subst BeginsToken (sym longer.opened) lengthens.1 in
-    subst (λ (lexer : Lexer). StandsAt lexer (n + 1) (text ++ b ∷ []) events) (sym is)
+    subst (λ (lexer : Lexer). LexerStandsAt lexer (n + 1) (text ++ b ∷ []) events) (sym is)
     (
     record {
       ended = ended;
@@ -162,7 +162,7 @@ stops_by before after n text b events fault is here bad = record {
 
 -- at a byte that ends a word which is no token
 pub stops_behind : (before after : Lexer) (n : ℕ) (text : List ℕ) (b : ℕ) (events : List Event) (fault : LexFault)
-    → StandsAt before n text events → after ≡ failed before fault → ends_in_comment text ≡ false → ends_word b ≡ true
+    → LexerStandsAt before n text events → after ≡ failed before fault → ends_in_comment text ≡ false → ends_word b ≡ true
     → OpenWordComesTo n text (Err fault) → Stops n text events b after fault
 stops_behind before after n text b events fault stands is outside ends none =
     stops_by before after n text b events fault is none.2
@@ -176,7 +176,7 @@ stops_behind before after n text b events fault stands is outside ends none =
 
 -- at one more byte of a word with which no token begins
 pub stops_longer : (before after : Lexer) (n : ℕ) (text : List ℕ) (b : ℕ) (events : List Event) (fault : LexFault)
-    → StandsAt before n text events → after ≡ failed before fault → ends_in_comment text ≡ false → ends_word b ≡ false
+    → LexerStandsAt before n text events → after ≡ failed before fault → ends_in_comment text ≡ false → ends_word b ≡ false
     → Lengthens n text b (Err fault) → Stops n text events b after fault
 stops_longer before after n text b events fault stands is outside goes_on none =
     let byte = word_byte b goes_on in

@@ -1,10 +1,10 @@
 -- What a lexer answers for a piece more of a text, and at its end.
 --
--- `StandsAt lexer n text events` says that since `new` the lexer was given the bytes of `text`, n
--- in number, and answered `events`: the tokens of these are the words that have ended in it, and
--- some text that spells events begins so. The end of the input stands in `text` as a space, and
--- doesn't count in n. `IsFaulted lexer fault` says that the lexer has met a fault. What both say of
--- a lexer's own fields is in `machine`, and nothing here needs it to be understood.
+-- `LexerStandsAt lexer n text events` says that since `new` the lexer was given the bytes of
+-- `text`, n in number, and answered `events`: the tokens of these are the words that have ended in
+-- it, and some text that spells events begins so. The end of the input stands in `text` as a space,
+-- and doesn't count in n. `IsFaulted lexer fault` says that the lexer has met a fault. What both
+-- say of a lexer's own fields is in `machine`, and nothing here needs it to be understood.
 use Rattle.std.specs.Prelude.{◌≡◌, ℕ, ◌+◌, ◌-◌, ◌<◌, ◌≤◌, Option, Some, None, Result, Ok, Err, List, [], ◌∷◌, ◌++◌, length, take, drop, codes}
 use Rattle.pmb_bus.specs.declared.event.Event.{Event}
 use Rattle.pmb_bus.specs.declared.event.Event.TheVariants.{Byte, Ack}
@@ -14,19 +14,19 @@ use Rattle.pmb_bus.specs.declared.lexer.Step.TheVariants as answers
 use Rattle.pmb_bus.specs.declared.lexer.Lexer.{Lexer}
 use Rattle.pmb_bus.specs.Text.{EndedWordsSpell, Spells, BeginsText}
 pub use Rattle.pmb_bus.specs.LexFault.{IsFaultOf, OpenWordIsBad}
-pub use Rattle.pmb_bus.specs.machine.Standing.{StandsAt, IsFaulted}
+pub use Rattle.pmb_bus.specs.machine.Standing.{LexerStandsAt, IsFaulted}
 
 -- `Need`: all of the piece is used, and no further word has ended.
 pub record NeedsMore (n : ℕ) (text : List ℕ) (events : List Event) (piece : List ℕ) (used : ℕ) (after : Lexer) : Type 0 where
   pub all : used ≡ length piece
-  pub stands : StandsAt after (n + used) (text ++ piece) events
+  pub stands : LexerStandsAt after (n + used) (text ++ piece) events
 
 -- `Event`: the last byte used ends the word of that event.
 pub record EndsWord (n : ℕ) (text : List ℕ) (events : List Event) (piece : List ℕ) (used : ℕ) (after : Lexer) (event : Event) : Type 0 where
   pub some : 0 < used
   pub within : used ≤ length piece
   pub before : EndedWordsSpell (text ++ take (used - 1) piece) events
-  pub stands : StandsAt after (n + used) (text ++ take used piece) (events ++ event ∷ [])
+  pub stands : LexerStandsAt after (n + used) (text ++ take used piece) (events ++ event ∷ [])
 
 -- `Fault`: with the next byte, which is not used, no text that spells events begins so.
 pub record Refuses (n : ℕ) (text : List ℕ) (events : List Event) (piece : List ℕ) (used : ℕ) (after : Lexer) (fault : LexFault) : Type 0 where
@@ -54,11 +54,11 @@ pub record FeedsAcked (n : ℕ) (text : List ℕ) (events : List Event) (piece :
 -- ends, or it is no token
 pub record FinishesBetween (n : ℕ) (text : List ℕ) (events : List Event) (after : Lexer) : Type 0 where
   pub spells : Spells text events
-  pub stands : StandsAt after n (text ++ codes " ") events
+  pub stands : LexerStandsAt after n (text ++ codes " ") events
 
 pub record FinishesWord (n : ℕ) (text : List ℕ) (events : List Event) (after : Lexer) (event : Event) : Type 0 where
   pub spells : Spells text (events ++ event ∷ [])
-  pub stands : StandsAt after n (text ++ codes " ") (events ++ event ∷ [])
+  pub stands : LexerStandsAt after n (text ++ codes " ") (events ++ event ∷ [])
 
 pub record FinishRefuses (n : ℕ) (text : List ℕ) (events : List Event) (after : Lexer) (fault : LexFault) : Type 0 where
   pub spells_none : (others : List Event) → Spells text others → ⊥

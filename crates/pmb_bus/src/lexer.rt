@@ -13,10 +13,10 @@ ghost use Rattle.std.specs.Prelude.{◌≡◌, ◌+◌, ◌<◌, ◌≤◌, ℕ,
 ghost use Rattle.pmb_bus.specs.declared.event.Event.{Event as BusEvent};
 ghost use Rattle.pmb_bus.specs.Count.{capped};
 ghost use Rattle.pmb_bus.specs.Text.{ends_in_comment};
-ghost use Rattle.pmb_bus.specs.Lexer.{StandsAt, IsFaulted, Feeds, FeedsAcked, Finishes};
+ghost use Rattle.pmb_bus.specs.Lexer.{LexerStandsAt, IsFaulted, Feeds, FeedsAcked, Finishes};
 ghost use Rattle.pmb_bus.specs.machine.Bytes.{ends_word};
 ghost use Rattle.pmb_bus.specs.machine.Standing.{IsPlace};
-ghost use Rattle.pmb_bus.specs.machine.Steps.{Steps, OpenWordComesTo, Lengthens, place_behind};
+ghost use Rattle.pmb_bus.specs.machine.Steps.{Steps, OpenWordComesTo, Lengthens, place_behind_word};
 
 use crate::alphabet::{digits, ends_word, front_acked, front_token, letter, starts_token};
 use crate::event::Event;
@@ -68,7 +68,7 @@ impl Place {
     // The place behind a byte that ends a word.
     #[inline]
     fn behind(byte: u8) -> Place
-        ensures { result ≡ place_behind byte }
+        ensures { result ≡ place_behind_word byte }
     {
         if byte == b'#' {
             Place::Comment
@@ -136,7 +136,7 @@ pub struct Lexer {
 impl Lexer {
     /// A lexer at the start of a text.
     pub fn new() -> Lexer
-        ensures { StandsAt result 0 [] [] }
+        ensures { LexerStandsAt result 0 [] [] }
     {
         Lexer {
             place: Place::Between,
@@ -150,7 +150,7 @@ impl Lexer {
     /// given again. After a fault every such call answers that fault and uses nothing.
     #[inline(always)]
     pub fn feed(&mut self, bytes: &[u8]) -> Lexed
-        ensures stands { (n : ℕ) (text : List ℕ) (events : List BusEvent) → StandsAt self.old n text events
+        ensures stands { (n : ℕ) (text : List ℕ) (events : List BusEvent) → LexerStandsAt self.old n text events
             → Feeds n text events bytes.now result.used result.step self.new }
         ensures faulted { (fault : LexFault) → IsFaulted self.old fault
             → (result ≡ record { used = 0; step = Step.Fault fault }) × (self.new ≡ self.old) }
@@ -178,7 +178,7 @@ impl Lexer {
     /// each, where no word is under way.
     #[inline(always)]
     pub fn feed_acked(&mut self, bytes: &[u8]) -> Option<u8>
-        ensures feeds { (n : ℕ) (text : List ℕ) (events : List BusEvent) → StandsAt self.old n text events
+        ensures feeds { (n : ℕ) (text : List ℕ) (events : List BusEvent) → LexerStandsAt self.old n text events
             → IfSome result (λ byte. FeedsAcked n text events bytes.now byte self.new) }
         ensures within { IfSome result (λ byte. 5 ≤ length bytes.now) }
         ensures faulted { (fault : LexFault) → IsFaulted self.old fault → result ≡ None }
@@ -195,7 +195,7 @@ impl Lexer {
     // Takes the next piece of the text, one byte after the other.
     #[inline(never)]
     fn feed_bytes(&mut self, bytes: &[u8]) -> Lexed
-        ensures stands { (n : ℕ) (text : List ℕ) (events : List BusEvent) → StandsAt self.old n text events
+        ensures stands { (n : ℕ) (text : List ℕ) (events : List BusEvent) → LexerStandsAt self.old n text events
             → Feeds n text events bytes.now result.used result.step self.new }
         ensures faulted { (fault : LexFault) → IsFaulted self.old fault
             → (result ≡ record { used = 0; step = Step.Fault fault }) × (self.new ≡ self.old) }
@@ -235,7 +235,7 @@ impl Lexer {
     ///
     /// Answers the event of the word under way, or `None` between words and in a comment.
     pub fn finish(&mut self) -> Result<Option<Event>, LexFault>
-        ensures stands { (n : ℕ) (text : List ℕ) (events : List BusEvent) → StandsAt self.old n text events
+        ensures stands { (n : ℕ) (text : List ℕ) (events : List BusEvent) → LexerStandsAt self.old n text events
             → Finishes n text events result self.new }
         ensures faulted { (fault : LexFault) → IsFaulted self.old fault → (result ≡ Err fault) × (self.new ≡ self.old) }
     {
@@ -255,7 +255,7 @@ impl Lexer {
     // Takes one byte. Where it is refused it is not used.
     #[inline]
     fn step(&mut self, byte: u8) -> Step
-        ensures stands { (n : ℕ) (text : List ℕ) (events : List BusEvent) → StandsAt self.old n text events
+        ensures stands { (n : ℕ) (text : List ℕ) (events : List BusEvent) → LexerStandsAt self.old n text events
             → Steps n text events byte result self.new }
         ensures faulted { (fault : LexFault) → IsFaulted self.old fault
             → (result ≡ Step.Fault fault) × (self.new ≡ self.old) }
@@ -278,7 +278,7 @@ impl Lexer {
     // Takes a byte that ends the word under way, if there is one.
     #[inline]
     fn step_end(&mut self, byte: u8) -> Step
-        ensures stands { (n : ℕ) (text : List ℕ) (events : List BusEvent) → StandsAt self.old n text events
+        ensures stands { (n : ℕ) (text : List ℕ) (events : List BusEvent) → LexerStandsAt self.old n text events
             → ends_in_comment text ≡ false → ends_word byte ≡ true → Steps n text events byte result self.new }
         ensures faulted { (fault : LexFault) → IsFaulted self.old fault
             → (result ≡ Step.Fault fault) × (self.new ≡ self.old) }
@@ -299,7 +299,7 @@ impl Lexer {
     // Takes one more byte of a word.
     #[inline]
     fn step_word(&mut self, byte: u8) -> Step
-        ensures stands { (n : ℕ) (text : List ℕ) (events : List BusEvent) → StandsAt self.old n text events
+        ensures stands { (n : ℕ) (text : List ℕ) (events : List BusEvent) → LexerStandsAt self.old n text events
             → ends_in_comment text ≡ false → ends_word byte ≡ false → Steps n text events byte result self.new }
         ensures faulted { (fault : LexFault) → IsFaulted self.old fault
             → (result ≡ Step.Fault fault) × (self.new ≡ self.old) }

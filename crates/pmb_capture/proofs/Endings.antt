@@ -10,18 +10,18 @@ use Rattle.pmb_command.specs.Parts.{DeviceParts}
 use Rattle.pmb_io.specs.declared.tally.Tally.{Tally}
 use Rattle.pmb_io.specs.declared.fault.ToolFault.{ToolFault}
 use Rattle.pmb_io.specs.Calls.{WriterTells}
-use Rattle.pmb_io.specs.Count.{counted}
-use Rattle.pmb_io.specs.Outgoing.{Writes as PutsText}
+use Rattle.pmb_io.specs.Count.{capped}
+use Rattle.pmb_io.specs.Outgoing.{PutsText}
 use Rattle.pmb_io.specs.Tally.{with_refusal}
 use Rattle.pmb_io.proofs.Writing.{writes_then}
 use Rattle.pmb_transaction.specs.Reading.{Outcome}
 use Rattle.pmb_transaction.specs.Transaction.{TransactionData}
 use Rattle.pmb_capture.specs.declared.capture.Capture.{Capture}
 use Rattle.pmb_capture.specs.Lines.{bad_token_line}
-use Rattle.pmb_capture.specs.Output.{OutputText, accepted_in, but_truncation, packets_in, refusals_in, text_behind, text_of}
+use Rattle.pmb_capture.specs.Output.{OutputText, accepted_in, but_truncation, packets_in, refusals_in, text_behind, outcomes_text}
 use Rattle.pmb_capture.specs.Written.{WritesUpToBadWord, WritesSoFar, WritesFront}
 use Rattle.pmb_capture.specs.machine.Reported.{CanEnd}
-use Rattle.pmb_capture.specs.machine.Capture.{Reads, Stands, EndsEvents, EndsText}
+use Rattle.pmb_capture.specs.machine.Capture.{CaptureReads, CaptureStands, EndsEvents, EndsText}
 use Rattle.pmb_capture.proofs.Outcomes.{reads_end, refusal_counted}
 use Rattle.pmb_capture.proofs.Texts.{left_out, text_append}
 
@@ -54,7 +54,7 @@ same_place a b open_length whole h k = omega arith
 module _ {O : Type 0} (TextOf : O → OutputText) (StandsBehind : O → List TransactionData → Type 0) (output : OutputText) (profile : List DeviceParts) where
   -- what is written of the words that have ended
   pub writes_so_far : (capture : Capture O) (bytes : List ℕ) (outcomes : List Outcome) → CanEnd capture.reader
-      → Stands TextOf StandsBehind output profile capture bytes outcomes → WritesSoFar output profile bytes (text_of output outcomes)
+      → CaptureStands TextOf StandsBehind output profile capture bytes outcomes → WritesSoFar output profile bytes (outcomes_text output outcomes)
   writes_so_far capture bytes outcomes can_end stands =
       let reads = stands.reads in
       let end = can_end profile reads.standing reads.reader reads.reading in record {
@@ -63,24 +63,24 @@ module _ {O : Type 0} (TextOf : O → OutputText) (StandsBehind : O → List Tra
         begins = stands.lexer.begins;
         spells = stands.lexer.ended;
         reads = reads_end TextOf StandsBehind output profile capture stands.events outcomes end.0 reads end.1;
-        lines = ap (text_of output) (sym (left_out outcomes end.0 reads.whole end.1.inside));
+        lines = ap (outcomes_text output) (sym (left_out outcomes end.0 reads.whole end.1.inside));
       }
 
   -- the word under way is no token
   pub writes_bad : (capture : Capture O) (after : Tally) (events : List Event) (outcomes : List Outcome) (used bytes : List ℕ) (fault : LexFault)
-      → CanEnd capture.reader → Reads TextOf StandsBehind output profile capture events outcomes → OpenWordIsBad used bytes events → IsFaultOf (length used) used fault
-      → after ≡ with_refusal capture.tally → WritesUpToBadWord output profile bytes (text_of output outcomes ++ fault_text output after fault) after
+      → CanEnd capture.reader → CaptureReads TextOf StandsBehind output profile capture events outcomes → OpenWordIsBad used bytes events → IsFaultOf (length used) used fault
+      → after ≡ with_refusal capture.tally → WritesUpToBadWord output profile bytes (outcomes_text output outcomes ++ fault_text output after fault) after
   writes_bad capture after events outcomes used bytes (BadToken at) can_end reads bad fault_is refused =
       let end = can_end profile reads.standing reads.reader reads.reading in
       let left = left_out outcomes end.0 reads.whole end.1.inside in
-      let at_is : at ≡ counted bad.0 = fault_is.2 ∙ ap counted (same_place fault_is.0 bad.0 _ _ fault_is.1 bad.1) in record {
+      let at_is : at ≡ capped bad.0 = fault_is.2 ∙ ap capped (same_place fault_is.0 bad.0 _ _ fault_is.1 bad.1) in record {
         events = events;
         outcomes = outcomes ++ end.0;
         place = bad.0;
         bad = bad.2;
         reads = reads_end TextOf StandsBehind output profile capture events outcomes end.0 reads end.1;
-        lines = ap (λ l. text_of output l ++ (bad_token_line at ++ output.at_end after)) (sym left)
-            ∙ ap (λ (k : ℕ). text_of output (but_truncation (outcomes ++ end.0)) ++ (bad_token_line k ++ output.at_end after)) at_is;
+        lines = ap (λ l. outcomes_text output l ++ (bad_token_line at ++ output.at_end after)) (sym left)
+            ∙ ap (λ (k : ℕ). outcomes_text output (but_truncation (outcomes ++ end.0)) ++ (bad_token_line k ++ output.at_end after)) at_is;
         counts = rw left (refusal_counted capture.tally after (packets_in outcomes) (refusals_in outcomes) refused reads.counts);
       }
 
@@ -99,9 +99,9 @@ module _ {O : Type 0} (TextOf : O → OutputText) (StandsBehind : O → List Tra
           outcomes = (outcomes ++ more) ++ ends.last;
           spells = spells;
           reads = ends.reads;
-          lines = sym (append_assoc (text_of output outcomes) more_text (end_text ++ output.at_end after.tally))
+          lines = sym (append_assoc (outcomes_text output outcomes) more_text (end_text ++ output.at_end after.tally))
               ∙ (ap (λ l. l ++ (end_text ++ output.at_end after.tally)) (sym (text_append output [] outcomes more))
-              ∙ (sym (append_assoc (text_of output (outcomes ++ more)) end_text (output.at_end after.tally))
+              ∙ (sym (append_assoc (outcomes_text output (outcomes ++ more)) end_text (output.at_end after.tally))
               ∙ ap (λ l. l ++ output.at_end after.tally) (sym (text_append output [] (outcomes ++ more) ends.last))));
           counts = ends.counts;
         });
@@ -109,8 +109,8 @@ module _ {O : Type 0} (TextOf : O → OutputText) (StandsBehind : O → List Tra
 
   -- what came so far, and whatever it comes to
   pub writes_front : (capture after : Capture O) (bytes : List ℕ) (outcomes : List Outcome) (h0 h1 : Option (List ℕ)) (w0 w1 : List ℕ) → CanEnd capture.reader
-      → Stands TextOf StandsBehind output profile capture bytes outcomes → EndsText TextOf StandsBehind output profile bytes outcomes h0 w0 h1 w1 after
-      → WritesFront output profile bytes (text_of output outcomes)
+      → CaptureStands TextOf StandsBehind output profile capture bytes outcomes → EndsText TextOf StandsBehind output profile bytes outcomes h0 w0 h1 w1 after
+      → WritesFront output profile bytes (outcomes_text output outcomes)
   writes_front capture after bytes outcomes h0 h1 w0 w1 can_end stands ends = record {
     rest = ends.text;
     tally = after.tally;

@@ -9,13 +9,13 @@ use Rattle.pmb_reader.specs.declared.reader.Reader.{Reader}
 use Rattle.pmb_reader.specs.declared.reader.Took.{Took}
 use Rattle.pmb_reader.specs.declared.reader.Took.TheVariants as answers
 use Rattle.pmb_reader.specs.declared.refusal.Refusal.{Refusal as HeldRefusal}
-use Rattle.pmb_reader.specs.Reader.{Standing, Open, Held, Passing, StandsAt, Takes, Finishes, behind_passed, last_read}
+use Rattle.pmb_reader.specs.Reader.{Standing, Open, Held, Passing, ReaderStandsAt, ReaderTakes, ReaderFinishes, behind_passed, last_read}
 use Rattle.pmb_reader.specs.Refusal.{refusal_data}
 use Rattle.pmb_transaction.specs.declared.reason.Reason.{Reason}
 use Rattle.pmb_transaction.specs.Reason.{Place, BehindStart, BehindRestart, BehindAddress, BehindCode, FurtherOn, InReply, Nowhere, byte_reason, ack_reason, nack_reason, IsReason}
 use Rattle.pmb_transaction.specs.Reading.{Outcome, Accepted, Refusal, RefusalData, TruncatedAt, ReadsFrom}
 use Rattle.pmb_capture.specs.Output.{but_truncation, is_end_inside}
-use Rattle.pmb_capture.specs.machine.Reported.{IsReading, ReadsFromStanding, Leads, Ends, outcomes_of, end_outcomes}
+use Rattle.pmb_capture.specs.machine.Reported.{IsReading, ReadsFromStanding, EventLeads, Ends, outcomes_of, end_outcomes}
 use Rattle.pmb_capture.proofs.Passing.{behind_event, behind_stop, no_stop_none}
 
 -- ---- no event's reason is an end inside a packet
@@ -83,10 +83,10 @@ module _ (profile : List DeviceParts) where
 
   -- the reader then stands where the outcomes lead to
   abbrev pub Reports : Standing → Event → List Outcome → Reader → Type 0
-  Reports standing event outcomes after = (there : Standing) × StandsAt profile after there × Leads profile standing event outcomes there
+  Reports standing event outcomes after = (there : Standing) × ReaderStandsAt profile after there × EventLeads profile standing event outcomes there
 
   -- it goes on
-  pub reports_more : (standing : Standing) (event : Event) (after : Reader) → IsReading standing → Takes profile standing event answers.More after
+  pub reports_more : (standing : Standing) (event : Event) (after : Reader) → IsReading standing → ReaderTakes profile standing event answers.More after
       → Reports standing event [] after
   reports_more (Open n events) event after reading takes = (
     Open n (events ++ event ∷ []),
@@ -102,7 +102,7 @@ module _ (profile : List DeviceParts) where
       (behind_passed n event, takes, record { reading = passed_reading n event; whole = refl; leads = passed_leads n event })
 
   -- it ends a packet
-  pub reports_packet : (standing : Standing) (event : Event) (after : Reader) → IsReading standing → Takes profile standing event answers.Packet after
+  pub reports_packet : (standing : Standing) (event : Event) (after : Reader) → IsReading standing → ReaderTakes profile standing event answers.Packet after
       → Reports standing event (Accepted (last_read after) ∷ []) after
   reports_packet (Open n events) event after reading takes = (
     Open (n + length events + 1) [],
@@ -119,8 +119,8 @@ module _ (profile : List DeviceParts) where
 
   -- It is refused, and then passed over.
   pub reports_refusal : (standing : Standing) (event : Event) (refusal : HeldRefusal) (held after : Reader) → IsReading standing
-      → Takes profile standing event (answers.Refused refusal) held
-      → ((n : ℕ) (kept : RefusalData) → StandsAt profile held (Held n kept) → StandsAt profile after (behind_passed n event))
+      → ReaderTakes profile standing event (answers.Refused refusal) held
+      → ((n : ℕ) (kept : RefusalData) → ReaderStandsAt profile held (Held n kept) → ReaderStandsAt profile after (behind_passed n event))
       → Reports standing event (Refusal (refusal_data refusal) ∷ []) after
   reports_refusal (Open n events) event refusal held after reading takes passes =
       let m = n + length events in (
@@ -137,7 +137,7 @@ module _ (profile : List DeviceParts) where
 
   -- ---- the end
 
-  pub ends : (standing : Standing) (result : Result Unit HeldRefusal) → IsReading standing → Finishes profile standing result
+  pub ends : (standing : Standing) (result : Result Unit HeldRefusal) → IsReading standing → ReaderFinishes profile standing result
       → Ends profile standing (end_outcomes (result_err result))
   ends (Open n events) (Ok done) reading finishes = record { inside = refl; reads = append-nil events ∙ finishes }
   ends (Open n events) (Err refusal) reading finishes = record {
@@ -151,13 +151,13 @@ module _ (profile : List DeviceParts) where
 
   -- It is used, whichever it does.
   pub reports_used : (standing : Standing) (event : Event) (took : Took) (after : Reader) → IsReading standing → ((refusal : HeldRefusal) → took ≡ answers.Refused refusal → ⊥)
-      → Takes profile standing event took after → Reports standing event (outcomes_of (last_read after) took) after
+      → ReaderTakes profile standing event took after → Reports standing event (outcomes_of (last_read after) took) after
   reports_used standing event answers.More after reading used takes = reports_more standing event after reading takes
   reports_used standing event answers.Packet after reading used takes = reports_packet standing event after reading takes
   reports_used standing event (answers.Refused refusal) after reading used takes = absurd (used refusal refl)
 
   -- A reader that passes over stands behind the event.
-  pub passed : (n : ℕ) (event : Event) (took : Took) (after : Reader) → Takes profile (Passing n) event took after → StandsAt profile after (behind_passed n event)
+  pub passed : (n : ℕ) (event : Event) (took : Took) (after : Reader) → ReaderTakes profile (Passing n) event took after → ReaderStandsAt profile after (behind_passed n event)
   passed n event answers.More after takes = takes
   passed n event answers.Packet after takes = absurd takes
   passed n event (answers.Refused refusal) after takes = absurd takes

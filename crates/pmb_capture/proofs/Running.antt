@@ -9,9 +9,9 @@ use Rattle.pmb_io.proofs.Running.{open_weaker}
 use Rattle.pmb_transaction.specs.Reading.{Outcome}
 use Rattle.pmb_transaction.specs.Transaction.{TransactionData}
 use Rattle.pmb_capture.specs.declared.capture.Capture.{Capture}
-use Rattle.pmb_capture.specs.Output.{OutputText, text_of}
+use Rattle.pmb_capture.specs.Output.{OutputText, outcomes_text}
 use Rattle.pmb_capture.specs.Written.{WritesAtEnd, WritesFront, WritesUpToStop}
-use Rattle.pmb_capture.specs.machine.Capture.{Stands, HasWritten, HasStopped, HasEnded, profile_of}
+use Rattle.pmb_capture.specs.machine.Capture.{CaptureStands, HasWritten, HasStopped, HasEnded, capture_profile}
 
 -- a tally is no fault
 pub no_fault : {A : Type 0} (tally : Tally) (fault : ToolFault) → Ok tally ≡ Err fault → A
@@ -54,16 +54,16 @@ many_by a b profile first old new same = subst (λ (output : OutputText). IsMany
 module _ {O : Type 0} (TextOf : O → OutputText) (StandsBehind : O → List TransactionData → Type 0) where
   -- whatever is left of a capture comes to something
   abbrev pub Leaves : Capture O → Type 0
-  Leaves now = (output : OutputText) (profile : List DeviceParts) (bytes : List ℕ) (outcomes : List Outcome) → Stands TextOf StandsBehind output profile now bytes outcomes
-      → WritesFront output profile bytes (text_of output outcomes)
+  Leaves now = (output : OutputText) (profile : List DeviceParts) (bytes : List ℕ) (outcomes : List Outcome) → CaptureStands TextOf StandsBehind output profile now bytes outcomes
+      → WritesFront output profile bytes (outcomes_text output outcomes)
 
-  front : (start now : Capture O) (bytes text : List ℕ) → Leaves now → HasWritten TextOf StandsBehind start now bytes text → WritesFront (TextOf start.output) (profile_of start) bytes text
+  front : (start now : Capture O) (bytes text : List ℕ) → Leaves now → HasWritten TextOf StandsBehind start now bytes text → WritesFront (TextOf start.output) (capture_profile start) bytes text
   front start now bytes text leaves written =
-      subst (λ (t : List ℕ). WritesFront (TextOf start.output) (profile_of start) bytes t) (sym written.lines) (leaves (TextOf start.output) (profile_of start) bytes written.outcomes written.stands)
+      subst (λ (t : List ℕ). WritesFront (TextOf start.output) (capture_profile start) bytes t) (sym written.lines) (leaves (TextOf start.output) (capture_profile start) bytes written.outcomes written.stands)
 
   -- reading failed, or was tried too often
   written_before : (start now : Capture O) (first : List ℕ) (old new : Told) → Leaves now → Through (HasWritten TextOf StandsBehind start now) first old new
-      → Through (WritesFront (TextOf start.output) (profile_of start)) first old new
+      → Through (WritesFront (TextOf start.output) (capture_profile start)) first old new
   written_before start now first old new leaves through = record {
     read = through.read;
     text = through.text;
@@ -75,7 +75,7 @@ module _ {O : Type 0} (TextOf : O → OutputText) (StandsBehind : O → List Tra
 
   -- too many reads gave as many bytes at least
   written_many : (start now : Capture O) (first : List ℕ) (old new : Told) → Leaves now → (through : Through (HasWritten TextOf StandsBehind start now) first old new) × (most_reads ≤ length through.read)
-      → IsMany (TextOf start.output) (profile_of start) first old new
+      → IsMany (TextOf start.output) (capture_profile start) first old new
   unfolding written_before
   written_many start now first old new leaves many = (written_before start now first old new leaves many.0, many.1)
 
@@ -86,35 +86,35 @@ module _ {O : Type 0} (TextOf : O → OutputText) (StandsBehind : O → List Tra
   begins_text told start first old new read = open_weaker told _ BeginsText first old new read (λ bytes written. written.2.stands.lexer.begins)
 
   -- of the output and the profile that it began with
-  pub before_of : (start now : Capture O) (first : List ℕ) (old new : Told) (output : OutputText) (profile : List DeviceParts) → TextOf start.output ≡ output → profile_of start ≡ profile
+  pub before_of : (start now : Capture O) (first : List ℕ) (old new : Told) (output : OutputText) (profile : List DeviceParts) → TextOf start.output ≡ output → capture_profile start ≡ profile
       → Leaves now → Through (HasWritten TextOf StandsBehind start now) first old new → Through (WritesFront output profile) first old new
   before_of start now first old new output profile same_output same_profile leaves through =
       subst (λ (p : List DeviceParts). Through (WritesFront output p) first old new) same_profile
-      (subst (λ (o : OutputText). Through (WritesFront o (profile_of start)) first old new) same_output (written_before start now first old new leaves through))
+      (subst (λ (o : OutputText). Through (WritesFront o (capture_profile start)) first old new) same_output (written_before start now first old new leaves through))
 
-  pub many_of : (start now : Capture O) (first : List ℕ) (old new : Told) (output : OutputText) (profile : List DeviceParts) → TextOf start.output ≡ output → profile_of start ≡ profile
+  pub many_of : (start now : Capture O) (first : List ℕ) (old new : Told) (output : OutputText) (profile : List DeviceParts) → TextOf start.output ≡ output → capture_profile start ≡ profile
       → Leaves now → (through : Through (HasWritten TextOf StandsBehind start now) first old new) × (most_reads ≤ length through.read)
       → IsMany output profile first old new
   many_of start now first old new output profile same_output same_profile leaves many =
       subst (λ (p : List DeviceParts). IsMany output p first old new) same_profile
-      (subst (λ (o : OutputText). IsMany o (profile_of start) first old new) same_output (written_many start now first old new leaves many))
+      (subst (λ (o : OutputText). IsMany o (capture_profile start) first old new) same_output (written_many start now first old new leaves many))
 
   -- `Ok`
   written_whole : {R : Type 0} (told : R → ReaderTold) (start now : Capture O) (tally : Tally) (first : List ℕ) (old new : R) (h0 h1 : Option (List ℕ)) (ended : Bool) → tally ≡ now.tally
       → Ended (HasEnded TextOf StandsBehind start now) first (with_held (told old) h0) (with_held (told new) h1) ended
       ⊎ Stopped told (HasStopped TextOf StandsBehind start now) (λ bytes. (middle : Capture O) × (text : List ℕ) × HasWritten TextOf StandsBehind start middle bytes text) first old new h0 h1
-      → IsDone told (TextOf start.output) (profile_of start) tally first old new h0 h1 ended
+      → IsDone told (TextOf start.output) (capture_profile start) tally first old new h0 h1 ended
   written_whole told start now tally first old new h0 h1 ended counted (inl whole) =
-      inl (subst (λ (t : Tally). Ended (λ bytes text. WritesAtEnd (TextOf start.output) (profile_of start) bytes text t) first (with_held (told old) h0) (with_held (told new) h1) ended) (sym counted) whole)
+      inl (subst (λ (t : Tally). Ended (λ bytes text. WritesAtEnd (TextOf start.output) (capture_profile start) bytes text t) first (with_held (told old) h0) (with_held (told new) h1) ended) (sym counted) whole)
   written_whole told start now tally first old new h0 h1 ended counted (inr stopped) =
-      inr (subst (λ (t : Tally). Stopped told (λ bytes text. WritesUpToStop (TextOf start.output) (profile_of start) bytes text t) BeginsText first old new h0 h1) (sym counted)
+      inr (subst (λ (t : Tally). Stopped told (λ bytes text. WritesUpToStop (TextOf start.output) (capture_profile start) bytes text t) BeginsText first old new h0 h1) (sym counted)
       (record { through = stopped.through; in_time = begins_text told start first old new stopped.through.read stopped.in_time }))
 
   pub whole_of : {R : Type 0} (told : R → ReaderTold) (start now : Capture O) (tally : Tally) (first : List ℕ) (old new : R) (h0 h1 : Option (List ℕ)) (ended : Bool) (output : OutputText) (profile : List DeviceParts)
-      → TextOf start.output ≡ output → profile_of start ≡ profile → tally ≡ now.tally
+      → TextOf start.output ≡ output → capture_profile start ≡ profile → tally ≡ now.tally
       → Ended (HasEnded TextOf StandsBehind start now) first (with_held (told old) h0) (with_held (told new) h1) ended
       ⊎ Stopped told (HasStopped TextOf StandsBehind start now) (λ bytes. (middle : Capture O) × (text : List ℕ) × HasWritten TextOf StandsBehind start middle bytes text) first old new h0 h1
       → IsDone told output profile tally first old new h0 h1 ended
   whole_of told start now tally first old new h0 h1 ended output profile same_output same_profile counted done =
       subst (λ (p : List DeviceParts). IsDone told output p tally first old new h0 h1 ended) same_profile
-      (subst (λ (o : OutputText). IsDone told o (profile_of start) tally first old new h0 h1 ended) same_output (written_whole told start now tally first old new h0 h1 ended counted done))
+      (subst (λ (o : OutputText). IsDone told o (capture_profile start) tally first old new h0 h1 ended) same_output (written_whole told start now tally first old new h0 h1 ended counted done))

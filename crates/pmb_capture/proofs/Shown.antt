@@ -4,18 +4,18 @@ use Rattle.pmb_bus.specs.declared.event.Event.{Event}
 use Rattle.pmb_bus.specs.Text.{Spells, FirstBadWord}
 use Rattle.pmb_command.specs.Parts.{DeviceParts}
 use Rattle.pmb_io.specs.declared.tally.Tally.{Tally}
-use Rattle.pmb_io.specs.Count.{counted}
-use Rattle.pmb_io.specs.Tally.{Counts}
+use Rattle.pmb_io.specs.Count.{capped}
+use Rattle.pmb_io.specs.Tally.{IsTallyOf}
 use Rattle.pmb_transaction.specs.Reading.{Outcome, Accepted, Reading}
 use Rattle.pmb_transaction.specs.Transaction.{TransactionData}
 use Rattle.pmb_capture.specs.Lines.{bad_token_line}
-use Rattle.pmb_capture.specs.Output.{OutputText, but_truncation, packets_in, refusals_in, text_behind, text_of}
-use Rattle.pmb_capture.specs.Show.{Shows, noted_behind, noted_line, noted_lines, shown}
+use Rattle.pmb_capture.specs.Output.{OutputText, but_truncation, packets_in, refusals_in, text_behind, outcomes_text}
+use Rattle.pmb_capture.specs.Show.{Shows, noted_behind, noted_line, noted_lines, shown_output}
 use Rattle.pmb_capture.specs.Written.{Writes}
 use Rattle.pmb_capture.proofs.Texts.{packets_append, refusals_append}
 
 -- tallies of the same counts are one
-tally_same : (s t : Tally) (packets refusals : ℕ) → Counts packets refusals s → Counts packets refusals t → s ≡ t
+tally_same : (s t : Tally) (packets refusals : ℕ) → IsTallyOf packets refusals s → IsTallyOf packets refusals t → s ≡ t
 tally_same s t packets refusals first second =
     ap (λ (n : ℕ). record s { packets = n }) (first.packets_counted ∙ sym second.packets_counted)
     ∙ ap (λ (n : ℕ). record t { refusals = n }) (first.refusals_counted ∙ sym second.refusals_counted)
@@ -40,20 +40,20 @@ module _ (output : OutputText) (profile : List DeviceParts) where
   one_text reading spelling bad_word no_bad bytes a b s t (inl x) (inl y) =
       let events = spelling bytes x.events y.events x.spells y.spells in
       let same = reading y.events x.outcomes y.outcomes (subst (λ (es : List Event). Reading profile es x.outcomes) events x.reads) y.reads in
-      let tally = tally_same s t (packets_in x.outcomes) (refusals_in x.outcomes) x.counts (subst (λ l. Counts (packets_in l) (refusals_in l) t) (sym same) y.counts) in
-      (same_text output a b _ _ s t x.lines y.lines (ap (text_of output) same) tally, tally)
+      let tally = tally_same s t (packets_in x.outcomes) (refusals_in x.outcomes) x.counts (subst (λ l. IsTallyOf (packets_in l) (refusals_in l) t) (sym same) y.counts) in
+      (same_text output a b _ _ s t x.lines y.lines (ap (outcomes_text output) same) tally, tally)
   one_text reading spelling bad_word no_bad bytes a b s t (inl x) (inr y) = absurd (no_bad bytes x.events y.events y.place x.spells y.bad)
   one_text reading spelling bad_word no_bad bytes a b s t (inr x) (inl y) = absurd (no_bad bytes y.events x.events x.place y.spells x.bad)
   one_text reading spelling bad_word no_bad bytes a b s t (inr x) (inr y) =
       let bad = bad_word bytes x.events y.events x.place y.place x.bad y.bad in
       let same = reading y.events x.outcomes y.outcomes (subst (λ (es : List Event). Reading profile es x.outcomes) bad.0 x.reads) y.reads in
       let tally = tally_same s t (packets_in (but_truncation x.outcomes)) (refusals_in (but_truncation x.outcomes) + 1) x.counts
-      (subst (λ l. Counts (packets_in (but_truncation l)) (refusals_in (but_truncation l) + 1) t) (sym same) y.counts) in
-      (same_behind output a b _ _ _ _ s t x.lines y.lines (ap (λ l. text_of output (but_truncation l)) same) (ap (λ i. bad_token_line (counted i)) bad.1) tally, tally)
+      (subst (λ l. IsTallyOf (packets_in (but_truncation l)) (refusals_in (but_truncation l) + 1) t) (sym same) y.counts) in
+      (same_behind output a b _ _ _ _ s t x.lines y.lines (ap (λ l. outcomes_text output (but_truncation l)) same) (ap (λ i. bad_token_line (capped i)) bad.1) tally, tally)
 
 -- ---- captures without refusals
 
-lines_of_packets : (profile : List DeviceParts) (before ts : List TransactionData) → text_behind (shown profile) before (map Accepted ts) ≡ noted_behind profile before ts
+lines_of_packets : (profile : List DeviceParts) (before ts : List TransactionData) → text_behind (shown_output profile) before (map Accepted ts) ≡ noted_behind profile before ts
 lines_of_packets profile before [] = refl
 lines_of_packets profile before (t ∷ ts) = ap (λ text. noted_line profile before t ++ text) (lines_of_packets profile (before ++ t ∷ []) ts)
 
@@ -70,12 +70,12 @@ refusals_are_none (t ∷ ts) =
     omega (arith, none, refusals_are_none ts)
 
 pub shown_as_written : (profile : List DeviceParts) (ts : List TransactionData) (events : List Event) (bytes : List ℕ) → Spells bytes events → Reading profile events (map Accepted ts)
-    → Shows profile bytes (noted_lines profile ts) (record { packets = counted (length ts); refusals = 0 })
+    → Shows profile bytes (noted_lines profile ts) (record { packets = capped (length ts); refusals = 0 })
 shown_as_written profile ts events bytes spells reads = inl (record {
   events = events;
   outcomes = map Accepted ts;
   spells = spells;
   reads = reads;
-  lines = sym (append-nil (text_of (shown profile) (map Accepted ts)) ∙ lines_of_packets profile [] ts);
-  counts = record { packets_counted = ap counted (sym (packets_are_all ts)); refusals_counted = ap counted (sym (refusals_are_none ts)) };
+  lines = sym (append-nil (outcomes_text (shown_output profile) (map Accepted ts)) ∙ lines_of_packets profile [] ts);
+  counts = record { packets_counted = ap capped (sym (packets_are_all ts)); refusals_counted = ap capped (sym (refusals_are_none ts)) };
 })

@@ -4,17 +4,17 @@ use Rattle.pmb_bus.specs.declared.event.Event.{Event}
 use Rattle.pmb_bus.specs.declared.event.Event.TheVariants.{Byte, Ack}
 use Rattle.pmb_bus.specs.declared.lexer.Lexer.{Lexer}
 use Rattle.pmb_bus.specs.declared.lexer.LexFault.{LexFault}
-use Rattle.pmb_bus.specs.Lexer.{StandsAt as LexerStandsAt, NeedsMore, EndsWord, FeedsAcked, Refuses, IsFaultOf}
+use Rattle.pmb_bus.specs.Lexer.{LexerStandsAt, NeedsMore, EndsWord, FeedsAcked, Refuses, IsFaultOf}
 use Rattle.pmb_command.specs.Parts.{DeviceParts}
-use Rattle.pmb_io.specs.Outgoing.{Writes as PutsText}
+use Rattle.pmb_io.specs.Outgoing.{PutsText}
 use Rattle.pmb_io.specs.Tally.{with_refusal}
 use Rattle.pmb_io.proofs.Writing.{writes_then, writes_nothing, writes_as}
 use Rattle.pmb_transaction.specs.Reading.{Outcome}
 use Rattle.pmb_transaction.specs.Transaction.{TransactionData}
 use Rattle.pmb_capture.specs.declared.capture.Capture.{Capture}
-use Rattle.pmb_capture.specs.Output.{OutputText, accepted_in, text_behind, text_of}
+use Rattle.pmb_capture.specs.Output.{OutputText, accepted_in, text_behind, outcomes_text}
 use Rattle.pmb_capture.specs.Written.{WritesUpToBadWord}
-use Rattle.pmb_capture.specs.machine.Capture.{Reads, Stands, TakesEvent, TakesPiece, StopsInPiece}
+use Rattle.pmb_capture.specs.machine.Capture.{CaptureReads, CaptureStands, TakesEvent, TakesPiece, StopsInPiece}
 use Rattle.pmb_capture.specs.machine.Reported.{CanEnd}
 use Rattle.pmb_capture.proofs.Endings.{fault_text, writes_bad}
 use Rattle.pmb_capture.proofs.Outcomes.{reads_same}
@@ -26,16 +26,16 @@ module _ {O : Type 0} (TextOf : O → OutputText) (StandsBehind : O → List Tra
     pub used : List ℕ
     pub more : List Outcome
     pub split : piece ≡ used ++ rest
-    pub stands : Stands TextOf StandsBehind output profile capture (bytes ++ used) (outcomes ++ more)
+    pub stands : CaptureStands TextOf StandsBehind output profile capture (bytes ++ used) (outcomes ++ more)
     pub puts : PutsText held_old waiting_old held waiting (text_behind output (accepted_in outcomes) more)
 
   -- the same of equal texts and outcomes
-  stands_as : (capture : Capture O) (a b : List ℕ) (x y : List Outcome) → a ≡ b → x ≡ y → Stands TextOf StandsBehind output profile capture a x → Stands TextOf StandsBehind output profile capture b y
-  stands_as capture a b x y e f stands = subst (λ (t : List ℕ). Stands TextOf StandsBehind output profile capture t y) e (subst (λ (o : List Outcome). Stands TextOf StandsBehind output profile capture a o) f stands)
+  stands_as : (capture : Capture O) (a b : List ℕ) (x y : List Outcome) → a ≡ b → x ≡ y → CaptureStands TextOf StandsBehind output profile capture a x → CaptureStands TextOf StandsBehind output profile capture b y
+  stands_as capture a b x y e f stands = subst (λ (t : List ℕ). CaptureStands TextOf StandsBehind output profile capture t y) e (subst (λ (o : List Outcome). CaptureStands TextOf StandsBehind output profile capture a o) f stands)
 
   -- none of it is taken yet
   pub took_none : (capture : Capture O) (bytes : List ℕ) (outcomes : List Outcome) (piece : List ℕ) (held : Option (List ℕ)) (waiting : List ℕ)
-      → Stands TextOf StandsBehind output profile capture bytes outcomes → TookUpTo bytes outcomes piece piece held waiting held waiting capture
+      → CaptureStands TextOf StandsBehind output profile capture bytes outcomes → TookUpTo bytes outcomes piece piece held waiting held waiting capture
   took_none capture bytes outcomes piece held waiting stands = record {
     used = [];
     more = [];
@@ -69,7 +69,7 @@ module _ {O : Type 0} (TextOf : O → OutputText) (StandsBehind : O → List Tra
           events = took.stands.events ++ event ∷ [];
           lexer = subst (λ (l : Lexer). LexerStandsAt l (length (bytes ++ (took.used ++ take used rest))) (bytes ++ (took.used ++ take used rest)) (took.stands.events ++ event ∷ [])) (sym same_lexer)
               (stands_counted lexer _ _ _ _ (append_assoc bytes took.used (take used rest)) (counts_text text rest used word.within) word.stands);
-          reads = subst (λ (o : List Outcome). Reads TextOf StandsBehind output profile after (took.stands.events ++ event ∷ []) o) (append_assoc outcomes took.more taken.more) taken.reads;
+          reads = subst (λ (o : List Outcome). CaptureReads TextOf StandsBehind output profile after (took.stands.events ++ event ∷ []) o) (append_assoc outcomes took.more taken.more) taken.reads;
         };
         puts = writes_as _ _ _ _ _ _ _ refl (sym (texts_then output outcomes took.more taken.more)) (writes_then _ _ _ _ _ _ _ _ took.puts taken.puts);
       }
@@ -85,7 +85,7 @@ module _ {O : Type 0} (TextOf : O → OutputText) (StandsBehind : O → List Tra
       → (took : TookUpTo bytes outcomes piece rest h0 w0 h1 w1 before)
       → FeedsAcked (length (bytes ++ took.used)) (bytes ++ took.used) took.stands.events rest byte lexer
       → TakesEvent TextOf StandsBehind output profile took.stands.events (outcomes ++ took.more) (Byte byte) h1 w1 h2 w2 middle
-      → ((events : List Event) (others : List Outcome) → Reads TextOf StandsBehind output profile middle events others → TakesEvent TextOf StandsBehind output profile events others Ack h2 w2 h3 w3 after)
+      → ((events : List Event) (others : List Outcome) → CaptureReads TextOf StandsBehind output profile middle events others → TakesEvent TextOf StandsBehind output profile events others Ack h2 w2 h3 w3 after)
       → after.lexer ≡ lexer → left ≡ drop 5 rest
       → TookUpTo bytes outcomes piece left h0 w0 h3 w3 after
   unfolding took_event
@@ -133,16 +133,16 @@ module _ {O : Type 0} (TextOf : O → OutputText) (StandsBehind : O → List Tra
       let more_text = text_behind output (accepted_in outcomes) took.more in
       let whole : text ++ rest ≡ bytes ++ piece = append_assoc bytes took.used rest ∙ ap (λ l. bytes ++ l) (sym took.split) in
       let fault_is = subst (λ (k : ℕ). IsFaultOf k (text ++ take used rest) fault) (counts_text text rest used (omega (arith, refuses.within))) refuses.at in
-      let lines : text_of output (outcomes ++ took.more) ++ last ≡ text_of output outcomes ++ (more_text ++ last) =
-      ap (λ l. l ++ last) (text_append output [] outcomes took.more) ∙ append_assoc (text_of output outcomes) more_text last in
-      let follows : (more : List ℕ) → WritesUpToBadWord output profile ((bytes ++ piece) ++ more) (text_of output outcomes ++ (more_text ++ last)) after.tally =
-      λ more. subst (λ (b : List ℕ). WritesUpToBadWord output profile (b ++ more) (text_of output outcomes ++ (more_text ++ last)) after.tally) whole
+      let lines : outcomes_text output (outcomes ++ took.more) ++ last ≡ outcomes_text output outcomes ++ (more_text ++ last) =
+      ap (λ l. l ++ last) (text_append output [] outcomes took.more) ∙ append_assoc (outcomes_text output outcomes) more_text last in
+      let follows : (more : List ℕ) → WritesUpToBadWord output profile ((bytes ++ piece) ++ more) (outcomes_text output outcomes ++ (more_text ++ last)) after.tally =
+      λ more. subst (λ (b : List ℕ). WritesUpToBadWord output profile (b ++ more) (outcomes_text output outcomes ++ (more_text ++ last)) after.tally) whole
       (subst (λ (t : List ℕ). WritesUpToBadWord output profile ((text ++ rest) ++ more) t after.tally) lines
       (writes_bad TextOf StandsBehind output profile before after.tally took.stands.events (outcomes ++ took.more) (text ++ take used rest) ((text ++ rest) ++ more) fault can_end took.stands.reads (refuses.bad more) fault_is refused)) in record {
         text = more_text ++ last;
         puts = writes_then _ _ _ _ _ _ _ _ took.puts puts;
         writes = record {
-          writes = subst (λ (b : List ℕ). WritesUpToBadWord output profile b (text_of output outcomes ++ (more_text ++ last)) after.tally) (append-nil (bytes ++ piece)) (follows []);
+          writes = subst (λ (b : List ℕ). WritesUpToBadWord output profile b (outcomes_text output outcomes ++ (more_text ++ last)) after.tally) (append-nil (bytes ++ piece)) (follows []);
           whatever_follows = follows;
         };
       }

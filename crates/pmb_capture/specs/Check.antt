@@ -7,21 +7,21 @@ use Rattle.pmb_capture.specs.Lines.{tally_line}
 use Rattle.pmb_capture.specs.Output.{OutputText}
 use Rattle.pmb_capture.specs.Written.{Writes, WritesAtEnd, WritesFront, WritesUpToStop}
 
-abbrev pub checked : OutputText
-checked = record { of_packet = λ before t. []; at_end = tally_line }
+abbrev pub checked_output : OutputText
+checked_output = record { of_packet = λ before t. []; at_end = tally_line }
 
 -- what is written for bytes, and the tally
 abbrev pub Checks : List DeviceParts → List ℕ → List ℕ → Tally → Type 0
-Checks profile bytes text tally = Writes checked profile bytes text tally
+Checks profile bytes text tally = Writes checked_output profile bytes text tally
 
 -- for bytes that have ended
 abbrev pub ChecksAtEnd : List DeviceParts → List ℕ → List ℕ → Tally → Type 0
-ChecksAtEnd profile bytes text tally = WritesAtEnd checked profile bytes text tally
+ChecksAtEnd profile bytes text tally = WritesAtEnd checked_output profile bytes text tally
 
 -- for bytes up to a word that is no token
 abbrev pub ChecksUpToBadWord : List DeviceParts → List ℕ → List ℕ → Tally → Type 0
-ChecksUpToBadWord profile bytes text tally = WritesUpToStop checked profile bytes text tally
+ChecksUpToBadWord profile bytes text tally = WritesUpToStop checked_output profile bytes text tally
 
 -- for bytes that more may follow
 abbrev pub ChecksFront : List DeviceParts → List ℕ → List ℕ → Type 0
-ChecksFront profile bytes text = WritesFront checked profile bytes text
+ChecksFront profile bytes text = WritesFront checked_output profile bytes text

@@ -36,14 +36,14 @@ kind_names kinds =
     (with_name (holds kinds Stop) (codes "Stop") []))))
 
 -- names with a mark before the first, and ` or ` before each other
-abbrev pub joined : List ℕ → List (List ℕ) → List ℕ
-joined mark [] = []
-joined mark (name ∷ names) = mark ++ name ++ joined (codes " or ") names
+abbrev pub joined_names : List ℕ → List (List ℕ) → List ℕ
+joined_names mark [] = []
+joined_names mark (name ∷ names) = mark ++ name ++ joined_names (codes " or ") names
 
 -- the place is the event's, counted from 0
 abbrev pub refusal_line : RefusalData → List ℕ
 refusal_line refusal =
-    codes "# refusal at " ++ decimal refusal.at ++ codes ": " ++ reason_name refusal.reason ++ codes ", expected " ++ joined [] (kind_names refusal.expected) ++ codes "\n"
+    codes "# refusal at " ++ decimal refusal.at ++ codes ": " ++ reason_name refusal.reason ++ codes ", expected " ++ joined_names [] (kind_names refusal.expected) ++ codes "\n"
 
 -- ---- the end
 

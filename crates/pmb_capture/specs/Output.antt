@@ -60,5 +60,5 @@ text_behind output before [] = []
 text_behind output before (Accepted t ∷ outcomes) = output.of_packet before t ++ text_behind output (before ++ t ∷ []) outcomes
 text_behind output before (Refusal refusal ∷ outcomes) = refusal_line refusal ++ text_behind output before outcomes
 
-abbrev pub text_of : OutputText → List Outcome → List ℕ
-text_of output outcomes = text_behind output [] outcomes
+abbrev pub outcomes_text : OutputText → List Outcome → List ℕ
+outcomes_text output outcomes = text_behind output [] outcomes

@@ -23,21 +23,21 @@ noted_behind profile before (t ∷ ts) = noted_line profile before t ++ noted_be
 abbrev pub noted_lines : List DeviceParts → List TransactionData → List ℕ
 noted_lines profile ts = noted_behind profile [] ts
 
-abbrev pub shown : List DeviceParts → OutputText
-shown profile = record { of_packet = noted_line profile; at_end = λ tally. [] }
+abbrev pub shown_output : List DeviceParts → OutputText
+shown_output profile = record { of_packet = noted_line profile; at_end = λ tally. [] }
 
 -- what is shown of bytes, and the tally
 abbrev pub Shows : List DeviceParts → List ℕ → List ℕ → Tally → Type 0
-Shows profile bytes text tally = Writes (shown profile) profile bytes text tally
+Shows profile bytes text tally = Writes (shown_output profile) profile bytes text tally
 
 -- of bytes that have ended
 abbrev pub ShowsAtEnd : List DeviceParts → List ℕ → List ℕ → Tally → Type 0
-ShowsAtEnd profile bytes text tally = WritesAtEnd (shown profile) profile bytes text tally
+ShowsAtEnd profile bytes text tally = WritesAtEnd (shown_output profile) profile bytes text tally
 
 -- of bytes up to a word that is no token
 abbrev pub StopsAtBadWord : List DeviceParts → List ℕ → List ℕ → Tally → Type 0
-StopsAtBadWord profile bytes text tally = WritesUpToStop (shown profile) profile bytes text tally
+StopsAtBadWord profile bytes text tally = WritesUpToStop (shown_output profile) profile bytes text tally
 
 -- of bytes that more may follow
 abbrev pub ShowsFront : List DeviceParts → List ℕ → List ℕ → Type 0
-ShowsFront profile bytes text = WritesFront (shown profile) profile bytes text
+ShowsFront profile bytes text = WritesFront (shown_output profile) profile bytes text

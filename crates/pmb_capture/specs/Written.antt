@@ -4,11 +4,11 @@ use Rattle.pmb_bus.specs.declared.event.Event.{Event}
 use Rattle.pmb_bus.specs.Text.{Spells, EndedWordsSpell, BeginsText, FirstBadWord}
 use Rattle.pmb_command.specs.Parts.{DeviceParts}
 use Rattle.pmb_io.specs.declared.tally.Tally.{Tally}
-use Rattle.pmb_io.specs.Count.{counted}
-use Rattle.pmb_io.specs.Tally.{Counts}
+use Rattle.pmb_io.specs.Count.{capped}
+use Rattle.pmb_io.specs.Tally.{IsTallyOf}
 use Rattle.pmb_transaction.specs.Reading.{Outcome, Reading}
 use Rattle.pmb_capture.specs.Lines.{bad_token_line}
-use Rattle.pmb_capture.specs.Output.{OutputText, but_truncation, packets_in, refusals_in, text_of}
+use Rattle.pmb_capture.specs.Output.{OutputText, but_truncation, packets_in, refusals_in, outcomes_text}
 
 module _ (output : OutputText) (profile : List DeviceParts) where
   -- The bytes spell events: the text of their outcomes is written, and that of the end.
@@ -17,8 +17,8 @@ module _ (output : OutputText) (profile : List DeviceParts) where
     pub outcomes : List Outcome
     pub spells : Spells bytes events
     pub reads : Reading profile events outcomes
-    pub lines : text ≡ text_of output outcomes ++ output.at_end tally
-    pub counts : Counts (packets_in outcomes) (refusals_in outcomes) tally
+    pub lines : text ≡ outcomes_text output outcomes ++ output.at_end tally
+    pub counts : IsTallyOf (packets_in outcomes) (refusals_in outcomes) tally
 
   -- A word of the bytes is no token: the events are those of the words before the first such, whose
   -- line comes behind theirs and counts as a refusal. A packet under way there is not reported.
@@ -28,8 +28,8 @@ module _ (output : OutputText) (profile : List DeviceParts) where
     pub place : ℕ
     pub bad : FirstBadWord bytes events place
     pub reads : Reading profile events outcomes
-    pub lines : text ≡ text_of output (but_truncation outcomes) ++ (bad_token_line (counted place) ++ output.at_end tally)
-    pub counts : Counts (packets_in (but_truncation outcomes)) (refusals_in (but_truncation outcomes) + 1) tally
+    pub lines : text ≡ outcomes_text output (but_truncation outcomes) ++ (bad_token_line (capped place) ++ output.at_end tally)
+    pub counts : IsTallyOf (packets_in (but_truncation outcomes)) (refusals_in (but_truncation outcomes) + 1) tally
 
   -- the text that is written for bytes, and the tally
   abbrev pub Writes : List ℕ → List ℕ → Tally → Type 0
@@ -53,7 +53,7 @@ module _ (output : OutputText) (profile : List DeviceParts) where
     pub begins : BeginsText bytes
     pub spells : EndedWordsSpell bytes events
     pub reads : Reading profile events outcomes
-    pub lines : text ≡ text_of output (but_truncation outcomes)
+    pub lines : text ≡ outcomes_text output (but_truncation outcomes)
 
   -- What is written so far for bytes, a front of what is written for them.
   pub record WritesFront (bytes : List ℕ) (text : List ℕ) : Type 0 where

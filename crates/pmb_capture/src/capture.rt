@@ -9,21 +9,21 @@ ghost use Rattle.pmb_bus.specs.declared.event.Event.{Event as BusEvent};
 ghost use Rattle.pmb_bus.specs.declared.lexer.LexFault.TheVariants.{BadToken};
 ghost use Rattle.pmb_command.specs.Parts.{DeviceParts};
 ghost use Rattle.pmb_io.specs.Calls.{WriterTells};
-ghost use Rattle.pmb_io.specs.Outgoing.{Writes};
+ghost use Rattle.pmb_io.specs.Outgoing.{PutsText};
 ghost use Rattle.pmb_io.specs.Tally.{with_packet, with_refusal};
 ghost use Rattle.pmb_reader.specs.Reader.{last_read};
 ghost use Rattle.pmb_reader.specs.Refusal.{refusal_data};
 ghost use Rattle.pmb_transaction.specs.Reading.{Outcome};
 ghost use Rattle.pmb_transaction.specs.Transaction.{TransactionData};
 ghost use Rattle.pmb_capture.specs.Lines.{bad_token_line as bad_token_text, refusal_line as refusal_text};
-ghost use Rattle.pmb_capture.specs.Output.{OutputText, text_of};
+ghost use Rattle.pmb_capture.specs.Output.{OutputText, outcomes_text};
 ghost use Rattle.pmb_capture.specs.Written.{WritesFront};
 ghost use Rattle.pmb_capture.specs.machine.Reported.{CanEnd};
 ghost use Rattle.pmb_capture.specs.machine.Capture.{
-  Reads,
-  Stands,
+  CaptureReads,
+  CaptureStands,
   TakesEvent,
-  Takes,
+  CaptureTakes,
   EndsText,
   EndsEvents,
   HasWritten,
@@ -56,7 +56,7 @@ impl<'p, O: Output> Capture<'p, O> {
     pub(crate) fn new(profile: &'p Profile, output: O) -> Capture<'p, O>
         ensures profile { result.profile.now ≡ profile.entry.now }
         ensures output { result.output ≡ output }
-        ensures begins { O.Stands output [] → Stands O.text O.Stands (O.text output) profile.entry.now result [] [] }
+        ensures begins { O.Stands output [] → CaptureStands O.text O.Stands (O.text output) profile.entry.now result [] [] }
     {
         Capture {
             profile,
@@ -81,8 +81,8 @@ impl<'p, O: Output> Capture<'p, O> {
         waiting: &mut Waiting,
         writer: &mut W,
     ) -> Result<Flow, ToolFault>
-        ensures takes { (output : OutputText) (profile : List DeviceParts) (bytes : List ℕ) (outcomes : List Outcome) → Stands O.text O.Stands output profile self.old bytes outcomes
-            → IfOk result (Takes O.text O.Stands output profile bytes outcomes piece.now (W.contents writer.old) waiting.old.items (W.contents writer.new) waiting.new.items self.new) }
+        ensures takes { (output : OutputText) (profile : List DeviceParts) (bytes : List ℕ) (outcomes : List Outcome) → CaptureStands O.text O.Stands output profile self.old bytes outcomes
+            → IfOk result (CaptureTakes O.text O.Stands output profile bytes outcomes piece.now (W.contents writer.old) waiting.old.items (W.contents writer.new) waiting.new.items self.new) }
         ensures failed { WriterTells (W.failures writer.old) (W.failures writer.new) result }
     {
         let mut rest = piece;
@@ -118,7 +118,7 @@ impl<'p, O: Output> Capture<'p, O> {
         writer: &mut W,
     ) -> Result<(), ToolFault>
         ensures lexer { self.new.lexer ≡ self.old.lexer }
-        ensures takes { (output : OutputText) (profile : List DeviceParts) (events : List BusEvent) (outcomes : List Outcome) → Reads O.text O.Stands output profile self.old events outcomes
+        ensures takes { (output : OutputText) (profile : List DeviceParts) (events : List BusEvent) (outcomes : List Outcome) → CaptureReads O.text O.Stands output profile self.old events outcomes
             → OnOk result (TakesEvent O.text O.Stands output profile events outcomes event (W.contents writer.old) waiting.old.items (W.contents writer.new) waiting.new.items self.new) }
         ensures failed { WriterTells (W.failures writer.old) (W.failures writer.new) result }
     {
@@ -143,7 +143,7 @@ impl<'p, O: Output> Capture<'p, O> {
         ensures stands { (before : List TransactionData) → O.Stands self.old.output before
             → OnOk result (O.Stands self.new.output (before ++ last_read self.old.reader ∷ [])) }
         ensures puts { (before : List TransactionData) → O.Stands self.old.output before
-            → OnOk result (Writes (W.contents writer.old) waiting.old.items (W.contents writer.new) waiting.new.items ((O.text self.old.output).of_packet before (last_read self.old.reader))) }
+            → OnOk result (PutsText (W.contents writer.old) waiting.old.items (W.contents writer.new) waiting.new.items ((O.text self.old.output).of_packet before (last_read self.old.reader))) }
         ensures failed { WriterTells (W.failures writer.old) (W.failures writer.new) result }
     {
         self.tally.count_packet();
@@ -163,7 +163,7 @@ impl<'p, O: Output> Capture<'p, O> {
         ensures reader { self.new.reader ≡ self.old.reader }
         ensures output { self.new.output ≡ self.old.output }
         ensures counted { self.new.tally ≡ with_refusal self.old.tally }
-        ensures puts { OnOk result (Writes (W.contents writer.old) waiting.old.items (W.contents writer.new) waiting.new.items (refusal_text (refusal_data refusal))) }
+        ensures puts { OnOk result (PutsText (W.contents writer.old) waiting.old.items (W.contents writer.new) waiting.new.items (refusal_text (refusal_data refusal))) }
         ensures failed { WriterTells (W.failures writer.old) (W.failures writer.new) result }
     {
         self.tally.count_refusal();
@@ -182,7 +182,7 @@ impl<'p, O: Output> Capture<'p, O> {
     ) -> Result<(), ToolFault>
         ensures counted { self.new.tally ≡ with_refusal self.old.tally }
         ensures puts { (at : ℕ) → fault ≡ BadToken at
-            → OnOk result (Writes (W.contents writer.old) waiting.old.items (W.contents writer.new) waiting.new.items (bad_token_text at ++ (O.text self.old.output).at_end self.new.tally)) }
+            → OnOk result (PutsText (W.contents writer.old) waiting.old.items (W.contents writer.new) waiting.new.items (bad_token_text at ++ (O.text self.old.output).at_end self.new.tally)) }
         ensures can_end { CanEnd self.old.reader }
         ensures failed { WriterTells (W.failures writer.old) (W.failures writer.new) result }
     {
@@ -201,7 +201,7 @@ impl<'p, O: Output> Capture<'p, O> {
         ensures output { self.new.output ≡ self.old.output }
         ensures counted { self.new.tally ≡ with_refusal self.old.tally }
         ensures puts { (at : ℕ) → fault ≡ BadToken at
-            → OnOk result (Writes (W.contents writer.old) waiting.old.items (W.contents writer.new) waiting.new.items (bad_token_text at)) }
+            → OnOk result (PutsText (W.contents writer.old) waiting.old.items (W.contents writer.new) waiting.new.items (bad_token_text at)) }
         ensures failed { WriterTells (W.failures writer.old) (W.failures writer.new) result }
     {
         let LexFault::BadToken { at } = fault;
@@ -212,7 +212,7 @@ impl<'p, O: Output> Capture<'p, O> {
 
     /// Takes the end of the text, and puts out the text of what it completes.
     fn take_end<W: Sink>(&mut self, waiting: &mut Waiting, writer: &mut W) -> Result<(), ToolFault>
-        ensures ends { (output : OutputText) (profile : List DeviceParts) (bytes : List ℕ) (outcomes : List Outcome) → Stands O.text O.Stands output profile self.old bytes outcomes
+        ensures ends { (output : OutputText) (profile : List DeviceParts) (bytes : List ℕ) (outcomes : List Outcome) → CaptureStands O.text O.Stands output profile self.old bytes outcomes
             → OnOk result (EndsText O.text O.Stands output profile bytes outcomes (W.contents writer.old) waiting.old.items (W.contents writer.new) waiting.new.items self.new) }
         ensures failed { WriterTells (W.failures writer.old) (W.failures writer.new) result }
     {
@@ -229,8 +229,8 @@ impl<'p, O: Output> Capture<'p, O> {
     /// Leaves the text where it is, and puts out no more: what came of it so far is a front of what it
     /// would come to.
     pub(crate) fn leave(&mut self)
-        ensures { (output : OutputText) (profile : List DeviceParts) (bytes : List ℕ) (outcomes : List Outcome) → Stands O.text O.Stands output profile self.old bytes outcomes
-            → WritesFront output profile bytes (text_of output outcomes) }
+        ensures { (output : OutputText) (profile : List DeviceParts) (bytes : List ℕ) (outcomes : List Outcome) → CaptureStands O.text O.Stands output profile self.old bytes outcomes
+            → WritesFront output profile bytes (outcomes_text output outcomes) }
     {
         // Nothing of this is kept. That the capture may end here says that it comes to something.
         let _ = report_end(&self.reader);
@@ -243,7 +243,7 @@ impl<'p, O: Output> Capture<'p, O> {
         waiting: &mut Waiting,
         writer: &mut W,
     ) -> Result<(), ToolFault>
-        ensures ends { (output : OutputText) (profile : List DeviceParts) (events : List BusEvent) (outcomes : List Outcome) → Reads O.text O.Stands output profile self.old events outcomes
+        ensures ends { (output : OutputText) (profile : List DeviceParts) (events : List BusEvent) (outcomes : List Outcome) → CaptureReads O.text O.Stands output profile self.old events outcomes
             → OnOk result (EndsEvents O.text O.Stands output profile events outcomes (W.contents writer.old) waiting.old.items (W.contents writer.new) waiting.new.items self.new) }
         ensures failed { WriterTells (W.failures writer.old) (W.failures writer.new) result }
     {

@@ -6,7 +6,7 @@ ghost use Rattle.pmb_bus.specs.Text.{Spells};
 ghost use Rattle.pmb_command.specs.Bus.{IsBus};
 ghost use Rattle.pmb_command.specs.Parts.{DeviceParts};
 ghost use Rattle.pmb_io.specs.declared.tally.Tally.{Tally};
-ghost use Rattle.pmb_io.specs.Count.{counted};
+ghost use Rattle.pmb_io.specs.Count.{capped};
 ghost use Rattle.pmb_transaction.specs.Capture.{Capture};
 ghost use Rattle.pmb_transaction.specs.Transaction.{TransactionData};
 ghost use Rattle.pmb_capture.specs.Check.{Checks};
@@ -42,7 +42,7 @@ pub fn one_check()
 pub fn captures_are_shown()
     ensures { (profile : List DeviceParts) (ts : List TransactionData) (events : List Event) (bytes : List ℕ) → IsBus profile
         → Capture profile ts events → Spells bytes events
-        → Shows profile bytes (noted_lines profile ts) (record { packets = counted (length ts); refusals = 0 }) }
+        → Shows profile bytes (noted_lines profile ts) (record { packets = capped (length ts); refusals = 0 }) }
 {
     captures_read_as_written();
 }

@@ -4,7 +4,7 @@ ghost use Rattle.std.specs.Prelude.{◌≡◌, ◌+◌, ◌≤◌, ℕ, List, Bo
 ghost use Rattle.pmb_bus.specs.declared.event.Event.TheVariants.{Start, Byte, Ack, Nack, Stop};
 ghost use Rattle.pmb_bus.specs.Kinds.{bits, holds};
 ghost use Rattle.pmb_reader.specs.Refusal.{refusal_data};
-ghost use Rattle.pmb_capture.specs.Lines.{bad_token_line as bad_token_text, joined, kind_names, reason_name as reason_text, refusal_line as refusal_text, tally_line as tally_text, with_name};
+ghost use Rattle.pmb_capture.specs.Lines.{bad_token_line as bad_token_text, joined_names, kind_names, reason_name as reason_text, refusal_line as refusal_text, tally_line as tally_text, with_name};
 
 use arrayvec::ArrayVec;
 use itoa::Buffer;
@@ -60,7 +60,7 @@ fn reason_name(reason: Reason) -> &'static [u8]
 /// Appends the names of kinds, with ` or ` between each two.
 fn append_kinds(line: &mut Line, kinds: Kinds)
     requires { length line.old.items + 45 ≤ 128 }
-    ensures names { line.new.items ≡ line.old.items ++ joined [] (kind_names kinds) }
+    ensures names { line.new.items ≡ line.old.items ++ joined_names [] (kind_names kinds) }
     ensures short { length line.new.items ≤ length line.old.items + 45 }
 {
     let mark = append_kind(line, b"", kinds, Kinds::START, b"Start");
@@ -83,7 +83,7 @@ fn append_kind(
     requires mark { length mark.now ≤ 4 }
     requires name { length name.now ≤ 5 }
     ensures names { (rest : List (List ℕ))
-        → line.new.items ++ joined result.now rest ≡ line.old.items ++ joined mark.now (with_name (bit_and (bits kinds) (bits kind) == bits kind) name.now rest) }
+        → line.new.items ++ joined_names result.now rest ≡ line.old.items ++ joined_names mark.now (with_name (bit_and (bits kinds) (bits kind) == bits kind) name.now rest) }
     ensures next { length result.now ≤ 4 }
     ensures short { length line.new.items ≤ length line.old.items + 9 }
 {

@@ -2,7 +2,7 @@
 
 ghost use Rattle.std.specs.Prelude.{◌≡◌, ◌++◌, ◌∷◌, [], List, OnOk};
 ghost use Rattle.pmb_io.specs.Calls.{WriterTells};
-ghost use Rattle.pmb_io.specs.Outgoing.{Writes};
+ghost use Rattle.pmb_io.specs.Outgoing.{PutsText};
 ghost use Rattle.pmb_transaction.specs.Transaction.{TransactionData, transaction_data};
 ghost use Rattle.pmb_capture.specs.Output.{OutputText};
 
@@ -29,7 +29,7 @@ pub(crate) trait Output {
         ensures stands { (before : List TransactionData) → Stands self.old before
             → OnOk result (Stands self.new (before ++ transaction_data transaction.now ∷ [])) }
         ensures puts { (before : List TransactionData) → Stands self.old before
-            → OnOk result (Writes (W.contents writer.old) waiting.old.items (W.contents writer.new) waiting.new.items ((text self.old).of_packet before (transaction_data transaction.now))) }
+            → OnOk result (PutsText (W.contents writer.old) waiting.old.items (W.contents writer.new) waiting.new.items ((text self.old).of_packet before (transaction_data transaction.now))) }
         ensures failed { WriterTells (W.failures writer.old) (W.failures writer.new) result };
 
     /// Puts out the text of the end.
@@ -39,6 +39,6 @@ pub(crate) trait Output {
         waiting: &mut Waiting,
         writer: &mut W,
     ) -> Result<(), ToolFault>
-        ensures puts { OnOk result (Writes (W.contents writer.old) waiting.old.items (W.contents writer.new) waiting.new.items ((text self.now).at_end tally)) }
+        ensures puts { OnOk result (PutsText (W.contents writer.old) waiting.old.items (W.contents writer.new) waiting.new.items ((text self.now).at_end tally)) }
         ensures failed { WriterTells (W.failures writer.old) (W.failures writer.new) result };
 }

@@ -2,10 +2,10 @@
 
 ghost use Rattle.std.specs.Prelude.{◌≡◌, ◌+◌, ◌≤◌, ◌++◌, ◌∷◌, [], List, length, OnOk};
 ghost use Rattle.pmb_io.specs.Calls.{WriterTells};
-ghost use Rattle.pmb_io.specs.Outgoing.{Writes};
+ghost use Rattle.pmb_io.specs.Outgoing.{PutsText};
 ghost use Rattle.pmb_note.specs.Context.{HasSeen};
 ghost use Rattle.pmb_transaction.specs.Transaction.{TransactionData, transaction_data};
-ghost use Rattle.pmb_capture.specs.Show.{noted_line, shown};
+ghost use Rattle.pmb_capture.specs.Show.{noted_line, shown_output};
 
 use crate::lines::append;
 use crate::output::Output;
@@ -57,7 +57,7 @@ impl<'p> PacketLines<'p> {
 }
 
 impl<'p> Output for PacketLines<'p> {
-    ghost text = { λ lines. shown lines.profile.now };
+    ghost text = { λ lines. shown_output lines.profile.now };
 
     ghost Stands = { λ lines before. HasSeen lines.context lines.profile.now before };
 

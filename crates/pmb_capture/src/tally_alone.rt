@@ -1,6 +1,6 @@
 //! No line for a packet, and one for the tally at the end.
 
-ghost use Rattle.pmb_capture.specs.Check.{checked};
+ghost use Rattle.pmb_capture.specs.Check.{checked_output};
 
 use crate::lines::tally_line;
 use crate::output::Output;
@@ -12,7 +12,7 @@ use pmb_transaction::Transaction;
 pub(crate) struct TallyAlone;
 
 impl Output for TallyAlone {
-    ghost text = { λ _. checked };
+    ghost text = { λ _. checked_output };
 
     ghost Stands = { λ _ _. Unit {0} };
 

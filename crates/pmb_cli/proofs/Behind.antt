@@ -11,7 +11,7 @@ use Rattle.pmb_io.proofs.Writing.{consumes_then}
 use Rattle.pmb_table.specs.Profile.{Says}
 use Rattle.pmb_front.specs.Front.{EndsAtMark, EndsWithReader, FirstMark, Parts, ReadFront, ReadUndecided, Undecided}
 use Rattle.pmb_cli.specs.Matter.{Behind, PartBehind}
-use Rattle.pmb_cli.specs.Traffic.{OpenBehind, WritesAll, WritesUpToBadWord, Wrote, WroteBehind}
+use Rattle.pmb_cli.specs.Traffic.{OpenBehind, WorkWritesAll, WorkWritesUpToBadWord, Wrote, WroteBehind}
 use Rattle.pmb_words.specs.declared.work.Work.{Work}
 use Rattle.pmb_front.proofs.Fronts.{stays}
 
@@ -116,9 +116,9 @@ module _ (work : Work) (devices : List DeviceParts) (tally : Tally) where
       → ReadFront told old mid ended_before parts → parts.marked ≡ true → Says parts.profile (Ok devices) → Wrote told work devices tally parts.rest mid new h0 h1 has_ended
       → WroteBehind told work old new h0 h1 has_ended tally
   behind_mark told old mid new h0 h1 ended_before has_ended parts before marked says (inl ended) =
-      behind _ devices told old mid (WritesAll work devices tally) (told new).left (told new).given h0 h1 ended_before parts before marked says ended.through (λ holds. inl (holds, ended.ended, ended.at_end))
+      behind _ devices told old mid (WorkWritesAll work devices tally) (told new).left (told new).given h0 h1 ended_before parts before marked says ended.through (λ holds. inl (holds, ended.ended, ended.at_end))
   behind_mark told old mid new h0 h1 ended_before has_ended parts before marked says (inr stopped) =
-      behind _ devices told old mid (WritesUpToBadWord work devices tally) (told new).left (told new).given h0 h1 ended_before parts before marked says stopped.through
+      behind _ devices told old mid (WorkWritesUpToBadWord work devices tally) (told new).left (told new).given h0 h1 ended_before parts before marked says stopped.through
       (λ holds. inr (
         holds,
         stopped_in_time told old mid new ended_before parts before marked stopped.through.read (record { consumed = stopped.through.consumed; given = stopped.through.given }) stopped.in_time,
@@ -129,10 +129,10 @@ module _ (work : Work) (devices : List DeviceParts) (tally : Tally) where
       → ReadFront told old new has_ended parts → parts.marked ≡ false → Says parts.profile (Ok devices) → (told_empty empty).left ≡ Some []
       → Wrote told_empty work devices tally [] empty empty_new h0 h1 empty_ended → WroteBehind told work old new h0 h1 has_ended tally
   behind_all told old new told_empty empty empty_new h0 h1 has_ended empty_ended parts before unmarked says none (inl ended) =
-      all_profile _ devices told old new (WritesAll work devices tally) (told_empty empty).left (told_empty empty_new).left (told_empty empty).given (told_empty empty_new).given h0 h1 has_ended parts before unmarked says none ended.through
+      all_profile _ devices told old new (WorkWritesAll work devices tally) (told_empty empty).left (told_empty empty_new).left (told_empty empty).given (told_empty empty_new).given h0 h1 has_ended parts before unmarked says none ended.through
       (λ ends holds. inl (holds, ends.ended, ends.at_end))
   behind_all told old new told_empty empty empty_new h0 h1 has_ended empty_ended parts before unmarked says none (inr stopped) =
-      all_profile _ devices told old new (WritesUpToBadWord work devices tally) (told_empty empty).left (told_empty empty_new).left (told_empty empty).given (told_empty empty_new).given h0 h1 has_ended parts before unmarked says none stopped.through
+      all_profile _ devices told old new (WorkWritesUpToBadWord work devices tally) (told_empty empty).left (told_empty empty_new).left (told_empty empty).given (told_empty empty_new).given h0 h1 has_ended parts before unmarked says none stopped.through
       (λ ends holds. inr (holds, open_weaker told Undecided OpenBehind [] old new before.read (λ bytes undecided. inl undecided) before.reads.in_time))
 
 -- ---- where a read failed, or there were too many

@@ -8,7 +8,7 @@ ghost use Rattle.pmb_io.specs.declared.tally.Tally.{Tally as TallyOf};
 ghost use Rattle.pmb_cli.specs.Matter.{HasBadProfile};
 ghost use Rattle.pmb_cli.specs.Often.{MadeReadsInAll};
 ghost use Rattle.pmb_status.specs.Status.{IsTold, ReadOften, run_status};
-ghost use Rattle.pmb_cli.specs.Traffic.{WritesFront, Wrote, WroteBehind, WrotePart, WroteSample, WroteSamplePart};
+ghost use Rattle.pmb_cli.specs.Traffic.{WorkWritesFront, Wrote, WroteBehind, WrotePart, WroteSample, WroteSamplePart};
 
 use pmb_build::build;
 use pmb_capture::{check_capture, show};
@@ -46,11 +46,11 @@ fn run<R: Source, W: Sink>(
     ensures not_ended { result ≡ Err ToolFault.TooManyReads → R.has_ended reader.new ≡ R.has_ended reader.old }
     ensures read_not_ended { result ≡ Err ToolFault.Read → R.has_ended reader.new ≡ R.has_ended reader.old }
     ensures before { (result ≡ Err ToolFault.Read) ⊎ (result ≡ Err ToolFault.TooManyReads)
-        → Through (WritesFront work profile.now) first.now
+        → Through (WorkWritesFront work profile.now) first.now
         (record { left = R.remaining reader.old; given = R.given reader.old; held = W.contents out.old })
         (record { left = R.remaining reader.new; given = R.given reader.new; held = W.contents out.new }) }
     ensures many { result ≡ Err ToolFault.TooManyReads
-        → (through : Through (WritesFront work profile.now) first.now
+        → (through : Through (WorkWritesFront work profile.now) first.now
         (record { left = R.remaining reader.old; given = R.given reader.old; held = W.contents out.old })
         (record { left = R.remaining reader.new; given = R.given reader.new; held = W.contents out.new }))
         × (most_reads ≤ length through.read) }

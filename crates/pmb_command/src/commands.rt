@@ -8,7 +8,7 @@ ghost use Rattle.std.specs.Str.{bytes_eq};
 ghost use Rattle.pmb_command.specs.Entry.{entry_parts};
 ghost use Rattle.pmb_command.specs.Commands.{code_of_name, standard_entries, standard_entry};
 ghost use Rattle.pmb_command.specs.Standard.{IsStandardAt};
-ghost use Rattle.pmb_command.specs.machine.Rows.{kind_of, row_parts};
+ghost use Rattle.pmb_command.specs.machine.Rows.{standard_kind, row_parts};
 
 use crate::entry::{Entry, Kind};
 use crate::form::{Form, Shape};
@@ -285,7 +285,7 @@ fn find_name(rows: &'static [Row], name: &str) -> Option<&'static Row>
 }
 
 fn kind_of(kind: StandardKind) -> Kind
-    ensures { result ≡ kind_of kind }
+    ensures { result ≡ standard_kind kind }
 {
     match kind {
         Raw => Kind::Raw,

@@ -3,25 +3,25 @@ use Rattle.std.proofs.Common.{◌≡◌, ℕ, ◌+◌, Bool, cond, Ok, Err, List
 use Rattle.std.proofs.lemmas.Grind.{flat_map-append}
 use Rattle.std.proofs.lemmas.List.Sums.{fold-append}
 use Rattle.pmb_io.specs.Lines.{TextLine}
-use Rattle.pmb_io.specs.Tally.{Counts}
+use Rattle.pmb_io.specs.Tally.{IsTallyOf}
 use Rattle.pmb_io.specs.declared.tally.Tally.{Tally}
 use Rattle.pmb_convert.specs.declared.conversion.Conversion.{Conversion}
 use Rattle.pmb_convert.specs.declared.converter.Converter.{Converter}
 use Rattle.pmb_convert.specs.Answer.{Answer, AnswersEach, AnswersLine, answer_line}
 use Rattle.pmb_convert.specs.Lines.{AnswersCounted, AnswersLines}
-use Rattle.pmb_convert.specs.machine.Converting.{Stands, fresh, with_answer}
+use Rattle.pmb_convert.specs.machine.Converting.{ConverterStands, fresh, with_answer}
 
 -- nothing was answered yet
-pub stands_fresh : (conversion : Conversion) (converter : Converter) → converter ≡ fresh conversion → Stands converter converter [] []
+pub stands_fresh : (conversion : Conversion) (converter : Converter) → converter ≡ fresh conversion → ConverterStands converter converter [] []
 stands_fresh conversion converter is =
-    let begun : Stands (fresh conversion) (fresh conversion) [] [] = record {
+    let begun : ConverterStands (fresh conversion) (fresh conversion) [] [] = record {
       same = refl;
       answered = record {
         given = record { answers = []; each = tt; whole = refl };
         counts = record { packets_counted = refl; refusals_counted = refl };
       };
     } in
-    subst (λ (c : Converter). Stands c c [] []) (sym is) begun
+    subst (λ (c : Converter). ConverterStands c c [] []) (sym is) begun
 
 -- the answers to lines and then to others
 answers-append : (conversion : Conversion) (lines others : List TextLine) (answers more : List Answer) → AnswersEach conversion lines answers → AnswersEach conversion others more
@@ -35,8 +35,8 @@ answers-append conversion (line ∷ lines) others (answer ∷ answers) more each
 one_more : (p : Answer → Bool) (answers : List Answer) (answer : Answer) → count_by p (answers ++ answer ∷ []) ≡ count_by p answers + cond (p answer) 1 0
 one_more p answers answer = fold-append (λ (n : ℕ) (a : Answer). n + cond (p a) 1 0) 0 answers (answer ∷ [])
 
-counts_more : (converter : Converter) (answers : List Answer) (answer : Answer) → Counts (count_by is_ok answers) (count_by is_err answers) converter.tally
-    → Counts (count_by is_ok (answers ++ answer ∷ [])) (count_by is_err (answers ++ answer ∷ [])) (with_answer converter answer).tally
+counts_more : (converter : Converter) (answers : List Answer) (answer : Answer) → IsTallyOf (count_by is_ok answers) (count_by is_err answers) converter.tally
+    → IsTallyOf (count_by is_ok (answers ++ answer ∷ [])) (count_by is_err (answers ++ answer ∷ [])) (with_answer converter answer).tally
 counts_more converter answers (Ok text) counts =
     let packets = one_more is_ok answers (Ok text) in
     let refusals = one_more is_err answers (Ok text) in
@@ -58,7 +58,7 @@ kept converter (Err fault) = refl
 
 -- a line more
 line_more : (start before : Converter) (lines : List TextLine) (text : List ℕ) (line : TextLine) (answer : Answer)
-    → AnswersLine before.conversion line answer → Stands start before lines text → Stands start (with_answer before answer) (lines ++ line ∷ []) (text ++ answer_line answer)
+    → AnswersLine before.conversion line answer → ConverterStands start before lines text → ConverterStands start (with_answer before answer) (lines ++ line ∷ []) (text ++ answer_line answer)
 line_more start before lines text line answer answered stands =
     let given = stands.answered.given in
     let one = subst (λ (c : Conversion). AnswersLine c line answer) stands.same answered in record {
@@ -74,17 +74,17 @@ line_more start before lines text line answer answered stands =
     }
 
 pub answers_more : (start before after : Converter) (lines : List TextLine) (text : List ℕ) (line : TextLine) (answer : Answer) → after ≡ with_answer before answer
-    → AnswersLine before.conversion line answer → Stands start before lines text → Stands start after (lines ++ line ∷ []) (text ++ answer_line answer)
+    → AnswersLine before.conversion line answer → ConverterStands start before lines text → ConverterStands start after (lines ++ line ∷ []) (text ++ answer_line answer)
 answers_more start before after lines text line answer is answered stands =
-    subst (λ (c : Converter). Stands start c (lines ++ line ∷ []) (text ++ answer_line answer)) (sym is) (line_more start before lines text line answer answered stands)
+    subst (λ (c : Converter). ConverterStands start c (lines ++ line ∷ []) (text ++ answer_line answer)) (sym is) (line_more start before lines text line answer answered stands)
 
 -- what a converter from its beginning has answered
-pub answers_of : (conversion : Conversion) (start now : Converter) (lines : List TextLine) (text : List ℕ) → start ≡ fresh conversion → Stands start now lines text → AnswersLines conversion lines text
+pub answers_of : (conversion : Conversion) (start now : Converter) (lines : List TextLine) (text : List ℕ) → start ≡ fresh conversion → ConverterStands start now lines text → AnswersLines conversion lines text
 answers_of conversion start now lines text is stands =
     subst (λ (c : Conversion). AnswersLines c lines text) (ap (λ (c : Converter). c.conversion) is) stands.answered.given
 
 -- what it has answered to all lines of an input
-pub answers_to : (conversion : Conversion) (start now : Converter) (tally : Tally) (lines : List TextLine) (text : List ℕ) → start ≡ fresh conversion → tally ≡ now.tally → Stands start now lines text
+pub answers_to : (conversion : Conversion) (start now : Converter) (tally : Tally) (lines : List TextLine) (text : List ℕ) → start ≡ fresh conversion → tally ≡ now.tally → ConverterStands start now lines text
     → AnswersCounted conversion tally lines text
 answers_to conversion start now tally lines text is same stands =
     subst (λ (t : Tally). AnswersCounted conversion t lines text) (sym same)

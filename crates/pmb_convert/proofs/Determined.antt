@@ -15,7 +15,7 @@ use Rattle.pmb_value.specs.Direct.{Coefficients, direct}
 use Rattle.pmb_value.specs.Laws.{HasOneNearest}
 use Rattle.pmb_value.specs.Linear.{IsExponent, linear11, linear11_fixed, ulinear16, slinear16}
 use Rattle.pmb_value.specs.declared.vout.VoutFormat.TheVariants.{Unsigned, Signed, Direct}
-use Rattle.pmb_io.specs.Count.{counted}
+use Rattle.pmb_io.specs.Count.{capped}
 use Rattle.pmb_io.specs.Lines as lines
 use Rattle.pmb_io.specs.declared.tally.Tally.{Tally}
 use Rattle.pmb_convert.specs.declared.conversion.Conversion.{Conversion}
@@ -138,7 +138,7 @@ encode_one format code stays one is_code text a b = by (reading text) (reading-p
 -- ---- and so have lines
 
 one_line : (conversion : Conversion) → HasOneAnswer conversion → (line : lines.TextLine) (a b : Answer) → AnswersLine conversion line a → AnswersLine conversion line b → a ≡ b
-one_line conversion one (lines.Ended text) a b left right = one (lines.without_return text) a b left right
+one_line conversion one (lines.Ended text) a b left right = one (lines.without_cr text) a b left right
 one_line conversion one (lines.Last text) a b left right = one text a b left right
 one_line conversion one lines.TooLong a b left right = left ∙ sym right
 
@@ -161,8 +161,8 @@ one_tally : (conversion : Conversion) → HasOneAnswer conversion → (given : L
     → tally ≡ count
 one_tally conversion one given text other tally count left right =
     let same = each_one conversion one given left.given.answers right.given.answers left.given.each right.given.each in
-    let packets = left.counts.packets_counted ∙ ap (λ xs. counted (count_by is_ok xs)) same ∙ sym right.counts.packets_counted in
-    let refusals = left.counts.refusals_counted ∙ ap (λ xs. counted (count_by is_err xs)) same ∙ sym right.counts.refusals_counted in
+    let packets = left.counts.packets_counted ∙ ap (λ xs. capped (count_by is_ok xs)) same ∙ sym right.counts.packets_counted in
+    let refusals = left.counts.refusals_counted ∙ ap (λ xs. capped (count_by is_err xs)) same ∙ sym right.counts.refusals_counted in
     (λ i. record { packets = packets i; refusals = refusals i })
 
 determined : (conversion : Conversion) → HasOneAnswer conversion → IsDetermined conversion

@@ -10,7 +10,7 @@ use Rattle.std.specs.Str.Parse.{AllDigits, IsNumeral, ParsesSigned, digits_value
 use Rattle.std.proofs.Math.Seq.{get_or-append_seam}
 use Rattle.std.proofs.lemmas.Bool.{cases_eq, ne_eqb}
 use Rattle.std.proofs.lemmas.Str.Pattern.{IsSplitOnceResult, split_parts}
-use Rattle.pmb_convert.specs.Spelling.{Writes, plain, minus}
+use Rattle.pmb_convert.specs.Spelling.{WritesInteger, plain, minus}
 use Rattle.pmb_convert.specs.machine.Parts.{HasNoComma, ReadsInteger, SplitsAtComma}
 
 -- ---- digits
@@ -27,14 +27,14 @@ digits_have_no_comma [] digits = tt
 digits_have_no_comma (d ∷ ds) digits = (digit_is_no_comma d digits.0, digits_have_no_comma ds digits.1)
 
 -- a number's text has no comma
-pub number_has_no_comma : (text : List ℕ) (n : ℤ) → Writes text n → HasNoComma text
+pub number_has_no_comma : (text : List ℕ) (n : ℤ) → WritesInteger text n → HasNoComma text
 number_has_no_comma text n (plain numeral is) = digits_have_no_comma text numeral.1
 number_has_no_comma text n (minus digits whole numeral is) =
     let free : HasNoComma (45 ∷ digits) = ((λ e. absurd (omega arith)), digits_have_no_comma digits numeral.1) in
     subst HasNoComma (sym whole) free
 
 -- and writes one number
-pub one_number : (text : List ℕ) (a b : ℤ) → Writes text a → Writes text b → a ≡ b
+pub one_number : (text : List ℕ) (a b : ℤ) → WritesInteger text a → WritesInteger text b → a ≡ b
 one_number text a b (plain _ a_is) (plain _ b_is) = a_is ∙ sym b_is
 one_number text a b (plain numeral _) (minus digits whole _ _) =
     absurd (no_numeral 45 digits (omega arith) (subst (IsNumeral 10) whole numeral))
@@ -52,7 +52,7 @@ read_minus : {E : Type 0} (w : Width) (ds : List ℕ) (r : Result ℤ E) → OkI
 read_minus w ds (Ok x) reads = (minus ds refl reads.0.0 reads.1, subst (FitsSigned w) (sym reads.1) reads.0.1)
 read_minus w ds (Err e) reads = none
   where
-    none : (n : ℤ) → Writes (45 ∷ ds) n → ¬ (FitsSigned w n)
+    none : (n : ℤ) → WritesInteger (45 ∷ ds) n → ¬ (FitsSigned w n)
     none n (plain numeral is) fits = no_numeral 45 ds (omega arith) numeral
     none n (minus digits whole numeral is) fits =
         let same : digits ≡ ds = cc in
@@ -64,7 +64,7 @@ read_plain : {E : Type 0} (w : Width) (c : ℕ) (cs : List ℕ) (r : Result ℤ 
 read_plain w c cs (Ok x) other reads = (plain reads.0.0 reads.1, subst (FitsSigned w) (sym reads.1) reads.0.1)
 read_plain w c cs (Err e) other reads = none
   where
-    none : (n : ℤ) → Writes (c ∷ cs) n → ¬ (FitsSigned w n)
+    none : (n : ℤ) → WritesInteger (c ∷ cs) n → ¬ (FitsSigned w n)
     none n (plain numeral is) fits = reads (numeral, subst (FitsSigned w) is fits)
     none n (minus digits whole numeral is) fits = let same : c ≡ 45 = cc in other same
 
@@ -73,7 +73,7 @@ pub reads_integer : {E : Type 0} (w : Width) (text : List ℕ) (r : Result ℤ E
 reads_integer w [] (Ok x) no_plus reads = absurd (omega (arith, reads.0.0.0))
 reads_integer w [] (Err e) no_plus reads = none
   where
-    none : (n : ℤ) → Writes [] n → ¬ (FitsSigned w n)
+    none : (n : ℤ) → WritesInteger [] n → ¬ (FitsSigned w n)
     none n (plain numeral is) fits = absurd (omega (arith, numeral.0))
     none n (minus digits whole numeral is) fits = cc
 reads_integer {E} w (c ∷ cs) r no_plus reads = by_sign (cases_eq c 45)
@@ -92,7 +92,7 @@ pub plus_is_none : (w : Width) (text : List ℕ) → get_or text 0 0 ≡ 43 → 
 plus_is_none w [] plus = absurd (omega arith)
 plus_is_none w (c ∷ cs) plus = none
   where
-    none : (n : ℤ) → Writes (c ∷ cs) n → ¬ (FitsSigned w n)
+    none : (n : ℤ) → WritesInteger (c ∷ cs) n → ¬ (FitsSigned w n)
     none n (plain numeral is) fits = no_numeral c cs (subst (λ x. 10 ≤ digit_value x) (sym plus) (omega arith)) numeral
     none n (minus digits whole numeral is) fits = let is_45 : c ≡ 45 = cc in absurd (omega arith)
 

@@ -12,7 +12,7 @@ use Rattle.pmb_convert.specs.declared.named_format.NamedFormat.{NamedFormat}
 use Rattle.pmb_convert.specs.declared.named_format.NamedFormat.TheVariants.{Linear11Fixed, Word}
 use Rattle.pmb_convert.specs.Laws.{IsFormat}
 use Rattle.pmb_convert.proofs.Choices.{picks}
-use Rattle.pmb_convert.specs.Spelling.{Names, Saying, direct_of, is_from_to, is_zero, linear11, linear11_fixed, ulinear16, slinear16, vout, direct, linear_of, other, mode_format, said, spelled, vout_of}
+use Rattle.pmb_convert.specs.Spelling.{Names, Saying, named_direct, is_from_to, is_zero, linear11, linear11_fixed, ulinear16, slinear16, vout, direct, named_linear, other, mode_format, said, spelled, vout_of}
 
 -- a format, where there is one
 abbrev IsFormatIn : Result NamedFormat FormatFault → Type 0
@@ -27,20 +27,20 @@ scale : (e : ℤ) → is_from_to 9 9 e ≡ true → (negsuc 8 ≤ℤ e) × (e �
 scale (pos n) inside = let small : n < 10 = grind (arith, nat_tests) in (omega (arith, ints), omega (arith, ints))
 scale (negsuc n) inside = let small : n < 9 = grind (arith, nat_tests) in (omega (arith, ints), omega (arith, ints))
 
-fixed : (e : ℤ) → IsFormatIn (linear_of Linear11Fixed e)
+fixed : (e : ℤ) → IsFormatIn (named_linear Linear11Fixed e)
 fixed e = picks IsFormatIn (is_from_to 16 15 e) (Ok (Linear11Fixed e)) (Err BadExponent) (from_to e) (λ _. tt)
 
-unsigned : (e : ℤ) → IsFormatIn (linear_of (λ n. Word (Unsigned n)) e)
+unsigned : (e : ℤ) → IsFormatIn (named_linear (λ n. Word (Unsigned n)) e)
 unsigned e = picks IsFormatIn (is_from_to 16 15 e) (Ok (Word (Unsigned e))) (Err BadExponent) (from_to e) (λ _. tt)
 
-signed : (e : ℤ) → IsFormatIn (linear_of (λ n. Word (Signed n)) e)
+signed : (e : ℤ) → IsFormatIn (named_linear (λ n. Word (Signed n)) e)
 signed e = picks IsFormatIn (is_from_to 16 15 e) (Ok (Word (Signed e))) (Err BadExponent) (from_to e) (λ _. tt)
 
 not_zero : (m : ℤ) → is_zero m ≡ false → m ≢ pos 0
 not_zero (pos n) test is = grind (arith, ints, nat_tests)
 not_zero (negsuc n) test is = cc
 
-coefficients : (m b r : ℤ) → IsFormatIn (direct_of m b r)
+coefficients : (m b r : ℤ) → IsFormatIn (named_direct m b r)
 coefficients m b r =
     let made : NamedFormat = Word (Direct (record { m = m; b = b; r = r })) in
     picks IsFormatIn (is_zero m) (Err ZeroSlope) (cond (is_from_to 9 9 r) (Ok made) (Err BadScale)) (λ _. tt)

@@ -8,7 +8,7 @@ use mir.Val.{to_z, of_z}
 use Rattle.pmb_convert.specs.declared.format_fault.FormatFault.{FormatFault}
 use Rattle.pmb_convert.specs.declared.format_fault.FormatFault.TheVariants.{BadFormat}
 use Rattle.pmb_convert.specs.declared.named_format.NamedFormat.{NamedFormat}
-use Rattle.pmb_convert.specs.Spelling.{Answers, Names, Saying, Spells, Writes, WritesByte, WritesMode, direct_of, said, spelled, other, linear11, linear11_fixed, ulinear16, slinear16, vout, direct}
+use Rattle.pmb_convert.specs.Spelling.{Answers, Names, Saying, SpellsFormat, WritesInteger, WritesByte, WritesMode, named_direct, said, spelled, other, linear11, linear11_fixed, ulinear16, slinear16, vout, direct}
 use Rattle.pmb_convert.specs.machine.Parts.{HasNoComma, comma, IsDirect, IsFixed, IsSigned, IsUnsigned, IsVout}
 use Rattle.pmb_convert.proofs.Integers.{number_has_no_comma, one_comma, one_number}
 use Rattle.pmb_convert.proofs.Modes.{one_mode}
@@ -32,10 +32,10 @@ direct_text M B R = simp append_assoc
 no_colon : (E : List ℕ) → codes "linear11" ≡ codes "linear11:" ++ E → ⊥
 no_colon E same = eqb-false 0 58 refl (ap (λ t. get_or t 8 0) same)
 
-fixed_spells : (E : List ℕ) (s : Saying) → IsFixed E s → Spells (codes "linear11:" ++ E) s
-fixed_spells E s is = subst (Spells (codes "linear11:" ++ E)) (sym is.2) (E, refl, is.1)
+fixed_spells : (E : List ℕ) (s : Saying) → IsFixed E s → SpellsFormat (codes "linear11:" ++ E) s
+fixed_spells E s is = subst (SpellsFormat (codes "linear11:" ++ E)) (sym is.2) (E, refl, is.1)
 
-spelled_fixed : (E : List ℕ) (s : Saying) → Spells (codes "linear11:" ++ E) s → IsFixed E s
+spelled_fixed : (E : List ℕ) (s : Saying) → SpellsFormat (codes "linear11:" ++ E) s → IsFixed E s
 spelled_fixed E linear11 is = absurd (no_colon E (sym is))
 spelled_fixed E (linear11_fixed n) is = (n, subst (λ t. WritesByte t n) (sym (ap (drop 9) is.1)) is.2, refl)
 spelled_fixed E (ulinear16 n) is = absurd (differ _ _ _ _ refl is.1)
@@ -43,10 +43,10 @@ spelled_fixed E (slinear16 n) is = absurd (differ _ _ _ _ refl is.1)
 spelled_fixed E (vout n) is = absurd (differ _ _ _ _ refl is.1)
 spelled_fixed E (direct m b r) is = absurd (differ _ _ _ _ refl is.3)
 
-unsigned_spells : (E : List ℕ) (s : Saying) → IsUnsigned E s → Spells (codes "ulinear16:" ++ E) s
-unsigned_spells E s is = subst (Spells (codes "ulinear16:" ++ E)) (sym is.2) (E, refl, is.1)
+unsigned_spells : (E : List ℕ) (s : Saying) → IsUnsigned E s → SpellsFormat (codes "ulinear16:" ++ E) s
+unsigned_spells E s is = subst (SpellsFormat (codes "ulinear16:" ++ E)) (sym is.2) (E, refl, is.1)
 
-spelled_unsigned : (E : List ℕ) (s : Saying) → Spells (codes "ulinear16:" ++ E) s → IsUnsigned E s
+spelled_unsigned : (E : List ℕ) (s : Saying) → SpellsFormat (codes "ulinear16:" ++ E) s → IsUnsigned E s
 spelled_unsigned E linear11 is = absurd (differ _ _ _ _ refl is)
 spelled_unsigned E (linear11_fixed n) is = absurd (differ _ _ _ _ refl is.1)
 spelled_unsigned E (ulinear16 n) is = (n, subst (λ t. WritesByte t n) (sym (ap (drop 10) is.1)) is.2, refl)
@@ -54,10 +54,10 @@ spelled_unsigned E (slinear16 n) is = absurd (differ _ _ _ _ refl is.1)
 spelled_unsigned E (vout n) is = absurd (differ _ _ _ _ refl is.1)
 spelled_unsigned E (direct m b r) is = absurd (differ _ _ _ _ refl is.3)
 
-signed_spells : (E : List ℕ) (s : Saying) → IsSigned E s → Spells (codes "slinear16:" ++ E) s
-signed_spells E s is = subst (Spells (codes "slinear16:" ++ E)) (sym is.2) (E, refl, is.1)
+signed_spells : (E : List ℕ) (s : Saying) → IsSigned E s → SpellsFormat (codes "slinear16:" ++ E) s
+signed_spells E s is = subst (SpellsFormat (codes "slinear16:" ++ E)) (sym is.2) (E, refl, is.1)
 
-spelled_signed : (E : List ℕ) (s : Saying) → Spells (codes "slinear16:" ++ E) s → IsSigned E s
+spelled_signed : (E : List ℕ) (s : Saying) → SpellsFormat (codes "slinear16:" ++ E) s → IsSigned E s
 spelled_signed E linear11 is = absurd (differ _ _ _ _ refl is)
 spelled_signed E (linear11_fixed n) is = absurd (differ _ _ _ _ refl is.1)
 spelled_signed E (ulinear16 n) is = absurd (differ _ _ _ _ refl is.1)
@@ -65,10 +65,10 @@ spelled_signed E (slinear16 n) is = (n, subst (λ t. WritesByte t n) (sym (ap (d
 spelled_signed E (vout n) is = absurd (differ _ _ _ _ refl is.1)
 spelled_signed E (direct m b r) is = absurd (differ _ _ _ _ refl is.3)
 
-vout_spells : (HH : List ℕ) (s : Saying) → IsVout HH s → Spells (codes "vout:" ++ HH) s
-vout_spells HH s is = subst (Spells (codes "vout:" ++ HH)) (sym is.2) (HH, refl, is.1)
+vout_spells : (HH : List ℕ) (s : Saying) → IsVout HH s → SpellsFormat (codes "vout:" ++ HH) s
+vout_spells HH s is = subst (SpellsFormat (codes "vout:" ++ HH)) (sym is.2) (HH, refl, is.1)
 
-spelled_vout : (HH : List ℕ) (s : Saying) → Spells (codes "vout:" ++ HH) s → IsVout HH s
+spelled_vout : (HH : List ℕ) (s : Saying) → SpellsFormat (codes "vout:" ++ HH) s → IsVout HH s
 spelled_vout HH linear11 is = absurd (differ _ _ _ _ refl is)
 spelled_vout HH (linear11_fixed n) is = absurd (differ _ _ _ _ refl is.1)
 spelled_vout HH (ulinear16 n) is = absurd (differ _ _ _ _ refl is.1)
@@ -76,12 +76,12 @@ spelled_vout HH (slinear16 n) is = absurd (differ _ _ _ _ refl is.1)
 spelled_vout HH (vout n) is = (n, subst (λ t. WritesMode t n) (sym (ap (drop 5) is.1)) is.2, refl)
 spelled_vout HH (direct m b r) is = absurd (differ _ _ _ _ refl is.3)
 
-direct_spells : (numbers : List ℕ) (s : Saying) → IsDirect numbers s → Spells (codes "direct:" ++ numbers) s
+direct_spells : (numbers : List ℕ) (s : Saying) → IsDirect numbers s → SpellsFormat (codes "direct:" ++ numbers) s
 direct_spells numbers s d =
     let whole = ap (λ t. codes "direct:" ++ t) d.whole ∙ sym (direct_text d.M d.B d.R) in
-    subst (Spells (codes "direct:" ++ numbers)) (sym d.is) (d.M, d.B, d.R, whole, d.m_is, d.b_is, d.r_is)
+    subst (SpellsFormat (codes "direct:" ++ numbers)) (sym d.is) (d.M, d.B, d.R, whole, d.m_is, d.b_is, d.r_is)
 
-spelled_direct : (numbers : List ℕ) (s : Saying) → Spells (codes "direct:" ++ numbers) s → IsDirect numbers s
+spelled_direct : (numbers : List ℕ) (s : Saying) → SpellsFormat (codes "direct:" ++ numbers) s → IsDirect numbers s
 spelled_direct numbers linear11 is = absurd (differ _ _ _ _ refl is)
 spelled_direct numbers (linear11_fixed n) is = absurd (differ _ _ _ _ refl is.1)
 spelled_direct numbers (ulinear16 n) is = absurd (differ _ _ _ _ refl is.1)
@@ -105,23 +105,23 @@ spelled_direct numbers (direct m b r) is = record {
 
 pub names_fixed : (text E : List ℕ) (answer : Result NamedFormat FormatFault) → text ≡ codes "linear11:" ++ E → Answers (IsFixed E) answer → Names text answer
 names_fixed text E answer is answers =
-    subst (λ t. Names t answer) (sym is) (answers_too (IsFixed E) (Spells (codes "linear11:" ++ E)) answer (fixed_spells E) (spelled_fixed E) answers)
+    subst (λ t. Names t answer) (sym is) (answers_too (IsFixed E) (SpellsFormat (codes "linear11:" ++ E)) answer (fixed_spells E) (spelled_fixed E) answers)
 
 pub names_unsigned : (text E : List ℕ) (answer : Result NamedFormat FormatFault) → text ≡ codes "ulinear16:" ++ E → Answers (IsUnsigned E) answer → Names text answer
 names_unsigned text E answer is answers =
-    subst (λ t. Names t answer) (sym is) (answers_too (IsUnsigned E) (Spells (codes "ulinear16:" ++ E)) answer (unsigned_spells E) (spelled_unsigned E) answers)
+    subst (λ t. Names t answer) (sym is) (answers_too (IsUnsigned E) (SpellsFormat (codes "ulinear16:" ++ E)) answer (unsigned_spells E) (spelled_unsigned E) answers)
 
 pub names_signed : (text E : List ℕ) (answer : Result NamedFormat FormatFault) → text ≡ codes "slinear16:" ++ E → Answers (IsSigned E) answer → Names text answer
 names_signed text E answer is answers =
-    subst (λ t. Names t answer) (sym is) (answers_too (IsSigned E) (Spells (codes "slinear16:" ++ E)) answer (signed_spells E) (spelled_signed E) answers)
+    subst (λ t. Names t answer) (sym is) (answers_too (IsSigned E) (SpellsFormat (codes "slinear16:" ++ E)) answer (signed_spells E) (spelled_signed E) answers)
 
 pub names_vout : (text HH : List ℕ) (answer : Result NamedFormat FormatFault) → text ≡ codes "vout:" ++ HH → Answers (IsVout HH) answer → Names text answer
 names_vout text HH answer is answers =
-    subst (λ t. Names t answer) (sym is) (answers_too (IsVout HH) (Spells (codes "vout:" ++ HH)) answer (vout_spells HH) (spelled_vout HH) answers)
+    subst (λ t. Names t answer) (sym is) (answers_too (IsVout HH) (SpellsFormat (codes "vout:" ++ HH)) answer (vout_spells HH) (spelled_vout HH) answers)
 
 pub names_direct : (text numbers : List ℕ) (answer : Result NamedFormat FormatFault) → text ≡ codes "direct:" ++ numbers → Answers (IsDirect numbers) answer → Names text answer
 names_direct text numbers answer is answers =
-    subst (λ t. Names t answer) (sym is) (answers_too (IsDirect numbers) (Spells (codes "direct:" ++ numbers)) answer (direct_spells numbers) (spelled_direct numbers) answers)
+    subst (λ t. Names t answer) (sym is) (answers_too (IsDirect numbers) (SpellsFormat (codes "direct:" ++ numbers)) answer (direct_spells numbers) (spelled_direct numbers) answers)
 
 -- ---- three numbers round two commas
 
@@ -154,21 +154,21 @@ one_comma_alone numbers M rest free whole none = other too_few refl
         none d.B d.R (number_has_no_comma d.B d.b d.b_is.writes) (sym front.1)
 
 -- a part that is no number
-pub bad_m : (numbers M B R : List ℕ) → AreParts numbers M B R → ((n : ℤ) → Writes M n → ¬ (FitsSigned w16 n)) → Answers (IsDirect numbers) (Err BadFormat)
+pub bad_m : (numbers M B R : List ℕ) → AreParts numbers M B R → ((n : ℤ) → WritesInteger M n → ¬ (FitsSigned w16 n)) → Answers (IsDirect numbers) (Err BadFormat)
 bad_m numbers M B R parts none =
-    other (λ s d. none d.m (subst (λ t. Writes t d.m) (parts_are numbers M B R s parts d).0 d.m_is.writes) d.m_is.fits) refl
+    other (λ s d. none d.m (subst (λ t. WritesInteger t d.m) (parts_are numbers M B R s parts d).0 d.m_is.writes) d.m_is.fits) refl
 
-pub bad_b : (numbers M B R : List ℕ) → AreParts numbers M B R → ((n : ℤ) → Writes B n → ¬ (FitsSigned w16 n)) → Answers (IsDirect numbers) (Err BadFormat)
+pub bad_b : (numbers M B R : List ℕ) → AreParts numbers M B R → ((n : ℤ) → WritesInteger B n → ¬ (FitsSigned w16 n)) → Answers (IsDirect numbers) (Err BadFormat)
 bad_b numbers M B R parts none =
-    other (λ s d. none d.b (subst (λ t. Writes t d.b) (parts_are numbers M B R s parts d).1 d.b_is.writes) d.b_is.fits) refl
+    other (λ s d. none d.b (subst (λ t. WritesInteger t d.b) (parts_are numbers M B R s parts d).1 d.b_is.writes) d.b_is.fits) refl
 
-pub bad_r : (numbers M B R : List ℕ) → AreParts numbers M B R → ((n : ℤ) → Writes R n → ¬ (FitsSigned w8 n)) → Answers (IsDirect numbers) (Err BadFormat)
+pub bad_r : (numbers M B R : List ℕ) → AreParts numbers M B R → ((n : ℤ) → WritesInteger R n → ¬ (FitsSigned w8 n)) → Answers (IsDirect numbers) (Err BadFormat)
 bad_r numbers M B R parts none =
-    other (λ s d. none d.r (subst (λ t. Writes t d.r) (parts_are numbers M B R s parts d).2 d.r_is.writes) d.r_is.fits) refl
+    other (λ s d. none d.r (subst (λ t. WritesInteger t d.r) (parts_are numbers M B R s parts d).2 d.r_is.writes) d.r_is.fits) refl
 
 -- three numbers
-pub three_numbers : (numbers M B R : List ℕ) (m b r : ℤ) (answer : Result NamedFormat FormatFault) → AreParts numbers M B R → Writes M m → FitsSigned w16 m → Writes B b → FitsSigned w16 b → Writes R r → FitsSigned w8 r
-    → answer ≡ direct_of (to_z w16 (of_z w16 m)) (to_z w16 (of_z w16 b)) (to_z w8 (of_z w8 r)) → Answers (IsDirect numbers) answer
+pub three_numbers : (numbers M B R : List ℕ) (m b r : ℤ) (answer : Result NamedFormat FormatFault) → AreParts numbers M B R → WritesInteger M m → FitsSigned w16 m → WritesInteger B b → FitsSigned w16 b → WritesInteger R r → FitsSigned w8 r
+    → answer ≡ named_direct (to_z w16 (of_z w16 m)) (to_z w16 (of_z w16 b)) (to_z w8 (of_z w8 r)) → Answers (IsDirect numbers) answer
 three_numbers numbers M B R m b r answer parts m_is m_fits b_is b_fits r_is r_fits is =
     spelled (direct m b r)
     (record {
@@ -184,7 +184,7 @@ three_numbers numbers M B R m b r answer parts m_is m_fits b_is b_fits r_is r_fi
       r_is = record { writes = r_is; fits = r_fits };
       is = refl;
     })
-    (is ∙ (λ i. direct_of (to_z-of_z w16 m m_fits i) (to_z-of_z w16 b b_fits i) (to_z-of_z w8 r r_fits i)))
+    (is ∙ (λ i. named_direct (to_z-of_z w16 m m_fits i) (to_z-of_z w16 b b_fits i) (to_z-of_z w8 r r_fits i)))
 
 -- ---- a text says one thing
 
@@ -196,15 +196,15 @@ one_direct numbers a b left right =
       second = number_has_no_comma right.B right.b right.b_is.writes;
     } in
     let parts = parts_are numbers right.M right.B right.R a round left in
-    let m_same : left.m ≡ right.m = one_number right.M left.m right.m (subst (λ t. Writes t left.m) parts.0 left.m_is.writes) right.m_is.writes in
-    let b_same : left.b ≡ right.b = one_number right.B left.b right.b (subst (λ t. Writes t left.b) parts.1 left.b_is.writes) right.b_is.writes in
-    let r_same : left.r ≡ right.r = one_number right.R left.r right.r (subst (λ t. Writes t left.r) parts.2 left.r_is.writes) right.r_is.writes in
+    let m_same : left.m ≡ right.m = one_number right.M left.m right.m (subst (λ t. WritesInteger t left.m) parts.0 left.m_is.writes) right.m_is.writes in
+    let b_same : left.b ≡ right.b = one_number right.B left.b right.b (subst (λ t. WritesInteger t left.b) parts.1 left.b_is.writes) right.b_is.writes in
+    let r_same : left.r ≡ right.r = one_number right.R left.r right.r (subst (λ t. WritesInteger t left.r) parts.2 left.r_is.writes) right.r_is.writes in
     left.is ∙ (λ i. direct (m_same i) (b_same i) (r_same i)) ∙ sym right.is
 
-pub one_saying : (text : List ℕ) (a b : Saying) → Spells text a → Spells text b → a ≡ b
-one_saying text linear11 b is too = by b (subst (λ t. Spells t b) is too)
+pub one_saying : (text : List ℕ) (a b : Saying) → SpellsFormat text a → SpellsFormat text b → a ≡ b
+one_saying text linear11 b is too = by b (subst (λ t. SpellsFormat t b) is too)
   where
-    by : (b : Saying) → Spells (codes "linear11") b → linear11 ≡ b
+    by : (b : Saying) → SpellsFormat (codes "linear11") b → linear11 ≡ b
     by linear11 o = refl
     by (linear11_fixed n) o = absurd (no_colon o.0 o.1)
     by (ulinear16 n) o = absurd (differ _ _ _ _ refl o.1)
@@ -212,21 +212,21 @@ one_saying text linear11 b is too = by b (subst (λ t. Spells t b) is too)
     by (vout n) o = absurd (differ _ _ _ _ refl o.1)
     by (direct m b r) o = absurd (differ _ _ _ _ refl o.3)
 one_saying text (linear11_fixed n) b is too =
-    let o = spelled_fixed is.0 b (subst (λ t. Spells t b) is.1 too) in
+    let o = spelled_fixed is.0 b (subst (λ t. SpellsFormat t b) is.1 too) in
     ap linear11_fixed (one_number is.0 n o.0 is.2.writes o.1.writes) ∙ sym o.2
 one_saying text (ulinear16 n) b is too =
-    let o = spelled_unsigned is.0 b (subst (λ t. Spells t b) is.1 too) in
+    let o = spelled_unsigned is.0 b (subst (λ t. SpellsFormat t b) is.1 too) in
     ap ulinear16 (one_number is.0 n o.0 is.2.writes o.1.writes) ∙ sym o.2
 one_saying text (slinear16 n) b is too =
-    let o = spelled_signed is.0 b (subst (λ t. Spells t b) is.1 too) in
+    let o = spelled_signed is.0 b (subst (λ t. SpellsFormat t b) is.1 too) in
     ap slinear16 (one_number is.0 n o.0 is.2.writes o.1.writes) ∙ sym o.2
 one_saying text (vout n) b is too =
-    let o = spelled_vout is.0 b (subst (λ t. Spells t b) is.1 too) in
+    let o = spelled_vout is.0 b (subst (λ t. SpellsFormat t b) is.1 too) in
     ap vout (one_mode is.0 n o.0 is.2 o.1) ∙ sym o.2
 one_saying text (direct m k r) b is too =
     let numbers : List ℕ = comma is.0 (comma is.1 is.2) in
     let left = spelled_direct numbers (direct m k r) (is.0, is.1, is.2, sym (direct_text is.0 is.1 is.2), is.4, is.5, is.6) in
-    one_direct numbers (direct m k r) b left (spelled_direct numbers b (subst (λ t. Spells t b) (is.3 ∙ direct_text is.0 is.1 is.2) too))
+    one_direct numbers (direct m k r) b left (spelled_direct numbers b (subst (λ t. SpellsFormat t b) (is.3 ∙ direct_text is.0 is.1 is.2) too))
 
 -- and has one answer
 pub one_answer : (text : List ℕ) (a b : Result NamedFormat FormatFault) → Names text a → Names text b → a ≡ b

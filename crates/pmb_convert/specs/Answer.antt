@@ -73,20 +73,20 @@ EncodesRead f (Err fault) answer = answer ≡ Err (fault_of fault)
 -- ---- decode
 
 -- a code is answered by its exact value
-abbrev pub value_text : Coding → Option ℕ → Answer
-value_text f None = Err BadCode
-value_text f (Some code) = Ok (spelling (value_of f code))
+abbrev pub decoded_answer : Coding → Option ℕ → Answer
+decoded_answer f None = Err BadCode
+decoded_answer f (Some code) = Ok (spelling (value_of f code))
 
 -- ---- lines
 
 -- what is answered to what a line says
 abbrev pub AnswersText : Conversion → List ℕ → Answer → Type 0
 AnswersText (Encode format) text answer = EncodesRead (coding_of format) (reading text) answer
-AnswersText (Decode format) text answer = answer ≡ value_text (coding_of format) (code_of text)
+AnswersText (Decode format) text answer = answer ≡ decoded_answer (coding_of format) (code_of text)
 
 -- what is answered to a line: a CR before its LF is no part of what it says
 abbrev pub AnswersLine : Conversion → lines.TextLine → Answer → Type 0
-AnswersLine conversion (lines.Ended text) answer = AnswersText conversion (lines.without_return text) answer
+AnswersLine conversion (lines.Ended text) answer = AnswersText conversion (lines.without_cr text) answer
 AnswersLine conversion (lines.Last text) answer = AnswersText conversion text answer
 AnswersLine conversion lines.TooLong answer = answer ≡ Err TooLong
 

@@ -26,18 +26,18 @@ pub data Saying : Type 0 where
 -- ---- its spelling
 
 -- a whole number in decimal: one digit or more, with a `-` in front or not
-pub data Writes (text : List ℕ) (n : ℤ) : Type 0 where
-  plain : IsNumeral 10 text → n ≡ pos (digits_value 10 text) → Writes text n
-  minus : (digits : List ℕ) → text ≡ codes "-" ++ digits → IsNumeral 10 digits → n ≡ neg_ℤ (pos (digits_value 10 digits)) → Writes text n
+pub data WritesInteger (text : List ℕ) (n : ℤ) : Type 0 where
+  plain : IsNumeral 10 text → n ≡ pos (digits_value 10 text) → WritesInteger text n
+  minus : (digits : List ℕ) → text ≡ codes "-" ++ digits → IsNumeral 10 digits → n ≡ neg_ℤ (pos (digits_value 10 digits)) → WritesInteger text n
 
 -- one from -128 to 127
 pub record WritesByte (text : List ℕ) (n : ℤ) : Type 0 where
-  pub writes : Writes text n
+  pub writes : WritesInteger text n
   pub fits : FitsSigned w8 n
 
 -- one from -32768 to 32767
 pub record WritesWord (text : List ℕ) (n : ℤ) : Type 0 where
-  pub writes : Writes text n
+  pub writes : WritesInteger text n
   pub fits : FitsSigned w16 n
 
 -- two hexadecimal digits, of either case
@@ -52,13 +52,13 @@ pub record WritesMode (text : List ℕ) (mode : ℕ) : Type 0 where
   pub value : mode ≡ high_value * 16 + low_value
 
 -- which texts spell it
-abbrev pub Spells : List ℕ → Saying → Type 0
-Spells text linear11 = text ≡ codes "linear11"
-Spells text (linear11_fixed exponent) = (E : List ℕ) × (text ≡ codes "linear11:" ++ E) × WritesByte E exponent
-Spells text (ulinear16 exponent) = (E : List ℕ) × (text ≡ codes "ulinear16:" ++ E) × WritesByte E exponent
-Spells text (slinear16 exponent) = (E : List ℕ) × (text ≡ codes "slinear16:" ++ E) × WritesByte E exponent
-Spells text (vout mode) = (HH : List ℕ) × (text ≡ codes "vout:" ++ HH) × WritesMode HH mode
-Spells text (direct m b r) =
+abbrev pub SpellsFormat : List ℕ → Saying → Type 0
+SpellsFormat text linear11 = text ≡ codes "linear11"
+SpellsFormat text (linear11_fixed exponent) = (E : List ℕ) × (text ≡ codes "linear11:" ++ E) × WritesByte E exponent
+SpellsFormat text (ulinear16 exponent) = (E : List ℕ) × (text ≡ codes "ulinear16:" ++ E) × WritesByte E exponent
+SpellsFormat text (slinear16 exponent) = (E : List ℕ) × (text ≡ codes "slinear16:" ++ E) × WritesByte E exponent
+SpellsFormat text (vout mode) = (HH : List ℕ) × (text ≡ codes "vout:" ++ HH) × WritesMode HH mode
+SpellsFormat text (direct m b r) =
     (M : List ℕ) × (B : List ℕ) × (R : List ℕ) × (text ≡ codes "direct:" ++ M ++ codes "," ++ B ++ codes "," ++ R)
     × WritesWord M m × WritesWord B b × WritesByte R r
 
@@ -70,8 +70,8 @@ is_from_to least most (pos n) = nat_lt n (most + 1)
 is_from_to least most (negsuc n) = nat_lt n least
 
 -- a linear format of an exponent, which is from -16 to 15
-abbrev pub linear_of : (ℤ → NamedFormat) → ℤ → Result NamedFormat FormatFault
-linear_of made exponent = if is_from_to 16 15 exponent then Ok (made exponent) else Err BadExponent
+abbrev pub named_linear : (ℤ → NamedFormat) → ℤ → Result NamedFormat FormatFault
+named_linear made exponent = if is_from_to 16 15 exponent then Ok (made exponent) else Err BadExponent
 
 -- what is wrong with a VOUT_MODE
 abbrev pub mode_fault : ModeFault → FormatFault
@@ -94,18 +94,18 @@ is_zero (pos n) = n == 0
 is_zero (negsuc n) = false
 
 -- a DIRECT format: its slope m is not 0, and its power of ten r is from -9 to 9
-abbrev pub direct_of : ℤ → ℤ → ℤ → Result NamedFormat FormatFault
-direct_of m b r =
+abbrev pub named_direct : ℤ → ℤ → ℤ → Result NamedFormat FormatFault
+named_direct m b r =
     if is_zero m then Err ZeroSlope else (
     if is_from_to 9 9 r then Ok (Word (Direct (record { m = m; b = b; r = r }))) else Err BadScale)
 
 abbrev pub said : Saying → Result NamedFormat FormatFault
 said linear11 = Ok Linear11
-said (linear11_fixed exponent) = linear_of Linear11Fixed exponent
-said (ulinear16 exponent) = linear_of (λ e. Word (Unsigned e)) exponent
-said (slinear16 exponent) = linear_of (λ e. Word (Signed e)) exponent
+said (linear11_fixed exponent) = named_linear Linear11Fixed exponent
+said (ulinear16 exponent) = named_linear (λ e. Word (Unsigned e)) exponent
+said (slinear16 exponent) = named_linear (λ e. Word (Signed e)) exponent
 said (vout mode) = vout_of mode
-said (direct m b r) = direct_of m b r
+said (direct m b r) = named_direct m b r
 
 -- ---- the answer to a text
 
@@ -117,4 +117,4 @@ pub data Answers (Says : Saying → Type 0) (answer : Result NamedFormat FormatF
 
 -- the format that a text names, or its first fault
 abbrev pub Names : List ℕ → Result NamedFormat FormatFault → Type 0
-Names text answer = Answers (Spells text) answer
+Names text answer = Answers (SpellsFormat text) answer

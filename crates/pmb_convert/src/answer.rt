@@ -2,10 +2,10 @@
 
 ghost use Rattle.std.specs.Prelude.{◌≡◌, ◌++◌, OnOk, codes};
 ghost use Rattle.pmb_io.specs.Calls.{WriterTells};
-ghost use Rattle.pmb_io.specs.Outgoing.{Writes};
+ghost use Rattle.pmb_io.specs.Outgoing.{PutsText};
 ghost use Rattle.pmb_value.specs.QuantityText.{spelling};
 ghost use Rattle.pmb_convert.specs.Answer.{answer_line, code_text, fault_name};
-ghost use Rattle.pmb_convert.specs.machine.Converting.{answer_of, text_of};
+ghost use Rattle.pmb_convert.specs.machine.Converting.{answer_of, converted_text};
 
 use crate::line_fault::LineFault;
 use pmb_io::{Sink, ToolFault, Waiting, put};
@@ -26,7 +26,7 @@ pub(crate) fn put_answer<W: Sink>(
     waiting: &mut Waiting,
     writer: &mut W,
 ) -> Result<(), ToolFault>
-    ensures ok { OnOk result (Writes (W.contents writer.old) waiting.old.items (W.contents writer.new) waiting.new.items (answer_line (answer_of answer.now))) }
+    ensures ok { OnOk result (PutsText (W.contents writer.old) waiting.old.items (W.contents writer.new) waiting.new.items (answer_line (answer_of answer.now))) }
     ensures failed { WriterTells (W.failures writer.old) (W.failures writer.new) result }
 {
     match answer {
@@ -42,7 +42,7 @@ fn put_converted<W: Sink>(
     waiting: &mut Waiting,
     writer: &mut W,
 ) -> Result<(), ToolFault>
-    ensures ok { OnOk result (Writes (W.contents writer.old) waiting.old.items (W.contents writer.new) waiting.new.items (text_of converted.now)) }
+    ensures ok { OnOk result (PutsText (W.contents writer.old) waiting.old.items (W.contents writer.new) waiting.new.items (converted_text converted.now)) }
     ensures failed { WriterTells (W.failures writer.old) (W.failures writer.new) result }
 {
     match converted {
@@ -53,7 +53,7 @@ fn put_converted<W: Sink>(
 
 /// Puts out a code in four digits.
 fn put_code<W: Sink>(code: u16, waiting: &mut Waiting, writer: &mut W) -> Result<(), ToolFault>
-    ensures ok { OnOk result (Writes (W.contents writer.old) waiting.old.items (W.contents writer.new) waiting.new.items (code_text code)) }
+    ensures ok { OnOk result (PutsText (W.contents writer.old) waiting.old.items (W.contents writer.new) waiting.new.items (code_text code)) }
     ensures failed { WriterTells (W.failures writer.old) (W.failures writer.new) result }
 {
     let mut digits = [0; 4];
@@ -67,7 +67,7 @@ fn put_quantity<W: Sink>(
     waiting: &mut Waiting,
     writer: &mut W,
 ) -> Result<(), ToolFault>
-    ensures ok { OnOk result (Writes (W.contents writer.old) waiting.old.items (W.contents writer.new) waiting.new.items (spelling quantity.now)) }
+    ensures ok { OnOk result (PutsText (W.contents writer.old) waiting.old.items (W.contents writer.new) waiting.new.items (spelling quantity.now)) }
     ensures failed { WriterTells (W.failures writer.old) (W.failures writer.new) result }
 {
     let mut text = QuantityText::new();
@@ -81,7 +81,7 @@ fn put_fault<W: Sink>(
     waiting: &mut Waiting,
     writer: &mut W,
 ) -> Result<(), ToolFault>
-    ensures ok { OnOk result (Writes (W.contents writer.old) waiting.old.items (W.contents writer.new) waiting.new.items (codes "! " ++ fault_name fault)) }
+    ensures ok { OnOk result (PutsText (W.contents writer.old) waiting.old.items (W.contents writer.new) waiting.new.items (codes "! " ++ fault_name fault)) }
     ensures failed { WriterTells (W.failures writer.old) (W.failures writer.new) result }
 {
     put(waiting, b"! ", writer)?;

@@ -3,7 +3,7 @@
 ghost use Rattle.std.specs.Prelude.{◌≡◌};
 ghost use Rattle.pmb_io.specs.Lines.{line_text};
 ghost use Rattle.pmb_value.specs.Reading.{reading};
-ghost use Rattle.pmb_convert.specs.Answer.{EncodesQuantity, EncodesRead, code_of, value_text};
+ghost use Rattle.pmb_convert.specs.Answer.{EncodesQuantity, EncodesRead, code_of, decoded_answer};
 ghost use Rattle.pmb_convert.specs.Format.{coding_of};
 ghost use Rattle.pmb_convert.specs.machine.Converting.{answer_of};
 
@@ -73,7 +73,7 @@ fn encoded_quantity(format: &NamedFormat, quantity: &Quantity) -> Result<Convert
 
 /// The value of the code that a text writes.
 fn decoded(format: &NamedFormat, text: &[u8]) -> Result<Converted, LineFault>
-    ensures { answer_of result ≡ value_text (coding_of format.now) (code_of text.now) }
+    ensures { answer_of result ≡ decoded_answer (coding_of format.now) (code_of text.now) }
 {
     match code(text) {
         Some(code) => Ok(Converted::Value(format.decode(code))),

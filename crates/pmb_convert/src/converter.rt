@@ -2,7 +2,7 @@
 
 ghost use Rattle.std.specs.Prelude.{◌≡◌, ◌++◌, ◌∷◌, []};
 ghost use Rattle.pmb_convert.specs.Answer.{Answer};
-ghost use Rattle.pmb_convert.specs.machine.Converting.{Stands, answer_of, fresh, with_answer};
+ghost use Rattle.pmb_convert.specs.machine.Converting.{ConverterStands, answer_of, fresh, with_answer};
 
 use crate::answer::{Converted, put_answer};
 use crate::conversion::Conversion;
@@ -46,7 +46,7 @@ impl Converter {
 }
 
 impl LineTask for Converter {
-    ghost Stands = { Stands };
+    ghost Stands = { ConverterStands };
 
     fn take_line<W: Sink>(
         &mut self,

@@ -5,7 +5,7 @@ ghost use Rattle.pmb_convert.specs.declared.conversion.Conversion.TheVariants.{E
 ghost use Rattle.pmb_convert.specs.declared.format_fault.FormatFault.{FormatFault};
 ghost use Rattle.pmb_convert.specs.declared.named_format.NamedFormat.{NamedFormat};
 ghost use Rattle.pmb_convert.specs.Laws.{IsDetermined, IsFormat};
-ghost use Rattle.pmb_convert.specs.Spelling.{Names, Saying, Spells};
+ghost use Rattle.pmb_convert.specs.Spelling.{Names, Saying, SpellsFormat};
 
 use pmb_quantity::laws::lowest_terms;
 use pmb_value::laws::{
@@ -16,7 +16,7 @@ use pmb_value::laws::{
 /// A text spells at most one FORMAT, so that it names one format or has one fault. The format's
 /// numbers are in the range of its type.
 pub fn one_format()
-    ensures spelled { (text : List ℕ) (a b : Saying) → Spells text a → Spells text b → a ≡ b }
+    ensures spelled { (text : List ℕ) (a b : Saying) → SpellsFormat text a → SpellsFormat text b → a ≡ b }
     ensures named { (text : List ℕ) (a b : Result NamedFormat FormatFault) → Names text a → Names text b → a ≡ b }
     ensures in_range { (text : List ℕ) (format : NamedFormat) → Names text (Ok format) → IsFormat format }
 {}

@@ -3,7 +3,7 @@
 ghost use Rattle.std.specs.Prelude.{◌≡◌};
 ghost use Rattle.pmb_value.specs.declared.vout.VoutFormat.TheVariants.{Unsigned, Signed};
 ghost use Rattle.pmb_convert.specs.declared.named_format.NamedFormat.TheVariants.{Word};
-ghost use Rattle.pmb_convert.specs.Spelling.{direct_of, linear_of, vout_of};
+ghost use Rattle.pmb_convert.specs.Spelling.{named_direct, named_linear, vout_of};
 
 use crate::format_fault::FormatFault;
 use crate::named_format::NamedFormat;
@@ -13,7 +13,7 @@ use pmb_value::{
 
 /// LINEAR11 with one exponent.
 pub(crate) fn fixed(exponent: i8) -> Result<NamedFormat, FormatFault>
-    ensures { result ≡ linear_of (λ e. NamedFormat.Linear11Fixed e) exponent }
+    ensures { result ≡ named_linear (λ e. NamedFormat.Linear11Fixed e) exponent }
 {
     match Linear11Fixed::new(exponent) {
         Ok(format) => Ok(NamedFormat::Linear11Fixed(format)),
@@ -23,7 +23,7 @@ pub(crate) fn fixed(exponent: i8) -> Result<NamedFormat, FormatFault>
 
 /// ULINEAR16 with an exponent.
 pub(crate) fn unsigned(exponent: i8) -> Result<NamedFormat, FormatFault>
-    ensures { result ≡ linear_of (λ e. Word (Unsigned e)) exponent }
+    ensures { result ≡ named_linear (λ e. Word (Unsigned e)) exponent }
 {
     match Ulinear16::new(exponent) {
         Ok(format) => Ok(NamedFormat::Word(VoutFormat::Unsigned(format))),
@@ -33,7 +33,7 @@ pub(crate) fn unsigned(exponent: i8) -> Result<NamedFormat, FormatFault>
 
 /// SLINEAR16 with an exponent.
 pub(crate) fn signed(exponent: i8) -> Result<NamedFormat, FormatFault>
-    ensures { result ≡ linear_of (λ e. Word (Signed e)) exponent }
+    ensures { result ≡ named_linear (λ e. Word (Signed e)) exponent }
 {
     match Slinear16::new(exponent) {
         Ok(format) => Ok(NamedFormat::Word(VoutFormat::Signed(format))),
@@ -56,7 +56,7 @@ pub(crate) fn of_mode(mode: u8) -> Result<NamedFormat, FormatFault>
 
 /// The DIRECT format of three coefficients.
 pub(crate) fn of_coefficients(m: i16, b: i16, r: i8) -> Result<NamedFormat, FormatFault>
-    ensures { result ≡ direct_of m b r }
+    ensures { result ≡ named_direct m b r }
 {
     match Direct::new(m, b, r) {
         Ok(direct) => Ok(NamedFormat::Word(VoutFormat::Direct(direct))),

@@ -2,7 +2,7 @@
 use Rattle.std.proofs.Common.{◌≡◌, ℕ, ◌-◌, ◌^◌, ◌<◌, ◌≤◌, inl, inr, pos, negsuc, ◌+ℤ◌, ◌-ℤ◌, refl, sym, arith}
 use Rattle.std.proofs.lemmas.Int.{ints}
 use Rattle.std.proofs.lemmas.Bool.{cases_lt, cond_below, cond_above}
-use Rattle.pmb_format.specs.Words.{Counts, signed_at, twos_complement}
+use Rattle.pmb_format.specs.Words.{CountsUp, signed_at, twos_complement}
 
 -- the lower half of the fields are themselves
 pub complement_low : (bits field : ℕ) → field < 2 ^ (bits - 1) → twos_complement bits field ≡ pos field
@@ -16,7 +16,7 @@ complement_high bits field high = sym (cond_above field (2 ^ (bits - 1)) (pos fi
 
 -- ---- in the order of their numbers
 
-pub counts_unsigned : Counts (λ code. pos code) (λ index. index) (pos 0)
+pub counts_unsigned : CountsUp (λ code. pos code) (λ index. index) (pos 0)
 counts_unsigned = record {
   word = λ i inside. inside;
   number_is = λ i inside. omega (arith, ints);
@@ -31,7 +31,7 @@ signed_number i inside =
       | inr high ↦ let is = complement_low 16 (signed_at i) (omega arith) in omega (arith, ints, is)
     ]
 
-pub counts_signed : Counts (twos_complement 16) signed_at (negsuc 32767)
+pub counts_signed : CountsUp (twos_complement 16) signed_at (negsuc 32767)
 counts_signed = record {
   word = λ i inside. omega arith;
   number_is = signed_number;

@@ -6,13 +6,13 @@ abbrev pub most_steps : ℕ
 most_steps = 33
 
 -- a count after so many steps more: it stays at the greatest u64
-abbrev pub counted : ℕ → ℕ → ℕ
-counted before zero = before
-counted before (suc more) = min (before + suc more) (2 ^ 64 - 1)
+abbrev pub steps_counted : ℕ → ℕ → ℕ
+steps_counted before zero = before
+steps_counted before (suc more) = min (before + suc more) (2 ^ 64 - 1)
 
 -- so many steps more at least, and so many at most
 pub record TakesSteps (least most before after : ℕ) : Type 0 where
   pub steps : ℕ
   pub at_least : least ≤ steps
   pub at_most : steps ≤ most
-  pub count_is : after ≡ counted before steps
+  pub count_is : after ≡ steps_counted before steps

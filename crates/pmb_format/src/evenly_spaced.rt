@@ -5,7 +5,7 @@
 ghost use Rattle.std.specs.Prelude.{◌≡◌, ◌↔◌, ◌^◌, ◌<◌, ◌≤◌, IfOk, IsOk};
 ghost use Rattle.pmb_format.specs.Coding.{IsNearest, IsInRange, IsBelow, IsAbove};
 ghost use Rattle.pmb_format.specs.Laws.{HasCanonicalCodes, HasOneCode, HasOneEvenNeighbour};
-ghost use Rattle.pmb_format.specs.Steps.{TakesSteps, counted};
+ghost use Rattle.pmb_format.specs.Steps.{TakesSteps, steps_counted};
 ghost use Rattle.pmb_format.specs.Row.{Row, IsRow};
 ghost use Rattle.pmb_format.specs.declared.format.RangeFault.TheVariants.{Below, Above};
 
@@ -56,7 +56,7 @@ pub fn encode<E: EvenlySpaced>(
 fn nearest<E: EvenlySpaced>(format: &E, quantity: &Quantity, steps: &mut Steps) -> u16
     requires { IsInRange (E.coding format.now) quantity.now }
     ensures nearest { IsNearest (E.coding format.now) quantity.now result }
-    ensures steps { steps.new ≡ counted steps.old 1 }
+    ensures steps { steps.new ≡ steps_counted steps.old 1 }
 {
     let from_first = codes::distance(format, quantity, format.code_at(0));
     let spacing = u128::from(quantity.den().unsigned_abs()) * u128::from(format.spacing());

@@ -1,6 +1,6 @@
 //! Division that rounds once.
 ghost use Rattle.std.specs.Prelude.{◌≡◌, ◌^◌, ◌<◌};
-ghost use Rattle.pmb_format.specs.Steps.{counted};
+ghost use Rattle.pmb_format.specs.Steps.{steps_counted};
 ghost use Rattle.pmb_format.specs.Rounding.{Rounds};
 
 use crate::steps::Steps;
@@ -11,7 +11,7 @@ pub fn rounded_quotient(dividend: u128, divisor: u128, steps: &mut Steps) -> u12
     requires divisor_is_small { divisor < 2 ^ 126 }
     requires divisor_is_some { 0 < divisor }
     ensures value { Rounds dividend divisor result }
-    ensures steps { steps.new ≡ counted steps.old 1 }
+    ensures steps { steps.new ≡ steps_counted steps.old 1 }
 {
     steps.tick();
     let quotient = dividend / divisor;

@@ -1,6 +1,6 @@
 //! Words of two bytes as numbers.
 ghost use Rattle.std.specs.Prelude.{◌≡◌, ◌-◌, ◌^◌, ◌<◌, ◌≤◌, ℕ, ℤ, pos, negsuc, unsigned_abs};
-ghost use Rattle.pmb_format.specs.Words.{Counts, signed_at, twos_complement};
+ghost use Rattle.pmb_format.specs.Words.{CountsUp, signed_at, twos_complement};
 
 /// Which number a word of two bytes is.
 pub trait Word {
@@ -24,7 +24,7 @@ pub trait Word {
 
     /// A law: the numbers rise by one with the index. It does nothing.
     fn counts()
-        ensures { Counts number at least_number };
+        ensures { CountsUp number at least_number };
 }
 
 /// A word counts from 0 to 65535.

@@ -4,7 +4,7 @@ use Rattle.std.specs.Prelude.{◌==◌}
 use Rattle.std.proofs.lemmas.Bool.{cases_eq, ne_eqb}
 use Rattle.std.proofs.lemmas.Bool.Decides.{nat_tests}
 use Rattle.std.proofs.lemmas.List.{append-nil, length-append, take-append-drop, take_at, drop_at, take-append-le, take-take, take_more, same_from_push, length-take-le}
-use Rattle.pmb_io.specs.Lines.{carriage_return, without_return}
+use Rattle.pmb_io.specs.Lines.{carriage_return, without_cr}
 use Rattle.pmb_front.specs.Front.{IsMark, StartsLine, HasMark, NoMark, FirstMark}
 use Rattle.pmb_front.specs.machine.Front.{NoneEndsWithin, EndsInMark}
 
@@ -136,16 +136,16 @@ dropped_behind byte next text line (inl return) = inl (ap (λ l. byte ∷ l) ret
 dropped_behind byte next text line (inr none) = inr (ap (λ l. byte ∷ l) none.0, λ front ends. not_in_tail byte next text front none.1 ends)
 
 -- what is left of a text that loses its CR
-dropped : (text : List ℕ) → WithoutReturn text (without_return text)
-unfolding without_return
+dropped : (text : List ℕ) → WithoutReturn text (without_cr text)
+unfolding without_cr
 dropped [] = inr (refl, λ front ends. absurd (omega (arith, ap length ends, length-append front (codes "\r"))))
 dropped (byte ∷ []) = elim (cases_eq byte carriage_return) [
-  | inl same ↦ subst (λ (b : ℕ). WithoutReturn (b ∷ []) (without_return (b ∷ []))) (sym same) (inl refl)
+  | inl same ↦ subst (λ (b : ℕ). WithoutReturn (b ∷ []) (without_cr (b ∷ []))) (sym same) (inl refl)
   | inr other ↦
       let test : eqb byte carriage_return ≡ false = ne_eqb byte carriage_return other in
       rw test (inr (refl, λ front ends. other (same_from_push [] front byte carriage_return ends).1))
 ]
-dropped (byte ∷ next ∷ text) = dropped_behind byte next text (without_return (next ∷ text)) (dropped (next ∷ text))
+dropped (byte ∷ next ∷ text) = dropped_behind byte next text (without_cr (next ∷ text)) (dropped (next ∷ text))
 
 -- where the text ends in `%%` at the start of a line, with CR behind it or not, an LF ends a line `%%`
 found_in : (text line before : List ℕ) → WithoutReturn text line → line ≡ before ++ codes "%%" → StartsLine before → EndsInMark text (length before)
@@ -153,7 +153,7 @@ found_in text line before (inl return) ends starts =
     ends_in_mark text before (codes "%%\r") (return ∙ (ap (λ l. l ++ codes "\r") ends ∙ append_assoc before (codes "%%") (codes "\r"))) (inr refl) starts
 found_in text line before (inr none) ends starts = ends_in_mark text before (codes "%%") (sym none.0 ∙ ends) (inl refl) starts
 
-pub found : (text line before : List ℕ) → line ≡ without_return text → line ≡ before ++ codes "%%" → StartsLine before → EndsInMark text (length before)
+pub found : (text line before : List ℕ) → line ≡ without_cr text → line ≡ before ++ codes "%%" → StartsLine before → EndsInMark text (length before)
 found text line before is ends starts = found_in text line before (subst (WithoutReturn text) (sym is) (dropped text)) ends starts
 
 -- without it a text is no longer
@@ -161,7 +161,7 @@ no_longer : (text line : List ℕ) → WithoutReturn text line → length line �
 no_longer text line (inl return) = omega (arith, ap length return, length-append line (codes "\r"))
 no_longer text line (inr none) = omega (arith, ap length none.0)
 
-pub within_line : (text line before tail : List ℕ) → line ≡ without_return text → line ≡ before ++ tail → length before ≤ length text
+pub within_line : (text line before tail : List ℕ) → line ≡ without_cr text → line ≡ before ++ tail → length before ≤ length text
 within_line text line before tail is ends =
     omega (arith, no_longer text line (subst (WithoutReturn text) (sym is) (dropped text)), ap length ends, length-append before tail)
 
@@ -185,7 +185,7 @@ by_ends text line before mark (inr none) whole (inr cr_lf) =
     absurd (none.1 (before ++ codes "%%") (text_is ∙ sym (append_assoc before (codes "%%") (codes "\r"))))
 
 -- where an LF ends a line `%%`, the text without a CR at its end ends in `%%`
-pub stripped : (text line before mark : List ℕ) → line ≡ without_return text → HasMark (text ++ 10 ∷ []) before mark [] → line ≡ before ++ codes "%%"
+pub stripped : (text line before mark : List ℕ) → line ≡ without_cr text → HasMark (text ++ 10 ∷ []) before mark [] → line ≡ before ++ codes "%%"
 stripped text line before mark is has = by_ends text line before mark (subst (WithoutReturn text) (sym is) (dropped text)) has.whole has.is_mark
 
 -- where a line starts behind bytes that are there, they end in LF

@@ -126,5 +126,5 @@ pub record ReadUndecided {R : Type 0} (told : R → ReaderTold) (old new : R) : 
   pub undecided : Undecided read
 
 -- how many reads gave bytes: each gave one or more, and the last came before the text could not fit
-abbrev pub MadeReads : ℕ → ℕ → Type 0
-MadeReads old new = (count : ℕ) × (count ≤ most_profile + 4) × (new ≡ raised old count)
+abbrev pub MadeFrontReads : ℕ → ℕ → Type 0
+MadeFrontReads old new = (count : ℕ) × (count ≤ most_profile + 4) × (new ≡ raised old count)

@@ -4,7 +4,7 @@
 //! Past the limit the last bytes alone tell whether a line `%%` that starts in time may still come.
 
 ghost use Rattle.std.specs.Prelude.{◌≡◌, ◌≢◌, ℕ, ◌≤◌, ◌<◌, ◌++◌, ◌↔◌, [], List, true, false, IfOk, IfErr, IfSome, IfNone, IsTrue, Err, OnErr, codes, length, take, drop};
-ghost use Rattle.pmb_front.specs.Front.{EndsInLine, EndsInOpening, FirstMark, HasMark, MadeReads, MayFit, NoMark, ReadFront, ReadSome, ReadTooMuch, ReadUndecided, StartsLine, most_profile};
+ghost use Rattle.pmb_front.specs.Front.{EndsInLine, EndsInOpening, FirstMark, HasMark, MadeFrontReads, MayFit, NoMark, ReadFront, ReadSome, ReadTooMuch, ReadUndecided, StartsLine, most_profile};
 ghost use Rattle.pmb_front.specs.machine.Front.{EndsInMark, NoneEndsWithin};
 ghost use Rattle.pmb_io.specs.Count.{raised};
 
@@ -59,7 +59,7 @@ pub fn front<R: Source>(alloc: Global, reader: &mut R) -> Result<Front, ToolFaul
     ensures mark_not_ended { IfOk result (λ front. front.marked ≡ true → R.has_ended reader.new ≡ R.has_ended reader.old) }
 
     // The reads that gave bytes are few, and it writes nothing.
-    ensures reads { MadeReads (R.reads reader.old) (R.reads reader.new) }
+    ensures reads { MadeFrontReads (R.reads reader.old) (R.reads reader.new) }
     ensures few_reads { result ≢ Err ToolFault.TooManyReads }
     ensures no_write { result ≢ Err ToolFault.Write }
 {

@@ -3,7 +3,7 @@ use Rattle.std.proofs.Common.{◌≡◌, ◌≢◌, ℕ, zero, suc, ◌<◌, Boo
 use Rattle.std.proofs.lemmas.Bool.{cases_lt, cases_eq, ne_eqb}
 use Rattle.std.proofs.lemmas.Bool.Decides.{nat_tests}
 use Rattle.std.proofs.lemmas.List.{take_all}
-use Rattle.pmb_io.specs.Lines.{Cut, IsCut, carriage_return, cut, ended_line, last_line, line_feed, longer, without_return}
+use Rattle.pmb_io.specs.Lines.{Cut, IsCut, carriage_return, cut, ended_line, last_line, line_feed, longer, without_cr}
 use Rattle.pmb_io.specs.machine.Lines.{ended_kept, last_kept}
 
 -- a cut with one byte more in front
@@ -74,14 +74,14 @@ cut_is (byte ∷ bytes) = elim (cases_eq byte 10) [
 
 -- ---- a CR at the end
 
-pub return_dropped : (line : List ℕ) → without_return (line ++ carriage_return ∷ []) ≡ line
-unfolding without_return
+pub return_dropped : (line : List ℕ) → without_cr (line ++ carriage_return ∷ []) ≡ line
+unfolding without_cr
 return_dropped [] = refl
 return_dropped (byte ∷ []) = refl
 return_dropped (byte ∷ next ∷ line) = ap (λ l. byte ∷ l) (return_dropped (next ∷ line))
 
-pub no_return_kept : (line : List ℕ) → ((front : List ℕ) → line ≢ front ++ carriage_return ∷ []) → without_return line ≡ line
-unfolding without_return
+pub no_return_kept : (line : List ℕ) → ((front : List ℕ) → line ≢ front ++ carriage_return ∷ []) → without_cr line ≡ line
+unfolding without_cr
 no_return_kept [] none = refl
 no_return_kept (byte ∷ []) none = elim (cases_eq byte carriage_return) [
   | inl is ↦ absurd (none [] (ap (λ b. b ∷ []) is))

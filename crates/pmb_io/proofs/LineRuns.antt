@@ -4,7 +4,7 @@ use Rattle.std.proofs.Math.Seq.{take-nil}
 use Rattle.std.proofs.lemmas.Bool.Decides.{nat_tests}
 use Rattle.std.proofs.lemmas.List.{map-append}
 use Rattle.pmb_io.specs.Lines.{Cut, TextLine, cut, ended_line, ended_lines, line_feed}
-use Rattle.pmb_io.specs.machine.Lines.{Stands, ended_kept}
+use Rattle.pmb_io.specs.machine.Lines.{StandsInLine, ended_kept}
 use Rattle.pmb_io.proofs.LineLemmas.{cut-with_byte, cut-with_lf, ended_kept_is}
 
 none_longer : (most : ℕ) → nat_lt most 0 ≡ false
@@ -12,14 +12,14 @@ none_longer most = grind (arith, nat_tests)
 
 module _ (Given : List TextLine → List ℕ → Type 0) (most : ℕ) where
   -- nothing was given yet
-  pub stands_fresh : (line : List ℕ) → line ≡ [] → Given [] [] → Stands Given most line false [] []
+  pub stands_fresh : (line : List ℕ) → line ≡ [] → Given [] [] → StandsInLine Given most line false [] []
   unfolding cut
   stands_fresh line none given = record { kept = none ∙ sym (take-nil most); longer = sym (none_longer most); given = given }
 
   -- a byte that is no LF belongs to the line under way
   pub keeps_byte : (bytes text line : List ℕ) (is_longer : Bool) (byte : ℕ) → byte ≢ line_feed
       → line ≡ take most ((cut bytes).rest ++ byte ∷ []) → is_longer ≡ nat_lt most (length ((cut bytes).rest ++ byte ∷ []))
-      → Given (ended_lines most bytes) text → Stands Given most line is_longer (bytes ++ byte ∷ []) text
+      → Given (ended_lines most bytes) text → StandsInLine Given most line is_longer (bytes ++ byte ∷ []) text
   keeps_byte bytes text line is_longer byte other kept longer given =
       let cut_is = cut-with_byte bytes byte other in record {
         kept = kept ∙ sym (ap (λ (c : Cut). take most c.rest) cut_is);
@@ -38,7 +38,7 @@ module _ (Given : List TextLine → List ℕ → Type 0) (most : ℕ) where
 
   -- behind it nothing is kept
   pub after_lf : (bytes text line after : List ℕ) (is_longer : Bool) (byte : ℕ) → byte ≡ line_feed → line ≡ take most (cut bytes).rest → is_longer ≡ nat_lt most (length (cut bytes).rest)
-      → after ≡ [] → Given (ended_lines most bytes ++ ended_kept line is_longer ∷ []) text → Stands Given most after false (bytes ++ byte ∷ []) text
+      → after ≡ [] → Given (ended_lines most bytes ++ ended_kept line is_longer ∷ []) text → StandsInLine Given most after false (bytes ++ byte ∷ []) text
   after_lf bytes text line after is_longer byte lf kept longer none given =
       let cut_is = ap (λ b. cut (bytes ++ b ∷ [])) lf ∙ cut-with_lf bytes in record {
         kept = none ∙ (sym (take-nil most) ∙ sym (ap (λ (c : Cut). take most c.rest) cut_is));

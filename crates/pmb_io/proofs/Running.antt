@@ -3,7 +3,7 @@ use Rattle.std.proofs.Common.{◌≡◌, ℕ, ◌+◌, ◌<◌, ◌≤◌, ◌�
 use Rattle.std.specs.Io.KnownBytes.{Consumes}
 use Rattle.pmb_io.specs.Count.{raised}
 use Rattle.pmb_io.specs.Engines.{PutsOut, WritesOut}
-use Rattle.pmb_io.specs.Outgoing.{Writes}
+use Rattle.pmb_io.specs.Outgoing.{PutsText}
 use Rattle.pmb_io.specs.Runs.{Gave, OpenBefore, ReaderTold, Stopped, Through, Told, most_piece, with_held}
 use Rattle.pmb_io.proofs.Writing.{appends_then, consumes_then, consumes_nothing, writes_then, writes_as, writes_all}
 
@@ -16,11 +16,11 @@ raised_by_none count = omega arith
 
 -- what was put out where nothing waited, and sent
 pub put_and_sent : (Holds : List ℕ → Type 0) (h0 h1 h2 : Option (List ℕ)) (w0 w1 w2 : List ℕ) → w0 ≡ [] → w2 ≡ []
-    → PutsOut Holds h0 w0 h1 w1 → Writes h1 w1 h2 w2 [] → WritesOut Holds h0 h2
+    → PutsOut Holds h0 w0 h1 w1 → PutsText h1 w1 h2 w2 [] → WritesOut Holds h0 h2
 put_and_sent Holds h0 h1 h2 w0 w1 w2 none_old none_new puts sent = record {
   text = puts.text;
   appended = writes_all h0 h2 puts.text
-      (subst (λ (w : List ℕ). Writes h0 w h2 [] puts.text) none_old
+      (subst (λ (w : List ℕ). PutsText h0 w h2 [] puts.text) none_old
       (writes_as h0 h2 w0 w2 [] (puts.text ++ []) puts.text none_new (append-nil puts.text) (writes_then h0 h1 h2 w0 w1 w2 puts.text [] puts.writes sent)));
   holds = puts.holds;
 }

@@ -2,8 +2,8 @@
 use Rattle.std.proofs.Common.{◌≡◌, ℕ, ◌<◌, ◌≢◌, ◌∙◌, Bool, true, false, length, Option, Some, None, Result, Ok, Err, OnOk, List, [], ◌++◌, sym, ap, subst, refl, append_assoc, append-nil, take, drop, take-append-drop, rules, arith}
 use Rattle.std.specs.Io.KnownBytes.{Appends, Consumes, Keeps}
 use Rattle.std.proofs.lemmas.Bool.Decides.{nat_tests}
-use Rattle.pmb_io.specs.Calls.{TellsEnd, WritesFront}
-use Rattle.pmb_io.specs.Outgoing.{Writes}
+use Rattle.pmb_io.specs.Calls.{TellsEnd, AppendsFront}
+use Rattle.pmb_io.specs.Outgoing.{PutsText}
 use Rattle.pmb_io.specs.declared.fault.ToolFault.{ToolFault}
 
 -- appended twice
@@ -31,7 +31,7 @@ consumes_nothing None = tt
 consumes_nothing (Some a) = search rules
 
 -- a text and then another
-pub writes_then : (h0 h1 h2 : Option (List ℕ)) (w0 w1 w2 a b : List ℕ) → Writes h0 w0 h1 w1 a → Writes h1 w1 h2 w2 b → Writes h0 w0 h2 w2 (a ++ b)
+pub writes_then : (h0 h1 h2 : Option (List ℕ)) (w0 w1 w2 a b : List ℕ) → PutsText h0 w0 h1 w1 a → PutsText h1 w1 h2 w2 b → PutsText h0 w0 h2 w2 (a ++ b)
 writes_then h0 h1 h2 w0 w1 w2 a b first second = record {
   sent = first.sent ++ second.sent;
   appended = appends_then h0 h1 h2 first.sent second.sent first.appended second.appended;
@@ -40,15 +40,15 @@ writes_then h0 h1 h2 w0 w1 w2 a b first second = record {
 }
 
 -- no text
-pub writes_nothing : (h : Option (List ℕ)) (w : List ℕ) → Writes h w h w []
+pub writes_nothing : (h : Option (List ℕ)) (w : List ℕ) → PutsText h w h w []
 writes_nothing h w = record { sent = []; appended = appends_nothing h; whole = search rules }
 
 -- the same of equal texts and equal rests
-pub writes_as : (h0 h1 : Option (List ℕ)) (w0 w1 w2 a b : List ℕ) → w1 ≡ w2 → a ≡ b → Writes h0 w0 h1 w1 a → Writes h0 w0 h1 w2 b
-writes_as h0 h1 w0 w1 w2 a b e f h = subst (λ (w : List ℕ). Writes h0 w0 h1 w b) e (subst (λ (t : List ℕ). Writes h0 w0 h1 w1 t) f h)
+pub writes_as : (h0 h1 : Option (List ℕ)) (w0 w1 w2 a b : List ℕ) → w1 ≡ w2 → a ≡ b → PutsText h0 w0 h1 w1 a → PutsText h0 w0 h1 w2 b
+writes_as h0 h1 w0 w1 w2 a b e f h = subst (λ (w : List ℕ). PutsText h0 w0 h1 w b) e (subst (λ (t : List ℕ). PutsText h0 w0 h1 w1 t) f h)
 
 -- where nothing waited and nothing waits, the text was appended
-pub writes_all : (h0 h1 : Option (List ℕ)) (a : List ℕ) → Writes h0 [] h1 [] a → Appends h0 h1 a
+pub writes_all : (h0 h1 : Option (List ℕ)) (a : List ℕ) → PutsText h0 [] h1 [] a → Appends h0 h1 a
 writes_all h0 h1 a h = subst (λ (t : List ℕ). Appends h0 h1 t) (search (rules, h.whole)) h.appended
 
 -- two facts of a call's success together
@@ -109,5 +109,5 @@ up_to_kept h0 h1 h2 bytes rest so_far kept = record {
   appended = appends_then h0 h1 h2 so_far.sent [] so_far.appended (keeps_appends h1 h2 kept);
 }
 
-pub up_to_front : (h0 h1 : Option (List ℕ)) (bytes rest : List ℕ) → WritesUpTo h0 h1 bytes rest → WritesFront h0 h1 bytes
+pub up_to_front : (h0 h1 : Option (List ℕ)) (bytes rest : List ℕ) → WritesUpTo h0 h1 bytes rest → AppendsFront h0 h1 bytes
 up_to_front h0 h1 bytes rest so_far = record { sent = so_far.sent; rest = rest; whole = so_far.whole; appended = so_far.appended }

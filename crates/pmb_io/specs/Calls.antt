@@ -28,7 +28,7 @@ TellsEnd old new (Ok n) buffer = new ≡ (old || (n == 0 && nat_lt 0 (length buf
 TellsEnd old new (Err fault) buffer = new ≡ old
 
 -- of these bytes a front was written
-pub record WritesFront (held_old held_new : Option (List ℕ)) (bytes : List ℕ) : Type 0 where
+pub record AppendsFront (held_old held_new : Option (List ℕ)) (bytes : List ℕ) : Type 0 where
   pub sent : List ℕ
   pub rest : List ℕ
   pub whole : bytes ≡ sent ++ rest

@@ -1,7 +1,7 @@
 -- What an engine says behind a piece of its input.
 use Rattle.std.specs.Prelude.{ℕ, Option, List}
 use Rattle.std.specs.Io.KnownBytes.{Appends}
-use Rattle.pmb_io.specs.Outgoing.{Writes}
+use Rattle.pmb_io.specs.Outgoing.{PutsText}
 use Rattle.pmb_io.specs.declared.engine.Flow.{Flow}
 use Rattle.pmb_io.specs.declared.engine.Flow.TheVariants.{More, Stop}
 
@@ -13,7 +13,7 @@ Either Goes Stops Stop = Stops
 -- A text was put out: some of it is written, and the rest waits.
 pub record PutsOut (Holds : List ℕ → Type 0) (held_old : Option (List ℕ)) (waiting_old : List ℕ) (held_new : Option (List ℕ)) (waiting_new : List ℕ) : Type 0 where
   pub text : List ℕ
-  pub writes : Writes held_old waiting_old held_new waiting_new text
+  pub writes : PutsText held_old waiting_old held_new waiting_new text
   pub holds : Holds text
 
 -- A text was written.

@@ -59,10 +59,10 @@ abbrev pub carriage_return : ℕ
 carriage_return = slice_index (codes "\r") 0
 
 -- without the one CR at its end, if it has one
-unfoldable pub without_return : List ℕ → List ℕ
-without_return [] = []
-without_return (byte ∷ []) = if byte == carriage_return then [] else byte ∷ []
-without_return (byte ∷ next ∷ line) = byte ∷ without_return (next ∷ line)
+unfoldable pub without_cr : List ℕ → List ℕ
+without_cr [] = []
+without_cr (byte ∷ []) = if byte == carriage_return then [] else byte ∷ []
+without_cr (byte ∷ next ∷ line) = byte ∷ without_cr (next ∷ line)
 
 -- ---- its lines, of which each has so many bytes at most
 

@@ -141,7 +141,7 @@ impl<T: Source> Source for Failing<T> {
 impl<T: Sink> Sink for Failing<T> {
     ghost use Rattle.std.specs.Prelude.{◌≡◌, ◌≢◌, Some, OnOk, OnErr, IsErr};
     ghost use Rattle.std.specs.Io.KnownBytes.{Appends};
-    ghost use Rattle.pmb_io.specs.Calls.{CountsFailure, WritesFront};
+    ghost use Rattle.pmb_io.specs.Calls.{CountsFailure, AppendsFront};
     ghost use Rattle.pmb_io.specs.Failing.{failing_inner, failing_left, failing_most, failing_failures, one_call_fewer};
 
     ghost contents = { λ it. T.contents it.inner };
@@ -150,7 +150,7 @@ impl<T: Sink> Sink for Failing<T> {
 
     fn write_all(&mut self, bytes: &[u8]) -> Result<(), IoFault>
         ensures written { OnOk result (Appends (T.contents (failing_inner self.old)) (T.contents (failing_inner self.new)) bytes.now) }
-        ensures front { OnErr result (WritesFront (T.contents (failing_inner self.old)) (T.contents (failing_inner self.new)) bytes.now) }
+        ensures front { OnErr result (AppendsFront (T.contents (failing_inner self.old)) (T.contents (failing_inner self.new)) bytes.now) }
         ensures failed { CountsFailure (failing_failures self.old) (failing_failures self.new) result }
 
         // The call whose turn it is fails and reaches nothing; another fails only where the writer inside does.

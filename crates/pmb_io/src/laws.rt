@@ -1,7 +1,7 @@
 //! Laws over the definitions alone.
 
 ghost use Rattle.std.specs.Prelude.{◌≡◌, ℕ, ◌++◌, ◌≢◌, codes, List};
-ghost use Rattle.pmb_io.specs.Lines.{IsCut, cut, ended_lines, lines_of, lines_task, without_return};
+ghost use Rattle.pmb_io.specs.Lines.{IsCut, cut, ended_lines, lines_of, lines_task, without_cr};
 
 use crate::engine::Engine;
 use crate::line_task::LineTask;
@@ -24,6 +24,6 @@ pub fn lines_are_the_text()
 
 /// A line loses the one CR at its end, and another line stays as it is.
 pub fn one_return_is_dropped()
-    ensures dropped { (line : List ℕ) → without_return (line ++ codes "\r") ≡ line }
-    ensures kept { (line : List ℕ) → ((front : List ℕ) → line ≢ front ++ codes "\r") → without_return line ≡ line }
+    ensures dropped { (line : List ℕ) → without_cr (line ++ codes "\r") ≡ line }
+    ensures kept { (line : List ℕ) → ((front : List ℕ) → line ≢ front ++ codes "\r") → without_cr line ≡ line }
 {}

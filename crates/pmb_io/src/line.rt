@@ -1,7 +1,7 @@
 //! Lines of an input.
 
 ghost use Rattle.std.specs.Prelude.{◌≡◌};
-ghost use Rattle.pmb_io.specs.Lines.{without_return};
+ghost use Rattle.pmb_io.specs.Lines.{without_cr};
 
 /// A line of an input.
 #[derive(Clone, Copy, Debug, PartialEq, Eq)]
@@ -16,7 +16,7 @@ pub enum Line<'a> {
 
 /// A line without the one CR at its end, if it has one.
 pub fn without_return(line: &[u8]) -> &[u8]
-    ensures { result.now ≡ without_return line.now }
+    ensures { result.now ≡ without_cr line.now }
 {
     match line.strip_suffix(b"\r") {
         Some(before) => before,

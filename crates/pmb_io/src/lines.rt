@@ -7,7 +7,7 @@ ghost use Rattle.std.specs.Prelude.{◌≡◌, ℕ, ◌++◌, ◌∷◌, [], fal
 ghost use Rattle.pmb_io.specs.Calls.{WriterTells};
 ghost use Rattle.pmb_io.specs.Engines.{PutsOut};
 ghost use Rattle.pmb_io.specs.Lines.{TextLine, lines_of, lines_task};
-ghost use Rattle.pmb_io.specs.machine.Lines.{Stands, ended_kept};
+ghost use Rattle.pmb_io.specs.machine.Lines.{StandsInLine, ended_kept};
 
 use crate::engine::{Engine, Flow};
 use crate::fault::ToolFault;
@@ -56,8 +56,8 @@ impl<T: LineTask, const MOST: usize> Lines<T, MOST> {
         waiting: &mut Waiting,
         writer: &mut W,
     ) -> Result<(), ToolFault>
-        ensures takes { (start : T) (bytes text : List ℕ) → Stands (T.Stands start self.old.task) MOST self.old.line.items self.old.is_longer bytes text
-            → OnOk result (PutsOut (λ more. Stands (T.Stands start self.new.task) MOST self.new.line.items self.new.is_longer (bytes ++ byte ∷ []) (text ++ more))
+        ensures takes { (start : T) (bytes text : List ℕ) → StandsInLine (T.Stands start self.old.task) MOST self.old.line.items self.old.is_longer bytes text
+            → OnOk result (PutsOut (λ more. StandsInLine (T.Stands start self.new.task) MOST self.new.line.items self.new.is_longer (bytes ++ byte ∷ []) (text ++ more))
             (W.contents writer.old) waiting.old.items (W.contents writer.new) waiting.new.items) }
         ensures failed { WriterTells (W.failures writer.old) (W.failures writer.new) result }
     {
@@ -107,7 +107,7 @@ impl<T: LineTask, const MOST: usize> Lines<T, MOST> {
 }
 
 impl<T: LineTask, const MOST: usize> Engine for Lines<T, MOST> {
-    ghost Stands = { λ start now bytes text. Stands (T.Stands start.task now.task) MOST now.line.items now.is_longer bytes text };
+    ghost Stands = { λ start now bytes text. StandsInLine (T.Stands start.task now.task) MOST now.line.items now.is_longer bytes text };
 
     ghost Stops = { λ start now bytes text. ⊥ };
 

@@ -1,8 +1,8 @@
 //! Text on its way to a writer, in a buffer of fixed size.
 
 ghost use Rattle.std.specs.Prelude.{◌≡◌, ◌+◌, ◌<◌, ◌≤◌, ◌++◌, [], length, Ok, OnOk, OnErr};
-ghost use Rattle.pmb_io.specs.Calls.{WriterTells, WritesFront};
-ghost use Rattle.pmb_io.specs.Outgoing.{Writes};
+ghost use Rattle.pmb_io.specs.Calls.{WriterTells, AppendsFront};
+ghost use Rattle.pmb_io.specs.Outgoing.{PutsText};
 
 use crate::fault::ToolFault;
 use crate::sink::Sink;
@@ -20,10 +20,10 @@ pub type Waiting = ArrayVec<u8, 32768>;
 ///
 /// `Write` where the writer failed: a front of the bytes went out, and all of them still wait.
 pub fn send<W: Sink>(waiting: &mut Waiting, writer: &mut W) -> Result<(), ToolFault>
-    ensures ok { OnOk result (Writes (W.contents writer.old) waiting.old.items (W.contents writer.new) waiting.new.items []) }
+    ensures ok { OnOk result (PutsText (W.contents writer.old) waiting.old.items (W.contents writer.new) waiting.new.items []) }
     ensures empty { OnOk result (waiting.new.items ≡ []) }
     ensures kept { OnErr result (waiting.new.items ≡ waiting.old.items) }
-    ensures front { OnErr result (WritesFront (W.contents writer.old) (W.contents writer.new) waiting.old.items) }
+    ensures front { OnErr result (AppendsFront (W.contents writer.old) (W.contents writer.new) waiting.old.items) }
     ensures failed { WriterTells (W.failures writer.old) (W.failures writer.new) result }
 {
     if waiting.is_empty() {
@@ -47,9 +47,9 @@ pub fn send<W: Sink>(waiting: &mut Waiting, writer: &mut W) -> Result<(), ToolFa
 /// text doesn't wait then.
 pub fn put<W: Sink>(waiting: &mut Waiting, text: &[u8], writer: &mut W) -> Result<(), ToolFault>
     requires { length text.now ≤ ROOM }
-    ensures ok { OnOk result (Writes (W.contents writer.old) waiting.old.items (W.contents writer.new) waiting.new.items text.now) }
+    ensures ok { OnOk result (PutsText (W.contents writer.old) waiting.old.items (W.contents writer.new) waiting.new.items text.now) }
     ensures kept { OnErr result (waiting.new.items ≡ waiting.old.items) }
-    ensures front { OnErr result (WritesFront (W.contents writer.old) (W.contents writer.new) waiting.old.items) }
+    ensures front { OnErr result (AppendsFront (W.contents writer.old) (W.contents writer.new) waiting.old.items) }
 
     // Where both fit, nothing is written.
     ensures fits { length waiting.old.items + length text.now ≤ ROOM → result ≡ Ok tt }
@@ -74,11 +74,11 @@ pub fn make_room<W: Sink>(
     writer: &mut W,
 ) -> Result<(), ToolFault>
     requires { count ≤ ROOM }
-    ensures ok { OnOk result (Writes (W.contents writer.old) waiting.old.items (W.contents writer.new) waiting.new.items []) }
+    ensures ok { OnOk result (PutsText (W.contents writer.old) waiting.old.items (W.contents writer.new) waiting.new.items []) }
     ensures room { OnOk result (length waiting.new.items + count ≤ ROOM) }
     ensures empty { ROOM < length waiting.old.items + count → OnOk result (waiting.new.items ≡ []) }
     ensures kept { OnErr result (waiting.new.items ≡ waiting.old.items) }
-    ensures front { OnErr result (WritesFront (W.contents writer.old) (W.contents writer.new) waiting.old.items) }
+    ensures front { OnErr result (AppendsFront (W.contents writer.old) (W.contents writer.new) waiting.old.items) }
 
     // Where there is room already, nothing is written.
     ensures fits { length waiting.old.items + count ≤ ROOM → result ≡ Ok tt }

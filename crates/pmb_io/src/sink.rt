@@ -2,7 +2,7 @@
 
 ghost use Rattle.std.specs.Prelude.{ℕ, Option, List, OnOk, OnErr};
 ghost use Rattle.std.specs.Io.KnownBytes.{Appends};
-ghost use Rattle.pmb_io.specs.Calls.{CountsFailure, WritesFront};
+ghost use Rattle.pmb_io.specs.Calls.{CountsFailure, AppendsFront};
 
 use crate::fault::IoFault;
 
@@ -17,6 +17,6 @@ pub trait Sink {
     /// Writes all the bytes. After a fault a front of them went out, and it is not said how many.
     fn write_all(&mut self, bytes: &[u8]) -> Result<(), IoFault>
         ensures written { OnOk result (Appends (contents self.old) (contents self.new) bytes.now) }
-        ensures front { OnErr result (WritesFront (contents self.old) (contents self.new) bytes.now) }
+        ensures front { OnErr result (AppendsFront (contents self.old) (contents self.new) bytes.now) }
         ensures failed { CountsFailure (failures self.old) (failures self.new) result };
 }

@@ -8,20 +8,20 @@ use Rattle.pmb_bus.specs.Event.{canonical_text, text_of}
 use Rattle.pmb_bus.specs.Text as texts
 use Rattle.pmb_bus.specs.declared.event.Event.{Event}
 use Rattle.pmb_command.specs.Parts.{DeviceParts}
-use Rattle.pmb_io.specs.Count.{counted}
+use Rattle.pmb_io.specs.Count.{capped}
 use Rattle.pmb_io.specs.Lines.{Ended, TextLine, lines_of}
 use Rattle.pmb_io.specs.declared.tally.Tally.{Tally}
-use Rattle.pmb_line.specs.Spelling.{Spells, line}
-use Rattle.pmb_line.specs.Words.{texts as texts_of, words}
+use Rattle.pmb_line.specs.Spelling.{SpellsTransaction, line}
+use Rattle.pmb_line.specs.Words.{texts as texts_of, line_words}
 use Rattle.pmb_note.specs.Note.{note}
 use Rattle.pmb_transaction.specs.Capture.{Capture}
 use Rattle.pmb_transaction.specs.Packet.{Packet}
 use Rattle.pmb_transaction.specs.Reading.{Accepted, Outcome, Reading, ReadsFrom, Refusal}
 use Rattle.pmb_transaction.specs.Transaction.{TransactionData}
 use Rattle.pmb_capture.specs.Output.{accepted_in, is_packet, packets_in, refusals_in, text_behind}
-use Rattle.pmb_capture.specs.Show.{Shows, noted_behind, noted_lines, shown}
-use Rattle.pmb_build.specs.Answer.{Answer, Built, is_built, is_refused, most_bytes}
-use Rattle.pmb_build.specs.Lines.{AnswersEach, BuildsInput, text_behind as answers_behind}
+use Rattle.pmb_capture.specs.Show.{Shows, noted_behind, noted_lines, shown_output}
+use Rattle.pmb_build.specs.Answer.{BuildAnswer, Built, is_built, is_refused, most_build_line}
+use Rattle.pmb_build.specs.Lines.{BuildsEach, BuildsInput, answers_behind}
 use Rattle.pmb_laws.proofs.ShownLines.{first_line, no_lines, said, said_has_no_lf, said_is_short, shown_first}
 
 -- ---- outcomes without a refusal
@@ -47,28 +47,28 @@ module _ (profile : List DeviceParts) where
   capture_of n [] events none = none
   capture_of n (t ∷ ts) events reads = (reads.0, reads.1, reads.2, reads.3, capture_of (n + length reads.0) ts reads.1 reads.4)
 
-  shown_of : (before ts : List TransactionData) → text_behind (shown profile) before (map Accepted ts) ≡ noted_behind profile before ts
+  shown_of : (before ts : List TransactionData) → text_behind (shown_output profile) before (map Accepted ts) ≡ noted_behind profile before ts
   shown_of before [] = refl
-  shown_of before (t ∷ ts) = ap (λ text. (shown profile).of_packet before t ++ text) (shown_of (before ++ t ∷ []) ts)
+  shown_of before (t ∷ ts) = ap (λ text. (shown_output profile).of_packet before t ++ text) (shown_of (before ++ t ∷ []) ts)
 
   -- ---- lines that are built
 
-  module _ (comment_spells : (t : TransactionData) (events : List Event) (comment : List ℕ) → Packet profile t events → Spells (texts_of (words (line t ++ (codes " # " ++ comment)))) t)
+  module _ (comment_spells : (t : TransactionData) (events : List Event) (comment : List ℕ) → Packet profile t events → SpellsTransaction (texts_of (line_words (line t ++ (codes " # " ++ comment)))) t)
       (line_one : (t : TransactionData) → All (λ b. b ≢ 10) (line t)) (line_short : (t : TransactionData) (events : List Event) → Packet profile t events → length (line t) ≤ 12544)
       (note_one : (before : List TransactionData) (t : TransactionData) (events : List Event) → Packet profile t events → All (λ b. b ≢ 10) (note profile before t))
       (note_short : (before : List TransactionData) (t : TransactionData) (events : List Event) → Packet profile t events → length (note profile before t) ≤ 8192) where
     -- What is answered to the lines of transactions behind others.
     record Answered (lines : List TextLine) (ts : List TransactionData) (events : List Event) : Type 0 where
-      answers : List Answer
-      each : AnswersEach profile lines answers
+      answers : List BuildAnswer
+      each : BuildsEach profile lines answers
       text : (n : ℕ) → canonical_text events ≡ answers_behind n answers
       built : count_by is_built answers ≡ length ts
       refused : count_by is_refused answers ≡ 0
 
-    answered : (before ts : List TransactionData) (events : List Event) → Capture profile ts events → Answered (lines_of most_bytes (noted_behind profile before ts)) ts events
+    answered : (before ts : List TransactionData) (events : List Event) → Capture profile ts events → Answered (lines_of most_build_line (noted_behind profile before ts)) ts events
     answered before [] events none = record {
       answers = [];
-      each = subst (λ (ls : List TextLine). AnswersEach profile ls []) (sym (no_lines most_bytes)) tt;
+      each = subst (λ (ls : List TextLine). BuildsEach profile ls []) (sym (no_lines most_build_line)) tt;
       text = λ n. ap canonical_text none;
       built = refl;
       refused = refl;
@@ -78,15 +78,15 @@ module _ (profile : List DeviceParts) where
         let packet = capture.3 in
         let others = answered (before ++ t ∷ []) ts capture.1 capture.4 in
         let rest = noted_behind profile (before ++ t ∷ []) ts in
-        let lines : lines_of most_bytes (noted_behind profile before (t ∷ ts)) ≡ Ended (said profile before t) ∷ lines_of most_bytes rest =
-        ap (lines_of most_bytes) (shown_first profile before ts t)
-        ∙ first_line most_bytes (said profile before t) rest (said_has_no_lf profile before t (line_one t) (note_one before t first packet))
+        let lines : lines_of most_build_line (noted_behind profile before (t ∷ ts)) ≡ Ended (said profile before t) ∷ lines_of most_build_line rest =
+        ap (lines_of most_build_line) (shown_first profile before ts t)
+        ∙ first_line most_build_line (said profile before t) rest (said_has_no_lf profile before t (line_one t) (note_one before t first packet))
         (said_is_short profile before t (line_short t first packet) (note_short before t first packet)) in
-        let one : count_by is_built (Built first ∷ others.answers) ≡ 1 + count_by is_built others.answers = sum_by-cons (λ (a : Answer). cond (is_built a) 1 0) (Built first) others.answers in
-        let no_more : count_by is_refused (Built first ∷ others.answers) ≡ 0 + count_by is_refused others.answers = sum_by-cons (λ (a : Answer). cond (is_refused a) 1 0) (Built first) others.answers in
+        let one : count_by is_built (Built first ∷ others.answers) ≡ 1 + count_by is_built others.answers = sum_by-cons (λ (a : BuildAnswer). cond (is_built a) 1 0) (Built first) others.answers in
+        let no_more : count_by is_refused (Built first ∷ others.answers) ≡ 0 + count_by is_refused others.answers = sum_by-cons (λ (a : BuildAnswer). cond (is_refused a) 1 0) (Built first) others.answers in
         record {
           answers = Built first ∷ others.answers;
-          each = subst (λ (ls : List TextLine). AnswersEach profile ls (Built first ∷ others.answers)) (sym lines)
+          each = subst (λ (ls : List TextLine). BuildsEach profile ls (Built first ∷ others.answers)) (sym lines)
               (record { t = t; spells = comment_spells t first (note profile before t) packet; packet = packet }, others.each);
           text = λ n. ap canonical_text capture.2 ∙ flat_map-append text_of first capture.1 ∙ ap (λ (text : List ℕ). canonical_text first ++ text) (others.text (n + 1));
           built = omega (arith, one, others.built);
@@ -101,17 +101,17 @@ module _ (profile : List DeviceParts) where
         let outcomes_are = all_accepted all.outcomes (omega (arith, none, all.counts.refusals_counted)) in
         let same = one_spelling bytes all.events events all.spells spells in
         let reads = subst (λ (os : List Outcome). Reading profile all.events os) outcomes_are all.reads in
-        let lines : text ≡ noted_lines profile ts = all.lines ∙ append-nil (text_behind (shown profile) [] all.outcomes) ∙ ap (text_behind (shown profile) []) outcomes_are ∙ shown_of [] ts in
+        let lines : text ≡ noted_lines profile ts = all.lines ∙ append-nil (text_behind (shown_output profile) [] all.outcomes) ∙ ap (text_behind (shown_output profile) []) outcomes_are ∙ shown_of [] ts in
         let is = answered [] ts all.events (capture_of 0 ts all.events reads) in
         let packets : packets_in all.outcomes ≡ length ts = ap packets_in outcomes_are ∙ packets_are_all ts in
         record {
           given = record {
             answers = is.answers;
-            each = subst (λ (l : List ℕ). AnswersEach profile (lines_of most_bytes l) is.answers) (sym lines) is.each;
+            each = subst (λ (l : List ℕ). BuildsEach profile (lines_of most_build_line l) is.answers) (sym lines) is.each;
             whole = ap canonical_text (sym same) ∙ is.text 0;
           };
           counts = record {
-            packets_counted = all.counts.packets_counted ∙ ap counted (packets ∙ sym is.built);
+            packets_counted = all.counts.packets_counted ∙ ap capped (packets ∙ sym is.built);
             refusals_counted = omega (arith, none, is.refused);
           };
         }

@@ -12,7 +12,7 @@ use Rattle.pmb_transaction.specs.Viable.{IsAnswer}
 use Rattle.pmb_leg.specs.Leg.{IsRequest, reply_form}
 use Rattle.pmb_leg.specs.Reply.{Expected, IsReply, SaysAnswer, SaysReply}
 use Rattle.pmb_leg.specs.machine.Answers.{CountsAlone}
-use Rattle.pmb_leg.specs.machine.Legs.{IsKept, Kept}
+use Rattle.pmb_leg.specs.machine.Legs.{IsKeptLeg, Kept}
 use Rattle.pmb_leg.proofs.Replies.{said, says}
 
 -- A body asks for a reply in a form.
@@ -111,7 +111,7 @@ no_request device (inr (c, form, sent, call)) = omega (arith, ap length call.spe
 
 module _ (leg : Kept) (form : Form) (number : ℕ) (alike : (bytes : List ℕ) → CountsAlone bytes)
     (goes_on : (bytes : List ℕ) → pec bytes ≡ leg.crc → number ≡ pec (bytes ++ read_address leg.device.address ∷ [])) where
-  pub leg_says : (bytes : List ℕ) → IsKept leg bytes → IsRequest leg.device bytes → reply_form leg.shape bytes ≡ Some form → (reply : List ℕ) (with_pec : Bool) (all : List ℕ)
+  pub leg_says : (bytes : List ℕ) → IsKeptLeg leg bytes → IsRequest leg.device bytes → reply_form leg.shape bytes ≡ Some form → (reply : List ℕ) (with_pec : Bool) (all : List ℕ)
       → SaysReply (record { form = form; mode = leg.device.pec; code = number }) reply with_pec all ↔ SaysAnswer leg.device leg.device.address bytes reply with_pec all
   leg_says [] is request has = absurd (no_request leg.device request)
   leg_says (code ∷ behind) is request has =
@@ -119,7 +119,7 @@ module _ (leg : Kept) (form : Form) (number : ℕ) (alike : (bytes : List ℕ) �
       (alike (write_address leg.device.address ∷ (code ∷ behind) ++ read_address leg.device.address ∷ []))
       (sym (goes_on (write_address leg.device.address ∷ code ∷ behind) is.crc))
 
-  pub leg_answers : (bytes : List ℕ) → IsKept leg bytes → IsRequest leg.device bytes → reply_form leg.shape bytes ≡ Some form → (all : List ℕ)
+  pub leg_answers : (bytes : List ℕ) → IsKeptLeg leg bytes → IsRequest leg.device bytes → reply_form leg.shape bytes ≡ Some form → (all : List ℕ)
       → IsReply (record { form = form; mode = leg.device.pec; code = number }) all ↔ IsAnswer leg.device leg.device.address bytes all
   leg_answers [] is request has = absurd (no_request leg.device request)
   leg_answers (code ∷ behind) is request has =

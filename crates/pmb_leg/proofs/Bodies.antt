@@ -15,14 +15,14 @@ use Rattle.pmb_leg.specs.declared.place.LegPlace.{LegPlace}
 use Rattle.pmb_leg.specs.declared.place.LegPlace.TheVariants.{First, Later}
 use Rattle.pmb_leg.specs.Leg.{begins_with, call_form, place_of}
 use Rattle.pmb_leg.specs.declared.left.Left.{Left}
-use Rattle.pmb_leg.specs.machine.Left.{after, goes_on, is_whole, start, takes, Begins, LeavesOf, Spells, SpellsData}
+use Rattle.pmb_leg.specs.machine.Left.{after, goes_on, is_whole, start, takes, BeginsData, LeavesOf, SpellsSomeData, SpellsData}
 use Rattle.pmb_leg.proofs.Lefts.{begins_takes, begun, goes_on_inside, inside, is_open, moved_on, room, spells_whole, started, takes_begins, takes_goes_on}
 
 -- ---- a form that there may be
 
 abbrev pub SpellsOf : Option Form → PecMode → List ℕ → List ℕ → Type 0
 SpellsOf None mode before bytes = ⊥
-SpellsOf (Some form) mode before bytes = Spells form mode before bytes
+SpellsOf (Some form) mode before bytes = SpellsSomeData form mode before bytes
 
 abbrev pub BeginsOf : Option Form → PecMode → List ℕ → List ℕ → Type 0
 BeginsOf form mode before bytes = (all : List ℕ) × (rest : List ℕ) × SpellsOf form mode before all × (all ≡ bytes ++ rest)
@@ -79,7 +79,7 @@ module _ (before : List ℕ) where
   something : (form : Option Form) (mode : PecMode) → is_some form ≡ true → (all : List ℕ) × SpellsOf form mode before all
   something None mode is = absurd (cc is)
   something (Some form) mode is =
-      let w : Begins form mode before [] = begun before form mode [] (start (Some form) mode) (started before form mode) (start_open form mode) in
+      let w : BeginsData form mode before [] = begun before form mode [] (start (Some form) mode) (started before form mode) (start_open form mode) in
       (w.0, w.2)
 
 -- ---- bodies of a device
@@ -122,7 +122,7 @@ module _ (device : DeviceParts) where
   pub parted_write : (place : LegPlace) (body : List ℕ) → IsWriteBody device body → Parted place body
   parted_write place body (code, bytes, with_pec, write) =
       let behind = checked with_pec (in_front code) (wire write.form bytes) in
-      let spells : Spells write.form device.pec (in_front code) behind = (bytes, with_pec, record { fits = write.fits; allowed = write.mode; spelled = refl }) in
+      let spells : SpellsSomeData write.form device.pec (in_front code) behind = (bytes, with_pec, record { fits = write.fits; allowed = write.mode; spelled = refl }) in
       record {
         code = code;
         behind = behind;
@@ -136,7 +136,7 @@ module _ (device : DeviceParts) where
   pub parted_call : (body : List ℕ) → IsCallBody device body → Parted First body
   parted_call body (code, form, bytes, call) =
       let behind = wire form bytes in
-      let spells : Spells form Off (in_front code) behind = (bytes, false, record { fits = call.fits; allowed = refl; spelled = refl }) in
+      let spells : SpellsSomeData form Off (in_front code) behind = (bytes, false, record { fits = call.fits; allowed = refl; spelled = refl }) in
       record {
         code = code;
         behind = behind;

@@ -11,7 +11,7 @@ use Rattle.pmb_transaction.specs.Wire.{IsByte, Fits, Takes, wire}
 use Rattle.pmb_transaction.specs.Body.{AllowsPec, IsProperPrefix, checked}
 use Rattle.pmb_leg.specs.declared.left.Left.{Left}
 use Rattle.pmb_leg.specs.declared.left.Left.TheVariants.{Count, Data, Code, Nothing, Closed}
-use Rattle.pmb_leg.specs.machine.Left.{after, ends_data, goes_on, has_code, is_whole, start, takes, wire_front, Begins, IsData, IsEnded, IsInside, IsMissing, Leaves, LeavesOf, Spells, SpellsData}
+use Rattle.pmb_leg.specs.machine.Left.{after, ends_data, goes_on, has_code, is_whole, start, takes, wire_front, BeginsData, IsData, IsEnded, IsInside, IsMissing, Leaves, LeavesOf, SpellsSomeData, SpellsData}
 use Rattle.pmb_leg.proofs.Wires.{checked_is, code_behind, data_fit, front_push, length_zeros, not_ended, one_wire, small_append, small_zeros, wire_of_front, zeros}
 
 module _ (before : List ℕ) where
@@ -53,7 +53,7 @@ module _ (before : List ℕ) where
       let none : true ≡ false = code_allowed mode true is allowed in absurd (cc none)
 
   too_long : (form : Form) (mode : PecMode) (bytes : List ℕ) → IsEnded form mode before bytes → (next : ℕ) (rest all : List ℕ)
-      → Spells form mode before all → all ≡ bytes ++ next ∷ rest → ⊥
+      → SpellsSomeData form mode before all → all ≡ bytes ++ next ∷ rest → ⊥
   too_long form mode bytes ended next rest all (other, with_pec, spells) split =
       let mine : bytes ≡ wire form ended.whole ++ code_behind ended.with_pec before (wire form ended.whole) = ended.spells.spelled ∙ checked_is ended.with_pec before (wire form ended.whole) in
       let theirs : all ≡ wire form other ++ code_behind with_pec before (wire form other) = spells.spelled ∙ checked_is with_pec before (wire form other) in
@@ -80,7 +80,7 @@ module _ (before : List ℕ) where
       cc (right, other)
 
   another_code : (form : Form) (mode : PecMode) (bytes : List ℕ) → IsData form mode bytes → (crc byte : ℕ) → crc ≡ pec (before ++ bytes)
-      → nat_eq byte crc ≡ false → Begins form mode before (bytes ++ byte ∷ []) → ⊥
+      → nat_eq byte crc ≡ false → BeginsData form mode before (bytes ++ byte ∷ []) → ⊥
   another_code form mode bytes is crc byte so_far other (all, rest, (whole, with_pec, spells), split) =
       let theirs : all ≡ wire form whole ++ code_behind with_pec before (wire form whole) = spells.spelled ∙ checked_is with_pec before (wire form whole) in
       let same : wire form whole ++ code_behind with_pec before (wire form whole) ≡ wire form is.whole ++ byte ∷ rest =
@@ -129,10 +129,10 @@ module _ (before : List ℕ) where
       data_ended Block mode (byte ∷ []) [] (record { small = tt; taken = omega arith }) (ap (λ (b : ℕ). b ∷ []) (eqb-true byte 0 none))
   count_taken mode byte small false some = record { front = []; small = tt; some = not_zero byte some; taken = omega arith; spelled = ap (λ (b : ℕ). b ∷ []) (omega arith) }
 
-  no_more : (form : Form) (mode : PecMode) (bytes : List ℕ) → IsEnded form mode before bytes → (byte : ℕ) → Begins form mode before (bytes ++ byte ∷ []) → ⊥
+  no_more : (form : Form) (mode : PecMode) (bytes : List ℕ) → IsEnded form mode before bytes → (byte : ℕ) → BeginsData form mode before (bytes ++ byte ∷ []) → ⊥
   no_more form mode bytes is byte (all, rest, spells, split) = too_long form mode bytes is byte rest all spells (split ∙ append_assoc bytes (byte ∷ []) rest)
 
-  still_closed : (form : Form) (mode : PecMode) (bytes : List ℕ) → (Begins form mode before bytes → ⊥) → (byte : ℕ) → Begins form mode before (bytes ++ byte ∷ []) → ⊥
+  still_closed : (form : Form) (mode : PecMode) (bytes : List ℕ) → (BeginsData form mode before bytes → ⊥) → (byte : ℕ) → BeginsData form mode before (bytes ++ byte ∷ []) → ⊥
   still_closed form mode bytes never byte (all, rest, spells, split) = never (all, byte ∷ rest, spells, split ∙ append_assoc bytes (byte ∷ []) rest)
 
   -- what is left behind one byte more
@@ -156,7 +156,7 @@ module _ (before : List ℕ) where
   some_pec Optional = (false, tt)
 
   -- data that begin so, and all that is on the wire
-  of_data : (form : Form) (mode : PecMode) (whole : List ℕ) → Fits form whole → Spells form mode before (checked (some_pec mode).0 before (wire form whole))
+  of_data : (form : Form) (mode : PecMode) (whole : List ℕ) → Fits form whole → SpellsSomeData form mode before (checked (some_pec mode).0 before (wire form whole))
   of_data form mode whole fits = (whole, (some_pec mode).0, record { fits = fits; allowed = (some_pec mode).1; spelled = refl })
 
   -- bytes with more behind them are a proper beginning
@@ -166,7 +166,7 @@ module _ (before : List ℕ) where
 
   pub inside : (form : Form) (mode : PecMode) (bytes : List ℕ) (left : Left) → Leaves form mode before bytes left → goes_on left ≡ true → IsInside form mode before bytes
   inside form mode bytes Count (is, none) on =
-      let w : Spells Block mode before (checked (some_pec mode).0 before (0 ∷ [])) = of_data Block mode [] (record { small = tt; taken = omega arith }) in
+      let w : SpellsSomeData Block mode before (checked (some_pec mode).0 before (0 ∷ [])) = of_data Block mode [] (record { small = tt; taken = omega arith }) in
       let all = checked (some_pec mode).0 before (0 ∷ []) in
       let first : IsInside Block mode before [] = (all, w, proper [] ((0 ∷ []) ++ code_behind (some_pec mode).0 before (0 ∷ [])) all (omega arith) (checked_is (some_pec mode).0 before (0 ∷ []))) in
       subst (λ (f : Form). IsInside f mode before bytes) (sym is) (subst (IsInside Block mode before) (sym none) first)
@@ -207,17 +207,17 @@ module _ (before : List ℕ) where
   is_open Nothing = true
   is_open Closed = false
 
-  begins_inside : (form : Form) (mode : PecMode) (bytes : List ℕ) → IsInside form mode before bytes → Begins form mode before bytes
+  begins_inside : (form : Form) (mode : PecMode) (bytes : List ℕ) → IsInside form mode before bytes → BeginsData form mode before bytes
   begins_inside form mode bytes (all, spells, longer) = (all, longer.next ∷ longer.rest, spells, longer.split)
 
-  pub begun : (form : Form) (mode : PecMode) (bytes : List ℕ) (left : Left) → Leaves form mode before bytes left → is_open left ≡ true → Begins form mode before bytes
+  pub begun : (form : Form) (mode : PecMode) (bytes : List ℕ) (left : Left) → Leaves form mode before bytes left → is_open left ≡ true → BeginsData form mode before bytes
   begun form mode bytes Count is unclosed = begins_inside form mode bytes (inside form mode bytes Count is refl)
   begun form mode bytes (Data n) is unclosed = begins_inside form mode bytes (inside form mode bytes (Data n) is refl)
   begun form mode bytes Code is unclosed = begins_inside form mode bytes (inside form mode bytes Code is refl)
   begun form mode bytes Nothing is unclosed = (bytes, [], (is.whole, is.with_pec, is.spells), sym (append-nil bytes))
   begun form mode bytes Closed is unclosed = absurd (cc unclosed)
 
-  pub open_begun : (form : Form) (mode : PecMode) (bytes : List ℕ) (left : Left) → Leaves form mode before bytes left → Begins form mode before bytes → is_open left ≡ true
+  pub open_begun : (form : Form) (mode : PecMode) (bytes : List ℕ) (left : Left) → Leaves form mode before bytes left → BeginsData form mode before bytes → is_open left ≡ true
   open_begun form mode bytes Count is begins = refl
   open_begun form mode bytes (Data n) is begins = refl
   open_begun form mode bytes Code is begins = refl
@@ -250,12 +250,12 @@ module _ (before : List ℕ) where
   takes_is Closed mode crc byte = refl
 
   pub takes_begins : (form : Form) (mode : PecMode) (bytes : List ℕ) (left : Left) → Leaves form mode before bytes left → (crc byte : ℕ) → crc ≡ pec (before ++ bytes)
-      → IsByte byte → takes left crc byte ≡ true → Begins form mode before (bytes ++ byte ∷ [])
+      → IsByte byte → takes left crc byte ≡ true → BeginsData form mode before (bytes ++ byte ∷ [])
   takes_begins form mode bytes left is crc byte so_far small taken =
       begun form mode (bytes ++ byte ∷ []) (after left mode crc byte) (moved_on form mode bytes left is crc byte so_far small) (takes_is left mode crc byte ∙ taken)
 
   pub begins_takes : (form : Form) (mode : PecMode) (bytes : List ℕ) (left : Left) → Leaves form mode before bytes left → (crc byte : ℕ) → crc ≡ pec (before ++ bytes)
-      → IsByte byte → Begins form mode before (bytes ++ byte ∷ []) → takes left crc byte ≡ true
+      → IsByte byte → BeginsData form mode before (bytes ++ byte ∷ []) → takes left crc byte ≡ true
   begins_takes form mode bytes left is crc byte so_far small begins =
       sym (takes_is left mode crc byte) ∙ open_begun form mode (bytes ++ byte ∷ []) (after left mode crc byte) (moved_on form mode bytes left is crc byte so_far small) begins
 
@@ -282,7 +282,7 @@ module _ (before : List ℕ) where
   whole_spells form Optional bytes Nothing is done = (is.whole, subst (λ (b : Bool). SpellsData form Optional before is.whole b bytes) (code_there is.with_pec is.last) is.spells)
   whole_spells form mode bytes Closed is done = absurd (cc done)
 
-  pub spells_whole : (form : Form) (mode : PecMode) (bytes : List ℕ) (left : Left) → Leaves form mode before bytes left → Spells form mode before bytes → is_whole left mode ≡ true
+  pub spells_whole : (form : Form) (mode : PecMode) (bytes : List ℕ) (left : Left) → Leaves form mode before bytes left → SpellsSomeData form mode before bytes → is_whole left mode ≡ true
   spells_whole form mode bytes Count (is, none) (whole, with_pec, spells) =
       let spelled : bytes ≡ wire Block whole ++ code_behind with_pec before (wire form whole) =
       spells.spelled ∙ checked_is with_pec before (wire form whole) ∙ ap (λ (f : Form). wire f whole ++ code_behind with_pec before (wire form whole)) is in

@@ -12,7 +12,7 @@ use Rattle.pmb_transaction.specs.Body.{forms}
 use Rattle.pmb_transaction.specs.Viable.{BeginsBody, IsInsideBody}
 use Rattle.pmb_leg.specs.declared.place.LegPlace.{LegPlace}
 use Rattle.pmb_leg.specs.Leg.{begins_with, call_form, place_of}
-use Rattle.pmb_leg.specs.machine.Legs.{IsBehindCode, IsKept, Kept}
+use Rattle.pmb_leg.specs.machine.Legs.{IsBehindCode, IsKeptLeg, Kept}
 use Rattle.pmb_leg.specs.machine.Left.{after, goes_on, start, takes, LeavesOf}
 use Rattle.pmb_leg.proofs.Bodies.{begins_body, begins_code, code_begins, begins_takes_of, body_begins, body_inside, goes_on_of, in_front, inside_body, inside_of, moved_on_of, on_of, room_of, takes_begins_of, BeginsOf, InsideOf}
 use Rattle.pmb_leg.proofs.Lefts.{started_of}
@@ -112,33 +112,33 @@ module _ (leg : Kept) (code : ℕ) (behind : List ℕ) (is : IsBehindCode leg co
 -- ---- by the bytes that were taken, of which there are some
 
 module _ (leg : Kept) where
-  pub tells_goes_on : (bytes : List ℕ) → IsKept leg bytes → (length bytes == 0) ≡ false → (parts : List PartData) → place_of parts ≡ leg.place
+  pub tells_goes_on : (bytes : List ℕ) → IsKeptLeg leg bytes → (length bytes == 0) ≡ false → (parts : List PartData) → place_of parts ≡ leg.place
       → IsTrue (goes_on leg.write || goes_on leg.call) ↔ IsInsideBody leg.device parts bytes
   tells_goes_on [] kept some parts here = absurd (cc some)
   tells_goes_on (code ∷ behind) is some parts here = goes_on_is leg code behind is parts here
 
-  pub tells_takes : (bytes : List ℕ) → IsKept leg bytes → (length bytes == 0) ≡ false → (parts : List PartData) → place_of parts ≡ leg.place
+  pub tells_takes : (bytes : List ℕ) → IsKeptLeg leg bytes → (length bytes == 0) ≡ false → (parts : List PartData) → place_of parts ≡ leg.place
       → (byte : ℕ) → IsByte byte → IsTrue (takes leg.write leg.crc byte || takes leg.call leg.crc byte) ↔ BeginsBody leg.device parts (bytes ++ byte ∷ [])
   tells_takes [] kept some parts here byte small = absurd (cc some)
   tells_takes (code ∷ behind) is some parts here byte small = takes_is leg code behind is parts here byte small
 
-  pub tells_room : (bytes : List ℕ) → IsKept leg bytes → bytes ≢ [] → (byte : ℕ)
+  pub tells_room : (bytes : List ℕ) → IsKeptLeg leg bytes → bytes ≢ [] → (byte : ℕ)
       → (takes leg.write leg.crc byte || takes leg.call leg.crc byte) ≡ true → length bytes < 258
   tells_room [] kept some byte taken = absurd (some refl)
   tells_room (code ∷ behind) is some byte taken = omega (arith, has_room leg code behind is byte taken)
 
-  pub tells_room_to_go_on : (bytes : List ℕ) → IsKept leg bytes → (length bytes == 0) ≡ false → (goes_on leg.write || goes_on leg.call) ≡ true → length bytes < 258
+  pub tells_room_to_go_on : (bytes : List ℕ) → IsKeptLeg leg bytes → (length bytes == 0) ≡ false → (goes_on leg.write || goes_on leg.call) ≡ true → length bytes < 258
   tells_room_to_go_on [] kept some on = absurd (cc some)
   tells_room_to_go_on (code ∷ behind) is some on = omega (arith, room_to_go_on leg code behind is on)
 
-  pub next_kept : (bytes : List ℕ) → IsKept leg bytes → bytes ≢ [] → (byte next : ℕ) → IsByte byte → ((bs : List ℕ) → pec bs ≡ leg.crc → next ≡ pec (bs ++ byte ∷ []))
-      → IsKept (record leg { write = after leg.write leg.device.pec leg.crc byte; call = after leg.call Off leg.crc byte; crc = next }) (bytes ++ byte ∷ [])
+  pub next_kept : (bytes : List ℕ) → IsKeptLeg leg bytes → bytes ≢ [] → (byte next : ℕ) → IsByte byte → ((bs : List ℕ) → pec bs ≡ leg.crc → next ≡ pec (bs ++ byte ∷ []))
+      → IsKeptLeg (record leg { write = after leg.write leg.device.pec leg.crc byte; call = after leg.call Off leg.crc byte; crc = next }) (bytes ++ byte ∷ [])
   next_kept [] kept some byte next small goes_on = absurd (some refl)
   next_kept (code ∷ behind) is some byte next small goes_on = next_behind leg code behind is byte next small goes_on
 
 -- behind the code
 pub first_kept : (device : DeviceParts) (place : LegPlace) (code crc : ℕ) → calls_fit (forms device code).call ≡ true → crc ≡ pec (in_front device code)
-    → IsKept (record { device = device; place = place; shape = forms device code; write = start (forms device code).write device.pec; call = start (call_form place (forms device code)) Off; crc = crc }) (code ∷ [])
+    → IsKeptLeg (record { device = device; place = place; shape = forms device code; write = start (forms device code).write device.pec; call = start (call_form place (forms device code)) Off; crc = crc }) (code ∷ [])
 first_kept device place code crc called is = record {
   shape_is = refl;
   called_with_data = called;

@@ -12,7 +12,7 @@ use Rattle.pmb_transaction.specs.Following.{BeginsAnswer, IsAlertAnswer, IsInsid
 use Rattle.pmb_leg.specs.Reply.{Expected, IsReply, SaysAlert, SaysReply}
 use Rattle.pmb_leg.specs.declared.answer.Answer.TheInside.{Inside}
 use Rattle.pmb_leg.specs.machine.Answers.{CountsAlone, IsAnswered}
-use Rattle.pmb_leg.specs.machine.Left.{after, goes_on, has_code, is_whole, takes, Begins, IsInside, Leaves, Spells, SpellsData}
+use Rattle.pmb_leg.specs.machine.Left.{after, goes_on, has_code, is_whole, takes, BeginsData, IsInside, Leaves, SpellsSomeData, SpellsData}
 use Rattle.pmb_leg.proofs.Lefts.{begins_takes, goes_on_inside, inside, moved_on, room, spells_whole, takes_begins, takes_goes_on, whole_spells}
 
 -- the code over bytes with one code, whichever they are
@@ -35,10 +35,10 @@ module _ (form : Form) (mode : PecMode) (code : ℕ) (before : List ℕ) (alike 
     spelled = reply_is.spelled ∙ same_code before reply_is.before alike (reply_is.code ∙ sym is) with_pec (wire form reply);
   }
 
-  pub replies : (bytes : List ℕ) → Spells form mode before bytes → IsReply expected bytes
+  pub replies : (bytes : List ℕ) → SpellsSomeData form mode before bytes → IsReply expected bytes
   replies bytes (reply, with_pec, spells) = (reply, with_pec, says reply with_pec bytes spells)
 
-  pub replied : (bytes : List ℕ) → IsReply expected bytes → Spells form mode before bytes
+  pub replied : (bytes : List ℕ) → IsReply expected bytes → SpellsSomeData form mode before bytes
   replied bytes (reply, with_pec, is_reply) = (reply, with_pec, said reply with_pec bytes is_reply)
 
   answer_goes_on : (bytes : List ℕ) → IsInside form mode before bytes → IsInsideAnswer (IsReply expected) bytes
@@ -47,10 +47,10 @@ module _ (form : Form) (mode : PecMode) (code : ℕ) (before : List ℕ) (alike 
   gone_on : (bytes : List ℕ) → IsInsideAnswer (IsReply expected) bytes → IsInside form mode before bytes
   gone_on bytes (all, reply, longer) = (all, replied all reply, longer)
 
-  answer_begins : (bytes : List ℕ) → Begins form mode before bytes → BeginsAnswer (IsReply expected) bytes
+  answer_begins : (bytes : List ℕ) → BeginsData form mode before bytes → BeginsAnswer (IsReply expected) bytes
   answer_begins bytes (all, rest, spells, split) = (all, rest, replies all spells, split)
 
-  begun_so : (bytes : List ℕ) → BeginsAnswer (IsReply expected) bytes → Begins form mode before bytes
+  begun_so : (bytes : List ℕ) → BeginsAnswer (IsReply expected) bytes → BeginsData form mode before bytes
   begun_so bytes (all, rest, reply, split) = (all, rest, replied all reply, split)
 
 -- ---- what the code answers

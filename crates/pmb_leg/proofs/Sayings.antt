@@ -11,8 +11,8 @@ use Rattle.pmb_leg.specs.declared.left.Left.{Left}
 use Rattle.pmb_leg.specs.declared.place.LegPlace.{LegPlace}
 use Rattle.pmb_leg.specs.declared.place.LegPlace.TheVariants.{First}
 use Rattle.pmb_leg.specs.Leg.{IsRequest, call_form, is_read}
-use Rattle.pmb_leg.specs.machine.Legs.{IsBehindCode, IsKept, Kept}
-use Rattle.pmb_leg.specs.machine.Left.{has_code, is_whole, LeavesOf, Spells, SpellsData}
+use Rattle.pmb_leg.specs.machine.Legs.{IsBehindCode, IsKeptLeg, Kept}
+use Rattle.pmb_leg.specs.machine.Left.{has_code, is_whole, LeavesOf, SpellsSomeData, SpellsData}
 use Rattle.pmb_leg.proofs.Lefts.{whole_spells}
 use Rattle.pmb_leg.proofs.Bodies.{code_in_front, in_front, spells_whole_of, write_body, SpellsOf}
 
@@ -26,7 +26,7 @@ module _ (device : DeviceParts) where
       let same : c ≡ code = cc spelled in
       let rest : spoken ≡ behind = cc spelled in
       let T : ℕ → List ℕ → Type 0 = λ (n : ℕ) (bs : List ℕ). SpellsOf (forms device n).write device.pec (in_front device n) bs in
-      let spells : Spells write.form device.pec (in_front device c) spoken = (bytes, with_pec, record { fits = write.fits; allowed = write.mode; spelled = refl }) in
+      let spells : SpellsSomeData write.form device.pec (in_front device c) spoken = (bytes, with_pec, record { fits = write.fits; allowed = write.mode; spelled = refl }) in
       let here : T c spoken = subst (λ (o : Option Form). SpellsOf o device.pec (in_front device c) spoken) (sym write.written) spells in
       subst (T code) rest (subst (λ (n : ℕ). T n spoken) same here)
 
@@ -36,7 +36,7 @@ module _ (device : DeviceParts) where
       let same : c ≡ code = cc spelled in
       let rest : wire form bytes ≡ behind = cc spelled in
       let T : ℕ → List ℕ → Type 0 = λ (n : ℕ) (bs : List ℕ). SpellsOf (forms device n).call Off (in_front device n) bs in
-      let spells : Spells form Off (in_front device c) (wire form bytes) = (bytes, false, record { fits = call.fits; allowed = refl; spelled = refl }) in
+      let spells : SpellsSomeData form Off (in_front device c) (wire form bytes) = (bytes, false, record { fits = call.fits; allowed = refl; spelled = refl }) in
       let here : T c (wire form bytes) = subst (λ (o : Option Form). SpellsOf o Off (in_front device c) (wire form bytes)) (sym call.called) spells in
       subst (T code) rest (subst (λ (n : ℕ). T n (wire form bytes)) same here)
 
@@ -99,5 +99,5 @@ module _ (leg : Kept) (code : ℕ) (behind : List ℕ) (is : IsBehindCode leg co
     asks_nothing unread not_whole (inl read) = reads_not unread read
     asks_nothing unread not_whole (inr call) = cc (sym not_whole ∙ call_is_whole call)
 
-pub behind_code : (leg : Kept) (bytes : List ℕ) (code : ℕ) (behind : List ℕ) → IsKept leg bytes → bytes ≡ code ∷ behind → IsBehindCode leg code behind
-behind_code leg bytes code behind is split = subst (IsKept leg) split is
+pub behind_code : (leg : Kept) (bytes : List ℕ) (code : ℕ) (behind : List ℕ) → IsKeptLeg leg bytes → bytes ≡ code ∷ behind → IsBehindCode leg code behind
+behind_code leg bytes code behind is split = subst (IsKeptLeg leg) split is

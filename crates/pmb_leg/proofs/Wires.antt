@@ -4,7 +4,7 @@ use Rattle.std.proofs.lemmas.List.{append-nil, length-replicate}
 use Rattle.pmb_bus.specs.Pec.{pec}
 use Rattle.pmb_command.specs.declared.form.Form.{Form}
 use Rattle.pmb_command.specs.declared.form.Form.TheVariants.{Zero, One, Two, Four, Eight, Block}
-use Rattle.pmb_transaction.specs.Wire.{AreBytes, Fits, Takes, wire}
+use Rattle.pmb_transaction.specs.Wire.{AreByteValues, Fits, Takes, wire}
 use Rattle.pmb_transaction.specs.Body.{checked}
 use Rattle.pmb_leg.specs.machine.Left.{wire_front}
 
@@ -63,7 +63,7 @@ front_push Eight n front byte = refl
 front_push Block n front byte = refl
 
 -- as many bytes as a form takes are its data
-pub data_fit : (form : Form) (bytes : List ℕ) (n : ℕ) → AreBytes bytes → length bytes ≡ n → Takes form n → Fits form bytes
+pub data_fit : (form : Form) (bytes : List ℕ) (n : ℕ) → AreByteValues bytes → length bytes ≡ n → Takes form n → Fits form bytes
 data_fit Zero bytes n small long taken = record { small = small; taken = long ∙ taken }
 data_fit One bytes n small long taken = record { small = small; taken = long ∙ taken }
 data_fit Two bytes n small long taken = record { small = small; taken = long ∙ taken }
@@ -72,7 +72,7 @@ data_fit Eight bytes n small long taken = record { small = small; taken = long �
 data_fit Block bytes n small long taken = record { small = small; taken = omega (arith, long, taken) }
 
 -- bytes one after the other
-pub small_append : (a b : List ℕ) → AreBytes a → AreBytes b → AreBytes (a ++ b)
+pub small_append : (a b : List ℕ) → AreByteValues a → AreByteValues b → AreByteValues (a ++ b)
 small_append [] b first second = second
 small_append (x ∷ a) b first second = (first.0, small_append a b first.1 second)
 
@@ -80,7 +80,7 @@ small_append (x ∷ a) b first second = (first.0, small_append a b first.1 secon
 pub zeros : ℕ → List ℕ
 zeros n = replicate n 0
 
-pub small_zeros : (n : ℕ) → AreBytes (zeros n)
+pub small_zeros : (n : ℕ) → AreByteValues (zeros n)
 unfolding zeros
 small_zeros zero = tt
 small_zeros (suc n) = (omega arith, small_zeros n)

@@ -41,9 +41,9 @@ impl Model for Answer {
 
     ghost Value = { Answered };
 
-    ghost use Rattle.pmb_leg.specs.machine.Answers.{answered, IsAnswered};
+    ghost use Rattle.pmb_leg.specs.machine.Answers.{answered_so_far, IsAnswered};
 
-    ghost view = { answered };
+    ghost view = { answered_so_far };
 
     ghost invariant = { IsAnswered };
 }

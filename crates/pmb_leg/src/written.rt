@@ -109,11 +109,11 @@ impl<'p> Model for WrittenLeg<'p> {
 
     ghost Value = { Written };
 
-    ghost use Rattle.pmb_leg.specs.machine.Legs.{written, IsUnderWay};
+    ghost use Rattle.pmb_leg.specs.machine.Legs.{written_so_far, IsLegUnderWay};
 
-    ghost view = { written };
+    ghost view = { written_so_far };
 
-    ghost invariant = { IsUnderWay };
+    ghost invariant = { IsLegUnderWay };
 }
 
 impl<'p> WrittenLeg<'p> {

@@ -10,10 +10,10 @@ use Rattle.pmb_line.specs.declared.word_fault.WordFault.{WordFault}
 use Rattle.pmb_line.specs.declared.word_fault.WordFault.TheVariants.{Blank, BadWord, TooLong}
 use Rattle.pmb_line.specs.declared.words.Located.{Located}
 use Rattle.pmb_line.specs.Token.{token_of}
-use Rattle.pmb_line.specs.Words.{Word, texts, without_cr, words}
-use Rattle.pmb_line.specs.Spelling.{HasLine, Spells, parts, tokens}
-use Rattle.pmb_line.specs.Fault.{ArePartsWithin, At, Begins, HasRoom, goes_on, plus, IsWithin, IsBadWord, IsCutShort, IsTooLong, IsFault}
-use Rattle.pmb_line.specs.machine.Reading.{Partial, nothing, write_next, write_data, write_pec, refused_pec, run, step, finish, Room, StandsAt, Says, IsUnfit, IsShort, IsFull, IsFaultOf, located, said}
+use Rattle.pmb_line.specs.Words.{Word, texts, without_cr, line_words}
+use Rattle.pmb_line.specs.Spelling.{HasLine, SpellsTransaction, parts, tokens}
+use Rattle.pmb_line.specs.Fault.{ArePartsWithin, At, BeginsLine, HasRoom, goes_on, plus, IsWithin, IsBadWord, IsCutShort, IsTooLong, IsFault}
+use Rattle.pmb_line.specs.machine.Reading.{Partial, nothing, write_next, write_data, write_pec, refused_pec, run, step, finish, Room, LineStandsAt, SaysTransaction, IsUnfit, IsShort, IsFull, IsWordFaultOf, located, tokens_said}
 use Rattle.pmb_line.proofs.Partials.{spelled, append-nil, parts_before, parts-push}
 use Rattle.pmb_line.proofs.Steps.{cases, ends_part, ran, run-append, run-none}
 use Rattle.pmb_line.proofs.Completions.{RoomMore, completes}
@@ -83,7 +83,7 @@ pub record Fits (front : List (List ℕ)) (t : TransactionData) : Type 0 where
   pub ran : run (Some nothing) (map token_of front) ≡ Some mid
   pub room : IsWithin t → Room mid
 
-pub fits : (front more : List (List ℕ)) (t : TransactionData) → Spells (front ++ more) t → Fits front t
+pub fits : (front more : List (List ℕ)) (t : TransactionData) → SpellsTransaction (front ++ more) t → Fits front t
 fits front more t spells =
     let all = reached t spells.has_line in
     let whole : run (Some nothing) (map token_of front ++ map token_of more) ≡ Some all.at =
@@ -101,7 +101,7 @@ spelled_is front s is = (ran nothing (map token_of front) s is).adds
 
 -- words, and those that end the line
 ends : (front more : List (List ℕ)) (before behind : List Token) (t : TransactionData) → map token_of front ≡ map Some before → map token_of more ≡ map Some behind
-    → before ++ behind ≡ tokens t → HasLine t → Spells (front ++ more) t
+    → before ++ behind ≡ tokens t → HasLine t → SpellsTransaction (front ++ more) t
 ends front more before behind t front_is more_is whole has_line = record {
   has_line = has_line;
   says = map-append token_of front more ∙ ap (λ xs. xs ++ map token_of more) front_is ∙ ap (λ xs. map Some before ++ xs) more_is
@@ -109,7 +109,7 @@ ends front more before behind t front_is more_is whole has_line = record {
 }
 
 -- some line begins with words that fit
-pub begins : (front : List (List ℕ)) (s : Partial) → run (Some nothing) (map token_of front) ≡ Some s → Begins front
+pub begins : (front : List (List ℕ)) (s : Partial) → run (Some nothing) (map token_of front) ≡ Some s → BeginsLine front
 begins front s is =
     let c = completes s in
     record { more = c.more; t = c.t; spells = ends front c.more (spelled s) c.said c.t (spelled_is front s is) c.says c.spells c.has_line }
@@ -174,7 +174,7 @@ one_more front word s mid is then =
 
 -- no line begins with a word more that does not fit
 pub no_line : (front : List (List ℕ)) (word : List ℕ) (s : Partial) → run (Some nothing) (map token_of front) ≡ Some s → step s (token_of word) ≡ None
-    → Begins (front ++ word ∷ []) → ⊥
+    → BeginsLine (front ++ word ∷ []) → ⊥
 no_line front word s is unfit begun =
     let reaches = fits (front ++ word ∷ []) begun.more begun.t begun.spells in
     let next = one_more front word s reaches.mid is reaches.ran in
@@ -186,7 +186,7 @@ plus_behind (write_data qs a c bs) ps is = cc is
 plus_behind (write_pec qs a c bs) ps is = cc is
 plus_behind _ ps is = cc is
 
-pub ran_plus : (before : List (List ℕ)) (last : List ℕ) (ps : List PartData) → token_of last ≡ Some Plus → Spells before (says.Write ps)
+pub ran_plus : (before : List (List ℕ)) (last : List ℕ) (ps : List PartData) → token_of last ≡ Some Plus → SpellsTransaction before (says.Write ps)
     → run (Some nothing) (map token_of (before ++ last ∷ [])) ≡ Some (write_next ps)
 ran_plus before last ps last_is spells =
     let line = reached (says.Write ps) spells.has_line in
@@ -211,13 +211,13 @@ no_room front word s after is fits_so full (plus before last ps split last_is sp
 
 -- ---- lines
 
-said_texts : (ws : List Word) → said (map located ws) ≡ map token_of (texts ws)
+said_texts : (ws : List Word) → tokens_said (map located ws) ≡ map token_of (texts ws)
 said_texts [] = refl
 said_texts (w ∷ ws) = ap (λ (xs : List (Option Token)). token_of w.text ∷ xs) (said_texts ws)
 
-ran_texts : (ws : List Word) (before : List Located) (s : Partial) → map located ws ≡ before → run (Some nothing) (said before) ≡ Some s
+ran_texts : (ws : List Word) (before : List Located) (s : Partial) → map located ws ≡ before → run (Some nothing) (tokens_said before) ≡ Some s
     → run (Some nothing) (map token_of (texts ws)) ≡ Some s
-ran_texts ws before s same is = ap (run (Some nothing)) (sym (said_texts ws) ∙ ap said same) ∙ is
+ran_texts ws before s same is = ap (run (Some nothing)) (sym (said_texts ws) ∙ ap tokens_said same) ∙ is
 
 -- A reader stands before a word.
 record Before (line : List ℕ) (s : Partial) (word : Located) : Type 0 where
@@ -227,7 +227,7 @@ record Before (line : List ℕ) (s : Partial) (word : Located) : Type 0 where
   ran_before : run (Some nothing) (map token_of (texts before)) ≡ Some s
   is : located here ≡ word
 
-before_word : (line : List ℕ) (s : Partial) (word : Located) (back : List Located) (before behind : List Word) → words line ≡ before ++ behind
+before_word : (line : List ℕ) (s : Partial) (word : Located) (back : List Located) (before behind : List Word) → line_words line ≡ before ++ behind
     → run (Some nothing) (map token_of (texts before)) ≡ Some s → Room s → map located behind ≡ word ∷ back → Before line s word
 before_word line s word back before [] split is room same = cc same
 before_word line s word back before (here ∷ behind) split is room same = record {
@@ -238,15 +238,15 @@ before_word line s word back before (here ∷ behind) split is room same = recor
   is = cc same;
 }
 
-before : (line : List ℕ) (s : Partial) (word : Located) (back : List Located) → StandsAt (map located (words line)) s (word ∷ back) → Before line s word
+before : (line : List ℕ) (s : Partial) (word : Located) (back : List Located) → LineStandsAt (map located (line_words line)) s (word ∷ back) → Before line s word
 before line s word back stands =
-    let split = splits located (words line) stands.before (word ∷ back) stands.split in
+    let split = splits located (line_words line) stands.before (word ∷ back) stands.split in
     before_word line s word back split.before split.behind split.split (ran_texts split.before stands.before s split.front_is stands.ran) stands.room split.back_is
 
 texts_more : (before : List Word) (word : Word) → texts (before ++ word ∷ []) ≡ texts before ++ word.text ∷ []
 texts_more before word = map-append (λ (w : Word). w.text) before (word ∷ [])
 
-pub bad_word : (line : List ℕ) (place : ℕ) → IsUnfit (map located (words line)) place → IsBadWord line place
+pub bad_word : (line : List ℕ) (place : ℕ) → IsUnfit (map located (line_words line)) place → IsBadWord line place
 bad_word line place fault =
     let b = before line fault.s fault.word fault.left fault.stands in
     let unfit : step fault.s (token_of b.here.text) ≡ None = ap (λ (w : Located). step fault.s w.token) b.is ∙ fault.unfit in
@@ -255,10 +255,10 @@ bad_word line place fault =
       word = b.here;
       stands = b.stands;
       place = fault.place_is ∙ ap (λ (w : Located). w.at) (sym b.is);
-      unfit = λ begun. no_line (texts b.before) b.here.text fault.s b.ran_before unfit (subst Begins (texts_more b.before b.here) begun);
+      unfit = λ begun. no_line (texts b.before) b.here.text fault.s b.ran_before unfit (subst BeginsLine (texts_more b.before b.here) begun);
     }
 
-pub too_long : (line : List ℕ) (place : ℕ) → IsFull (map located (words line)) place → IsTooLong line place
+pub too_long : (line : List ℕ) (place : ℕ) → IsFull (map located (line_words line)) place → IsTooLong line place
 too_long line place fault =
     let b = before line fault.s fault.word fault.left fault.stands in
     let fits_so : step fault.s (token_of b.here.text) ≡ Some fault.after = ap (λ (w : Located). step fault.s w.token) b.is ∙ fault.fits in
@@ -271,27 +271,27 @@ too_long line place fault =
       word = b.here;
       stands = b.stands;
       place = fault.place_is ∙ ap (λ (w : Located). w.at) (sym b.is);
-      fits = subst Begins (sym (texts_more b.before b.here)) (begins (texts b.before ++ b.here.text ∷ []) fault.after ran_all);
+      fits = subst BeginsLine (sym (texts_more b.before b.here)) (begins (texts b.before ++ b.here.text ∷ []) fault.after ran_all);
       full = λ room. no_room (texts b.before) b.here.text fault.s fault.after b.ran_before fits_so fault.full (subst HasRoom (texts_more b.before b.here) room);
     }
 
 -- all words were taken
-ran_line : (line : List ℕ) (s : Partial) → StandsAt (map located (words line)) s [] → run (Some nothing) (map token_of (texts (words line))) ≡ Some s
-ran_line line s stands = ran_texts (words line) stands.before s (stands.split ∙ append-nil stands.before) stands.ran
+ran_line : (line : List ℕ) (s : Partial) → LineStandsAt (map located (line_words line)) s [] → run (Some nothing) (map token_of (texts (line_words line))) ≡ Some s
+ran_line line s stands = ran_texts (line_words line) stands.before s (stands.split ∙ append-nil stands.before) stands.ran
 
 no_words : (ws : List Word) (s : Partial) → run (Some nothing) (map token_of (texts ws)) ≡ Some s → nothing ≢ s → ws ≢ []
 no_words [] s is begun none = begun (cc is)
 no_words (w ∷ ws) s is begun none = cc none
 
-pub cut_short : (line : List ℕ) (place : ℕ) → IsShort (map located (words line)) (length (without_cr line)) place → IsCutShort line place
+pub cut_short : (line : List ℕ) (place : ℕ) → IsShort (map located (line_words line)) (length (without_cr line)) place → IsCutShort line place
 cut_short line place fault =
     let is = ran_line line fault.s fault.stands in
     record {
-      some = no_words (words line) fault.s is fault.begun;
-      room = has_room (texts (words line)) fault.s is fault.stands.room;
+      some = no_words (line_words line) fault.s is fault.begun;
+      room = has_room (texts (line_words line)) fault.s is fault.stands.room;
       unfinished = λ t spells.
           let whole = reached t spells.has_line in
-          let there : run (Some nothing) (map token_of (texts (words line))) ≡ Some whole.at = ap (run (Some nothing)) spells.says ∙ whole.ran in
+          let there : run (Some nothing) (map token_of (texts (line_words line))) ≡ Some whole.at = ap (run (Some nothing)) spells.says ∙ whole.ran in
           let same : whole.at ≡ fault.s = cc (is, there) in
           let open_there : finish whole.at ≡ None = ap finish same ∙ fault.unfinished in
           cc (open_there, whole.finished);
@@ -303,8 +303,8 @@ no_word [] none = refl
 no_word (w ∷ ws) none = cc none
 
 -- the fault of a line
-pub fault_of : (line : List ℕ) (fault : WordFault) → IsFaultOf (map located (words line)) (length (without_cr line)) fault → IsFault line fault
-fault_of line Blank is = no_word (words line) is
+pub fault_of : (line : List ℕ) (fault : WordFault) → IsWordFaultOf (map located (line_words line)) (length (without_cr line)) fault → IsFault line fault
+fault_of line Blank is = no_word (line_words line) is
 fault_of line (BadWord place) (inl is) = inl (bad_word line place is)
 fault_of line (BadWord place) (inr is) = inr (cut_short line place is)
 fault_of line (TooLong place) is = too_long line place is
@@ -316,11 +316,11 @@ finish_line s t is =
     let whole = c.finishes t is in
     (sym (append-nil (spelled s)) ∙ ap (λ xs. spelled s ++ xs) (sym whole.0) ∙ c.spells ∙ ap tokens whole.1, subst HasLine whole.1 c.has_line)
 
-pub spelling : (line : List ℕ) (t : TransactionData) → Says (map located (words line)) t → Spells (texts (words line)) t
+pub spelling : (line : List ℕ) (t : TransactionData) → SaysTransaction (map located (line_words line)) t → SpellsTransaction (texts (line_words line)) t
 spelling line t says_so =
     let is = ran_line line says_so.s says_so.stands in
     let finished = finish_line says_so.s t says_so.finished in
-    record { has_line = finished.1; says = spelled_is (texts (words line)) says_so.s is ∙ ap (λ (xs : List Token). map Some xs) finished.0 }
+    record { has_line = finished.1; says = spelled_is (texts (line_words line)) says_so.s is ∙ ap (λ (xs : List Token). map Some xs) finished.0 }
 
 -- and that it is not too large
 room_behind : (s : Partial) (t : TransactionData) → finish s ≡ Some t → Room s → RoomMore s
@@ -328,7 +328,7 @@ room_behind (write_next ps) t is room = cc is
 room_behind (refused_pec ps a c bs) t is room = cc is
 room_behind _ t is room = room
 
-pub within : (all : List Located) (t : TransactionData) → Says all t → IsWithin t
+pub within : (all : List Located) (t : TransactionData) → SaysTransaction all t → IsWithin t
 within all t says_so =
     let c = completes says_so.s in
     let whole = c.finishes t says_so.finished in

@@ -8,7 +8,7 @@ use Rattle.pmb_line.specs.declared.word_fault.WordFault.{WordFault}
 use Rattle.pmb_line.specs.declared.word_fault.WordFault.TheVariants.{TooLong}
 use Rattle.pmb_line.specs.declared.words.Located.{Located}
 use Rattle.pmb_line.specs.Fault.{ArePartsWithin}
-use Rattle.pmb_line.specs.machine.Reading.{refused_next, refused_sent, refused_pec, part_with, on_sent, step, StandsAt, IsFaultOf, HasRoomForPart}
+use Rattle.pmb_line.specs.machine.Reading.{refused_next, refused_sent, refused_pec, part_with, on_sent, step, LineStandsAt, IsWordFaultOf, HasRoomForPart}
 use Rattle.pmb_line.specs.machine.Pieces.{NotPushed, codeless, full, Pushed, ReadsLeg, RefusesOn}
 use Rattle.pmb_line.proofs.Completions.{parts_push}
 use Rattle.pmb_line.proofs.Steps.{room_before}
@@ -24,60 +24,60 @@ no_sent _ ps a sent not_byte not_read not_pec not_plus = refl
 
 -- `pec` makes a part of it, where there is a code and room
 pub not_pushed_pec : (all : List Located) (end : ℕ) (ps : List PartData) (a : ℕ) (sent : List ℕ) (word : Located) (before left : List Located) (fault : WordFault)
-    → StandsAt all (refused_sent ps a sent) before → before ≡ word ∷ left → word.token ≡ Some Pec → NotPushed ps sent word.at fault → IsFaultOf all end fault
+    → LineStandsAt all (refused_sent ps a sent) before → before ≡ word ∷ left → word.token ≡ Some Pec → NotPushed ps sent word.at fault → IsWordFaultOf all end fault
 not_pushed_pec all end ps a sent word before left fault stands same is (codeless none fault_is) =
-    let there : StandsAt all (refused_sent ps a []) before = subst (λ bs. StandsAt all (refused_sent ps a bs) before) none stands in
+    let there : LineStandsAt all (refused_sent ps a []) before = subst (λ bs. LineStandsAt all (refused_sent ps a bs) before) none stands in
     unfit_word all end (refused_sent ps a []) word before left fault there same (ap (step (refused_sent ps a [])) is) fault_is
 not_pushed_pec all end ps a sent word before left fault stands same is (full code bs split no_room fault_is) =
-    let there : StandsAt all (refused_sent ps a (code ∷ bs)) before = subst (λ xs. StandsAt all (refused_sent ps a xs) before) split stands in
+    let there : LineStandsAt all (refused_sent ps a (code ∷ bs)) before = subst (λ xs. LineStandsAt all (refused_sent ps a xs) before) split stands in
     full_word all end (refused_sent ps a (code ∷ bs)) (refused_pec ps a code bs) word before left fault there same (ap (step (refused_sent ps a (code ∷ bs))) is)
     (λ (room : HasRoomForPart 15 ps bs). no_room room.few room.few_bytes) fault_is
 
 -- and a `+`
 pub not_pushed_plus : (all : List Located) (end : ℕ) (ps : List PartData) (a : ℕ) (sent : List ℕ) (word : Located) (before left : List Located) (fault : WordFault)
-    → StandsAt all (refused_sent ps a sent) before → before ≡ word ∷ left → word.token ≡ Some Plus → NotPushed ps sent word.at fault → IsFaultOf all end fault
+    → LineStandsAt all (refused_sent ps a sent) before → before ≡ word ∷ left → word.token ≡ Some Plus → NotPushed ps sent word.at fault → IsWordFaultOf all end fault
 not_pushed_plus all end ps a sent word before left fault stands same is (codeless none fault_is) =
-    let there : StandsAt all (refused_sent ps a []) before = subst (λ bs. StandsAt all (refused_sent ps a bs) before) none stands in
+    let there : LineStandsAt all (refused_sent ps a []) before = subst (λ bs. LineStandsAt all (refused_sent ps a bs) before) none stands in
     unfit_word all end (refused_sent ps a []) word before left fault there same (ap (step (refused_sent ps a [])) is) fault_is
 not_pushed_plus all end ps a sent word before left fault stands same is (full code bs split no_room fault_is) =
-    let there : StandsAt all (refused_sent ps a (code ∷ bs)) before = subst (λ xs. StandsAt all (refused_sent ps a xs) before) split stands in
+    let there : LineStandsAt all (refused_sent ps a (code ∷ bs)) before = subst (λ xs. LineStandsAt all (refused_sent ps a xs) before) split stands in
     full_word all end (refused_sent ps a (code ∷ bs)) (refused_next (ps ++ part_with a code bs false ∷ [])) word before left fault there same
     (ap (step (refused_sent ps a (code ∷ bs))) is)
     (λ (room : ArePartsWithin 15 (ps ++ part_with a code bs false ∷ [])). let for_part = room_before 15 ps a code bs false room in no_room for_part.few for_part.few_bytes) fault_is
 
 -- there is room for the part
 pub pushed_room : (all : List Located) (ps : List PartData) (a : ℕ) (sent : List ℕ) (pec : Bool) (after : List PartData) (before : List Located)
-    → StandsAt all (refused_sent ps a sent) before → (pushed : Pushed ps a sent pec after) → HasRoomForPart 15 ps pushed.bs
+    → LineStandsAt all (refused_sent ps a sent) before → (pushed : Pushed ps a sent pec after) → HasRoomForPart 15 ps pushed.bs
 pushed_room all ps a sent pec after before stands pushed = record { few = pushed.few; each = stands.room.few_parts.each; few_bytes = pushed.few_bytes }
 
 pub pushed_pec : (all : List Located) (ps : List PartData) (a : ℕ) (sent : List ℕ) (after : List PartData) (word : Located) (before left : List Located)
-    → StandsAt all (refused_sent ps a sent) before → before ≡ word ∷ left → word.token ≡ Some Pec → (pushed : Pushed ps a sent true after) → StandsAt all (refused_pec ps a pushed.code pushed.bs) left
+    → LineStandsAt all (refused_sent ps a sent) before → before ≡ word ∷ left → word.token ≡ Some Pec → (pushed : Pushed ps a sent true after) → LineStandsAt all (refused_pec ps a pushed.code pushed.bs) left
 pushed_pec all ps a sent after word before left stands same is pushed =
-    let there : StandsAt all (refused_sent ps a (pushed.code ∷ pushed.bs)) before = subst (λ xs. StandsAt all (refused_sent ps a xs) before) pushed.split stands in
+    let there : LineStandsAt all (refused_sent ps a (pushed.code ∷ pushed.bs)) before = subst (λ xs. LineStandsAt all (refused_sent ps a xs) before) pushed.split stands in
     next_of all (refused_sent ps a (pushed.code ∷ pushed.bs)) (refused_pec ps a pushed.code pushed.bs) word before left there same (ap (step (refused_sent ps a (pushed.code ∷ pushed.bs))) is)
     (pushed_room all ps a sent true after before stands pushed)
 
 pub pushed_plus : (all : List Located) (ps : List PartData) (a : ℕ) (sent : List ℕ) (after : List PartData) (word : Located) (before left : List Located)
-    → StandsAt all (refused_sent ps a sent) before → before ≡ word ∷ left → word.token ≡ Some Plus → Pushed ps a sent false after → StandsAt all (refused_next after) left
+    → LineStandsAt all (refused_sent ps a sent) before → before ≡ word ∷ left → word.token ≡ Some Plus → Pushed ps a sent false after → LineStandsAt all (refused_next after) left
 pushed_plus all ps a sent after word before left stands same is pushed =
     let p = part_with a pushed.code pushed.bs false in
-    let there : StandsAt all (refused_sent ps a (pushed.code ∷ pushed.bs)) before = subst (λ xs. StandsAt all (refused_sent ps a xs) before) pushed.split stands in
-    let on : StandsAt all (refused_next (ps ++ p ∷ [])) left =
+    let there : LineStandsAt all (refused_sent ps a (pushed.code ∷ pushed.bs)) before = subst (λ xs. LineStandsAt all (refused_sent ps a xs) before) pushed.split stands in
+    let on : LineStandsAt all (refused_next (ps ++ p ∷ [])) left =
     next_of all (refused_sent ps a (pushed.code ∷ pushed.bs)) (refused_next (ps ++ p ∷ [])) word before left there same (ap (step (refused_sent ps a (pushed.code ∷ pushed.bs))) is)
     (parts_push 15 ps p (pushed_room all ps a sent false after before stands pushed)) in
-    subst (λ qs. StandsAt all (refused_next qs) left) (sym pushed.pushed) on
+    subst (λ qs. LineStandsAt all (refused_next qs) left) (sym pushed.pushed) on
 
 -- the `+` behind its `pec`
 pub pushed_both : (all : List Located) (ps : List PartData) (a : ℕ) (sent : List ℕ) (after : List PartData) (word : Located) (before mid left : List Located)
-    → StandsAt all (refused_sent ps a sent) before → before ≡ word ∷ mid → word.token ≡ Some Pec → Pushed ps a sent true after
-    → (at : ℕ) × (mid ≡ record { at = at; token = Some Plus } ∷ left) → StandsAt all (refused_next after) left
+    → LineStandsAt all (refused_sent ps a sent) before → before ≡ word ∷ mid → word.token ≡ Some Pec → Pushed ps a sent true after
+    → (at : ℕ) × (mid ≡ record { at = at; token = Some Plus } ∷ left) → LineStandsAt all (refused_next after) left
 pushed_both all ps a sent after word before mid left stands same is pushed plus =
     let p = part_with a pushed.code pushed.bs true in
     let marked = pushed_pec all ps a sent after word before mid stands same is pushed in
-    let on : StandsAt all (refused_next (ps ++ p ∷ [])) left =
+    let on : LineStandsAt all (refused_next (ps ++ p ∷ [])) left =
     next_of all (refused_pec ps a pushed.code pushed.bs) (refused_next (ps ++ p ∷ [])) (record { at = plus.0; token = Some Plus }) mid left marked plus.1 refl
     (parts_push 15 ps p marked.room) in
-    subst (λ qs. StandsAt all (refused_next qs) left) (sym pushed.pushed) on
+    subst (λ qs. LineStandsAt all (refused_next qs) left) (sym pushed.pushed) on
 
 -- bytes, for which there is no room
 pub no_room_for : (ps : List PartData) (sent : List ℕ) (at : ℕ) → 1 ≤ length sent

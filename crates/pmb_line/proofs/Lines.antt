@@ -6,13 +6,13 @@ use Rattle.std.proofs.lemmas.Bool.{agree_below, agree_below_at, and_parts, eqb-t
 use Rattle.hex.specs.Hex.{encode_lower, encode_with, hex_digit_value, lower_digits}
 use Rattle.pmb_transaction.specs.Transaction.{PartData, TransactionData}
 use Rattle.pmb_transaction.specs.Transaction as says
-use Rattle.pmb_transaction.specs.Wire.{AreBytes}
+use Rattle.pmb_transaction.specs.Wire.{AreByteValues}
 use Rattle.pmb_line.specs.declared.token.Token.{Token}
 use Rattle.pmb_line.specs.declared.token.Token.TheVariants.{Byte, Write, Read, Call, Refused, Alert, Nobody, Pec, Plus, Colon}
-use Rattle.pmb_line.specs.Words.{texts, words, words_from, without_cr}
+use Rattle.pmb_line.specs.Words.{texts, line_words, words_from, without_cr}
 use Rattle.pmb_line.specs.Token.{token_of, token_text, byte_of_digits, or_keyword}
-use Rattle.pmb_line.specs.Spelling.{ArePartBytes, HasBytes, HasLine, Spells, bytes, mark, part, parts, part_before, tokens, line, spaced}
-use Rattle.pmb_line.specs.machine.Reading.{ends_word}
+use Rattle.pmb_line.specs.Spelling.{ArePartBytes, HasBytes, HasLine, SpellsTransaction, bytes, mark, part, parts, part_before, tokens, line, spaced}
+use Rattle.pmb_line.specs.machine.Reading.{ends_line_word}
 use Rattle.pmb_line.specs.machine.Written.{behind}
 use Rattle.pmb_line.proofs.WordLemmas.{AllGo, EndsWord, word_then}
 
@@ -20,7 +20,7 @@ use Rattle.pmb_line.proofs.WordLemmas.{AllGo, EndsWord, word_then}
 
 -- a byte that is one of a word, and no CR
 abbrev is_plain : ℕ → Bool
-is_plain b = not (ends_word b) && not (b == 13)
+is_plain b = not (ends_line_word b) && not (b == 13)
 
 abbrev all_plain : List ℕ → Bool
 all_plain [] = true
@@ -111,8 +111,8 @@ all_go : (text : List ℕ) → all_plain text ≡ true → AllGo text
 all_go [] plain = tt
 all_go (b ∷ rest) plain =
     let parts = and_parts (is_plain b) (all_plain rest) plain in
-    let this = and_parts (not (ends_word b)) (not (b == 13)) parts.0 in
-    (not_true (ends_word b) this.0, all_go rest parts.1)
+    let this = and_parts (not (ends_line_word b)) (not (b == 13)) parts.0 in
+    (not_true (ends_line_word b) this.0, all_go rest parts.1)
 
 -- ---- words
 
@@ -163,7 +163,7 @@ plain_no_cr : (text : List ℕ) → all_plain text ≡ true → no_cr text ≡ t
 plain_no_cr [] plain = refl
 plain_no_cr (b ∷ rest) plain =
     let parts = and_parts (is_plain b) (all_plain rest) plain in
-    let this = and_parts (not (ends_word b)) (not (b == 13)) parts.0 in
+    let this = and_parts (not (ends_line_word b)) (not (b == 13)) parts.0 in
     ap (λ v. v && no_cr rest) this.1 ∙ plain_no_cr rest parts.1
 
 behind_no_cr : (ts : List Token) → AllByRecursion IsSmall ts → no_cr (behind ts) ≡ true
@@ -193,7 +193,7 @@ small-append : (xs ys : List Token) → AllByRecursion IsSmall xs → AllByRecur
 small-append [] ys first second = second
 small-append (x ∷ xs) ys first second = (first.0, small-append xs ys first.1 second)
 
-small_bytes : (bs : List ℕ) → AreBytes bs → AllByRecursion IsSmall (bytes bs)
+small_bytes : (bs : List ℕ) → AreByteValues bs → AllByRecursion IsSmall (bytes bs)
 small_bytes [] small = tt
 small_bytes (b ∷ bs) small = (small.0, small_bytes bs small.1)
 
@@ -240,7 +240,7 @@ small_tokens (says.Alert t) small = (tt, (small, small_pec t.pec))
 small_tokens says.NoAlert small = (tt, (tt, tt))
 
 -- the line that is written spells the transaction
-pub line_spells : (t : TransactionData) → HasLine t → HasBytes t → Spells (texts (words (line t))) t
+pub line_spells : (t : TransactionData) → HasLine t → HasBytes t → SpellsTransaction (texts (line_words (line t))) t
 line_spells t has_line has_bytes =
     let small = small_tokens t has_bytes in
     record {
@@ -262,7 +262,7 @@ comment_wordless : (comment : List ℕ) → IsWordless (codes " #" ++ comment)
 comment_wordless comment = record { ends = λ some. refl; none = λ at. refl }
 
 -- with a comment behind it, the line spells the transaction too
-pub noted_line_spells : (t : TransactionData) (comment : List ℕ) → HasLine t → HasBytes t → Spells (texts (words (line t ++ (codes " # " ++ comment)))) t
+pub noted_line_spells : (t : TransactionData) (comment : List ℕ) → HasLine t → HasBytes t → SpellsTransaction (texts (line_words (line t ++ (codes " # " ++ comment)))) t
 noted_line_spells t comment has_line has_bytes =
     let small = small_tokens t has_bytes in
     let rest = without_cr (32 ∷ comment) in

@@ -10,9 +10,9 @@ use Rattle.pmb_writer.specs.Invalid.{IsFirstFault, transaction_rules}
 use Rattle.pmb_line.specs.declared.line_fault.LineFault.{LineFault}
 use Rattle.pmb_line.specs.declared.line_fault.LineFault.TheVariants as fault
 use Rattle.pmb_line.specs.Token.{token_of}
-use Rattle.pmb_line.specs.Words.{Word, texts, words}
-use Rattle.pmb_line.specs.Spelling.{Spells, tokens}
-use Rattle.pmb_line.specs.Fault.{At, Begins, HasRoom, goes_on, plus, IsBadWord, IsCutShort, IsTooLong, IsWithin}
+use Rattle.pmb_line.specs.Words.{Word, texts, line_words}
+use Rattle.pmb_line.specs.Spelling.{SpellsTransaction, tokens}
+use Rattle.pmb_line.specs.Fault.{At, BeginsLine, HasRoom, goes_on, plus, IsBadWord, IsCutShort, IsTooLong, IsWithin}
 use Rattle.pmb_line.specs.LineFault.{IsInvalid, IsLineFault, Parses}
 use Rattle.pmb_line.specs.machine.Reading.{Partial, nothing, write_next, run, Room}
 use Rattle.pmb_line.proofs.Partials.{append-nil}
@@ -40,7 +40,7 @@ roomy front (plus before last ps split last_is spells within) = record {
 }
 
 -- where there is room, some line goes on
-begun : (front : List (List ℕ)) → HasRoom front → Begins front
+begun : (front : List (List ℕ)) → HasRoom front → BeginsLine front
 begun front room = let r = roomy front room in begins front r.mid r.ran_front
 
 -- and there was room before
@@ -101,15 +101,15 @@ one_stop : (line : List ℕ) (a b : Stops line) → (a.before ≡ b.before) × (
 one_stop line a b = one_place line a b (places a.before a.word a.stands.behind b.before b.word b.stands.behind (sym a.stands.split ∙ b.stands.split))
 
 -- not where there is room for all words
-no_stop : (line : List ℕ) → Stops line → HasRoom (texts (words line)) → ⊥
+no_stop : (line : List ℕ) → Stops line → HasRoom (texts (line_words line)) → ⊥
 no_stop line s room =
-    s.full (room_of_front (words line) (s.before ++ s.word ∷ []) s.stands.behind (s.stands.split ∙ sym (append_assoc s.before (s.word ∷ []) s.stands.behind)) room)
+    s.full (room_of_front (line_words line) (s.before ++ s.word ∷ []) s.stands.behind (s.stands.split ∙ sym (append_assoc s.before (s.word ∷ []) s.stands.behind)) room)
 
 not_empty : {A : Type 0} (xs : List A) (x : A) (back : List A) → xs ++ x ∷ back ≡ [] → ⊥
 not_empty [] x back is = cc is
 not_empty (y ∷ xs) x back is = cc is
 
-stop_has_words : (line : List ℕ) → Stops line → words line ≢ []
+stop_has_words : (line : List ℕ) → Stops line → line_words line ≢ []
 stop_has_words line s none = not_empty s.before s.word s.stands.behind (sym s.stands.split ∙ none)
 
 -- ---- the faults, in three kinds
@@ -123,7 +123,7 @@ data WholeFault (profile : List DeviceParts) (line : List ℕ) (f : LineFault) :
   invalid : (why : Invalid) → f ≡ fault.Invalid why → IsInvalid profile line why → WholeFault profile line f
 
 data Kind (profile : List DeviceParts) (line : List ℕ) (f : LineFault) : Type 0 where
-  blank : f ≡ fault.Blank → words line ≡ [] → Kind profile line f
+  blank : f ≡ fault.Blank → line_words line ≡ [] → Kind profile line f
   stop : StopFault line f → Kind profile line f
   whole : WholeFault profile line f → Kind profile line f
 
@@ -146,18 +146,18 @@ some_tokens (says.Refused t) is = cc is
 some_tokens (says.Alert t) is = cc is
 some_tokens says.NoAlert is = cc is
 
-spelled_some : (ws : List Word) (t : TransactionData) → Spells (texts ws) t → ws ≢ []
+spelled_some : (ws : List Word) (t : TransactionData) → SpellsTransaction (texts ws) t → ws ≢ []
 spelled_some [] t spells none = some_tokens t spells.says
 spelled_some (w ∷ ws) t spells none = cc none
 
-whole_has_words : (profile : List DeviceParts) (line : List ℕ) (f : LineFault) → WholeFault profile line f → words line ≢ []
+whole_has_words : (profile : List DeviceParts) (line : List ℕ) (f : LineFault) → WholeFault profile line f → line_words line ≢ []
 whole_has_words profile line f (short at is cut) = cut.some
-whole_has_words profile line f (invalid why is of) = spelled_some (words line) of.t of.spells
+whole_has_words profile line f (invalid why is of) = spelled_some (line_words line) of.t of.spells
 
-room_for : (line : List ℕ) (t : TransactionData) → Spells (texts (words line)) t → IsWithin t → HasRoom (texts (words line))
-room_for line t spells within = goes_on [] t (subst (λ ws. Spells ws t) (sym (append-nil (texts (words line)))) spells) within
+room_for : (line : List ℕ) (t : TransactionData) → SpellsTransaction (texts (line_words line)) t → IsWithin t → HasRoom (texts (line_words line))
+room_for line t spells within = goes_on [] t (subst (λ ws. SpellsTransaction ws t) (sym (append-nil (texts (line_words line)))) spells) within
 
-whole_has_room : (profile : List DeviceParts) (line : List ℕ) (f : LineFault) → WholeFault profile line f → HasRoom (texts (words line))
+whole_has_room : (profile : List DeviceParts) (line : List ℕ) (f : LineFault) → WholeFault profile line f → HasRoom (texts (line_words line))
 whole_has_room profile line f (short at is cut) = cut.room
 whole_has_room profile line f (invalid why is of) = room_for line of.t of.spells of.within
 
@@ -169,7 +169,7 @@ same_at before rest word here fronts words_are = ap (λ ws. texts (ws ++ word �
 fits_or_not : (line : List ℕ) (at place : ℕ) → IsBadWord line at → IsTooLong line place → ⊥
 fits_or_not line at place unfit full =
     let both = one_stop line (at_bad line at unfit) (at_long line place full) in
-    unfit.unfit (subst Begins (sym (same_at unfit.before full.before unfit.word full.word both.0 both.1)) full.fits)
+    unfit.unfit (subst BeginsLine (sym (same_at unfit.before full.before unfit.word full.word both.0 both.1)) full.fits)
 
 one_stop_fault : (line : List ℕ) (a b : LineFault) → StopFault line a → StopFault line b → a ≡ b
 one_stop_fault line a b (bad at is one) (bad place fault_is other) =
@@ -186,7 +186,7 @@ one_whole_fault profile line a b (short at is one) (short place fault_is other) 
 one_whole_fault profile line a b (short at is one) (invalid why fault_is other) = absurd (one.unfinished other.t other.spells)
 one_whole_fault profile line a b (invalid why is one) (short place fault_is other) = absurd (other.unfinished one.t one.spells)
 one_whole_fault profile line a b (invalid why is one) (invalid reason fault_is other) =
-    let t_is = one_transaction (texts (words line)) other.t one.t other.spells one.spells in
+    let t_is = one_transaction (texts (line_words line)) other.t one.t other.spells one.spells in
     is ∙ ap fault.Invalid (one_broken (transaction_rules profile one.t) why reason one.first (subst (λ t. IsFirstFault profile t reason) t_is other.first)) ∙ sym fault_is
 
 one_kind : (profile : List DeviceParts) (line : List ℕ) (a b : LineFault) → Kind profile line a → Kind profile line b → a ≡ b
@@ -206,12 +206,12 @@ one_line_fault profile line a b one other = one_kind profile line a b (kind prof
 -- ---- no fault where a line parses
 
 no_parse : (profile : List DeviceParts) (line : List ℕ) (f : LineFault) (t : TransactionData) → IsBus profile → Kind profile line f → Parses profile line t → ⊥
-no_parse profile line f t bus (blank is none) parses = spelled_some (words line) t parses.spells none
+no_parse profile line f t bus (blank is none) parses = spelled_some (line_words line) t parses.spells none
 no_parse profile line f t bus (stop one) parses =
     no_stop line (stops line f one) (room_for line t parses.spells (packet_within profile t parses.packet.0 parses.packet.1))
 no_parse profile line f t bus (whole (short at is cut)) parses = cut.unfinished t parses.spells
 no_parse profile line f t bus (whole (invalid why is of)) parses =
-    let t_is = one_transaction (texts (words line)) of.t t of.spells parses.spells in
+    let t_is = one_transaction (texts (line_words line)) of.t t of.spells parses.spells in
     not_both (transaction_rules profile t) why (packet_keeps profile t bus.devices parses.packet) (subst (λ u. IsFirstFault profile u why) t_is of.first)
 
 pub no_parse_with_a_fault : (profile : List DeviceParts) (line : List ℕ) (f : LineFault) (t : TransactionData) → IsBus profile → IsLineFault profile line f → Parses profile line t → ⊥

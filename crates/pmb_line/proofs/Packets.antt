@@ -9,7 +9,7 @@ use Rattle.pmb_command.specs.Bus.{IsBus}
 use Rattle.pmb_command.specs.Parts.{DeviceParts, device_with}
 use Rattle.pmb_transaction.specs.Transaction.{PartData, TransactionData}
 use Rattle.pmb_transaction.specs.Transaction as says
-use Rattle.pmb_transaction.specs.Wire.{AreBytes, Fits, wire}
+use Rattle.pmb_transaction.specs.Wire.{AreByteValues, Fits, wire}
 use Rattle.pmb_transaction.specs.Body.{IsReadBody, IsCallBody}
 use Rattle.pmb_transaction.specs.Packet.{Packet, PartsEvents, RefusedLeg}
 use Rattle.pmb_transaction.proofs.Known.{code_is_byte, device_is}
@@ -29,7 +29,7 @@ module _ (profile : List DeviceParts) (bus : IsBus profile) where
       let code_small = code_is_byte (λ (s : Shape). s.write) here.device p.code here.allowed.form refl is.0 here.allowed.written in
       ((addr_small p.addr here.device here.known, code_small, here.allowed.fits.small), parts_small ps each.1 each.4)
 
-  wire_small : (form : Form) (bs : List ℕ) → Fits form bs → AreBytes (wire form bs)
+  wire_small : (form : Form) (bs : List ℕ) → Fits form bs → AreByteValues (wire form bs)
   wire_small Zero bs fits = fits.small
   wire_small One bs fits = fits.small
   wire_small Two bs fits = fits.small
@@ -37,15 +37,15 @@ module _ (profile : List DeviceParts) (bus : IsBus profile) where
   wire_small Eight bs fits = fits.small
   wire_small Block bs fits = (omega (arith, fits.taken), fits.small)
 
-  sent_small : (addr : ℕ) (device : DeviceParts) (sent : List ℕ) → device_with addr profile ≡ Some device → IsReadBody device sent ⊎ IsCallBody device sent → AreBytes sent
+  sent_small : (addr : ℕ) (device : DeviceParts) (sent : List ℕ) → device_with addr profile ≡ Some device → IsReadBody device sent ⊎ IsCallBody device sent → AreByteValues sent
   sent_small addr device sent known (inl read) =
       let is = device_is profile addr device bus known in
-      subst AreBytes (sym read.2.spelled) (code_is_byte (λ (s : Shape). s.read) device read.0 read.1 refl is.0 read.2.read, tt)
+      subst AreByteValues (sym read.2.spelled) (code_is_byte (λ (s : Shape). s.read) device read.0 read.1 refl is.0 read.2.read, tt)
   sent_small addr device sent known (inr call) =
       let is = device_is profile addr device bus known in
-      subst AreBytes (sym call.3.spelled) (code_is_byte (λ (s : Shape). s.call) device call.0 call.1 refl is.0 call.3.called, wire_small call.1 call.2 call.3.fits)
+      subst AreByteValues (sym call.3.spelled) (code_is_byte (λ (s : Shape). s.call) device call.0 call.1 refl is.0 call.3.called, wire_small call.1 call.2 call.3.fits)
 
-  leg_small : (ps : List PartData) (addr : ℕ) (sent : List ℕ) (at_read : Bool) (events : List Event) → RefusedLeg profile ps addr sent at_read events → (addr < 256) × AreBytes sent
+  leg_small : (ps : List PartData) (addr : ℕ) (sent : List ℕ) (at_read : Bool) (events : List Event) → RefusedLeg profile ps addr sent at_read events → (addr < 256) × AreByteValues sent
   leg_small ps addr [] false events leg = (omega (arith, leg.seven), tt)
   leg_small ps addr (b ∷ bs) false events leg = (addr_small addr leg.device leg.known, leg.bytes)
   leg_small ps addr sent true events leg = (addr_small addr leg.device leg.known, sent_small addr leg.device sent leg.known leg.body)

@@ -7,61 +7,61 @@ use Rattle.pmb_line.specs.declared.word_fault.WordFault.{WordFault}
 use Rattle.pmb_line.specs.declared.word_fault.WordFault.TheVariants.{BadWord, TooLong}
 use Rattle.pmb_line.specs.declared.words.Located.{Located}
 use Rattle.pmb_transaction.specs.Transaction.{TransactionData}
-use Rattle.pmb_line.specs.machine.Reading.{Partial, nothing, run, step, finish, Room, StandsAt, Says, IsFaultOf, said, on_byte, on_data, on_plus, on_colon, on_bytes, on_reply, on_alert, on_pec}
+use Rattle.pmb_line.specs.machine.Reading.{Partial, nothing, run, step, finish, Room, LineStandsAt, SaysTransaction, IsWordFaultOf, tokens_said, on_byte, on_data, on_plus, on_colon, on_bytes, on_reply, on_alert, on_pec}
 use Rattle.pmb_line.specs.machine.Pieces.{AddsBytes, AddsTooMany, Misses, short, other}
 use Rattle.pmb_line.proofs.Partials.{append-nil}
 use Rattle.pmb_line.proofs.Steps.{run-append}
 
 -- one word more
-pub next : (all : List Located) (s after : Partial) (word : Located) (left : List Located) → StandsAt all s (word ∷ left) → step s word.token ≡ Some after → Room after
-    → StandsAt all after left
+pub next : (all : List Located) (s after : Partial) (word : Located) (left : List Located) → LineStandsAt all s (word ∷ left) → step s word.token ≡ Some after → Room after
+    → LineStandsAt all after left
 next all s after word left stands fits room = record {
   before = stands.before ++ word ∷ [];
   split = stands.split ∙ sym (append_assoc stands.before (word ∷ []) left);
-  ran = ap (run (Some nothing)) (map-append (λ (w : Located). w.token) stands.before (word ∷ [])) ∙ run-append (Some nothing) (said stands.before) (word.token ∷ [])
+  ran = ap (run (Some nothing)) (map-append (λ (w : Located). w.token) stands.before (word ∷ [])) ∙ run-append (Some nothing) (tokens_said stands.before) (word.token ∷ [])
       ∙ ap (λ o. run o (word.token ∷ [])) stands.ran ∙ ap (λ o. run o []) fits;
   room = room;
 }
 
 -- and where what is left is told by an equation
-pub next_of : (all : List Located) (s after : Partial) (word : Located) (before left : List Located) → StandsAt all s before → before ≡ word ∷ left → step s word.token ≡ Some after
-    → Room after → StandsAt all after left
-next_of all s after word before left stands same fits room = next all s after word left (subst (StandsAt all s) same stands) fits room
+pub next_of : (all : List Located) (s after : Partial) (word : Located) (before left : List Located) → LineStandsAt all s before → before ≡ word ∷ left → step s word.token ≡ Some after
+    → Room after → LineStandsAt all after left
+next_of all s after word before left stands same fits room = next all s after word left (subst (LineStandsAt all s) same stands) fits room
 
 -- no word is left
-pub at_end : (all : List Located) (s : Partial) (left : List Located) → StandsAt all s left → left ≡ [] → StandsAt all s []
-at_end all s left stands none = subst (StandsAt all s) none stands
+pub at_end : (all : List Located) (s : Partial) (left : List Located) → LineStandsAt all s left → left ≡ [] → LineStandsAt all s []
+at_end all s left stands none = subst (LineStandsAt all s) none stands
 
-pub says_so : (all : List Located) (s : Partial) (left : List Located) (t : TransactionData) → StandsAt all s left → left ≡ [] → finish s ≡ Some t → Says all t
+pub says_so : (all : List Located) (s : Partial) (left : List Located) (t : TransactionData) → LineStandsAt all s left → left ≡ [] → finish s ≡ Some t → SaysTransaction all t
 says_so all s left t stands none finished = record { s = s; stands = at_end all s left stands none; finished = finished }
 
 -- a word that does not fit
-pub unfit_word : (all : List Located) (end : ℕ) (s : Partial) (word : Located) (before left : List Located) (fault : WordFault) → StandsAt all s before → before ≡ word ∷ left
-    → step s word.token ≡ None → fault ≡ BadWord word.at → IsFaultOf all end fault
+pub unfit_word : (all : List Located) (end : ℕ) (s : Partial) (word : Located) (before left : List Located) (fault : WordFault) → LineStandsAt all s before → before ≡ word ∷ left
+    → step s word.token ≡ None → fault ≡ BadWord word.at → IsWordFaultOf all end fault
 unfit_word all end s word before left fault stands same unfit is =
-    let h : IsFaultOf all end (BadWord word.at) =
-    inl (record { s = s; word = word; left = left; stands = subst (StandsAt all s) same stands; unfit = unfit; place_is = refl }) in
-    subst (IsFaultOf all end) (sym is) h
+    let h : IsWordFaultOf all end (BadWord word.at) =
+    inl (record { s = s; word = word; left = left; stands = subst (LineStandsAt all s) same stands; unfit = unfit; place_is = refl }) in
+    subst (IsWordFaultOf all end) (sym is) h
 
 -- a word that is missing
-pub missing : (all : List Located) (end : ℕ) (s : Partial) (left : List Located) (fault : WordFault) → StandsAt all s left → left ≡ [] → nothing ≢ s → finish s ≡ None
-    → fault ≡ BadWord end → IsFaultOf all end fault
+pub missing : (all : List Located) (end : ℕ) (s : Partial) (left : List Located) (fault : WordFault) → LineStandsAt all s left → left ≡ [] → nothing ≢ s → finish s ≡ None
+    → fault ≡ BadWord end → IsWordFaultOf all end fault
 missing all end s left fault stands none begun unfinished is =
-    let h : IsFaultOf all end (BadWord end) =
+    let h : IsWordFaultOf all end (BadWord end) =
     inr (record { s = s; stands = at_end all s left stands none; begun = begun; unfinished = unfinished; place_is = refl }) in
-    subst (IsFaultOf all end) (sym is) h
+    subst (IsWordFaultOf all end) (sym is) h
 
 -- a word for which there is no room
-pub full_word : (all : List Located) (end : ℕ) (s after : Partial) (word : Located) (before left : List Located) (fault : WordFault) → StandsAt all s before → before ≡ word ∷ left
-    → step s word.token ≡ Some after → (Room after → ⊥) → fault ≡ TooLong word.at → IsFaultOf all end fault
+pub full_word : (all : List Located) (end : ℕ) (s after : Partial) (word : Located) (before left : List Located) (fault : WordFault) → LineStandsAt all s before → before ≡ word ∷ left
+    → step s word.token ≡ Some after → (Room after → ⊥) → fault ≡ TooLong word.at → IsWordFaultOf all end fault
 full_word all end s after word before left fault stands same fits full is =
-    let h : IsFaultOf all end (TooLong word.at) =
-    record { s = s; word = word; left = left; after = after; stands = subst (StandsAt all s) same stands; fits = fits; full = full; place_is = refl } in
-    subst (IsFaultOf all end) (sym is) h
+    let h : IsWordFaultOf all end (TooLong word.at) =
+    record { s = s; word = word; left = left; after = after; stands = subst (LineStandsAt all s) same stands; fits = fits; full = full; place_is = refl } in
+    subst (IsWordFaultOf all end) (sym is) h
 
 -- where something is wanted, and all else is unfit
-pub misses : (all : List Located) (end : ℕ) (s : Partial) (Is : Option Token → Type 0) (left : List Located) (fault : WordFault) → StandsAt all s left
-    → nothing ≢ s → finish s ≡ None → ((word : Located) (rest : List Located) → left ≡ word ∷ rest → (Is word.token → ⊥) → step s word.token ≡ None) → Misses Is left end fault → IsFaultOf all end fault
+pub misses : (all : List Located) (end : ℕ) (s : Partial) (Is : Option Token → Type 0) (left : List Located) (fault : WordFault) → LineStandsAt all s left
+    → nothing ≢ s → finish s ≡ None → ((word : Located) (rest : List Located) → left ≡ word ∷ rest → (Is word.token → ⊥) → step s word.token ≡ None) → Misses Is left end fault → IsWordFaultOf all end fault
 misses all end s Is left fault stands begun unfinished unfit (short none is) = missing all end s left fault stands none begun unfinished is
 misses all end s Is left fault stands begun unfinished unfit (other word rest same is_not is) =
     unfit_word all end s word left rest fault stands same (unfit word rest same is_not) is
@@ -74,20 +74,20 @@ run_front s takes bs (x ∷ xs) =
     ap (λ o. run o (map (λ b. Some (Byte b)) xs)) (takes bs x) ∙ run_front s takes (bs ++ x ∷ []) xs ∙ ap (λ ys. Some (s ys)) (append_assoc bs (x ∷ []) xs)
 
 pub bytes_on : (all : List Located) (s : List ℕ → Partial) (takes : (bs : List ℕ) (b : ℕ) → step (s bs) (Some (Byte b)) ≡ Some (s (bs ++ b ∷ []))) (before : List Located)
-    (old new : List ℕ) (after : List Located) → StandsAt all (s old) before → AddsBytes before old new after → Room (s new) → StandsAt all (s new) after
+    (old new : List ℕ) (after : List Located) → LineStandsAt all (s old) before → AddsBytes before old new after → Room (s new) → LineStandsAt all (s new) after
 bytes_on all s takes before old new after stands adds room = record {
   before = stands.before ++ adds.front;
   split = stands.split ∙ ap (λ xs. stands.before ++ xs) adds.split ∙ sym (append_assoc stands.before adds.front after);
-  ran = ap (run (Some nothing)) (map-append (λ (w : Located). w.token) stands.before adds.front) ∙ run-append (Some nothing) (said stands.before) (said adds.front)
-      ∙ ap (λ o. run o (said adds.front)) stands.ran ∙ ap (run (Some (s old))) adds.are_bytes ∙ run_front s takes old adds.bs
+  ran = ap (run (Some nothing)) (map-append (λ (w : Located). w.token) stands.before adds.front) ∙ run-append (Some nothing) (tokens_said stands.before) (tokens_said adds.front)
+      ∙ ap (λ o. run o (tokens_said adds.front)) stands.ran ∙ ap (run (Some (s old))) adds.are_bytes ∙ run_front s takes old adds.bs
       ∙ ap (λ ys. Some (s ys)) (sym adds.added);
   room = room;
 }
 
 -- and one more, for which there is no room
 pub too_many : (all : List Located) (end : ℕ) (s : List ℕ → Partial) (takes : (bs : List ℕ) (b : ℕ) → step (s bs) (Some (Byte b)) ≡ Some (s (bs ++ b ∷ []))) (most : ℕ)
-    (before : List Located) (old new : List ℕ) (fault : WordFault) → StandsAt all (s old) before → AddsTooMany most before old new fault → (length new ≤ most → Room (s new))
-    → ((bs : List ℕ) → Room (s bs) → length bs ≤ most) → IsFaultOf all end fault
+    (before : List Located) (old new : List ℕ) (fault : WordFault) → LineStandsAt all (s old) before → AddsTooMany most before old new fault → (length new ≤ most → Room (s new))
+    → ((bs : List ℕ) → Room (s bs) → length bs ≤ most) → IsWordFaultOf all end fault
 too_many all end s takes most before old new fault stands many room few =
     let there = bytes_on all s takes before old new (many.word ∷ many.rest) stands many.adds (room (omega (arith, many.full))) in
     full_word all end (s new) (s (new ++ many.b ∷ [])) many.word (many.word ∷ many.rest) many.rest fault there refl
@@ -138,10 +138,10 @@ no_pec pec (Some Pec) not = absurd (not refl)
 no_pec pec _ not = refl
 
 -- and where the line's end is told by an equation
-pub misses_of : (all : List Located) (end end_now : ℕ) (s : Partial) (Is : Option Token → Type 0) (left : List Located) (fault : WordFault) → end_now ≡ end → StandsAt all s left
-    → nothing ≢ s → finish s ≡ None → ((word : Located) (rest : List Located) → left ≡ word ∷ rest → (Is word.token → ⊥) → step s word.token ≡ None) → Misses Is left end_now fault → IsFaultOf all end fault
+pub misses_of : (all : List Located) (end end_now : ℕ) (s : Partial) (Is : Option Token → Type 0) (left : List Located) (fault : WordFault) → end_now ≡ end → LineStandsAt all s left
+    → nothing ≢ s → finish s ≡ None → ((word : Located) (rest : List Located) → left ≡ word ∷ rest → (Is word.token → ⊥) → step s word.token ≡ None) → Misses Is left end_now fault → IsWordFaultOf all end fault
 misses_of all end end_now s Is left fault same stands begun unfinished unfit miss =
-    subst (λ n. IsFaultOf all n fault) same (misses all end_now s Is left fault stands begun unfinished unfit miss)
+    subst (λ n. IsWordFaultOf all n fault) same (misses all end_now s Is left fault stands begun unfinished unfit miss)
 
 -- one byte more
 pub adds_more : (before left after : List Located) (old mid new : List ℕ) (word : Located) (b : ℕ) → AddsBytes before old mid left → left ≡ word ∷ after → word.token ≡ Some (Byte b)

@@ -8,7 +8,7 @@ use Rattle.pmb_line.specs.Words.{Word, bounds, is_blank, is_comment, lengthened,
 use Rattle.std.proofs.Math.Seq.{take-length}
 use Rattle.pmb_line.specs.declared.token.Token.{Token}
 use Rattle.pmb_line.specs.Token.{token_of}
-use Rattle.pmb_line.specs.machine.Reading.{ends_word, located}
+use Rattle.pmb_line.specs.machine.Reading.{ends_line_word, located}
 
 -- a blank is passed over
 pub pass_blank : (at b : ℕ) (rest : List ℕ) → is_blank b ≡ true → words_from at (b ∷ rest) ≡ words_from (at + 1) rest
@@ -24,7 +24,7 @@ pub stop_comment : (at b : ℕ) (rest : List ℕ) → is_comment b ≡ true → 
 stop_comment at b rest comment = ap (λ v. if v then [] else (if is_blank b then words_from (at + 1) rest else lengthened at b (words_from (at + 1) rest))) comment
 
 -- a byte of a word
-word_byte : (at b : ℕ) (rest : List ℕ) → ends_word b ≡ false → words_from at (b ∷ rest) ≡ lengthened at b (words_from (at + 1) rest)
+word_byte : (at b : ℕ) (rest : List ℕ) → ends_line_word b ≡ false → words_from at (b ∷ rest) ≡ lengthened at b (words_from (at + 1) rest)
 word_byte at b rest goes =
     let parts = or_parts (is_blank b) (is_comment b) goes in
     ap (λ v. if v then [] else (if is_blank b then words_from (at + 1) rest else lengthened at b (words_from (at + 1) rest))) parts.1
@@ -73,7 +73,7 @@ joined at b text ws =
 
 -- a text at whose front a word ends
 abbrev pub EndsWord : List ℕ → Type 0
-EndsWord text = 0 < length text → ends_word (slice_index text 0) ≡ true
+EndsWord text = 0 < length text → ends_line_word (slice_index text 0) ≡ true
 
 ended : (at : ℕ) (text : List ℕ) → EndsWord text → BeginFrom (at + 1) (words_from at text)
 ended at [] ends = tt
@@ -85,11 +85,11 @@ ended at (b ∷ rest) ends =
 
 -- the first n bytes are those of a word
 abbrev pub AreOfWord : ℕ → List ℕ → Type 0
-AreOfWord n text = (i : ℕ) → i < n → ends_word (slice_index text i) ≡ false
+AreOfWord n text = (i : ℕ) → i < n → ends_line_word (slice_index text i) ≡ false
 
 -- and it ends there
 abbrev pub EndsAt : ℕ → List ℕ → Type 0
-EndsAt n text = n < length text → ends_word (slice_index text n) ≡ true
+EndsAt n text = n < length text → ends_line_word (slice_index text n) ≡ true
 
 pub front_word : (n at : ℕ) (text : List ℕ) → suc n ≤ length text → AreOfWord (suc n) text → EndsAt (suc n) text
     → words_from at text ≡ record { at = at; text = take (suc n) text } ∷ words_from (at + suc n) (drop (suc n) text)
@@ -168,7 +168,7 @@ passed_by from start text ws before =
 -- bytes of words
 abbrev pub AllGo : List ℕ → Type 0
 AllGo [] = Unit {0}
-AllGo (b ∷ rest) = (ends_word b ≡ false) × AllGo rest
+AllGo (b ∷ rest) = (ends_line_word b ≡ false) × AllGo rest
 
 pub word_then : (at b : ℕ) (w rest : List ℕ) → AllGo (b ∷ w) → EndsWord rest
     → words_from at (b ∷ w ++ rest) ≡ record { at = at; text = b ∷ w } ∷ words_from (at + length (b ∷ w)) rest

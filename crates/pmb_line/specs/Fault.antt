@@ -7,8 +7,8 @@ use Rattle.pmb_line.specs.declared.word_fault.WordFault.{WordFault}
 use Rattle.pmb_line.specs.declared.word_fault.WordFault.TheVariants.{Blank, BadWord, TooLong}
 use Rattle.pmb_line.specs.declared.token.Token.TheVariants.{Plus}
 use Rattle.pmb_line.specs.Token.{token_of}
-use Rattle.pmb_line.specs.Words.{Word, texts, without_cr, words}
-use Rattle.pmb_line.specs.Spelling.{Spells}
+use Rattle.pmb_line.specs.Words.{Word, texts, without_cr, line_words}
+use Rattle.pmb_line.specs.Spelling.{SpellsTransaction}
 
 -- ---- how much a transaction holds
 
@@ -41,24 +41,24 @@ IsWithin says.NoAlert = Unit {0}
 -- ---- how lines begin
 
 -- The line of some transaction, of any size, begins with the words.
-pub record Begins (front : List (List ℕ)) : Type 0 where
+pub record BeginsLine (front : List (List ℕ)) : Type 0 where
   pub more : List (List ℕ)
   pub t : TransactionData
-  pub spells : Spells (front ++ more) t
+  pub spells : SpellsTransaction (front ++ more) t
 
 -- There is room for what the words say so far: a transaction that is not too large goes on with
 -- them. The `+` behind the 16th part of a write needs no room yet; the address behind it does.
 pub data HasRoom (front : List (List ℕ)) : Type 0 where
-  goes_on : (more : List (List ℕ)) (t : TransactionData) → Spells (front ++ more) t → IsWithin t → HasRoom front
+  goes_on : (more : List (List ℕ)) (t : TransactionData) → SpellsTransaction (front ++ more) t → IsWithin t → HasRoom front
   plus : (before : List (List ℕ)) (word : List ℕ) (ps : List PartData) → front ≡ before ++ word ∷ [] → token_of word ≡ Some Plus
-      → Spells before (says.Write ps) → IsWithin (says.Write ps) → HasRoom front
+      → SpellsTransaction before (says.Write ps) → IsWithin (says.Write ps) → HasRoom front
 
 -- ---- the faults
 
 -- A word of a line, where there is room for all before it.
 pub record At (line : List ℕ) (before : List Word) (word : Word) : Type 0 where
   pub behind : List Word
-  pub split : words line ≡ before ++ word ∷ behind
+  pub split : line_words line ≡ before ++ word ∷ behind
   pub room : HasRoom (texts before)
 
 -- A word does not fit: no line goes on so.
@@ -67,14 +67,14 @@ pub record IsBadWord (line : List ℕ) (at : ℕ) : Type 0 where
   pub word : Word
   pub stands : At line before word
   pub place : at ≡ word.at
-  pub unfit : Begins (texts (before ++ word ∷ [])) → ⊥
+  pub unfit : BeginsLine (texts (before ++ word ∷ [])) → ⊥
 
 -- Words are missing at the end. The place is the line's length, in which a comment counts and a CR
 -- that was dropped does not.
 pub record IsCutShort (line : List ℕ) (at : ℕ) : Type 0 where
-  pub some : words line ≢ []
-  pub room : HasRoom (texts (words line))
-  pub unfinished : (t : TransactionData) → Spells (texts (words line)) t → ⊥
+  pub some : line_words line ≢ []
+  pub room : HasRoom (texts (line_words line))
+  pub unfinished : (t : TransactionData) → SpellsTransaction (texts (line_words line)) t → ⊥
   pub place : at ≡ length (without_cr line)
 
 -- A word fits, but a list has no room for what it says.
@@ -83,11 +83,11 @@ pub record IsTooLong (line : List ℕ) (at : ℕ) : Type 0 where
   pub word : Word
   pub stands : At line before word
   pub place : at ≡ word.at
-  pub fits : Begins (texts (before ++ word ∷ []))
+  pub fits : BeginsLine (texts (before ++ word ∷ []))
   pub full : HasRoom (texts (before ++ word ∷ [])) → ⊥
 
 -- the first fault of a line that spells no transaction which is not too large
 abbrev pub IsFault : List ℕ → WordFault → Type 0
-IsFault line Blank = words line ≡ []
+IsFault line Blank = line_words line ≡ []
 IsFault line (BadWord at) = IsBadWord line at ⊎ IsCutShort line at
 IsFault line (TooLong at) = IsTooLong line at

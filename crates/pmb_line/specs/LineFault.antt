@@ -9,8 +9,8 @@ use Rattle.pmb_line.specs.declared.line_fault.LineFault.{LineFault}
 use Rattle.pmb_line.specs.declared.line_fault.LineFault.TheVariants as fault
 use Rattle.pmb_line.specs.declared.word_fault.WordFault.{WordFault}
 use Rattle.pmb_line.specs.declared.word_fault.WordFault.TheVariants.{Blank, BadWord, TooLong}
-use Rattle.pmb_line.specs.Words.{texts, words}
-use Rattle.pmb_line.specs.Spelling.{Spells}
+use Rattle.pmb_line.specs.Words.{texts, line_words}
+use Rattle.pmb_line.specs.Spelling.{SpellsTransaction}
 use Rattle.pmb_line.specs.Fault.{IsFault, IsWithin}
 
 -- the fault of a line's words
@@ -38,13 +38,13 @@ fault_text (fault.Invalid invalid) = invalid_name invalid
 
 -- The line spells the transaction, and it has a packet.
 pub record Parses (profile : List DeviceParts) (line : List ℕ) (t : TransactionData) : Type 0 where
-  pub spells : Spells (texts (words line)) t
+  pub spells : SpellsTransaction (texts (line_words line)) t
   pub packet : HasPacket profile t
 
 -- The line spells a transaction that is not too large, with this first fault.
 pub record IsInvalid (profile : List DeviceParts) (line : List ℕ) (invalid : Invalid) : Type 0 where
   pub t : TransactionData
-  pub spells : Spells (texts (words line)) t
+  pub spells : SpellsTransaction (texts (line_words line)) t
   pub within : IsWithin t
   pub first : IsFirstFault profile t invalid
 

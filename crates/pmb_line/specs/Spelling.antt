@@ -10,7 +10,7 @@ use Rattle.std.specs.Prelude.{◌≡◌, ◌≢◌, ℕ, ◌<◌, Bool, true, fa
 use Rattle.std.specs.List.{AllByRecursion, flat_map}
 use Rattle.pmb_transaction.specs.Transaction.{PartData, ReadData, CallData, RefusedData, AlertData, TransactionData}
 use Rattle.pmb_transaction.specs.Transaction as says
-use Rattle.pmb_transaction.specs.Wire.{AreBytes}
+use Rattle.pmb_transaction.specs.Wire.{AreByteValues}
 use Rattle.pmb_line.specs.declared.token.Token.{Token}
 use Rattle.pmb_line.specs.declared.token.Token.TheVariants.{Byte, Write, Read, Call, Refused, Alert, Nobody, Pec, Plus, Colon}
 use Rattle.pmb_line.specs.Token.{token_of, token_text}
@@ -57,7 +57,7 @@ HasLine (says.Alert t) = Unit {0}
 HasLine says.NoAlert = Unit {0}
 
 -- Words spell a transaction: they say its tokens, in order.
-pub record Spells (words : List (List ℕ)) (t : TransactionData) : Type 0 where
+pub record SpellsTransaction (words : List (List ℕ)) (t : TransactionData) : Type 0 where
   pub has_line : HasLine t
   pub says : map token_of words ≡ map Some (tokens t)
 
@@ -72,12 +72,12 @@ line t = spaced (map token_text (tokens t))
 
 -- its numbers are bytes
 abbrev pub ArePartBytes : PartData → Type 0
-ArePartBytes p = (p.addr < 256) × (p.code < 256) × AreBytes p.bytes
+ArePartBytes p = (p.addr < 256) × (p.code < 256) × AreByteValues p.bytes
 
 abbrev pub HasBytes : TransactionData → Type 0
 HasBytes (says.Write ps) = AllByRecursion ArePartBytes ps
-HasBytes (says.Read t) = (t.addr < 256) × (t.code < 256) × AreBytes t.reply
-HasBytes (says.Call t) = (t.addr < 256) × (t.code < 256) × AreBytes t.bytes × AreBytes t.reply
-HasBytes (says.Refused t) = AllByRecursion ArePartBytes t.parts × (t.addr < 256) × AreBytes t.sent
+HasBytes (says.Read t) = (t.addr < 256) × (t.code < 256) × AreByteValues t.reply
+HasBytes (says.Call t) = (t.addr < 256) × (t.code < 256) × AreByteValues t.bytes × AreByteValues t.reply
+HasBytes (says.Refused t) = AllByRecursion ArePartBytes t.parts × (t.addr < 256) × AreByteValues t.sent
 HasBytes (says.Alert t) = t.byte < 256
 HasBytes says.NoAlert = Unit {0}

@@ -37,8 +37,8 @@ words_from at (b ∷ rest) =
     lengthened at b (words_from (at + 1) rest)
 
 -- the words of a line
-abbrev pub words : List ℕ → List Word
-words line = words_from 0 (without_cr line)
+abbrev pub line_words : List ℕ → List Word
+line_words line = words_from 0 (without_cr line)
 
 -- their texts
 abbrev pub texts : List Word → List (List ℕ)

@@ -10,33 +10,33 @@ ghost use Rattle.pmb_transaction.specs.Packet.{Packet};
 ghost use Rattle.pmb_transaction.specs.Transaction.{TransactionData};
 ghost use Rattle.pmb_line.specs.declared.line_fault.LineFault.{LineFault};
 ghost use Rattle.pmb_line.specs.LineFault.{IsLineFault, Parses};
-ghost use Rattle.pmb_line.specs.Words.{texts, words};
-ghost use Rattle.pmb_line.specs.Spelling.{HasBytes, HasLine, Spells, line};
+ghost use Rattle.pmb_line.specs.Words.{texts, line_words};
+ghost use Rattle.pmb_line.specs.Spelling.{HasBytes, HasLine, SpellsTransaction, line};
 
 /// Words spell one transaction at most.
 pub fn one_transaction()
-    ensures { (ws : List (List ℕ)) (t u : TransactionData) → Spells ws t → Spells ws u → t ≡ u }
+    ensures { (ws : List (List ℕ)) (t u : TransactionData) → SpellsTransaction ws t → SpellsTransaction ws u → t ≡ u }
 {}
 
 /// The line that is written for a transaction of bytes spells it, and no other transaction.
 pub fn line_spells()
-    ensures spells { (t : TransactionData) → HasLine t → HasBytes t → Spells (texts (words (line t))) t }
-    ensures alone { (t u : TransactionData) → HasLine t → HasBytes t → Spells (texts (words (line t))) u → t ≡ u }
+    ensures spells { (t : TransactionData) → HasLine t → HasBytes t → SpellsTransaction (texts (line_words (line t))) t }
+    ensures alone { (t u : TransactionData) → HasLine t → HasBytes t → SpellsTransaction (texts (line_words (line t))) u → t ≡ u }
 {}
 
 /// The line of a transaction that has a packet, under a profile that is accepted, spells it, and no
 /// other transaction.
 pub fn packet_has_line()
     ensures spells { (profile : List DeviceParts) (t : TransactionData) (events : List Event) → IsBus profile → Packet profile t events
-        → Spells (texts (words (line t))) t }
+        → SpellsTransaction (texts (line_words (line t))) t }
     ensures alone { (profile : List DeviceParts) (t u : TransactionData) (events : List Event) → IsBus profile → Packet profile t events
-        → Spells (texts (words (line t))) u → t ≡ u }
+        → SpellsTransaction (texts (line_words (line t))) u → t ≡ u }
 {}
 
 /// With a comment behind it, the line of such a transaction spells it too.
 pub fn comments_say_nothing()
     ensures { (profile : List DeviceParts) (t : TransactionData) (events : List Event) (comment : List ℕ) → IsBus profile → Packet profile t events
-        → Spells (texts (words (line t ++ (codes " # " ++ comment)))) t }
+        → SpellsTransaction (texts (line_words (line t ++ (codes " # " ++ comment)))) t }
 {}
 
 /// The line of such a transaction is one line, of 12,544 bytes at most.

@@ -2,14 +2,14 @@
 
 ghost use Rattle.std.specs.Prelude.{◌≡◌, OnOk, IfOk, IfErr, List, []};
 ghost use Rattle.pmb_transaction.specs.Transaction.{transaction_data};
-ghost use Rattle.pmb_line.specs.Words.{texts, words};
-ghost use Rattle.pmb_line.specs.Spelling.{Spells};
+ghost use Rattle.pmb_line.specs.Words.{texts, line_words};
+ghost use Rattle.pmb_line.specs.Spelling.{SpellsTransaction};
 ghost use Rattle.pmb_line.specs.Fault.{IsFault, IsWithin};
 ghost use Rattle.pmb_line.specs.LineFault.{IsLineFault, Parses};
 ghost use Rattle.pmb_line.specs.declared.words.Located.{Located as Place};
-ghost use Rattle.pmb_line.specs.machine.Reading.{StandsAt, write_next, read_next, call_next, refused_next, alert_next};
+ghost use Rattle.pmb_line.specs.machine.Reading.{LineStandsAt, write_next, read_next, call_next, refused_next, alert_next};
 ghost use Rattle.pmb_line.specs.machine.Left.{left, end};
-ghost use Rattle.pmb_line.specs.machine.Pieces.{Reads};
+ghost use Rattle.pmb_line.specs.machine.Pieces.{ReadsLine};
 
 use crate::line_fault::LineFault;
 use crate::reading::{read_call, read_read, read_write};
@@ -30,7 +30,7 @@ use pmb_writer::check;
 ///
 /// The line's fault. `into` then holds a transaction that means nothing.
 pub fn read_words(line: &[u8], into: &mut Transaction) -> Result<(), WordFault>
-    ensures ok { OnOk result (Spells (texts (words line.now)) (transaction_data into.new)) }
+    ensures ok { OnOk result (SpellsTransaction (texts (line_words line.now)) (transaction_data into.new)) }
     ensures within { OnOk result (IsWithin (transaction_data into.new)) }
     ensures err { IfErr result (λ fault. IsFault line.now fault) }
 {
@@ -73,7 +73,7 @@ pub fn parse_line(profile: &Profile, line: &[u8]) -> Result<Transaction, LineFau
 }
 
 fn read_any(words: &mut Words, into: &mut Transaction) -> Result<(), WordFault>
-    ensures { Reads (left words.old) (end words.old) (transaction_data into.new) result }
+    ensures { ReadsLine (left words.old) (end words.old) (transaction_data into.new) result }
 {
     let Some(word) = words.next() else {
         return Err(WordFault::Blank);
@@ -92,8 +92,8 @@ fn read_any(words: &mut Words, into: &mut Transaction) -> Result<(), WordFault>
 }
 
 fn write_into(words: &mut Words, into: &mut Transaction) -> Result<(), WordFault>
-    ensures { (all : List Place) → StandsAt all (write_next []) (left words.old)
-        → Reads all (end words.old) (transaction_data into.new) result }
+    ensures { (all : List Place) → LineStandsAt all (write_next []) (left words.old)
+        → ReadsLine all (end words.old) (transaction_data into.new) result }
 {
     if let Transaction::Write { parts } = into {
         return read_write(words, parts);
@@ -105,8 +105,8 @@ fn write_into(words: &mut Words, into: &mut Transaction) -> Result<(), WordFault
 }
 
 fn read_into(words: &mut Words, into: &mut Transaction) -> Result<(), WordFault>
-    ensures { (all : List Place) → StandsAt all read_next (left words.old)
-        → Reads all (end words.old) (transaction_data into.new) result }
+    ensures { (all : List Place) → LineStandsAt all read_next (left words.old)
+        → ReadsLine all (end words.old) (transaction_data into.new) result }
 {
     if let Transaction::Read {
         addr,
@@ -132,8 +132,8 @@ fn read_into(words: &mut Words, into: &mut Transaction) -> Result<(), WordFault>
 }
 
 fn call_into(words: &mut Words, into: &mut Transaction) -> Result<(), WordFault>
-    ensures { (all : List Place) → StandsAt all call_next (left words.old)
-        → Reads all (end words.old) (transaction_data into.new) result }
+    ensures { (all : List Place) → LineStandsAt all call_next (left words.old)
+        → ReadsLine all (end words.old) (transaction_data into.new) result }
 {
     if let Transaction::Call {
         addr,
@@ -164,8 +164,8 @@ fn call_into(words: &mut Words, into: &mut Transaction) -> Result<(), WordFault>
 }
 
 fn refused_into(words: &mut Words, into: &mut Transaction) -> Result<(), WordFault>
-    ensures { (all : List Place) → StandsAt all (refused_next []) (left words.old)
-        → Reads all (end words.old) (transaction_data into.new) result }
+    ensures { (all : List Place) → LineStandsAt all (refused_next []) (left words.old)
+        → ReadsLine all (end words.old) (transaction_data into.new) result }
 {
     if let Transaction::Refused {
         parts,
@@ -192,8 +192,8 @@ fn refused_into(words: &mut Words, into: &mut Transaction) -> Result<(), WordFau
 
 /// Reads what stands behind `alert`.
 fn alert_into(words: &mut Words, into: &mut Transaction) -> Result<(), WordFault>
-    ensures { (all : List Place) → StandsAt all alert_next (left words.old)
-        → Reads all (end words.old) (transaction_data into.new) result }
+    ensures { (all : List Place) → LineStandsAt all alert_next (left words.old)
+        → ReadsLine all (end words.old) (transaction_data into.new) result }
 {
     let Some(word) = words.next() else {
         return Err(WordFault::BadWord(words.end()));

@@ -1,14 +1,14 @@
 //! Reading a line into a transaction, one kind each.
 //!
 //! A contract says what is answered where all words of a line are given, and those so far stand where
-//! this kind begins: `StandsAt` of `specs/machine/Reading` lists the places.
+//! this kind begins: `LineStandsAt` of `specs/machine/Reading` lists the places.
 
 ghost use Rattle.std.specs.Prelude.{◌≡◌, ◌<◌, List, [], length, map, true, Ok};
 ghost use Rattle.pmb_transaction.specs.Transaction.{Write as says_write, Read as says_read, Call as says_call, Refused as says_refused, Alert as says_alert, part_data};
 ghost use Rattle.pmb_line.specs.declared.words.Located.{Located as Place};
-ghost use Rattle.pmb_line.specs.machine.Reading.{StandsAt, write_next, read_next, call_next, refused_next};
+ghost use Rattle.pmb_line.specs.machine.Reading.{LineStandsAt, write_next, read_next, call_next, refused_next};
 ghost use Rattle.pmb_line.specs.machine.Left.{left, end};
-ghost use Rattle.pmb_line.specs.machine.Pieces.{Reads, ReadsPart};
+ghost use Rattle.pmb_line.specs.machine.Pieces.{ReadsLine, ReadsPart};
 
 use crate::taking::{ByteWord, take_bytes, take_colon, take_end, take_pec, take_plus};
 use crate::word_fault::WordFault;
@@ -18,8 +18,8 @@ use pmb_transaction::Part;
 
 /// Reads what stands behind `write`.
 pub(crate) fn read_write(words: &mut Words, parts: &mut ArrayVec<Part, 16>) -> Result<(), WordFault>
-    ensures { (all : List Place) → StandsAt all (write_next []) (left words.old)
-        → Reads all (end words.old) (says_write (map part_data parts.new.items)) result }
+    ensures { (all : List Place) → LineStandsAt all (write_next []) (left words.old)
+        → ReadsLine all (end words.old) (says_write (map part_data parts.new.items)) result }
 {
     parts.clear();
     let mut goes_on = true;
@@ -31,7 +31,7 @@ pub(crate) fn read_write(words: &mut Words, parts: &mut ArrayVec<Part, 16>) -> R
 
 /// Reads a part of a write, and tells whether a `+` follows.
 fn read_part(words: &mut Words, parts: &mut ArrayVec<Part, 16>) -> Result<bool, WordFault>
-    ensures reads { (all : List Place) → StandsAt all (write_next (map part_data parts.old.items)) (left words.old)
+    ensures reads { (all : List Place) → LineStandsAt all (write_next (map part_data parts.old.items)) (left words.old)
         → ReadsPart all (end words.old) (map part_data parts.new.items) result (left words.new) }
     ensures end { end words.new ≡ end words.old }
     ensures shrinks { result ≡ Ok true → length (left words.new) < length (left words.old) }
@@ -61,8 +61,8 @@ pub(crate) fn read_read(
     reply: &mut ArrayVec<u8, 255>,
     pec: &mut bool,
 ) -> Result<(), WordFault>
-    ensures { (all : List Place) → StandsAt all read_next (left words.old)
-        → Reads all (end words.old) (says_read (record { addr = addr.new; code = code.new; reply = reply.new.items; pec = pec.new })) result }
+    ensures { (all : List Place) → LineStandsAt all read_next (left words.old)
+        → ReadsLine all (end words.old) (says_read (record { addr = addr.new; code = code.new; reply = reply.new.items; pec = pec.new })) result }
 {
     *addr = ByteWord::take(words)?.byte;
     *code = ByteWord::take(words)?.byte;
@@ -82,8 +82,8 @@ pub(crate) fn read_call(
     reply: &mut ArrayVec<u8, 255>,
     pec: &mut bool,
 ) -> Result<(), WordFault>
-    ensures { (all : List Place) → StandsAt all call_next (left words.old)
-        → Reads all (end words.old) (says_call (record { addr = addr.new; code = code.new; bytes = bytes.new.items; reply = reply.new.items; pec = pec.new })) result }
+    ensures { (all : List Place) → LineStandsAt all call_next (left words.old)
+        → ReadsLine all (end words.old) (says_call (record { addr = addr.new; code = code.new; bytes = bytes.new.items; reply = reply.new.items; pec = pec.new })) result }
 {
     *addr = ByteWord::take(words)?.byte;
     *code = ByteWord::take(words)?.byte;

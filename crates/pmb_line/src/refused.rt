@@ -3,9 +3,9 @@
 ghost use Rattle.std.specs.Prelude.{◌≡◌, ◌<◌, List, [], length, map, true, Ok};
 ghost use Rattle.pmb_transaction.specs.Transaction.{Refused as says_refused, part_data};
 ghost use Rattle.pmb_line.specs.declared.words.Located.{Located as Place};
-ghost use Rattle.pmb_line.specs.machine.Reading.{StandsAt, refused_next};
+ghost use Rattle.pmb_line.specs.machine.Reading.{LineStandsAt, refused_next};
 ghost use Rattle.pmb_line.specs.machine.Left.{left, end};
-ghost use Rattle.pmb_line.specs.machine.Pieces.{PushesPart, Reads, ReadsLeg};
+ghost use Rattle.pmb_line.specs.machine.Pieces.{PushesPart, ReadsLine, ReadsLeg};
 
 use crate::taking::{ByteWord, take_bytes, take_end, take_wanted_plus};
 use crate::token::Token;
@@ -22,8 +22,8 @@ pub(crate) fn read_refused(
     sent: &mut ArrayVec<u8, 258>,
     at_read: &mut bool,
 ) -> Result<(), WordFault>
-    ensures { (all : List Place) → StandsAt all (refused_next []) (left words.old)
-        → Reads all (end words.old) (says_refused (record { parts = map part_data parts.new.items; addr = addr.new; sent = sent.new.items; at_read = at_read.new })) result }
+    ensures { (all : List Place) → LineStandsAt all (refused_next []) (left words.old)
+        → ReadsLine all (end words.old) (says_refused (record { parts = map part_data parts.new.items; addr = addr.new; sent = sent.new.items; at_read = at_read.new })) result }
 {
     parts.clear();
     let mut goes_on = true;
@@ -42,7 +42,7 @@ fn read_leg(
     sent: &mut ArrayVec<u8, 258>,
     at_read: &mut bool,
 ) -> Result<bool, WordFault>
-    ensures reads { (all : List Place) → StandsAt all (refused_next (map part_data parts.old.items)) (left words.old)
+    ensures reads { (all : List Place) → LineStandsAt all (refused_next (map part_data parts.old.items)) (left words.old)
         → ReadsLeg all (end words.old) (map part_data parts.new.items) addr.new sent.new.items at_read.new result (left words.new) }
     ensures end { end words.new ≡ end words.old }
     ensures shrinks { result ≡ Ok true → length (left words.new) < length (left words.old) }

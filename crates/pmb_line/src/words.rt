@@ -1,8 +1,8 @@
 //! The words of a line, one after the other.
 
 ghost use Rattle.std.specs.Prelude.{◌≡◌, ℕ, ◌+◌, ◌^◌, ◌<◌, ◌≤◌, false, true, length, drop, map, slice_index, [], option_map};
-ghost use Rattle.pmb_line.specs.Words.{bounds, is_blank as is_blank_byte, word_behind, words, words_from, without_cr};
-ghost use Rattle.pmb_line.specs.machine.Reading.{ends_word as ends_word_byte, located};
+ghost use Rattle.pmb_line.specs.Words.{bounds, is_blank as is_blank_byte, word_behind, line_words, words_from, without_cr};
+ghost use Rattle.pmb_line.specs.machine.Reading.{ends_line_word, located};
 
 use crate::token::{Token, token_of};
 
@@ -29,7 +29,7 @@ impl<'a> Words<'a> {
 
     /// The words of a line. A CR at its end is no part of it.
     pub(crate) fn of(line: &'a [u8]) -> Words<'a>
-        ensures left { left result ≡ map located (words line.now) }
+        ensures left { left result ≡ map located (line_words line.now) }
         ensures end { end result ≡ length (without_cr line.now) }
     {
         let rest = before_cr(line);
@@ -72,7 +72,7 @@ impl<'a> Words<'a> {
 ///
 /// A word in front of which `from` lies in the midst is passed over, and a comment has no words.
 pub fn word_at(line: &[u8], from: usize) -> Option<(usize, usize)>
-    ensures { result ≡ option_map bounds (word_behind from (words line.now)) }
+    ensures { result ≡ option_map bounds (word_behind from (line_words line.now)) }
 {
     let text = before_cr(line);
     let mut at = 0;
@@ -114,7 +114,7 @@ fn is_blank(byte: u8) -> bool
 
 #[inline]
 fn ends_word(byte: u8) -> bool
-    ensures { result ≡ ends_word_byte byte }
+    ensures { result ≡ ends_line_word byte }
 {
     is_blank(byte) || byte == b'#'
 }
@@ -137,8 +137,8 @@ fn blanks(text: &[u8]) -> usize
 #[inline]
 fn word_len(text: &[u8]) -> usize
     ensures within { result ≤ length text.now }
-    ensures each { (i : ℕ) → i < result → ends_word_byte (slice_index text.now i) ≡ false }
-    ensures stops { result < length text.now → ends_word_byte (slice_index text.now result) ≡ true }
+    ensures each { (i : ℕ) → i < result → ends_line_word (slice_index text.now i) ≡ false }
+    ensures stops { result < length text.now → ends_line_word (slice_index text.now result) ≡ true }
 {
     let mut n = 0;
     while n < text.len() && !ends_word(text[n]) {

@@ -7,12 +7,12 @@ use Rattle.pmb_format.proofs.Words.{counts_unsigned, counts_signed}
 use Rattle.pmb_format.proofs.EvenRows.{sum-product, row_separated}
 use Rattle.pmb_format.specs.Words.{twos_complement}
 use Rattle.pmb_linear.specs.Linear.{power, linear16, ulinear16, slinear16}
-use Rattle.pmb_format.specs.Words.{Counts, signed_at}
+use Rattle.pmb_format.specs.Words.{CountsUp, signed_at}
 use Rattle.pmb_linear.specs.machine.Row.{linear16_row}
 
 -- ---- ULINEAR16 and SLINEAR16
 
-pub rises-linear16 : (w : ℕ → ℤ) (at : ℕ → ℕ) (least e : ℤ) → Counts w at least → Rises (linear16 w e) (linear16_row at least e)
+pub rises-linear16 : (w : ℕ → ℤ) (at : ℕ → ℕ) (least e : ℤ) → CountsUp w at least → Rises (linear16 w e) (linear16_row at least e)
 rises-linear16 w at least e counts = record {
   positive = omega arith;
   spaced = pow_pos _;
@@ -24,7 +24,7 @@ rises-linear16 w at least e counts = record {
 
 -- ---- the laws of each
 
-pub IsSeparated-linear16 : (w : ℕ → ℤ) (at : ℕ → ℕ) (least e : ℤ) → Counts w at least → IsSeparated (linear16 w e)
+pub IsSeparated-linear16 : (w : ℕ → ℤ) (at : ℕ → ℕ) (least e : ℤ) → CountsUp w at least → IsSeparated (linear16 w e)
 IsSeparated-linear16 w at least e counts = row_separated (linear16 w e) (linear16_row at least e) (inl (rises-linear16 w at least e counts))
 
 pub IsSeparated-ulinear16 : (e : ℤ) → IsSeparated (ulinear16 e)

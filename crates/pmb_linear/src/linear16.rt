@@ -5,7 +5,7 @@
 ghost use Rattle.std.specs.Prelude.{◌≡◌, ◌↔◌, ◌^◌, ◌<◌, ℕ, ℤ, pos, negsuc, unsigned_abs, IfOk, IsOk};
 ghost use Rattle.pmb_linear.specs.Linear.{IsExponent, linear16};
 ghost use Rattle.pmb_format.specs.Words.{twos_complement};
-ghost use Rattle.pmb_format.specs.Words.{Counts, signed_at};
+ghost use Rattle.pmb_format.specs.Words.{CountsUp, signed_at};
 ghost use Rattle.pmb_linear.specs.machine.Row.{linear16_row};
 
 use crate::linear::{self, BadExponent, DENOMINATOR, GREATEST_EXPONENT, LEAST_EXPONENT};

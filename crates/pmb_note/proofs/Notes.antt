@@ -8,7 +8,7 @@ use Rattle.pmb_command.specs.Entry.{EntryParts}
 use Rattle.pmb_command.specs.Parts.{DeviceParts, command_with, device_with}
 use Rattle.pmb_transaction.specs.Transaction.{PartData, TransactionData, Write, Read, Call, Refused, Alert, NoAlert}
 use Rattle.pmb_note.specs.Paging.{mode, paging, selected_mode}
-use Rattle.pmb_note.specs.Note.{command_text, joined, note, of_command, of_device, part_before, part_text, refused_text, text_under, value_text}
+use Rattle.pmb_note.specs.Note.{command_text, joined, note, of_command, of_device, part_text_before, part_text, refused_text, text_under, value_text}
 use Rattle.pmb_note.specs.declared.context.Context.{Context}
 use Rattle.pmb_note.specs.machine.Standing.{HasSeen, mode_in}
 
@@ -40,14 +40,14 @@ module _ (profile : List DeviceParts) (f g : ℕ → Option ℕ) (same : (addr :
   same_part : (part : PartData) → part_text profile f part ≡ part_text profile g part
   same_part part = same_command part.addr part.code part.bytes
 
-  same_before : (part : PartData) → part_before profile f part ≡ part_before profile g part
+  same_before : (part : PartData) → part_text_before profile f part ≡ part_text_before profile g part
   same_before part = ap (λ (text : List ℕ). text ++ codes " + ") (same_part part)
 
   same_text : (t : TransactionData) → text_under profile f t ≡ text_under profile g t
   same_text (Write parts) = ap joined (same_map (part_text profile f) (part_text profile g) same_part parts)
   same_text (Read t) = same_command t.addr t.code t.reply
   same_text (Call t) = refl
-  same_text (Refused t) = ap (λ (text : List ℕ). text ++ refused_text t.sent t.at_read) (same_flat_map (part_before profile f) (part_before profile g) same_before t.parts)
+  same_text (Refused t) = ap (λ (text : List ℕ). text ++ refused_text t.sent t.at_read) (same_flat_map (part_text_before profile f) (part_text_before profile g) same_before t.parts)
   same_text (Alert t) = refl
   same_text NoAlert = refl
 

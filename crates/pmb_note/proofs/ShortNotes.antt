@@ -28,7 +28,7 @@ use Rattle.pmb_command.specs.declared.entry.Kind.TheVariants.{Raw, Linear11, Lin
 use Rattle.pmb_transaction.specs.Packet.{Packet}
 use Rattle.pmb_transaction.specs.Transaction.{PartData, TransactionData, Write, Read, Call, Refused, Alert, NoAlert}
 use Rattle.pmb_transaction.proofs.Known.{command_is, device_is}
-use Rattle.pmb_note.specs.Note.{command_text, data_text, format_text, joined, named_bit, of_command, of_device, of_word, part_before, part_text, quantity_text, refused_text, register_text, set_bit_text, set_bits_text, status_text, text_under, value_text, vout_text}
+use Rattle.pmb_note.specs.Note.{command_text, data_text, format_text, joined, named_bit, of_command, of_device, of_word, part_text_before, part_text, quantity_text, refused_text, register_text, set_bit_text, set_bits_text, status_text, text_under, value_text, vout_text}
 use Rattle.pmb_note.proofs.OneLine.{no_lf, no_lf-append, no_lf-at}
 use Rattle.pmb_note.proofs.StatusLemmas.{names_are_short, names_have_no_lf}
 
@@ -261,11 +261,11 @@ module _ (profile : List DeviceParts) (bus : IsBus profile) where
         (both 320 (3 + 323 * length (q ∷ parts)) (part_text profile modes p) (codes " + " ++ rest) (short_part p)
         (both 3 (323 * length (q ∷ parts)) (codes " + ") rest (plain (codes " + ") refl) (short_parts (q ∷ parts))))
 
-    short_before : (parts : List PartData) → IsShort (323 * length parts) (flat_map (part_before profile modes) parts)
+    short_before : (parts : List PartData) → IsShort (323 * length parts) (flat_map (part_text_before profile modes) parts)
     short_before [] = none (323 * 0)
     short_before (p ∷ parts) =
-        at_most (320 + 3 + 323 * length parts) (323 * length (p ∷ parts)) (flat_map (part_before profile modes) (p ∷ parts)) (omega arith)
-        (both (320 + 3) (323 * length parts) (part_before profile modes p) (flat_map (part_before profile modes) parts)
+        at_most (320 + 3 + 323 * length parts) (323 * length (p ∷ parts)) (flat_map (part_text_before profile modes) (p ∷ parts)) (omega arith)
+        (both (320 + 3) (323 * length parts) (part_text_before profile modes p) (flat_map (part_text_before profile modes) parts)
         (both 320 3 (part_text profile modes p) (codes " + ") (short_part p) (plain (codes " + ") refl)) (short_before parts))
 
     short_refused : (sent : List ℕ) (at_read : Bool) → IsShort 20 (refused_text sent at_read)
@@ -280,8 +280,8 @@ module _ (profile : List DeviceParts) (bus : IsBus profile) where
     short_note (Read t) events packet = at_most 320 8192 (command_text profile modes t.addr t.code t.reply) (omega arith) (short_text t.addr t.code t.reply)
     short_note (Call t) events packet = at_most 320 8192 (of_device (λ device entry. entry.name) t.code (device_with t.addr profile)) (omega arith) (short_call t.addr t.code)
     short_note (Refused t) events packet =
-        at_most (323 * length t.parts + 20) 8192 (flat_map (part_before profile modes) t.parts ++ refused_text t.sent t.at_read) (omega (arith, packet.few))
-        (both (323 * length t.parts) 20 (flat_map (part_before profile modes) t.parts) (refused_text t.sent t.at_read) (short_before t.parts) (short_refused t.sent t.at_read))
+        at_most (323 * length t.parts + 20) 8192 (flat_map (part_text_before profile modes) t.parts ++ refused_text t.sent t.at_read) (omega (arith, packet.few))
+        (both (323 * length t.parts) 20 (flat_map (part_text_before profile modes) t.parts) (refused_text t.sent t.at_read) (short_before t.parts) (short_refused t.sent t.at_read))
     short_note (Alert t) events packet =
         at_most (7 + 2) 8192 (codes "device " ++ encode_lower (t.byte / 2 ∷ [])) (omega arith) (both 7 2 (codes "device ") (encode_lower (t.byte / 2 ∷ [])) (plain (codes "device ") refl) (hex_no_lf (t.byte / 2)))
     short_note NoAlert events packet = at_most 9 8192 (codes "no device") (omega arith) (plain (codes "no device") refl)

@@ -12,7 +12,7 @@ use Rattle.pmb_transaction.specs.Transaction.{part_data}
 use Rattle.pmb_transaction.proofs.Known.{device_is}
 use Rattle.pmb_command.specs.Parts.{DeviceParts, device_with}
 use Rattle.pmb_transaction.specs.Transaction.{TransactionData}
-use Rattle.pmb_note.specs.Paging.{PagingData, Told, after_bytes, after_told, after_transaction, after_value, first_paging, told_by_part, paging}
+use Rattle.pmb_note.specs.Paging.{PagingData, RegisterTold, after_bytes, after_told, after_transaction, after_value, first_paging, told_by_part, paging}
 use Rattle.pmb_note.specs.machine.Standing.{Keeps}
 
 -- ---- what is told
@@ -27,11 +27,11 @@ seven_bits profile bus addr device known =
     omega (arith, is.0.address.greatest, is.1)
 
 -- what is told of another device
-told_of_other : (device : DeviceParts) (p : PagingData) (t : Told) → t.addr ≢ device.address → after_told device p t ≡ p
+told_of_other : (device : DeviceParts) (p : PagingData) (t : RegisterTold) → t.addr ≢ device.address → after_told device p t ≡ p
 told_of_other device p t other = ap (λ (b : Bool). cond b (after_bytes device t.code t.bytes p) p) (ne_eqb t.addr device.address other)
 
 -- .. and of the device itself
-told_of_it : (device : DeviceParts) (p : PagingData) (t : Told) → t.addr ≡ device.address → after_told device p t ≡ after_bytes device t.code t.bytes p
+told_of_it : (device : DeviceParts) (p : PagingData) (t : RegisterTold) → t.addr ≡ device.address → after_told device p t ≡ after_bytes device t.code t.bytes p
 told_of_it device p t same = ap (λ (b : Bool). cond b (after_bytes device t.code t.bytes p) p) (eq-eqb t.addr device.address same)
 
 module _ (kept : List PagingData) (profile : List DeviceParts) where
@@ -41,7 +41,7 @@ module _ (kept : List PagingData) (profile : List DeviceParts) where
 
   module _ (now : DeviceParts → PagingData) (keeps : Keeps kept profile now) where
     -- what is told of no device changes nothing
-    pub untold : (t : Told) → None ≡ device_with t.addr profile → Keeps kept profile (λ device. after_told device (now device) t)
+    pub untold : (t : RegisterTold) → None ≡ device_with t.addr profile → Keeps kept profile (λ device. after_told device (now device) t)
     untold t none = record {
       bus = keeps.bus;
       long = keeps.long;
@@ -55,7 +55,7 @@ module _ (kept : List PagingData) (profile : List DeviceParts) where
     pub placed : (addr : ℕ) (device : DeviceParts) → Some device ≡ device_with addr profile → addr < length kept
     placed addr device known = omega (arith, keeps.long, seven_bits profile keeps.bus addr device (sym known))
 
-    module _ (t : Told) (told_device : DeviceParts) (value : ℕ) (before after : PagingData) (known_told : Some told_device ≡ device_with t.addr profile)
+    module _ (t : RegisterTold) (told_device : DeviceParts) (value : ℕ) (before after : PagingData) (known_told : Some told_device ≡ device_with t.addr profile)
         (bytes_are : t.bytes ≡ value ∷ []) (was : before ≡ get_or kept t.addr before) (is_after : after ≡ after_value told_device t.code value before) where
       told_here : (device : DeviceParts) → device_with t.addr profile ≡ Some device → after ≡ after_told device (now device) t
       told_here device known =
@@ -103,7 +103,7 @@ one_byte (b ∷ c ∷ bytes) some few = absurd (omega (arith, few))
 
 -- ---- what parts tell
 
-abbrev pub told_by : List Part → List Told
+abbrev pub told_by : List Part → List RegisterTold
 told_by parts = map told_by_part (map part_data parts)
 
 -- one part more

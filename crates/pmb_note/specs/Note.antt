@@ -122,15 +122,15 @@ module _ (profile : List DeviceParts) (modes : ℕ → Option ℕ) where
   abbrev pub part_text : PartData → List ℕ
   part_text part = command_text part.addr part.code part.bytes
 
-  abbrev pub part_before : PartData → List ℕ
-  part_before part = part_text part ++ codes " + "
+  abbrev pub part_text_before : PartData → List ℕ
+  part_text_before part = part_text part ++ codes " + "
 
   -- Of a call the name is said, and of an alert the address in bits 7 to 1.
   abbrev pub text_under : TransactionData → List ℕ
   text_under (Write parts) = joined (map part_text parts)
   text_under (Read t) = command_text t.addr t.code t.reply
   text_under (Call t) = of_device (λ device entry. entry.name) t.code (device_with t.addr profile)
-  text_under (Refused t) = flat_map part_before t.parts ++ refused_text t.sent t.at_read
+  text_under (Refused t) = flat_map part_text_before t.parts ++ refused_text t.sent t.at_read
   text_under (Alert t) = codes "device " ++ encode_lower (t.byte / 2 ∷ [])
   text_under NoAlert = codes "no device"
 

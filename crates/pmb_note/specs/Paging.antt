@@ -13,19 +13,19 @@ pub record PagingData : Type 0 where
 -- ---- what is told
 
 -- the value of a register, as a transaction tells it
-pub record Told : Type 0 where
+pub record RegisterTold : Type 0 where
   pub addr : ℕ
   pub code : ℕ
   pub bytes : List ℕ
 
 -- a complete part tells what it wrote
-abbrev pub told_by_part : PartData → Told
+abbrev pub told_by_part : PartData → RegisterTold
 told_by_part part = record { addr = part.addr; code = part.code; bytes = part.bytes }
 
 -- What a transaction tells, in order: what its complete parts wrote, those of a refused packet too,
 -- or what was read. The leg that was refused tells nothing, whatever was sent in it, and neither
 -- does a call or an answer at the Alert Response Address.
-abbrev pub told : TransactionData → List Told
+abbrev pub told : TransactionData → List RegisterTold
 told (Write parts) = map told_by_part parts
 told (Read t) = record { addr = t.addr; code = t.code; bytes = t.reply } ∷ []
 told (Call t) = []
@@ -75,7 +75,7 @@ after_bytes device code (value ∷ []) p = after_value device code value p
 after_bytes device code (a ∷ b ∷ bytes) p = p
 
 -- what is told of a device changes that one alone
-abbrev pub after_told : DeviceParts → PagingData → Told → PagingData
+abbrev pub after_told : DeviceParts → PagingData → RegisterTold → PagingData
 after_told device p t = if nat_eq t.addr device.address then after_bytes device t.code t.bytes p else p
 
 abbrev pub after_transaction : DeviceParts → PagingData → TransactionData → PagingData

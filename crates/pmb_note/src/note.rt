@@ -6,7 +6,7 @@ ghost use Rattle.pmb_coefficients.specs.Coefficients.{Coefficients};
 ghost use Rattle.pmb_command.specs.Parts.{DeviceParts, device_with};
 ghost use Rattle.pmb_transaction.specs.Transaction.{TransactionData, part_data, transaction_data};
 ghost use Rattle.pmb_note.specs.Context.{HasSeen};
-ghost use Rattle.pmb_note.specs.Note.{command_text, data_text, joined, note, of_device, part_before, part_text, refused_text, text_under};
+ghost use Rattle.pmb_note.specs.Note.{command_text, data_text, joined, note, of_device, part_text_before, part_text, refused_text, text_under};
 ghost use Rattle.pmb_note.specs.machine.Standing.{mode_in};
 ghost use Rattle.pmb_note.specs.machine.Written.{Appends};
 
@@ -153,7 +153,7 @@ impl<'p> Context<'p> {
     fn append_parts_before<const N: usize>(&self, parts: &[Part], out: &mut ArrayVec<u8, N>)
         requires few { length parts.now ≤ 15 }
         requires room { length out.old.items + 323 * length parts.now ≤ N }
-        ensures { Appends (flat_map (part_before self.now.profile.now (mode_in self.now)) (map part_data parts.now)) (323 * length parts.now) out.old.items out.new.items }
+        ensures { Appends (flat_map (part_text_before self.now.profile.now (mode_in self.now)) (map part_data parts.now)) (323 * length parts.now) out.old.items out.new.items }
     {
         for part in parts {
             self.append_part(part, out);

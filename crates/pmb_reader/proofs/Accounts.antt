@@ -12,8 +12,8 @@ use Rattle.pmb_reader.specs.declared.reader.Reader.{Reader}
 use Rattle.pmb_reader.specs.declared.reader.Took.TheVariants as took
 use Rattle.pmb_reader.specs.declared.refusal.Refusal as answered
 use Rattle.pmb_reader.specs.Refusal.{refusal_data}
-use Rattle.pmb_reader.specs.Reader.{Standing, Open, Held, Passing, StandsAt, Finishes, Takes, behind_passed, last_read}
-use Rattle.pmb_reader.specs.Feed.{AnswersAgain, EndsPacket, Leads, NeedsMore, Refuses}
+use Rattle.pmb_reader.specs.Reader.{Standing, Open, Held, Passing, ReaderStandsAt, ReaderFinishes, ReaderTakes, behind_passed, last_read}
+use Rattle.pmb_reader.specs.Feed.{AnswersAgain, EndsPacket, Leads, ReaderNeedsMore, ReaderRefuses}
 use Rattle.pmb_reader.specs.Reading.{AnyEvent, Due, HasRead, HeldEvent, IsDue, IsDueAt, IsNotHeld, PassedEvent, Remains}
 use Rattle.pmb_reader.proofs.Stopless.{no_stop_in_none}
 
@@ -73,7 +73,7 @@ module _ (profile : List DeviceParts) where
       → Account events due outcomes read.standing
   account_of reader events due outcomes read = record { at = read.at; reads = read.reads }
 
-  pub has_read : (reader : Reader) (events : List Event) (due : Due) (outcomes : List Outcome) (standing : Standing) → StandsAt profile reader standing
+  pub has_read : (reader : Reader) (events : List Event) (due : Due) (outcomes : List Outcome) (standing : Standing) → ReaderStandsAt profile reader standing
       → Account events due outcomes standing → HasRead profile reader events due outcomes
   has_read reader events due outcomes standing stands account =
       record { standing = standing; stands = stands; at = account.at; reads = account.reads }
@@ -138,7 +138,7 @@ module _ (profile : List DeviceParts) where
   }
 
   goes_on_at : (after : Reader) (events : List Event) (due : Due) (outcomes : List Outcome) (event : Event) (standing : Standing)
-      → IsDue due (event ∷ []) → Account events due outcomes standing → Takes profile standing event took.More after
+      → IsDue due (event ∷ []) → Account events due outcomes standing → ReaderTakes profile standing event took.More after
       → HasRead profile after (events ++ event ∷ []) AnyEvent outcomes
   goes_on_at after events due outcomes event (Open n front) is account takes =
       has_read after (events ++ event ∷ []) AnyEvent outcomes (Open n (front ++ event ∷ [])) takes
@@ -150,7 +150,7 @@ module _ (profile : List DeviceParts) where
 
   pub goes_on : (before after : Reader) (events : List Event) (due : Due) (outcomes : List Outcome) (event : Event)
       → HasRead profile before events due outcomes → IsDue due (event ∷ [])
-      → ((standing : Standing) → StandsAt profile before standing → Takes profile standing event took.More after)
+      → ((standing : Standing) → ReaderStandsAt profile before standing → ReaderTakes profile standing event took.More after)
       → HasRead profile after (events ++ event ∷ []) AnyEvent outcomes
   goes_on before after events due outcomes event read is takes =
       goes_on_at after events due outcomes event read.standing is (account_of before events due outcomes read) (takes read.standing read.stands)
@@ -182,7 +182,7 @@ module _ (profile : List DeviceParts) where
   accepts events (PassedEvent first) outcomes n front event t packet account = absurd account.at
 
   accepts_at : (after : Reader) (events : List Event) (due : Due) (outcomes : List Outcome) (event : Event) (standing : Standing)
-      → Account events due outcomes standing → Takes profile standing event took.Packet after
+      → Account events due outcomes standing → ReaderTakes profile standing event took.Packet after
       → HasRead profile after (events ++ event ∷ []) AnyEvent (outcomes ++ Accepted (last_read after) ∷ [])
   accepts_at after events due outcomes event (Open n front) account takes =
       has_read after (events ++ event ∷ []) AnyEvent (outcomes ++ Accepted (last_read after) ∷ []) (Open (n + length front + 1) []) takes.1
@@ -192,7 +192,7 @@ module _ (profile : List DeviceParts) where
 
   pub is_accepted : (before after : Reader) (events : List Event) (due : Due) (outcomes : List Outcome) (event : Event)
       → HasRead profile before events due outcomes
-      → ((standing : Standing) → StandsAt profile before standing → Takes profile standing event took.Packet after)
+      → ((standing : Standing) → ReaderStandsAt profile before standing → ReaderTakes profile standing event took.Packet after)
       → HasRead profile after (events ++ event ∷ []) AnyEvent (outcomes ++ Accepted (last_read after) ∷ [])
   is_accepted before after events due outcomes event read takes =
       accepts_at after events due outcomes event read.standing (account_of before events due outcomes read) (takes read.standing read.stands)
@@ -217,7 +217,7 @@ module _ (profile : List DeviceParts) where
   refuses events (PassedEvent first) outcomes n front event refusal refused account = absurd account.at
 
   refuses_at : (after : Reader) (events : List Event) (outcomes : List Outcome) (event : Event) (refusal : answered.Refusal) (standing : Standing)
-      → Account events AnyEvent outcomes standing → Takes profile standing event (took.Refused refusal) after
+      → Account events AnyEvent outcomes standing → ReaderTakes profile standing event (took.Refused refusal) after
       → HasRead profile after events (HeldEvent event) (outcomes ++ Refusal (refusal_data refusal) ∷ [])
   refuses_at after events outcomes event refusal (Open n front) account takes =
       has_read after events (HeldEvent event) (outcomes ++ Refusal (refusal_data refusal) ∷ []) (Held (n + length front) (refusal_data refusal)) takes.1
@@ -227,7 +227,7 @@ module _ (profile : List DeviceParts) where
 
   pub is_refused : (before after : Reader) (events : List Event) (outcomes : List Outcome) (event : Event) (refusal : answered.Refusal)
       → HasRead profile before events AnyEvent outcomes
-      → ((standing : Standing) → StandsAt profile before standing → Takes profile standing event (took.Refused refusal) after)
+      → ((standing : Standing) → ReaderStandsAt profile before standing → ReaderTakes profile standing event (took.Refused refusal) after)
       → HasRead profile after events (HeldEvent event) (outcomes ++ Refusal (refusal_data refusal) ∷ [])
   is_refused before after events outcomes event refusal read takes =
       refuses_at after events outcomes event refusal read.standing (account_of before events AnyEvent outcomes read)
@@ -307,7 +307,7 @@ module _ (profile : List DeviceParts) where
 
   pub piece_goes_on : (before after : Reader) (events : List Event) (due : Due) (outcomes : List Outcome) (piece : List Event) (used : ℕ)
       → HasRead profile before events due outcomes → IsDue due piece
-      → ((standing : Standing) → StandsAt profile before standing → NeedsMore profile standing piece used after)
+      → ((standing : Standing) → ReaderStandsAt profile before standing → ReaderNeedsMore profile standing piece used after)
       → HasRead profile after (events ++ piece) AnyEvent outcomes
   piece_goes_on before after events due outcomes piece used read is feeds =
       let w = feeds read.standing read.stands in
@@ -325,11 +325,11 @@ module _ (profile : List DeviceParts) where
 
   pub none_is_read : (before after : Reader) (events : List Event) (due : Due) (outcomes : List Outcome) (used : ℕ)
       → HasRead profile before events due outcomes
-      → ((standing : Standing) → StandsAt profile before standing → NeedsMore profile standing [] used after)
+      → ((standing : Standing) → ReaderStandsAt profile before standing → ReaderNeedsMore profile standing [] used after)
       → HasRead profile after events due outcomes
   none_is_read before after events due outcomes used read feeds =
       let w = feeds read.standing read.stands in
-      has_read after events due outcomes read.standing (subst (StandsAt profile after) (led_nowhere read.standing w.behind w.leads) w.stands)
+      has_read after events due outcomes read.standing (subst (ReaderStandsAt profile after) (led_nowhere read.standing w.behind w.leads) w.stands)
       (account_of before events due outcomes read)
 
   -- the events used, up to with the one that ends a packet
@@ -342,7 +342,7 @@ module _ (profile : List DeviceParts) where
 
   pub piece_is_accepted : (before after : Reader) (events : List Event) (due : Due) (outcomes : List Outcome) (piece : List Event) (used : ℕ)
       → (t : TransactionData) → HasRead profile before events due outcomes → IsDue due piece
-      → ((standing : Standing) → StandsAt profile before standing → EndsPacket profile standing piece used after t)
+      → ((standing : Standing) → ReaderStandsAt profile before standing → EndsPacket profile standing piece used after t)
       → HasRead profile after (events ++ take used piece) AnyEvent (outcomes ++ Accepted t ∷ [])
   piece_is_accepted before after events due outcomes piece used t read is feeds =
       let w = feeds read.standing read.stands in
@@ -374,7 +374,7 @@ module _ (profile : List DeviceParts) where
 
   refused_in : (before after : Reader) (events : List Event) (due : Due) (outcomes : List Outcome) (piece : List Event) (used : ℕ)
       → (refusal : RefusalData) → (read : HasRead profile before events due outcomes) → IsNotHeld due → IsDue due piece
-      → Refuses profile read.standing piece used after refusal ⊎ AnswersAgain profile read.standing used after refusal
+      → ReaderRefuses profile read.standing piece used after refusal ⊎ AnswersAgain profile read.standing used after refusal
       → Stopped after events outcomes piece used refusal
   refused_in before after events due outcomes piece used refusal read free is (inl w) =
       let due_front =
@@ -395,8 +395,8 @@ module _ (profile : List DeviceParts) where
 
   pub piece_is_refused : (before after : Reader) (events : List Event) (due : Due) (outcomes : List Outcome) (piece : List Event) (used : ℕ)
       → (refusal : RefusalData) → HasRead profile before events due outcomes → IsNotHeld due → IsDue due piece
-      → ((standing : Standing) → StandsAt profile before standing
-      → Refuses profile standing piece used after refusal ⊎ AnswersAgain profile standing used after refusal)
+      → ((standing : Standing) → ReaderStandsAt profile before standing
+      → ReaderRefuses profile standing piece used after refusal ⊎ AnswersAgain profile standing used after refusal)
       → Stopped after events outcomes piece used refusal
   piece_is_refused before after events due outcomes piece used refusal read free is feeds =
       refused_in before after events due outcomes piece used refusal read free is (feeds read.standing read.stands)
@@ -407,7 +407,7 @@ module _ (profile : List DeviceParts) where
   whole_reading events outcomes reads = subst (λ (es : List Event). ReadsFrom profile 0 es outcomes) (append-nil events) reads
 
   ends_at : (events : List Event) (outcomes : List Outcome) (standing : Standing) → Account events AnyEvent outcomes standing
-      → Finishes profile standing (Ok tt) → ReadsFrom profile 0 events outcomes
+      → ReaderFinishes profile standing (Ok tt) → ReadsFrom profile 0 events outcomes
   ends_at events outcomes (Open n front) account finishes =
       whole_reading events outcomes
       (subst (ReadsFrom profile 0 (events ++ [])) (append-nil outcomes) (account.reads [] [] tt (append-nil front ∙ finishes)))
@@ -417,12 +417,12 @@ module _ (profile : List DeviceParts) where
       (subst (ReadsFrom profile 0 (events ++ [])) (append-nil outcomes) (account.reads [] [] tt (inl (no_stop_in_none, refl))))
 
   pub all_is_read : (reader : Reader) (events : List Event) (outcomes : List Outcome) → HasRead profile reader events AnyEvent outcomes
-      → ((standing : Standing) → StandsAt profile reader standing → Finishes profile standing (Ok tt)) → ReadsFrom profile 0 events outcomes
+      → ((standing : Standing) → ReaderStandsAt profile reader standing → ReaderFinishes profile standing (Ok tt)) → ReadsFrom profile 0 events outcomes
   all_is_read reader events outcomes read finishes =
       ends_at events outcomes read.standing (account_of reader events AnyEvent outcomes read) (finishes read.standing read.stands)
 
   truncated_at : (events : List Event) (outcomes : List Outcome) (refusal : answered.Refusal) (standing : Standing)
-      → Account events AnyEvent outcomes standing → Finishes profile standing (Err refusal)
+      → Account events AnyEvent outcomes standing → ReaderFinishes profile standing (Err refusal)
       → ReadsFrom profile 0 events (outcomes ++ Refusal (refusal_data refusal) ∷ [])
   truncated_at events outcomes refusal (Open n front) account finishes =
       whole_reading events (outcomes ++ Refusal (refusal_data refusal) ∷ [])
@@ -435,7 +435,7 @@ module _ (profile : List DeviceParts) where
 
   pub is_truncated : (reader : Reader) (events : List Event) (outcomes : List Outcome) (refusal : answered.Refusal)
       → HasRead profile reader events AnyEvent outcomes
-      → ((standing : Standing) → StandsAt profile reader standing → Finishes profile standing (Err refusal))
+      → ((standing : Standing) → ReaderStandsAt profile reader standing → ReaderFinishes profile standing (Err refusal))
       → ReadsFrom profile 0 events (outcomes ++ Refusal (refusal_data refusal) ∷ [])
   is_truncated reader events outcomes refusal read finishes =
       truncated_at events outcomes refusal read.standing (account_of reader events AnyEvent outcomes read) (finishes read.standing read.stands)
@@ -454,7 +454,7 @@ no_refusal (t ∷ ts) (one ∷ outcomes) refusal same =
 module _ (profile : List DeviceParts) (reads_as : (ts : List TransactionData) (events : List Event) (outcomes : List Outcome) → Capture profile ts events → ReadsFrom profile 0 events outcomes → outcomes ≡ map Accepted ts) where
   pub read_back : (ts : List TransactionData) (reader : Reader) (events : List Event) (outcomes : List Outcome) (end : Result Unit answered.Refusal)
       → Capture profile ts events → HasRead profile reader events AnyEvent outcomes
-      → ((standing : Standing) → StandsAt profile reader standing → Finishes profile standing end) → (outcomes ≡ map Accepted ts) × (end ≡ Ok tt)
+      → ((standing : Standing) → ReaderStandsAt profile reader standing → ReaderFinishes profile standing end) → (outcomes ≡ map Accepted ts) × (end ≡ Ok tt)
   read_back ts reader events outcomes (Ok done) capture read finishes =
       (reads_as ts events outcomes capture (all_is_read profile reader events outcomes read finishes), refl)
   read_back ts reader events outcomes (Err refusal) capture read finishes =

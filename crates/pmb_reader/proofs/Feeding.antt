@@ -14,8 +14,8 @@ use Rattle.pmb_reader.specs.declared.reader.Reader.{Reader}
 use Rattle.pmb_reader.specs.declared.reader.Took.TheVariants as answers
 use Rattle.pmb_reader.specs.declared.refusal.Refusal.{Refusal}
 use Rattle.pmb_reader.specs.Refusal.{refusal_data}
-use Rattle.pmb_reader.specs.Reader.{Standing, Open, Held, Passing, StandsAt, IsHeldAt, Takes, behind_passed, last_read}
-use Rattle.pmb_reader.specs.Feed.{Leads, NeedsMore, EndsPacket, Refuses, AnswersAgain}
+use Rattle.pmb_reader.specs.Reader.{Standing, Open, Held, Passing, ReaderStandsAt, IsHeldAt, ReaderTakes, behind_passed, last_read}
+use Rattle.pmb_reader.specs.Feed.{Leads, ReaderNeedsMore, EndsPacket, ReaderRefuses, AnswersAgain}
 use Rattle.pmb_reader.proofs.Stopless.{no_stop_in_none, no_stop_in_more}
 
 -- ---- one event more
@@ -24,11 +24,11 @@ use Rattle.pmb_reader.proofs.Stopless.{no_stop_in_none, no_stop_in_more}
 pub record LedTo (profile : List DeviceParts) (standing : Standing) (piece : List Event) (now : Reader) : Type 0 where
   pub behind : Standing
   pub leads : Leads standing piece behind
-  pub stands : StandsAt profile now behind
+  pub stands : ReaderStandsAt profile now behind
 
 module _ (profile : List DeviceParts) where
   -- no event
-  pub led_nowhere : (now : Reader) (standing : Standing) → StandsAt profile now standing → LedTo profile standing [] now
+  pub led_nowhere : (now : Reader) (standing : Standing) → ReaderStandsAt profile now standing → LedTo profile standing [] now
   led_nowhere now (Open n events) stands =
       record { behind = Open n events; leads = ap (λ (es : List Event). Open n es) (sym (append-nil events)); stands = stands }
   led_nowhere now (Held n refusal) stands = record { behind = Held n refusal; leads = (refl, refl); stands = stands }
@@ -37,7 +37,7 @@ module _ (profile : List DeviceParts) where
       record { behind = Passing n; leads = inl (no_stop_in_none, ap (λ (m : ℕ). Passing m) same); stands = stands }
 
   passed_one : (n : ℕ) (piece : List Event) (event : Event) (after : Reader) → HasNoStop (piece ++ event ∷ [])
-      → StandsAt profile after (Passing (n + length piece + 1)) → LedTo profile (Passing n) (piece ++ event ∷ []) after
+      → ReaderStandsAt profile after (Passing (n + length piece + 1)) → LedTo profile (Passing n) (piece ++ event ∷ []) after
   passed_one n piece event after none stands =
       let count : n + length piece + 1 ≡ n + length (piece ++ event ∷ []) = omega (arith, length-append piece (event ∷ [])) in record {
         behind = Passing (n + length piece + 1);
@@ -46,7 +46,7 @@ module _ (profile : List DeviceParts) where
       }
 
   passed_on : (n : ℕ) (piece : List Event) (event : Event) (after : Reader) → HasNoStop piece
-      → StandsAt profile after (behind_passed (n + length piece) event) → LedTo profile (Passing n) (piece ++ event ∷ []) after
+      → ReaderStandsAt profile after (behind_passed (n + length piece) event) → LedTo profile (Passing n) (piece ++ event ∷ []) after
   passed_on n piece Stop after none stands = record {
     behind = Open (n + length piece + 1) [];
     leads = inr (piece, [], none, refl, refl);
@@ -58,22 +58,22 @@ module _ (profile : List DeviceParts) where
   passed_on n piece Nack after none stands = passed_one n piece Nack after (no_stop_in_more piece Nack none (λ e. cc e)) stands
 
   led_on : (standing behind : Standing) (piece : List Event) (event : Event) (after : Reader) → Leads standing piece behind
-      → Takes profile behind event answers.More after → LedTo profile standing (piece ++ event ∷ []) after
+      → ReaderTakes profile behind event answers.More after → LedTo profile standing (piece ++ event ∷ []) after
   led_on (Open n events) behind piece event after leads takes =
-      let took : Takes profile (Open n (events ++ piece)) event answers.More after =
-      subst (λ (s : Standing). Takes profile s event answers.More after) leads takes in record {
+      let took : ReaderTakes profile (Open n (events ++ piece)) event answers.More after =
+      subst (λ (s : Standing). ReaderTakes profile s event answers.More after) leads takes in record {
         behind = Open n ((events ++ piece) ++ event ∷ []);
         leads = ap (λ (es : List Event). Open n es) (append_assoc events piece (event ∷ []));
         stands = took;
       }
   led_on (Held n refusal) behind piece event after leads takes =
-      absurd (subst (λ (s : Standing). Takes profile s event answers.More after) leads.1 takes)
+      absurd (subst (λ (s : Standing). ReaderTakes profile s event answers.More after) leads.1 takes)
   led_on (Passing n) behind piece event after (inl leads) takes =
       passed_on n piece event after leads.0
-      (subst (λ (s : Standing). Takes profile s event answers.More after) leads.1 takes)
+      (subst (λ (s : Standing). ReaderTakes profile s event answers.More after) leads.1 takes)
   led_on (Passing n) behind piece event after (inr leads) takes =
-      let took : Takes profile (Open (n + length leads.0 + 1) leads.1) event answers.More after =
-      subst (λ (s : Standing). Takes profile s event answers.More after) leads.4 takes in record {
+      let took : ReaderTakes profile (Open (n + length leads.0 + 1) leads.1) event answers.More after =
+      subst (λ (s : Standing). ReaderTakes profile s event answers.More after) leads.4 takes in record {
         behind = Open (n + length leads.0 + 1) (leads.1 ++ event ∷ []);
         leads = inr (
           leads.0,
@@ -89,8 +89,8 @@ module _ (profile : List DeviceParts) where
 
 -- what a reader that was given the first i events of a piece has come to
 pub record FedTo (before : Reader) (piece : List Event) (i : ℕ) (now : Reader) : Type 0 where
-  pub led : (profile : List DeviceParts) (standing : Standing) → StandsAt profile before standing → LedTo profile standing (take i piece) now
-  pub not_held : (profile : List DeviceParts) (standing : Standing) → StandsAt profile before standing → IsHeldAt standing None
+  pub led : (profile : List DeviceParts) (standing : Standing) → ReaderStandsAt profile before standing → LedTo profile standing (take i piece) now
+  pub not_held : (profile : List DeviceParts) (standing : Standing) → ReaderStandsAt profile before standing → IsHeldAt standing None
 
 length_take_within : (i : ℕ) (piece : List Event) → i < length piece → length (take i piece) ≡ i
 length_take_within i piece within = length-take-le i piece (omega arith)
@@ -106,8 +106,8 @@ module _ (before now : Reader) (piece : List Event) (i : ℕ) (d : Event) (fed :
       ∙ ap (λ (rest : List Event). take i piece ++ rest) (drop_more piece i d within)
 
   pub fed_more : (after : Reader)
-      → ((profile : List DeviceParts) (standing : Standing) → StandsAt profile now standing
-      → Takes profile standing (get_or piece i d) answers.More after)
+      → ((profile : List DeviceParts) (standing : Standing) → ReaderStandsAt profile now standing
+      → ReaderTakes profile standing (get_or piece i d) answers.More after)
       → FedTo before piece (i + 1) after
   fed_more after takes = record {
     led = λ profile standing stands.
@@ -119,9 +119,9 @@ module _ (before now : Reader) (piece : List Event) (i : ℕ) (d : Event) (fed :
   }
 
   open_packet : UnderWayHolds → (profile : List DeviceParts) (standing behind : Standing) (ended after : Reader) (t : TransactionData)
-      → Leads standing (take i piece) behind → StandsAt profile now behind → Takes profile behind (get_or piece i d) answers.Packet ended
+      → Leads standing (take i piece) behind → ReaderStandsAt profile now behind → ReaderTakes profile behind (get_or piece i d) answers.Packet ended
       → last_read ended ≡ t
-      → ((n : ℕ) → StandsAt profile ended (Open n []) → StandsAt profile after (Open n [])) → EndsPacket profile standing piece (i + 1) after t
+      → ((n : ℕ) → ReaderStandsAt profile ended (Open n []) → ReaderStandsAt profile after (Open n [])) → EndsPacket profile standing piece (i + 1) after t
   open_packet holds profile standing (Open n events) ended after t leads here takes is stands = record {
     front = take i piece;
     event = get_or piece i d;
@@ -139,18 +139,18 @@ module _ (before now : Reader) (piece : List Event) (i : ℕ) (d : Event) (fed :
   open_packet holds profile standing (Passing n) ended after t leads here takes is stands = absurd takes
 
   pub fed_packet : UnderWayHolds → (ended after : Reader) (t : TransactionData)
-      → ((profile : List DeviceParts) (standing : Standing) → StandsAt profile now standing
-      → Takes profile standing (get_or piece i d) answers.Packet ended)
+      → ((profile : List DeviceParts) (standing : Standing) → ReaderStandsAt profile now standing
+      → ReaderTakes profile standing (get_or piece i d) answers.Packet ended)
       → last_read ended ≡ t
-      → ((profile : List DeviceParts) (n : ℕ) → StandsAt profile ended (Open n []) → StandsAt profile after (Open n []))
-      → (profile : List DeviceParts) (standing : Standing) → StandsAt profile before standing → EndsPacket profile standing piece (i + 1) after t
+      → ((profile : List DeviceParts) (n : ℕ) → ReaderStandsAt profile ended (Open n []) → ReaderStandsAt profile after (Open n []))
+      → (profile : List DeviceParts) (standing : Standing) → ReaderStandsAt profile before standing → EndsPacket profile standing piece (i + 1) after t
   fed_packet holds ended after t takes is stands profile standing at =
       let here = fed.led profile standing at in
       open_packet holds profile standing here.behind ended after t here.leads here.stands (takes profile here.behind here.stands) is (stands profile)
 
   open_refused : (profile : List DeviceParts) (standing behind : Standing) (after : Reader) (refusal : Refusal)
-      → IsHeldAt standing None → Leads standing (take i piece) behind → StandsAt profile now behind
-      → Takes profile behind (get_or piece i d) (answers.Refused refusal) after → Refuses profile standing piece i after (refusal_data refusal)
+      → IsHeldAt standing None → Leads standing (take i piece) behind → ReaderStandsAt profile now behind
+      → ReaderTakes profile behind (get_or piece i d) (answers.Refused refusal) after → ReaderRefuses profile standing piece i after (refusal_data refusal)
   open_refused profile standing (Open n events) after refusal none leads here takes = record {
     front = take i piece;
     event = get_or piece i d;
@@ -170,10 +170,10 @@ module _ (before now : Reader) (piece : List Event) (i : ℕ) (d : Event) (fed :
   open_refused profile standing (Passing m) after refusal none leads here takes = absurd takes
 
   pub fed_refused : (after : Reader) (refusal : Refusal)
-      → ((profile : List DeviceParts) (standing : Standing) → StandsAt profile now standing
-      → Takes profile standing (get_or piece i d) (answers.Refused refusal) after)
-      → (profile : List DeviceParts) (standing : Standing) → StandsAt profile before standing
-      → Refuses profile standing piece i after (refusal_data refusal) ⊎ AnswersAgain profile standing i after (refusal_data refusal)
+      → ((profile : List DeviceParts) (standing : Standing) → ReaderStandsAt profile now standing
+      → ReaderTakes profile standing (get_or piece i d) (answers.Refused refusal) after)
+      → (profile : List DeviceParts) (standing : Standing) → ReaderStandsAt profile before standing
+      → ReaderRefuses profile standing piece i after (refusal_data refusal) ⊎ AnswersAgain profile standing i after (refusal_data refusal)
   fed_refused after refusal takes profile standing at =
       let here = fed.led profile standing at in
       inl
@@ -187,7 +187,7 @@ not_held : (standing : Standing) → IsHeldAt standing None → (n : ℕ) (refus
 not_held standing none n refusal is = subst (λ (s : Standing). IsHeldAt s None) is none
 
 pub fed_all : (before now : Reader) (piece : List Event) (i : ℕ) → FedTo before piece i now → i ≡ length piece
-    → (profile : List DeviceParts) (standing : Standing) → StandsAt profile before standing → NeedsMore profile standing piece (length piece) now
+    → (profile : List DeviceParts) (standing : Standing) → ReaderStandsAt profile before standing → ReaderNeedsMore profile standing piece (length piece) now
 fed_all before now piece i fed last profile standing at =
     let whole : take i piece ≡ piece = take_all i piece (omega arith) in
     let here = fed.led profile standing at in record {
@@ -199,7 +199,7 @@ fed_all before now piece i fed last profile standing at =
     }
 
 -- before the first event
-pub fed_none : (before : Reader) (piece : List Event) → ((profile : List DeviceParts) (standing : Standing) → StandsAt profile before standing → IsHeldAt standing None)
+pub fed_none : (before : Reader) (piece : List Event) → ((profile : List DeviceParts) (standing : Standing) → ReaderStandsAt profile before standing → IsHeldAt standing None)
     → FedTo before piece 0 before
 fed_none before piece none = record {
   led = λ profile standing stands. led_nowhere profile before standing stands;
@@ -208,7 +208,7 @@ fed_none before piece none = record {
 
 -- a refusal that is held
 pub held_again : (profile : List DeviceParts) (reader : Reader) (refusal : Refusal) (standing : Standing)
-    → IsHeldAt standing (Some refusal) → StandsAt profile reader standing → AnswersAgain profile standing 0 reader (refusal_data refusal)
+    → IsHeldAt standing (Some refusal) → ReaderStandsAt profile reader standing → AnswersAgain profile standing 0 reader (refusal_data refusal)
 held_again profile reader refusal (Open n events) held stands = absurd held
 held_again profile reader refusal (Held n first) held stands =
     record { n = n; held = ap (λ (r : RefusalData). Held n r) (sym held); none = refl; stands = stands }

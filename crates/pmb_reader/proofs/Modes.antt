@@ -12,7 +12,7 @@ use Rattle.pmb_reader.specs.declared.reader.Mode.TheVariants as modes
 use Rattle.pmb_reader.specs.declared.reader.Reader.{Reader}
 use Rattle.pmb_reader.specs.declared.refusal.Refusal.{Refusal as Answered}
 use Rattle.pmb_reader.specs.Refusal.{refusal_data}
-use Rattle.pmb_reader.specs.Reader.{Standing, Open, Held, Passing, StandsAt, behind_passed}
+use Rattle.pmb_reader.specs.Reader.{Standing, Open, Held, Passing, ReaderStandsAt, behind_passed}
 use Rattle.pmb_reader.specs.machine.Standing.{IsMode}
 
 -- ---- counts
@@ -39,30 +39,30 @@ still_open (modes.Held held) n m events more is = absurd is
 still_open modes.Passing n m events more is = absurd is
 
 -- behind a STOP that is passed over it reads a packet
-pub behind_passed_stop : (profile : List DeviceParts) (after : Reader) (n : ℕ) (event : Event) → event ≡ Stop → StandsAt profile after (Open (n + 1) [])
-    → StandsAt profile after (behind_passed n event)
-behind_passed_stop profile after n event is stands = subst (λ e. StandsAt profile after (behind_passed n e)) (sym is) stands
+pub behind_passed_stop : (profile : List DeviceParts) (after : Reader) (n : ℕ) (event : Event) → event ≡ Stop → ReaderStandsAt profile after (Open (n + 1) [])
+    → ReaderStandsAt profile after (behind_passed n event)
+behind_passed_stop profile after n event is stands = subst (λ e. ReaderStandsAt profile after (behind_passed n e)) (sym is) stands
 
 module _ (profile : List DeviceParts) (reader : Reader) (Holds : Standing → Type 0) where
   -- while a packet is read
   pub while_open : reader.mode ≡ modes.Open
-      → ((n : ℕ) (events : List Event) → StandsAt profile reader (Open n events) → Holds (Open n events))
-      → (standing : Standing) → StandsAt profile reader standing → Holds standing
+      → ((n : ℕ) (events : List Event) → ReaderStandsAt profile reader (Open n events) → Holds (Open n events))
+      → (standing : Standing) → ReaderStandsAt profile reader standing → Holds standing
   while_open mode holds (Open n events) stands = holds n events stands
   while_open mode holds (Held n refusal) stands = absurd (subst (λ m. IsMode m (Held n refusal)) mode stands.mode)
   while_open mode holds (Passing n) stands = absurd (subst (λ m. IsMode m (Passing n)) mode stands.mode)
 
   -- while a refusal is held
   pub while_held : (held : Answered) → reader.mode ≡ modes.Held held
-      → ((n : ℕ) (refusal : RefusalData) → refusal_data held ≡ refusal → StandsAt profile reader (Held n refusal) → Holds (Held n refusal))
-      → (standing : Standing) → StandsAt profile reader standing → Holds standing
+      → ((n : ℕ) (refusal : RefusalData) → refusal_data held ≡ refusal → ReaderStandsAt profile reader (Held n refusal) → Holds (Held n refusal))
+      → (standing : Standing) → ReaderStandsAt profile reader standing → Holds standing
   while_held held mode holds (Open n events) stands = absurd (subst (λ m. IsMode m (Open n events)) mode stands.mode)
   while_held held mode holds (Held n refusal) stands = holds n refusal (subst (λ m. IsMode m (Held n refusal)) mode stands.mode) stands
   while_held held mode holds (Passing n) stands = absurd (subst (λ m. IsMode m (Passing n)) mode stands.mode)
 
   -- while events are passed over
-  pub while_passing : reader.mode ≡ modes.Passing → ((n : ℕ) → StandsAt profile reader (Passing n) → Holds (Passing n))
-      → (standing : Standing) → StandsAt profile reader standing → Holds standing
+  pub while_passing : reader.mode ≡ modes.Passing → ((n : ℕ) → ReaderStandsAt profile reader (Passing n) → Holds (Passing n))
+      → (standing : Standing) → ReaderStandsAt profile reader standing → Holds standing
   while_passing mode holds (Open n events) stands = absurd (subst (λ m. IsMode m (Open n events)) mode stands.mode)
   while_passing mode holds (Held n refusal) stands = absurd (subst (λ m. IsMode m (Held n refusal)) mode stands.mode)
   while_passing mode holds (Passing n) stands = holds n stands

@@ -11,7 +11,7 @@ use Rattle.pmb_reader.specs.declared.feed.Outcome.{Outcome}
 use Rattle.pmb_reader.specs.declared.feed.Outcome.TheVariants as answers
 use Rattle.pmb_reader.specs.declared.reader.Reader.{Reader}
 use Rattle.pmb_reader.specs.Refusal.{refusal_data}
-use Rattle.pmb_reader.specs.Reader.{Standing, Open, Held, Passing, StandsAt}
+use Rattle.pmb_reader.specs.Reader.{Standing, Open, Held, Passing, ReaderStandsAt}
 
 -- Where events lead that are all used and end no packet: they go on with the packet under way; while
 -- events are passed over, those behind the first STOP begin a packet.
@@ -23,12 +23,12 @@ Leads (Passing n) piece behind =
     ⊎ ((passed : List Event) × (rest : List Event) × HasNoStop passed × (piece ≡ passed ++ Stop ∷ rest) × (behind ≡ Open (n + length passed + 1) rest))
 
 -- The piece is used whole.
-pub record NeedsMore (profile : List DeviceParts) (standing : Standing) (piece : List Event) (used : ℕ) (after : Reader) : Type 0 where
+pub record ReaderNeedsMore (profile : List DeviceParts) (standing : Standing) (piece : List Event) (used : ℕ) (after : Reader) : Type 0 where
   pub not_held : (n : ℕ) (refusal : RefusalData) → standing ≡ Held n refusal → ⊥
   pub all : used ≡ length piece
   pub behind : Standing
   pub leads : Leads standing piece behind
-  pub stands : StandsAt profile after behind
+  pub stands : ReaderStandsAt profile after behind
 
 -- The last event used ends the packet of a transaction, and no event before it ended one.
 pub record EndsPacket (profile : List DeviceParts) (standing : Standing) (piece : List Event) (used : ℕ) (after : Reader) (t : TransactionData) : Type 0 where
@@ -42,10 +42,10 @@ pub record EndsPacket (profile : List DeviceParts) (standing : Standing) (piece 
   pub leads : Leads standing front (Open n events)
   pub under_way : IsUnderWay profile events
   pub packet : Packet profile t (events ++ event ∷ [])
-  pub stands : StandsAt profile after (Open (n + length events + 1) [])
+  pub stands : ReaderStandsAt profile after (Open (n + length events + 1) [])
 
 -- The next event is refused, and not used.
-pub record Refuses (profile : List DeviceParts) (standing : Standing) (piece : List Event) (used : ℕ) (after : Reader) (refusal : RefusalData) : Type 0 where
+pub record ReaderRefuses (profile : List DeviceParts) (standing : Standing) (piece : List Event) (used : ℕ) (after : Reader) (refusal : RefusalData) : Type 0 where
   pub front : List Event
   pub event : Event
   pub rest : List Event
@@ -55,18 +55,18 @@ pub record Refuses (profile : List DeviceParts) (standing : Standing) (piece : L
   pub events : List Event
   pub leads : Leads standing front (Open n events)
   pub refused : RefusedAt profile n events event refusal
-  pub stands : StandsAt profile after (Held (n + length events) refusal)
+  pub stands : ReaderStandsAt profile after (Held (n + length events) refusal)
 
 -- The refusal that is held is answered again.
 pub record AnswersAgain (profile : List DeviceParts) (standing : Standing) (used : ℕ) (after : Reader) (refusal : RefusalData) : Type 0 where
   pub n : ℕ
   pub held : standing ≡ Held n refusal
   pub none : used ≡ 0
-  pub stands : StandsAt profile after standing
+  pub stands : ReaderStandsAt profile after standing
 
 -- what a piece comes to
-abbrev pub Feeds : List DeviceParts → Standing → List Event → ℕ → Outcome → Reader → Type 0
-Feeds profile standing piece used answers.More after = NeedsMore profile standing piece used after
-Feeds profile standing piece used (answers.Packet t) after = EndsPacket profile standing piece used after (transaction_data t)
-Feeds profile standing piece used (answers.Refused refusal) after =
-    Refuses profile standing piece used after (refusal_data refusal) ⊎ AnswersAgain profile standing used after (refusal_data refusal)
+abbrev pub ReaderFeeds : List DeviceParts → Standing → List Event → ℕ → Outcome → Reader → Type 0
+ReaderFeeds profile standing piece used answers.More after = ReaderNeedsMore profile standing piece used after
+ReaderFeeds profile standing piece used (answers.Packet t) after = EndsPacket profile standing piece used after (transaction_data t)
+ReaderFeeds profile standing piece used (answers.Refused refusal) after =
+    ReaderRefuses profile standing piece used after (refusal_data refusal) ⊎ AnswersAgain profile standing used after (refusal_data refusal)

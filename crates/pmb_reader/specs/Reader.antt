@@ -1,11 +1,11 @@
 -- What a reader answers for one event more.
 --
--- `StandsAt profile reader standing` says where a reader stands that was made for a profile and given
--- some events since. At `Open n events`, n events came, and then those of the packet under way, none
--- between packets: some packet begins with them, and they hold no whole one. At `Held n refusal`, n
--- events came, and it holds the refusal of the next one. At `Passing n`, n events came, and it passes
--- over what comes up to and with the next STOP. What this says of a reader's own fields is in
--- `machine`, and nothing here needs it to be understood.
+-- `ReaderStandsAt profile reader standing` says where a reader stands that was made for a profile
+-- and given some events since. At `Open n events`, n events came, and then those of the packet
+-- under way, none between packets: some packet begins with them, and they hold no whole one. At
+-- `Held n refusal`, n events came, and it holds the refusal of the next one. At `Passing n`, n
+-- events came, and it passes over what comes up to and with the next STOP. What this says of a
+-- reader's own fields is in `machine`, and nothing here needs it to be understood.
 use Rattle.std.specs.Prelude.{◌≡◌, ℕ, ◌+◌, Option, Some, None, Result, Ok, Err, List, [], ◌∷◌, ◌++◌, length}
 use Rattle.pmb_bus.specs.declared.event.Event.{Event}
 use Rattle.pmb_bus.specs.declared.event.Event.TheVariants.{Start, Byte, Ack, Nack, Stop}
@@ -19,7 +19,7 @@ use Rattle.pmb_reader.specs.declared.reader.Reader.{Reader}
 use Rattle.pmb_reader.specs.declared.refusal.Refusal.{Refusal}
 use Rattle.pmb_reader.specs.Refusal.{refusal_data}
 pub use Rattle.pmb_reader.specs.Standing.{Standing, Open, Held, Passing}
-pub use Rattle.pmb_reader.specs.machine.Standing.{StandsAt, last_read}
+pub use Rattle.pmb_reader.specs.machine.Standing.{ReaderStandsAt, last_read}
 
 -- where it stands behind an event that is passed over
 abbrev pub behind_passed : ℕ → Event → Standing
@@ -37,18 +37,18 @@ behind_resync (Passing n) = Passing n
 
 -- What one event comes to. Of a packet: it goes on, it ends, or no packet goes on so. A refusal that
 -- is held is answered again. What is passed over is passed over.
-abbrev pub Takes : List DeviceParts → Standing → Event → Took → Reader → Type 0
-Takes profile (Open n events) event answers.More after = StandsAt profile after (Open n (events ++ event ∷ []))
-Takes profile (Open n events) event answers.Packet after =
-    Packet profile (last_read after) (events ++ event ∷ []) × StandsAt profile after (Open (n + length events + 1) [])
-Takes profile (Open n events) event (answers.Refused refusal) after =
-    RefusedAt profile n events event (refusal_data refusal) × StandsAt profile after (Held (n + length events) (refusal_data refusal))
-Takes profile (Held n refusal) event answers.More after = ⊥
-Takes profile (Held n refusal) event answers.Packet after = ⊥
-Takes profile (Held n refusal) event (answers.Refused again) after = (refusal_data again ≡ refusal) × StandsAt profile after (Held n refusal)
-Takes profile (Passing n) event answers.More after = StandsAt profile after (behind_passed n event)
-Takes profile (Passing n) event answers.Packet after = ⊥
-Takes profile (Passing n) event (answers.Refused refusal) after = ⊥
+abbrev pub ReaderTakes : List DeviceParts → Standing → Event → Took → Reader → Type 0
+ReaderTakes profile (Open n events) event answers.More after = ReaderStandsAt profile after (Open n (events ++ event ∷ []))
+ReaderTakes profile (Open n events) event answers.Packet after =
+    Packet profile (last_read after) (events ++ event ∷ []) × ReaderStandsAt profile after (Open (n + length events + 1) [])
+ReaderTakes profile (Open n events) event (answers.Refused refusal) after =
+    RefusedAt profile n events event (refusal_data refusal) × ReaderStandsAt profile after (Held (n + length events) (refusal_data refusal))
+ReaderTakes profile (Held n refusal) event answers.More after = ⊥
+ReaderTakes profile (Held n refusal) event answers.Packet after = ⊥
+ReaderTakes profile (Held n refusal) event (answers.Refused again) after = (refusal_data again ≡ refusal) × ReaderStandsAt profile after (Held n refusal)
+ReaderTakes profile (Passing n) event answers.More after = ReaderStandsAt profile after (behind_passed n event)
+ReaderTakes profile (Passing n) event answers.Packet after = ⊥
+ReaderTakes profile (Passing n) event (answers.Refused refusal) after = ⊥
 
 -- the events that can come: none while a refusal is held, and any while they are passed over
 abbrev pub CanCome : List DeviceParts → Standing → Event → Type 0
@@ -58,13 +58,13 @@ CanCome profile (Passing n) event = Unit {0}
 
 -- what is answered at the end of the events: inside a packet that they are truncated, and a refusal
 -- that is held
-abbrev pub Finishes : List DeviceParts → Standing → Result Unit Refusal → Type 0
-Finishes profile (Open n events) (Ok done) = events ≡ []
-Finishes profile (Open n events) (Err refusal) = TruncatedAt profile n events (refusal_data refusal)
-Finishes profile (Held n refusal) (Ok done) = ⊥
-Finishes profile (Held n refusal) (Err again) = refusal_data again ≡ refusal
-Finishes profile (Passing n) (Ok done) = Unit {0}
-Finishes profile (Passing n) (Err refusal) = ⊥
+abbrev pub ReaderFinishes : List DeviceParts → Standing → Result Unit Refusal → Type 0
+ReaderFinishes profile (Open n events) (Ok done) = events ≡ []
+ReaderFinishes profile (Open n events) (Err refusal) = TruncatedAt profile n events (refusal_data refusal)
+ReaderFinishes profile (Held n refusal) (Ok done) = ⊥
+ReaderFinishes profile (Held n refusal) (Err again) = refusal_data again ≡ refusal
+ReaderFinishes profile (Passing n) (Ok done) = Unit {0}
+ReaderFinishes profile (Passing n) (Err refusal) = ⊥
 
 -- the refusal that is held
 abbrev pub IsHeldAt : Standing → Option Refusal → Type 0

@@ -4,7 +4,7 @@ use Rattle.pmb_bus.specs.declared.event.Event.{Event}
 use Rattle.pmb_command.specs.Parts.{DeviceParts}
 use Rattle.pmb_transaction.specs.Reading.{BehindStop, Outcome, ReadsFrom}
 use Rattle.pmb_reader.specs.declared.reader.Reader.{Reader}
-use Rattle.pmb_reader.specs.Reader.{Standing, Open, Held, Passing, StandsAt}
+use Rattle.pmb_reader.specs.Reader.{Standing, Open, Held, Passing, ReaderStandsAt}
 
 -- What comes next: whatever does, where no event was refused since the last one that was used; else
 -- the refused event again, which was not used, and whose refusal is held, or no longer.
@@ -55,7 +55,7 @@ module _ (profile : List DeviceParts) where
   -- it does: whatever comes, the capture reads as these outcomes and what remains.
   pub record HasRead (reader : Reader) (events : List Event) (due : Due) (outcomes : List Outcome) : Type 0 where
     pub standing : Standing
-    pub stands : StandsAt profile reader standing
+    pub stands : ReaderStandsAt profile reader standing
     pub at : IsDueAt due standing
     pub reads : (more : List Event) (later : List Outcome) → IsDue due more → Remains standing more later
         → ReadsFrom profile 0 (events ++ more) (outcomes ++ later)

@@ -2,8 +2,8 @@
 
 ghost use Rattle.std.specs.Prelude.{List};
 ghost use Rattle.pmb_command.specs.Parts.{DeviceParts};
-ghost use Rattle.pmb_reader.specs.Reader.{Standing, StandsAt};
-ghost use Rattle.pmb_reader.specs.Feed.{Feeds};
+ghost use Rattle.pmb_reader.specs.Reader.{Standing, ReaderStandsAt};
+ghost use Rattle.pmb_reader.specs.Feed.{ReaderFeeds};
 
 use crate::reader::{Reader, Took};
 use crate::refusal::Refusal;
@@ -38,8 +38,8 @@ impl<'p> Reader<'p> {
     /// While a refusal is held, every call answers it and uses nothing. The transaction is handed
     /// over by value; [`take`](Reader::take) and [`packet`](Reader::packet) lend it.
     pub fn feed(&mut self, events: &[Event]) -> Feed
-        ensures { (profile : List DeviceParts) (standing : Standing) → StandsAt profile self.old standing
-            → Feeds profile standing events.now result.used result.outcome self.new }
+        ensures { (profile : List DeviceParts) (standing : Standing) → ReaderStandsAt profile self.old standing
+            → ReaderFeeds profile standing events.now result.used result.outcome self.new }
     {
         some_packet_is_under_way();
         if let Some(refusal) = self.held() {

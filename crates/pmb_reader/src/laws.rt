@@ -16,8 +16,8 @@ ghost use Rattle.pmb_reader.specs.declared.reader.Reader.{Reader};
 ghost use Rattle.pmb_reader.specs.declared.reader.Took.TheVariants as took;
 ghost use Rattle.pmb_reader.specs.declared.refusal.Refusal.{Refusal};
 ghost use Rattle.pmb_reader.specs.Refusal.{refusal_data};
-ghost use Rattle.pmb_reader.specs.Reader.{Standing, Open, StandsAt, Finishes, Takes, behind_resync, last_read};
-ghost use Rattle.pmb_reader.specs.Feed.{Feeds};
+ghost use Rattle.pmb_reader.specs.Reader.{Standing, Open, ReaderStandsAt, ReaderFinishes, ReaderTakes, behind_resync, last_read};
+ghost use Rattle.pmb_reader.specs.Feed.{ReaderFeeds};
 ghost use Rattle.pmb_reader.specs.Reading.{Due, AnyEvent, HeldEvent, HasRead, IsDue, IsNotHeld, due_behind_resync};
 
 use pmb_transaction::laws::captures_read_as_written;
@@ -28,7 +28,7 @@ use pmb_under_way::laws::some_packet_is_under_way;
 /// Where a reader reads a packet, some packet begins with its events so far, and they hold no whole
 /// one.
 pub fn some_packet_is_read()
-    ensures { (profile : List DeviceParts) (reader : Reader) (n : ℕ) (events : List Event) → StandsAt profile reader (Open n events)
+    ensures { (profile : List DeviceParts) (reader : Reader) (n : ℕ) (events : List Event) → ReaderStandsAt profile reader (Open n events)
         → IsUnderWay profile events }
 {
     some_packet_is_under_way();
@@ -38,7 +38,7 @@ pub fn some_packet_is_read()
 
 /// A new reader has read nothing of no events.
 pub fn reading_begins()
-    ensures { (profile : List DeviceParts) (reader : Reader) → StandsAt profile reader (Open 0 [])
+    ensures { (profile : List DeviceParts) (reader : Reader) → ReaderStandsAt profile reader (Open 0 [])
         → HasRead profile reader [] AnyEvent [] }
 {}
 
@@ -49,7 +49,7 @@ pub fn reading_goes_on()
     ensures { (profile : List DeviceParts) (before after : Reader) (events : List Event) (due : Due)
         (outcomes : List Outcome) (event : Event) → HasRead profile before events due outcomes
         → IsDue due (event ∷ [])
-        → ((standing : Standing) → StandsAt profile before standing → Takes profile standing event took.More after)
+        → ((standing : Standing) → ReaderStandsAt profile before standing → ReaderTakes profile standing event took.More after)
         → HasRead profile after (events ++ event ∷ []) AnyEvent outcomes }
 {}
 
@@ -57,7 +57,7 @@ pub fn reading_goes_on()
 pub fn reading_accepts()
     ensures { (profile : List DeviceParts) (before after : Reader) (events : List Event) (due : Due)
         (outcomes : List Outcome) (event : Event) → HasRead profile before events due outcomes
-        → ((standing : Standing) → StandsAt profile before standing → Takes profile standing event took.Packet after)
+        → ((standing : Standing) → ReaderStandsAt profile before standing → ReaderTakes profile standing event took.Packet after)
         → HasRead profile after (events ++ event ∷ []) AnyEvent (outcomes ++ Accepted (last_read after) ∷ []) }
 {}
 
@@ -65,7 +65,7 @@ pub fn reading_accepts()
 pub fn reading_refuses()
     ensures { (profile : List DeviceParts) (before after : Reader) (events : List Event) (outcomes : List Outcome)
         (event : Event) (refusal : Refusal) → HasRead profile before events AnyEvent outcomes
-        → ((standing : Standing) → StandsAt profile before standing → Takes profile standing event (took.Refused refusal) after)
+        → ((standing : Standing) → ReaderStandsAt profile before standing → ReaderTakes profile standing event (took.Refused refusal) after)
         → HasRead profile after events (HeldEvent event) (outcomes ++ refused_as (refusal_data refusal) ∷ []) }
 {}
 
@@ -73,7 +73,7 @@ pub fn reading_refuses()
 pub fn reading_is_held()
     ensures { (profile : List DeviceParts) (before after : Reader) (events : List Event) (first : Event)
         (outcomes : List Outcome) (event : Event) (refusal : Refusal) → HasRead profile before events (HeldEvent first) outcomes
-        → ((standing : Standing) → StandsAt profile before standing → Takes profile standing event (took.Refused refusal) after)
+        → ((standing : Standing) → ReaderStandsAt profile before standing → ReaderTakes profile standing event (took.Refused refusal) after)
         → HasRead profile after events (HeldEvent first) outcomes }
 {}
 
@@ -81,7 +81,7 @@ pub fn reading_is_held()
 pub fn reading_resumes()
     ensures { (profile : List DeviceParts) (before after : Reader) (events : List Event) (due : Due)
         (outcomes : List Outcome) → HasRead profile before events due outcomes
-        → ((standing : Standing) → StandsAt profile before standing → StandsAt profile after (behind_resync standing))
+        → ((standing : Standing) → ReaderStandsAt profile before standing → ReaderStandsAt profile after (behind_resync standing))
         → HasRead profile after events (due_behind_resync due) outcomes }
 {}
 
@@ -92,7 +92,7 @@ pub fn pieces_go_on()
     ensures { (profile : List DeviceParts) (before after : Reader) (events : List Event) (due : Due)
         (outcomes : List Outcome) (piece : List Event) (used : ℕ) → HasRead profile before events due outcomes
         → IsDue due piece
-        → ((standing : Standing) → StandsAt profile before standing → Feeds profile standing piece used fed.More after)
+        → ((standing : Standing) → ReaderStandsAt profile before standing → ReaderFeeds profile standing piece used fed.More after)
         → HasRead profile after (events ++ piece) AnyEvent outcomes }
 {}
 
@@ -100,7 +100,7 @@ pub fn pieces_go_on()
 pub fn empty_pieces_read_nothing()
     ensures { (profile : List DeviceParts) (before after : Reader) (events : List Event) (due : Due)
         (outcomes : List Outcome) (used : ℕ) → HasRead profile before events due outcomes
-        → ((standing : Standing) → StandsAt profile before standing → Feeds profile standing [] used fed.More after)
+        → ((standing : Standing) → ReaderStandsAt profile before standing → ReaderFeeds profile standing [] used fed.More after)
         → HasRead profile after events due outcomes }
 {}
 
@@ -109,7 +109,7 @@ pub fn pieces_are_accepted()
     ensures { (profile : List DeviceParts) (before after : Reader) (events : List Event) (due : Due)
         (outcomes : List Outcome) (piece : List Event) (used : ℕ) (t : Transaction) → HasRead profile before events due outcomes
         → IsDue due piece
-        → ((standing : Standing) → StandsAt profile before standing → Feeds profile standing piece used (fed.Packet t) after)
+        → ((standing : Standing) → ReaderStandsAt profile before standing → ReaderFeeds profile standing piece used (fed.Packet t) after)
         → HasRead profile after (events ++ take used piece) AnyEvent (outcomes ++ Accepted (transaction_data t) ∷ []) }
 {}
 
@@ -119,7 +119,7 @@ pub fn pieces_are_refused()
     ensures { (profile : List DeviceParts) (before after : Reader) (events : List Event) (outcomes : List Outcome)
         (due : Due) (piece : List Event) (used : ℕ) (refusal : Refusal) → HasRead profile before events due outcomes
         → IsNotHeld due → IsDue due piece
-        → ((standing : Standing) → StandsAt profile before standing → Feeds profile standing piece used (fed.Refused refusal) after)
+        → ((standing : Standing) → ReaderStandsAt profile before standing → ReaderFeeds profile standing piece used (fed.Refused refusal) after)
         → ((event : Event) × (rest : List Event) × (piece ≡ take used piece ++ event ∷ rest)
         × HasRead profile after (events ++ take used piece) (HeldEvent event) (outcomes ++ refused_as (refusal_data refusal) ∷ [])) }
 {}
@@ -129,7 +129,7 @@ pub fn pieces_are_held()
     ensures { (profile : List DeviceParts) (before after : Reader) (events : List Event) (first : Event)
         (outcomes : List Outcome) (piece : List Event) (used : ℕ) (refusal : Refusal)
         → HasRead profile before events (HeldEvent first) outcomes
-        → ((standing : Standing) → StandsAt profile before standing → Feeds profile standing piece used (fed.Refused refusal) after)
+        → ((standing : Standing) → ReaderStandsAt profile before standing → ReaderFeeds profile standing piece used (fed.Refused refusal) after)
         → HasRead profile after events (HeldEvent first) outcomes }
 {}
 
@@ -140,7 +140,7 @@ pub fn pieces_are_held()
 pub fn reading_ends()
     ensures { (profile : List DeviceParts) (reader : Reader) (events : List Event) (outcomes : List Outcome)
         → HasRead profile reader events AnyEvent outcomes
-        → ((standing : Standing) → StandsAt profile reader standing → Finishes profile standing (Ok tt))
+        → ((standing : Standing) → ReaderStandsAt profile reader standing → ReaderFinishes profile standing (Ok tt))
         → Reading profile events outcomes }
 {}
 
@@ -149,7 +149,7 @@ pub fn reading_ends()
 pub fn reading_is_truncated()
     ensures { (profile : List DeviceParts) (reader : Reader) (events : List Event) (outcomes : List Outcome) (refusal : Refusal)
         → HasRead profile reader events AnyEvent outcomes
-        → ((standing : Standing) → StandsAt profile reader standing → Finishes profile standing (Err refusal))
+        → ((standing : Standing) → ReaderStandsAt profile reader standing → ReaderFinishes profile standing (Err refusal))
         → Reading profile events (outcomes ++ refused_as (refusal_data refusal) ∷ []) }
 {}
 
@@ -159,7 +159,7 @@ pub fn captures_are_read_back()
     ensures { (profile : List DeviceParts) (ts : List TransactionData) (reader : Reader) (events : List Event)
         (outcomes : List Outcome) (end : Result Unit Refusal) → IsBus profile → Capture profile ts events
         → HasRead profile reader events AnyEvent outcomes
-        → ((standing : Standing) → StandsAt profile reader standing → Finishes profile standing end)
+        → ((standing : Standing) → ReaderStandsAt profile reader standing → ReaderFinishes profile standing end)
         → (outcomes ≡ map Accepted ts) × (end ≡ Ok tt) }
 {
     captures_read_as_written();

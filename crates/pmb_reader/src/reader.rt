@@ -12,7 +12,7 @@ ghost use Rattle.pmb_transaction.specs.Capture.{MayFollow};
 ghost use Rattle.pmb_transaction.specs.Reading.{RefusedAt};
 ghost use Rattle.pmb_transaction.specs.Transaction.{transaction_data};
 ghost use Rattle.pmb_reader.specs.Refusal.{refusal_data};
-ghost use Rattle.pmb_reader.specs.Reader.{Standing, Open, Held, Passing, StandsAt, CanCome, Finishes, IsHeldAt, Takes, behind_passed, behind_resync, last_read};
+ghost use Rattle.pmb_reader.specs.Reader.{Standing, Open, Held, Passing, ReaderStandsAt, CanCome, ReaderFinishes, IsHeldAt, ReaderTakes, behind_passed, behind_resync, last_read};
 
 use crate::refusal::Refusal;
 use pmb_bus::{Event, Kinds};
@@ -54,7 +54,7 @@ pub struct Reader<'p> {
 impl<'p> Reader<'p> {
     /// A reader at the start of a capture.
     pub fn new(profile: &'p Profile) -> Self
-        ensures { StandsAt profile.now result (Open 0 []) }
+        ensures { ReaderStandsAt profile.now result (Open 0 []) }
     {
         Reader {
             under_way: UnderWay::new(profile),
@@ -68,8 +68,8 @@ impl<'p> Reader<'p> {
     /// While a refusal is held, every call answers it and uses nothing.
     #[inline(always)]
     pub fn take(&mut self, event: Event) -> Took
-        ensures { (profile : List DeviceParts) (standing : Standing) → StandsAt profile self.old standing
-            → Takes profile standing event result self.new }
+        ensures { (profile : List DeviceParts) (standing : Standing) → ReaderStandsAt profile self.old standing
+            → ReaderTakes profile standing event result self.new }
     {
         match self.mode {
             Mode::Open => self.read(event),
@@ -93,15 +93,15 @@ impl<'p> Reader<'p> {
     /// Gives away the transaction whose packet ended last.
     pub(crate) fn take_packet(&mut self) -> Transaction
         ensures read { transaction_data result ≡ last_read self.old }
-        ensures stands { (profile : List DeviceParts) (n : ℕ) → StandsAt profile self.old (Open n [])
-            → StandsAt profile self.new (Open n []) }
+        ensures stands { (profile : List DeviceParts) (n : ℕ) → ReaderStandsAt profile self.old (Open n [])
+            → ReaderStandsAt profile self.new (Open n []) }
     {
         self.under_way.take_packet()
     }
 
     /// The refusal that is held.
     pub(crate) fn held(&self) -> Option<Refusal>
-        ensures { (profile : List DeviceParts) (standing : Standing) → StandsAt profile self.now standing
+        ensures { (profile : List DeviceParts) (standing : Standing) → ReaderStandsAt profile self.now standing
             → IsHeldAt standing result }
     {
         match self.mode {
@@ -113,7 +113,7 @@ impl<'p> Reader<'p> {
     /// The kinds of the events that some packet goes on with; none while a refusal is held, and all
     /// while events are passed over.
     pub fn expected(&self) -> Kinds
-        ensures { (profile : List DeviceParts) (standing : Standing) → StandsAt profile self.now standing
+        ensures { (profile : List DeviceParts) (standing : Standing) → ReaderStandsAt profile self.now standing
             → AreKindsOf (CanCome profile standing) result }
     {
         match self.mode {
@@ -129,8 +129,8 @@ impl<'p> Reader<'p> {
     ///
     /// The refusal that is held, or, inside a packet, that it is truncated.
     pub fn finish(&self) -> Result<(), Refusal>
-        ensures { (profile : List DeviceParts) (standing : Standing) → StandsAt profile self.now standing
-            → Finishes profile standing result }
+        ensures { (profile : List DeviceParts) (standing : Standing) → ReaderStandsAt profile self.now standing
+            → ReaderFinishes profile standing result }
     {
         match self.mode {
             Mode::Open => {
@@ -152,8 +152,8 @@ impl<'p> Reader<'p> {
     /// Goes on behind a refusal: the events up to and with the next STOP, the refused one among
     /// them, are passed over. Where no refusal is held nothing changes.
     pub fn resync(&mut self)
-        ensures { (profile : List DeviceParts) (standing : Standing) → StandsAt profile self.old standing
-            → StandsAt profile self.new (behind_resync standing) }
+        ensures { (profile : List DeviceParts) (standing : Standing) → ReaderStandsAt profile self.old standing
+            → ReaderStandsAt profile self.new (behind_resync standing) }
     {
         if let Mode::Held(_) = self.mode {
             self.mode = Mode::Passing;
@@ -163,8 +163,8 @@ impl<'p> Reader<'p> {
     // Takes an event of a packet.
     #[inline(always)]
     fn read(&mut self, event: Event) -> Took
-        ensures { (profile : List DeviceParts) (n : ℕ) (events : List BusEvent) → StandsAt profile self.old (Open n events)
-            → Takes profile (Open n events) event result self.new }
+        ensures { (profile : List DeviceParts) (n : ℕ) (events : List BusEvent) → ReaderStandsAt profile self.old (Open n events)
+            → ReaderTakes profile (Open n events) event result self.new }
     {
         match self.under_way.step(event) {
             Move::On => {
@@ -182,9 +182,9 @@ impl<'p> Reader<'p> {
     // Refuses an event, and holds that.
     #[inline(never)]
     fn refuse(&mut self, event: Event) -> Refusal
-        ensures { (profile : List DeviceParts) (n : ℕ) (events : List BusEvent) → StandsAt profile self.old (Open n events)
+        ensures { (profile : List DeviceParts) (n : ℕ) (events : List BusEvent) → ReaderStandsAt profile self.old (Open n events)
             → (MayFollow profile events event → ⊥) → RefusedAt profile n events event (refusal_data result)
-            × StandsAt profile self.new (Held (n + length events) (refusal_data result)) }
+            × ReaderStandsAt profile self.new (Held (n + length events) (refusal_data result)) }
     {
         let refusal = Refusal {
             at: self.used,
@@ -199,8 +199,8 @@ impl<'p> Reader<'p> {
     // Passes an event over.
     #[inline]
     fn pass(&mut self, event: Event)
-        ensures { (profile : List DeviceParts) (n : ℕ) → StandsAt profile self.old (Passing n)
-            → StandsAt profile self.new (behind_passed n event) }
+        ensures { (profile : List DeviceParts) (n : ℕ) → ReaderStandsAt profile self.old (Passing n)
+            → ReaderStandsAt profile self.new (behind_passed n event) }
     {
         self.used = self.used.saturating_add(1);
         if let Event::Stop = event {

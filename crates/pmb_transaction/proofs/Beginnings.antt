@@ -8,7 +8,7 @@ use Rattle.pmb_bus.specs.declared.event.Event.TheVariants.{Start, Byte, Ack, Nac
 use Rattle.pmb_command.specs.Bus.{IsBus}
 use Rattle.pmb_command.specs.Parts.{DeviceParts, IsNew, device_with}
 use Rattle.pmb_transaction.specs.Transaction.{PartData, ReadData, CallData, TransactionData, Write, Read, Call, Refused, Alert, NoAlert}
-use Rattle.pmb_transaction.specs.Wire.{IsByte, AreBytes, wire}
+use Rattle.pmb_transaction.specs.Wire.{IsByte, AreByteValues, wire}
 use Rattle.pmb_transaction.specs.Body.{write_address, read_address, checked, IsProperPrefix, IsWriteBody, IsReadBody, IsCallBody, Allowed}
 use Rattle.pmb_transaction.specs.Packet.{Packet, PartEvents, PartsEvents, ReadPacket, CallPacket, ByteRefused, ReadRefused, RefusedLeg, acked, nacked, leg, addresses, alert_address}
 use Rattle.pmb_transaction.specs.Capture.{Viable}
@@ -19,7 +19,7 @@ use Rattle.pmb_transaction.proofs.Stops.{packet_ends_with_stop}
 use Rattle.pmb_transaction.proofs.Fronts.{Beyond, Fewer, NotAllTaken, OneSent, SomeTaken, Within, cut, front_of_acked, front_of_nacked, no_end, up_to_stop}
 
 -- a byte among bytes
-byte_among : (front : List ℕ) (b : ℕ) (rest : List ℕ) → AreBytes (front ++ b ∷ rest) → IsByte b
+byte_among : (front : List ℕ) (b : ℕ) (rest : List ℕ) → AreByteValues (front ++ b ∷ rest) → IsByte b
 byte_among [] b rest small = small.0
 byte_among (x ∷ front) b rest small = byte_among front b rest small.1
 
@@ -151,19 +151,19 @@ module _ (pec_is_byte : (bytes : List ℕ) → pec bytes < 256) (profile : List 
   -- ---- legs that are written
 
   leg_begins_at : (parts : List PartData) (addr : ℕ) (device : DeviceParts) (body : List ℕ) → device_with addr profile ≡ Some device
-      → IsNew addr (addresses parts) → Allowed device parts body → AreBytes body → (events : List Event) → SomeTaken body events ⊎ OneSent body events
+      → IsNew addr (addresses parts) → Allowed device parts body → AreByteValues body → (events : List Event) → SomeTaken body events ⊎ OneSent body events
       → LegBegins profile parts (Start ∷ Byte (write_address addr) ∷ Ack ∷ events)
   leg_begins_at parts addr device body known new allowed small events (inl w) =
       leg_taken addr device w.front new known (inr (body, w.rest, allowed, w.split))
       (ap (λ (es : List Event). Start ∷ Byte (write_address addr) ∷ Ack ∷ es) w.spelled)
   leg_begins_at parts addr device body known new allowed small events (inr w) =
       leg_sent addr device w.front w.byte new known (inr (body, allowed, record { next = w.byte; rest = w.rest; split = w.split }))
-      (byte_among w.front w.byte w.rest (subst AreBytes w.split small))
+      (byte_among w.front w.byte w.rest (subst AreByteValues w.split small))
       (ap (λ (es : List Event). Start ∷ Byte (write_address addr) ∷ Ack ∷ es) w.spelled)
 
   -- what begins the leg of a body
   leg_begins : (parts : List PartData) (addr : ℕ) (device : DeviceParts) (body : List ℕ) → device_with addr profile ≡ Some device
-      → IsNew addr (addresses parts) → Allowed device parts body → AreBytes body → (e : Event) (events more : List Event)
+      → IsNew addr (addresses parts) → Allowed device parts body → AreByteValues body → (e : Event) (events more : List Event)
       → e ∷ events ++ more ≡ leg (write_address addr ∷ body) → LegBegins profile parts (e ∷ events)
   leg_begins parts addr device body known new allowed small e [] more same =
       let is_start : e ≡ Start = cc same in
@@ -331,7 +331,7 @@ module _ (pec_is_byte : (bytes : List ℕ) → pec bytes < 256) (profile : List 
       let others = in_front w.front refused.front w.byte w.rest refused.last (sym refused.split ∙ w.split) in
       let inside = inside_body refused.device parts refused.front w.front others.0 refused.begins others.1 in
       leg_sent addr refused.device w.front w.byte new refused.known inside
-      (byte_among w.front w.byte w.rest (subst AreBytes w.split refused.bytes))
+      (byte_among w.front w.byte w.rest (subst AreByteValues w.split refused.bytes))
       (ap (λ (es : List Event). Start ∷ Byte (write_address addr) ∷ Ack ∷ es) w.spelled)
 
   -- what begins a leg in which a byte was refused, be it the address byte

@@ -12,16 +12,16 @@ use Rattle.pmb_command.specs.Parts.{DeviceParts, device_with}
 use Rattle.pmb_transaction.specs.Body.{IsCallBody, IsReadBody, WriteBody, checked, read_address, write_address}
 use Rattle.pmb_transaction.specs.Packet.{Packet, PartsEvents, ReadRefused, RefusedLeg, acked, alert_address, answered, leg, nacked}
 use Rattle.pmb_transaction.specs.Transaction.{PartData, TransactionData, Write, Read, Call, Refused, Alert, NoAlert}
-use Rattle.pmb_transaction.specs.Wire.{AreBytes, Fits, wire}
+use Rattle.pmb_transaction.specs.Wire.{AreByteValues, Fits, wire}
 use Rattle.pmb_transaction.proofs.Known.{code_is_byte, device_is}
 
 -- ---- lists of bytes
 
-pub small-append : (a b : List ℕ) → AreBytes a → AreBytes b → AreBytes (a ++ b)
+pub small-append : (a b : List ℕ) → AreByteValues a → AreByteValues b → AreByteValues (a ++ b)
 small-append [] b first second = second
 small-append (x ∷ a) b first second = (first.0, small-append a b first.1 second)
 
-small_wire : (form : Form) (bytes : List ℕ) → Fits form bytes → AreBytes (wire form bytes)
+small_wire : (form : Form) (bytes : List ℕ) → Fits form bytes → AreByteValues (wire form bytes)
 small_wire Zero bytes fits = fits.small
 small_wire One bytes fits = fits.small
 small_wire Two bytes fits = fits.small
@@ -39,11 +39,11 @@ AreBytes-append (Ack ∷ a) b first second = AreBytes-append a b first second
 AreBytes-append (Nack ∷ a) b first second = AreBytes-append a b first second
 AreBytes-append (Stop ∷ a) b first second = AreBytes-append a b first second
 
-bytes_of_acked : (bytes : List ℕ) → AreBytes bytes → of_events.AreBytes (acked bytes)
+bytes_of_acked : (bytes : List ℕ) → AreByteValues bytes → of_events.AreBytes (acked bytes)
 bytes_of_acked [] small = tt
 bytes_of_acked (b ∷ bytes) small = (small.0, bytes_of_acked bytes small.1)
 
-bytes_of_nacked : (bytes : List ℕ) → AreBytes bytes → of_events.AreBytes (nacked bytes)
+bytes_of_nacked : (bytes : List ℕ) → AreByteValues bytes → of_events.AreBytes (nacked bytes)
 bytes_of_nacked [] small = tt
 bytes_of_nacked (b ∷ []) small = (small.0, tt)
 bytes_of_nacked (b ∷ c ∷ bytes) small = (small.0, bytes_of_nacked (c ∷ bytes) small.1)
@@ -54,11 +54,11 @@ with_stop events front small spelled = subst of_events.AreBytes (sym spelled) (A
 
 -- A packet error code is a byte.
 module _ (pec_is_byte : (bytes : List ℕ) → pec bytes < 256) where
-  small_checked : (with_pec : Bool) (before bytes : List ℕ) → AreBytes bytes → AreBytes (checked with_pec before bytes)
+  small_checked : (with_pec : Bool) (before bytes : List ℕ) → AreByteValues bytes → AreByteValues (checked with_pec before bytes)
   small_checked false before bytes small = small
   small_checked true before bytes small = small-append bytes (pec (before ++ bytes) ∷ []) small (pec_is_byte (before ++ bytes), tt)
 
-  bytes_of_answered : (events : List Event) (addr : ℕ) (body reply : List ℕ) (with_pec : Bool) → addr < 128 → AreBytes body → AreBytes reply
+  bytes_of_answered : (events : List Event) (addr : ℕ) (body reply : List ℕ) (with_pec : Bool) → addr < 128 → AreByteValues body → AreByteValues reply
       → events ≡ answered addr body reply with_pec → of_events.AreBytes events
   bytes_of_answered events addr body reply with_pec seven sent replied spelled =
       let written = leg (write_address addr ∷ body) in
@@ -79,11 +79,11 @@ module _ (pec_is_byte : (bytes : List ℕ) → pec bytes < 256) where
         omega (arith, is.0.address.greatest, is.1)
 
     pub small_body : (device : DeviceParts) (addr code : ℕ) (bytes : List ℕ) (with_pec : Bool) (body : List ℕ) → device_with addr profile ≡ Some device
-        → WriteBody device code bytes with_pec body → AreBytes body
+        → WriteBody device code bytes with_pec body → AreByteValues body
     small_body device addr code bytes with_pec body known allowed =
         let is = device_is profile addr device bus known in
         let code_small = code_is_byte (λ (s : Shape). s.write) device code allowed.form refl is.0 allowed.written in
-        subst AreBytes (sym allowed.spelled)
+        subst AreByteValues (sym allowed.spelled)
         (
         small_checked with_pec (write_address device.address ∷ []) (code ∷ wire allowed.form bytes)
         (code_small, small_wire allowed.form bytes allowed.fits)
@@ -100,15 +100,15 @@ module _ (pec_is_byte : (bytes : List ℕ) → pec bytes < 256) where
         subst of_events.AreBytes (sym each.2) (AreBytes-append each.0 each.1 first (bytes_of_parts parts each.1 each.4))
 
     pub small_sent : (addr : ℕ) (device : DeviceParts) (sent : List ℕ) → device_with addr profile ≡ Some device
-        → IsReadBody device sent ⊎ IsCallBody device sent → AreBytes sent
+        → IsReadBody device sent ⊎ IsCallBody device sent → AreByteValues sent
     small_sent addr device sent known (inl read) =
         let is = device_is profile addr device bus known in
         let code_small = code_is_byte (λ (s : Shape). s.read) device read.0 read.1 refl is.0 read.2.read in
-        subst AreBytes (sym read.2.spelled) (code_small, tt)
+        subst AreByteValues (sym read.2.spelled) (code_small, tt)
     small_sent addr device sent known (inr call) =
         let is = device_is profile addr device bus known in
         let code_small = code_is_byte (λ (s : Shape). s.call) device call.0 call.1 refl is.0 call.3.called in
-        subst AreBytes (sym call.3.spelled) (code_small, small_wire call.1 call.2 call.3.fits)
+        subst AreByteValues (sym call.3.spelled) (code_small, small_wire call.1 call.2 call.3.fits)
 
     bytes_of_read_refused : (parts : List PartData) (addr : ℕ) (sent : List ℕ) (last : List Event) → ReadRefused profile parts addr sent last
         → of_events.AreBytes last

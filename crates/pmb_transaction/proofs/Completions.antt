@@ -8,7 +8,7 @@ use Rattle.pmb_bus.specs.declared.event.Event.TheVariants.{Start, Byte, Ack, Nac
 use Rattle.pmb_command.specs.Bus.{IsBus}
 use Rattle.pmb_command.specs.Parts.{DeviceParts, IsNew, device_with}
 use Rattle.pmb_transaction.specs.Transaction.{PartData, ReadData, CallData, RefusedData, AlertData, TransactionData, Write, Read, Call, Refused, Alert, NoAlert}
-use Rattle.pmb_transaction.specs.Wire.{IsByte, AreBytes, wire}
+use Rattle.pmb_transaction.specs.Wire.{IsByte, AreByteValues, wire}
 use Rattle.pmb_transaction.specs.Body.{write_address, read_address, checked, ReadBody, CallBody, IsWriteBody, IsReadBody, IsCallBody, Allowed}
 use Rattle.pmb_transaction.specs.Packet.{Packet, PartEvents, PartsEvents, WritePacket, ReadPacket, CallPacket, ReadRefused, RefusedLeg, RefusedPacket, AlertPacket, acked, nacked, leg, addresses, alert_address, answered}
 use Rattle.pmb_transaction.specs.Capture.{IsPacket, Viable}
@@ -40,7 +40,7 @@ byte_then byte [] = refl
 byte_then byte (b ∷ rest) = refl
 
 -- bytes in front of others
-small_front : (a b : List ℕ) → AreBytes (a ++ b) → AreBytes a
+small_front : (a b : List ℕ) → AreByteValues (a ++ b) → AreByteValues a
 small_front [] b small = tt
 small_front (x ∷ a) b small = (small.0, small_front a b small.1)
 
@@ -101,7 +101,7 @@ module _ (pec_is_byte : (bytes : List ℕ) → pec bytes < 256) (profile : List 
       completes events more ((legs ++ all) ++ Stop ∷ []) (Refused t) same packet
 
   pub byte_refused : (parts : List PartData) (addr : ℕ) (device : DeviceParts) (bytes : List ℕ) (byte : ℕ) → device_with addr profile ≡ Some device
-      → AreBytes bytes → IsByte byte → IsInsideBody device parts bytes
+      → AreByteValues bytes → IsByte byte → IsInsideBody device parts bytes
       → RefusedLeg profile parts addr (bytes ++ byte ∷ []) false (leg (write_address addr ∷ []) ++ nacked (bytes ++ byte ∷ []))
   byte_refused parts addr device [] byte known small last inside = record {
     device = device;
@@ -147,16 +147,16 @@ module _ (pec_is_byte : (bytes : List ℕ) → pec bytes < 256) (profile : List 
   -- ---- written legs
 
   small_allowed : (parts : List PartData) (addr : ℕ) (device : DeviceParts) (body : List ℕ) → device_with addr profile ≡ Some device
-      → Allowed device parts body → AreBytes body
+      → Allowed device parts body → AreByteValues body
   small_allowed [] addr device body known (inl w) = small_body pec_is_byte profile bus device addr w.0 w.1 w.2 body known w.3
   small_allowed [] addr device body known (inr is) = small_sent pec_is_byte profile bus addr device body known is
   small_allowed (part ∷ parts) addr device body known w = small_body pec_is_byte profile bus device addr w.0 w.1 w.2 body known w.3
 
   pub small_inside : (parts : List PartData) (addr : ℕ) (device : DeviceParts) (bytes : List ℕ) → device_with addr profile ≡ Some device
-      → IsInsideBody device parts bytes → AreBytes bytes
-  small_inside parts addr device bytes known (inl none) = subst AreBytes (sym none) tt
+      → IsInsideBody device parts bytes → AreByteValues bytes
+  small_inside parts addr device bytes known (inl none) = subst AreByteValues (sym none) tt
   small_inside parts addr device bytes known (inr w) =
-      small_front bytes (w.2.next ∷ w.2.rest) (subst AreBytes w.2.split (small_allowed parts addr device w.0 known w.1))
+      small_front bytes (w.2.next ∷ w.2.rest) (subst AreByteValues w.2.split (small_allowed parts addr device w.0 known w.1))
 
   module _ (parts : List PartData) (few : length parts ≤ 15) (own : IsDistinct nat_eq (addresses parts)) (legs : List Event) (each : PartsEvents profile parts legs) where
     -- the leg of a write body makes one more part

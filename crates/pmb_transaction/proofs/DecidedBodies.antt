@@ -6,14 +6,14 @@ use Rattle.pmb_command.specs.declared.pec_mode.PecMode.{PecMode}
 use Rattle.pmb_command.specs.declared.pec_mode.PecMode.TheVariants.{Off, On, Optional}
 use Rattle.pmb_command.specs.Parts.{DeviceParts}
 use Rattle.pmb_transaction.specs.Transaction.{PartData}
-use Rattle.pmb_transaction.specs.Wire.{IsByte, AreBytes, Fits, Takes, wire}
+use Rattle.pmb_transaction.specs.Wire.{IsByte, AreByteValues, Fits, Takes, wire}
 use Rattle.pmb_transaction.specs.Body.{write_address, forms, AllowsPec, checked, IsProperPrefix, ReadBody, CallBody, IsWriteBody, IsReadBody, IsCallBody, Allowed}
 use Rattle.pmb_transaction.proofs.Decided.{Decided, at_most, below, both, either_way, of_each, of_some, one_of, same_bool, same_number}
 use Rattle.pmb_transaction.proofs.Finite.{Few, bools, data_bytes, some_of}
 
 -- ---- data
 
-pub are_bytes : (bytes : List ℕ) → Decided (AreBytes bytes)
+pub are_bytes : (bytes : List ℕ) → Decided (AreByteValues bytes)
 are_bytes bytes = of_each ℕ IsByte (λ b. below b 256) bytes
 
 takes : (form : Form) (n : ℕ) → Decided (Takes form n)
@@ -26,8 +26,8 @@ takes Block n = at_most n 255
 
 pub fits : (form : Form) (bytes : List ℕ) → Decided (Fits form bytes)
 fits form bytes =
-    either_way (AreBytes bytes × Takes form (length bytes)) (Fits form bytes) (λ w. record { small = w.0; taken = w.1 }) (λ w. (w.small, w.taken))
-    (both (AreBytes bytes) (Takes form (length bytes)) (are_bytes bytes) (takes form (length bytes)))
+    either_way (AreByteValues bytes × Takes form (length bytes)) (Fits form bytes) (λ w. record { small = w.0; taken = w.1 }) (λ w. (w.small, w.taken))
+    (both (AreByteValues bytes) (Takes form (length bytes)) (are_bytes bytes) (takes form (length bytes)))
 
 -- data of a form are few
 pub few_of_form : (form : Form) (bytes : List ℕ) → Takes form (length bytes) → length bytes ≤ 255

@@ -7,7 +7,7 @@ use Rattle.pmb_bus.specs.declared.event.Event.TheVariants.{Start, Byte, Ack, Nac
 use Rattle.pmb_command.specs.declared.form.Form.{Form}
 use Rattle.pmb_command.specs.Parts.{DeviceParts, IsNew, device_with}
 use Rattle.pmb_transaction.specs.Transaction.{PartData, ReadData, CallData, RefusedData, TransactionData, Write, Read, Call, Refused, Alert, NoAlert}
-use Rattle.pmb_transaction.specs.Wire.{AreBytes, Fits, wire}
+use Rattle.pmb_transaction.specs.Wire.{AreByteValues, Fits, wire}
 use Rattle.pmb_transaction.specs.Body.{write_address, read_address, forms, AllowsPec, checked}
 use Rattle.pmb_transaction.specs.Packet.{Packet, PartEvents, PartsEvents, WritePacket, ReadPacket, CallPacket, RefusedPacket, AlertPacket, AddressRefused, ByteRefused, ReadRefused, RefusedLeg, addresses, alert_address, answered, leg, nacked}
 use Rattle.pmb_transaction.proofs.Decided.{Decided, at_most, begins_with, below, both, either_way, of_each, of_some, same_bool, same_number}
@@ -148,14 +148,14 @@ module _ (profile : List DeviceParts) where
   byte_refused : (parts : List PartData) (addr : ℕ) (sent front : List ℕ) (last : ℕ) → sent ≡ front ++ last ∷ []
       → Decided ((events : List Event) × ByteRefused profile parts addr sent events)
   byte_refused parts addr sent front last split =
-      either_way ((device : DeviceParts) × (device_with addr profile ≡ Some device) × (AreBytes sent × Goes device parts front))
+      either_way ((device : DeviceParts) × (device_with addr profile ≡ Some device) × (AreByteValues sent × Goes device parts front))
       ((events : List Event) × ByteRefused profile parts addr sent events) (λ w. spelled w.0 w.1 w.2) (λ w. parts_of w.0 w.1)
       (
-      of_some DeviceParts (device_with addr profile) (λ device. AreBytes sent × Goes device parts front)
-      (λ device. both (AreBytes sent) (Goes device parts front) (are_bytes sent) (goes device parts front))
+      of_some DeviceParts (device_with addr profile) (λ device. AreByteValues sent × Goes device parts front)
+      (λ device. both (AreByteValues sent) (Goes device parts front) (are_bytes sent) (goes device parts front))
       )
     where
-      spelled : (device : DeviceParts) → device_with addr profile ≡ Some device → AreBytes sent × Goes device parts front
+      spelled : (device : DeviceParts) → device_with addr profile ≡ Some device → AreByteValues sent × Goes device parts front
           → (events : List Event) × ByteRefused profile parts addr sent events
       spelled device known w = (
         leg (write_address addr ∷ []) ++ nacked sent,
@@ -172,7 +172,7 @@ module _ (profile : List DeviceParts) where
       )
 
       parts_of : (events : List Event) → ByteRefused profile parts addr sent events
-          → (device : DeviceParts) × (device_with addr profile ≡ Some device) × (AreBytes sent × Goes device parts front)
+          → (device : DeviceParts) × (device_with addr profile ≡ Some device) × (AreByteValues sent × Goes device parts front)
       parts_of events w =
           let same = same_from_push w.front front w.last last (sym w.split ∙ split) in
           (w.device, w.known, (w.bytes, subst (Goes w.device parts) same.0 w.begins))

@@ -11,7 +11,7 @@ use Rattle.pmb_bus.specs.declared.event.Event.TheVariants.{Start, Byte, Ack, Nac
 use Rattle.pmb_command.specs.declared.form.Form.{Form}
 use Rattle.pmb_command.specs.Parts.{DeviceParts, IsNew, device_with}
 use Rattle.pmb_transaction.specs.Transaction.{PartData, ReadData, CallData, RefusedData, AlertData, TransactionData, Write, Read, Call, Refused, Alert, NoAlert}
-use Rattle.pmb_transaction.specs.Wire.{IsByte, AreBytes, Fits, wire}
+use Rattle.pmb_transaction.specs.Wire.{IsByte, AreByteValues, Fits, wire}
 use Rattle.pmb_transaction.specs.Body.{write_address, read_address, forms, AllowsPec, checked, IsProperPrefix, WriteBody, IsReadBody, IsCallBody, Allowed}
 
 -- each byte, followed by ACK
@@ -118,7 +118,7 @@ module _ (profile : List DeviceParts) where
   pub record ByteRefused (parts : List PartData) (addr : ℕ) (sent : List ℕ) (events : List Event) : Type 0 where
     pub device : DeviceParts
     pub known : device_with addr profile ≡ Some device
-    pub bytes : AreBytes sent
+    pub bytes : AreByteValues sent
     pub front : List ℕ
     pub last : ℕ
     pub split : sent ≡ front ++ last ∷ []

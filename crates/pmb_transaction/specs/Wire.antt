@@ -8,8 +8,8 @@ use Rattle.pmb_command.specs.declared.form.Form.TheVariants.{Zero, One, Two, Fou
 abbrev pub IsByte : ℕ → Type 0
 IsByte b = b < 256
 
-abbrev pub AreBytes : List ℕ → Type 0
-AreBytes bytes = AllByRecursion IsByte bytes
+abbrev pub AreByteValues : List ℕ → Type 0
+AreByteValues bytes = AllByRecursion IsByte bytes
 
 -- A form takes so many bytes of data.
 abbrev pub Takes : Form → ℕ → Type 0
@@ -22,7 +22,7 @@ Takes Block n = n ≤ 255
 
 -- Data of a form are bytes, and as many as the form takes.
 pub record Fits (form : Form) (bytes : List ℕ) : Type 0 where
-  pub small : AreBytes bytes
+  pub small : AreByteValues bytes
   pub taken : Takes form (length bytes)
 
 -- The wire of a form: the data themselves, low byte first; those of a block behind their count.

@@ -19,7 +19,7 @@ use Rattle.pmb_kept.specs.Kept.{KeptData}
 use Rattle.pmb_under_way.specs.declared.under_way.Source.{Source}
 use Rattle.pmb_under_way.specs.declared.under_way.Source.TheVariants as sources
 use Rattle.pmb_under_way.specs.declared.under_way.UnderWay.{UnderWay}
-use Rattle.pmb_under_way.specs.machine.UnderWay.{Answers, AnswersAlert, AnswersDevice, AtReadAddress, BehindAnswerByte, HasAsked, InAnswer, IsAsked}
+use Rattle.pmb_under_way.specs.machine.UnderWay.{AnswersSource, AnswersAlert, AnswersDevice, AtReadAddress, BehindAnswerByte, HasAsked, InAnswer, IsAskedOfSource}
 use Rattle.pmb_under_way.proofs.Steps.{EndsWith, leg_ends}
 
 -- ---- where the events end
@@ -71,7 +71,7 @@ pub answer_law : (profile : List DeviceParts) → IsBus profile → (u : UnderWa
     → ((addr : ℕ) (device : DeviceParts) (body : List ℕ) → IsBus profile → device_with addr profile ≡ Some device
     → (Holds (leg (write_address addr ∷ body) ++ leg (read_address addr ∷ bytes)) ↔ Says (IsAnswer device addr body) said))
     → (Holds (leg (read_address alert_address ∷ bytes)) ↔ Says IsAlertAnswer said)
-    → IsAsked source profile u front addr → Answers source u
+    → IsAskedOfSource source profile u front addr → AnswersSource source u
     → (Holds (front ++ leg (read_address addr ∷ bytes)) ↔ Says (IsReply u.answer.expected) said)
 answer_law profile bus u sources.Device front addr bytes Holds Says said same device_law alert_law asked answers =
     let here = device_law asked.written.device.address asked.written.device asked.written.bytes bus asked.known in
@@ -149,7 +149,7 @@ alert_reply u reply with_pec answers says =
 
 -- what was asked, where the parts and the leg stay
 pub asked_on : (profile : List DeviceParts) (u after : UnderWay) (source : Source) (front : List Event) (addr : ℕ) → after.kept ≡ u.kept → after.leg ≡ u.leg
-    → IsAsked source profile u front addr → IsAsked source profile after front addr
+    → IsAskedOfSource source profile u front addr → IsAskedOfSource source profile after front addr
 asked_on profile u after sources.Device front addr kept leg_is asked = record {
   alone = ap (λ (k : KeptData). k.parts) kept ∙ asked.alone;
   written = asked.written;
@@ -163,7 +163,7 @@ asked_on profile u after sources.Device front addr kept leg_is asked = record {
 asked_on profile u after sources.Alert front addr kept leg_is asked = asked
 
 -- and what answers it
-pub answers_on : (u after : UnderWay) (source : Source) → after.leg ≡ u.leg → after.answer.expected ≡ u.answer.expected → Answers source u → Answers source after
+pub answers_on : (u after : UnderWay) (source : Source) → after.leg ≡ u.leg → after.answer.expected ≡ u.answer.expected → AnswersSource source u → AnswersSource source after
 answers_on u after sources.Device leg_is expected answers = record {
   written = answers.written;
   is = leg_is ∙ answers.is;

@@ -5,14 +5,14 @@ use Rattle.pmb_command.specs.Parts.{DeviceParts}
 use Rattle.pmb_under_way.specs.declared.under_way.Place.{Place}
 use Rattle.pmb_under_way.specs.declared.under_way.Place.TheVariants.{Between, Start, Address, Leg, LegByte, Restart, ReadAddress, Answer, AnswerByte, End}
 use Rattle.pmb_under_way.specs.declared.under_way.UnderWay.{UnderWay}
-use Rattle.pmb_under_way.specs.machine.UnderWay.{IsPlace}
+use Rattle.pmb_under_way.specs.machine.UnderWay.{IsPacketPlace}
 
 not_none : (front : List Event) (event : Event) (rest : List Event) → front ++ event ∷ rest ≡ [] → ⊥
 not_none [] event rest same = cc same
 not_none (e ∷ front) event rest same = cc same
 
 -- some events came at every other place
-pub some_events : (profile : List DeviceParts) (u : UnderWay) (place : Place) (events : List Event) → (place ≡ Between → ⊥) → IsPlace place profile u events
+pub some_events : (profile : List DeviceParts) (u : UnderWay) (place : Place) (events : List Event) → (place ≡ Between → ⊥) → IsPacketPlace place profile u events
     → events ≡ [] → ⊥
 some_events profile u Between events other here none = other refl
 some_events profile u Start events other here none = cc (sym here.0 ∙ none)

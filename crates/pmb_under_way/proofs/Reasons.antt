@@ -19,7 +19,7 @@ use Rattle.pmb_under_way.specs.declared.under_way.Place.TheVariants.{Between, St
 use Rattle.pmb_under_way.specs.declared.under_way.Source.{Source}
 use Rattle.pmb_under_way.specs.declared.under_way.Source.TheVariants as sources
 use Rattle.pmb_under_way.specs.declared.under_way.UnderWay.{UnderWay}
-use Rattle.pmb_under_way.specs.machine.UnderWay.{AtReadAddress, BehindByte, IsPlace}
+use Rattle.pmb_under_way.specs.machine.UnderWay.{AtReadAddress, BehindByte, IsPacketPlace}
 use Rattle.pmb_under_way.proofs.Steps.{EndsWith, TakeTurns, not_its_turn}
 use Rattle.pmb_under_way.proofs.WrittenLegs.{in_leg_ends, start_ends}
 use Rattle.pmb_under_way.proofs.AnsweredLegs.{asked_with, in_answer_ends}
@@ -72,7 +72,7 @@ with_last law events last ends some other =
     sym (subst (λ (es : List Event). byte_reason (place_behind es) ≡ BadPec) (sym ends.split) (law ends.front last some other))
 
 pub wrong_code_at : WrongCode → (profile : List DeviceParts) → (Viable profile (Nack ∷ []) → ⊥) → (u : UnderWay) (place : Place) (events : List Event)
-    → late place ≡ true → Viable profile events → IsPlace place profile u events → BadPec ≡ byte_reason (place_behind events)
+    → late place ≡ true → Viable profile events → IsPacketPlace place profile u events → BadPec ≡ byte_reason (place_behind events)
 wrong_code_at law profile nothing u Between events is viable here = absurd (cc is)
 wrong_code_at law profile nothing u Start events is viable here = absurd (cc is)
 wrong_code_at law profile nothing u Restart events is viable here = absurd (cc is)
@@ -100,7 +100,7 @@ wrong_code_at law profile nothing u End events is viable here =
 
 module _ (turns : TakeTurns) (profile : List DeviceParts) (begins : (event : Event) → MayFollow profile [] event → event ≡ events_are.Start) (u : UnderWay) (event : Event) (byte : is_byte event ≡ false) (turn : is_no_answer event ≡ false) (stop : is_stop event ≡ false) (start : event ≢ events_are.Start) where
   abbrev Quiet : Place → List Event → Type 0
-  Quiet place events = IsPlace place profile u events → MayFollow profile events event → ⊥
+  Quiet place events = IsPacketPlace place profile u events → MayFollow profile events event → ⊥
 
   pub none_between : (events : List Event) → Quiet Between events
   none_between events here follows = start (begins event (subst (λ (es : List Event). MayFollow profile es event) here follows))
@@ -163,7 +163,7 @@ pub nack_elsewhere : (turns : TakeTurns) (profile : List DeviceParts) (begins : 
     → ((front : List Event) (byte : ℕ) → place_behind (front ++ events_are.Start ∷ Byte byte ∷ []) ≡ BehindAddress)
     → ((front : List Event) (addr byte : ℕ) → place_behind ((front ++ leg (write_address addr ∷ [])) ++ Byte byte ∷ []) ≡ BehindCode)
     → ((front : List Event) (addr code : ℕ) (bytes : List ℕ) (byte : ℕ) → place_behind ((front ++ leg (write_address addr ∷ code ∷ bytes)) ++ Byte byte ∷ []) ≡ FurtherOn)
-    → (u : UnderWay) (place : Place) (events : List Event) → ((source : Source) → place ≡ AnswerByte source → ⊥) → IsPlace place profile u events
+    → (u : UnderWay) (place : Place) (events : List Event) → ((source : Source) → place ≡ AnswerByte source → ⊥) → IsPacketPlace place profile u events
     → FollowsAlone profile events Ack → WrongEvent ≡ nack_reason (place_behind events)
 nack_elsewhere turns profile begins address code further u Between events other here alone =
     absurd (none_between turns profile begins u Ack refl refl refl (λ same. cc same) events here alone.follows)
@@ -228,7 +228,7 @@ pub ack_elsewhere : (turns : TakeTurns) (profile : List DeviceParts) (begins : (
     → ((addr : ℕ) (device : DeviceParts) (body : List ℕ) → IsBus profile → device_with addr profile ≡ Some device → IsReadBody device body ⊎ IsCallBody device body
     → MayFollow profile (leg (write_address addr ∷ body) ++ events_are.Start ∷ Byte (read_address addr) ∷ []) Ack)
     → MayFollow profile (events_are.Start ∷ Byte (read_address alert_address) ∷ []) Ack
-    → (u : UnderWay) (place : Place) (events : List Event) → plain place ≡ true → IsPlace place profile u events → FollowsAlone profile events Nack → ⊥
+    → (u : UnderWay) (place : Place) (events : List Event) → plain place ≡ true → IsPacketPlace place profile u events → FollowsAlone profile events Nack → ⊥
 ack_elsewhere turns profile begins bus device alert u Between events is here alone =
     none_between turns profile begins u Nack refl refl refl (λ same. cc same) events here alone.follows
 ack_elsewhere turns profile begins bus device alert u Start events is here alone =

@@ -11,7 +11,7 @@ use Rattle.pmb_transaction.specs.Turns.{is_answer, is_byte, is_no_answer, is_sto
 use Rattle.pmb_under_way.specs.declared.under_way.Place.{Place}
 use Rattle.pmb_under_way.specs.declared.under_way.Place.TheVariants as places
 use Rattle.pmb_under_way.specs.declared.under_way.UnderWay.{UnderWay}
-use Rattle.pmb_under_way.specs.machine.UnderWay.{IsPlace, StandsIn}
+use Rattle.pmb_under_way.specs.machine.UnderWay.{IsPacketPlace, StandsIn}
 
 no_front : (front rest : List Event) → [] ≡ front ++ rest → front ≡ []
 no_front [] rest split = refl
@@ -19,14 +19,14 @@ no_front (e ∷ front) rest split = absurd (cc split)
 
 -- the place at which it stands
 pub at_place : (profile : List DeviceParts) (u : UnderWay) (events : List Event) (place : Place) → u.place ≡ place → StandsIn profile u events
-    → IsPlace place profile u events
-at_place profile u events place is stands = subst (λ (p : Place). IsPlace p profile u events) is stands.place
+    → IsPacketPlace place profile u events
+at_place profile u events place is stands = subst (λ (p : Place). IsPacketPlace p profile u events) is stands.place
 
 -- an event that may follow leads on
 pub moves_on : (profile : List DeviceParts) (events : List Event) (event : Event) (after : UnderWay)
     → ((profile : List DeviceParts) (events : List Event) (event : Event) → MayFollow profile events event → event ≢ Stop
     → IsUnderWay profile (events ++ event ∷ []))
-    → after.profile.now ≡ profile → MayFollow profile events event → event ≢ Stop → IsPlace after.place profile after (events ++ event ∷ [])
+    → after.profile.now ≡ profile → MayFollow profile events event → event ≢ Stop → IsPacketPlace after.place profile after (events ++ event ∷ [])
     → StandsIn profile after (events ++ event ∷ [])
 moves_on profile events event after go known follows other place =
     record { known = known; goes = go profile events event follows other; place = place }
@@ -36,7 +36,7 @@ pub moves_to : (profile : List DeviceParts) (u : UnderWay) (place : Place) (even
     → ((profile : List DeviceParts) (events : List Event) (event : Event) → MayFollow profile events event → event ≢ Stop
     → IsUnderWay profile (events ++ event ∷ []))
     → u.profile.now ≡ profile → MayFollow profile events event → event ≢ Stop
-    → IsPlace place profile (record u { place = place }) (events ++ event ∷ [])
+    → IsPacketPlace place profile (record u { place = place }) (events ++ event ∷ [])
     → StandsIn profile (record u { place = place }) (events ++ event ∷ [])
 moves_to profile u place events event go known follows other here =
     moves_on profile events event (record u { place = place }) go known follows other here
@@ -48,7 +48,7 @@ pub restarts : (profile : List DeviceParts) (u : UnderWay)
 restarts profile u some known between = record {
   known = known;
   goes = record { viable = inl refl; no_packet = λ front rest split packet. some profile packet.0 front packet.1 (no_front front rest split) };
-  place = subst (λ (p : Place). IsPlace p profile u []) (sym between) refl;
+  place = subst (λ (p : Place). IsPacketPlace p profile u []) (sym between) refl;
 }
 
 -- a byte is no STOP

@@ -7,7 +7,7 @@ ghost use Rattle.pmb_command.specs.Parts.{DeviceParts};
 ghost use Rattle.pmb_transaction.specs.Packet.{addresses};
 ghost use Rattle.pmb_leg.specs.Leg.{Written};
 ghost use Rattle.pmb_under_way.specs.UnderWay.{Moves, StandsIn};
-ghost use Rattle.pmb_under_way.specs.machine.UnderWay.{PushesPart, SaysNoPart, StartsLeg};
+ghost use Rattle.pmb_under_way.specs.machine.UnderWay.{PushesLeg, SaysNoPart, StartsLeg};
 
 use crate::legs::{MOST_BEFORE, is_asking, leg_may_follow, place_behind};
 use crate::under_way::{Move, Place, Source, UnderWay};
@@ -207,7 +207,7 @@ impl<'p> UnderWay<'p> {
 
     // Adds the leg under way to the parts where it is one, and tells whether it was.
     fn push_part(&mut self) -> bool
-        ensures pushed { result ≡ true → PushesPart self.old self.new }
+        ensures pushed { result ≡ true → PushesLeg self.old self.new }
         ensures same { result ≡ false → self.new ≡ self.old }
         ensures none { result ≡ false → length self.old.kept.parts ≤ 15 → SaysNoPart self.old }
     {

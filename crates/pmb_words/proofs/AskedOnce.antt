@@ -2,7 +2,7 @@
 use Rattle.std.proofs.Common.{◌≡◌, ◌⊎◌, ℕ, Option, Some, None, List, [], ◌∷◌, get_or, codes, inl, inr, refl, sym, ap, ◌∙◌, subst, arith}
 use Rattle.clap.specs.Words.{IsAmong, Kinds, Row, Text, subcommand_of}
 use Rattle.clap.specs.declared.error.kind.ErrorKind.{ErrorKind}
-use Rattle.pmb_words.specs.Asked.{AskFor, Asking, Asks, Decode, Encode, HasBadFormat, NamesNone, Traffic, format_in, has_sample, name_of}
+use Rattle.pmb_words.specs.Asked.{AskFor, Asking, SubcommandAsks, Decode, Encode, HasBadFormat, NamesNone, Traffic, format_in, has_sample, name_of}
 use Rattle.pmb_words.specs.declared.work.Work.{Work}
 use Rattle.pmb_words.specs.declared.work.Work.TheVariants.{Show, Check, Build}
 use Rattle.clap.specs.declared.error.kind.ErrorKind.TheVariants.{DisplayHelp, DisplayVersion, OutOfMemory}
@@ -36,7 +36,7 @@ begins Show = refl
 begins Check = refl
 begins Build = refl
 
-is_letter : (found : Option (Text × List Row)) (asking : Asking) → Asks found asking → first_of found ≡ letter asking
+is_letter : (found : Option (Text × List Row)) (asking : Asking) → SubcommandAsks found asking → first_of found ≡ letter asking
 unfolding first_of name_in
 is_letter found (Traffic work sample) is = ap first_of is.1 ∙ begins work
 is_letter found (Encode format) is = ap first_of is.1
@@ -70,7 +70,7 @@ unfolding rows_in
 one_rows found wanted name rows others same first second = ap rows_in (sym first ∙ (same ∙ second))
 
 -- One thing is asked for.
-pub one_asking : (found : Option (Text × List Row)) (a b : Asking) → Asks found a → Asks found b → a ≡ b
+pub one_asking : (found : Option (Text × List Row)) (a b : Asking) → SubcommandAsks found a → SubcommandAsks found b → a ≡ b
 one_asking found (Traffic work sample) (Traffic other others) is also =
     let same : work ≡ other = one_work work other (sym (is_letter found (Traffic work sample) is) ∙ is_letter found (Traffic other others) also) in
     let rows : is.0 ≡ also.0 = one_rows found found (name_of work) is.0 also.0 refl is.1 (subst (λ (w : Work). found ≡ Some (name_of w, also.0)) (sym same) also.1) in

@@ -38,24 +38,24 @@ abbrev pub format_in : List Row → Text
 format_in rows = unwrap_or (first_of (codes "FORMAT") rows) []
 
 -- what is asked for by the subcommand that `clap` found, of which it tells the name and the matches
-abbrev pub Asks : Option (Text × List Row) → Asking → Type 0
-Asks subcommand (Traffic work sample) = (rows : List Row) × (subcommand ≡ Some (name_of work, rows)) × (sample ≡ has_sample rows)
-Asks subcommand (Encode format) = (rows : List Row) × (subcommand ≡ Some (codes "encode", rows)) × (format ≡ format_in rows)
-Asks subcommand (Decode format) = (rows : List Row) × (subcommand ≡ Some (codes "decode", rows)) × (format ≡ format_in rows)
+abbrev pub SubcommandAsks : Option (Text × List Row) → Asking → Type 0
+SubcommandAsks subcommand (Traffic work sample) = (rows : List Row) × (subcommand ≡ Some (name_of work, rows)) × (sample ≡ has_sample rows)
+SubcommandAsks subcommand (Encode format) = (rows : List Row) × (subcommand ≡ Some (codes "encode", rows)) × (format ≡ format_in rows)
+SubcommandAsks subcommand (Decode format) = (rows : List Row) × (subcommand ≡ Some (codes "decode", rows)) × (format ≡ format_in rows)
 
 -- it asks for nothing
 abbrev pub AsksNothing : Option (Text × List Row) → Type 0
-AsksNothing subcommand = (asking : Asking) → Asks subcommand asking → ⊥
+AsksNothing subcommand = (asking : Asking) → SubcommandAsks subcommand asking → ⊥
 
 -- it asks for a task, or for none
 abbrev pub AsksTask : Option (Text × List Row) → Option Task → Type 0
 AsksTask subcommand None = AsksNothing subcommand
-AsksTask subcommand (Some task) = Asks subcommand (asking_of task)
+AsksTask subcommand (Some task) = SubcommandAsks subcommand (asking_of task)
 
 -- `clap` finds no fault in the words, and they ask for this
 pub record AskFor (words : List Text) (asking : Asking) : Type 0 where
   pub no_fault : faults_of words ≡ []
-  pub asks : Asks (subcommand_of pmb_app words) asking
+  pub asks : SubcommandAsks (subcommand_of pmb_app words) asking
 
 -- `clap` finds no fault in them, and they ask for nothing
 pub record AskForNothing (words : List Text) : Type 0 where

@@ -11,10 +11,10 @@ use Rattle.pmb_command.specs.declared.pec_mode.PecMode.TheVariants.{Off, On, Opt
 use Rattle.pmb_command.specs.Parts.{DeviceParts}
 use Rattle.pmb_transaction.specs.declared.part.Part.{Part}
 use Rattle.pmb_transaction.specs.Transaction.{PartData, part_data}
-use Rattle.pmb_transaction.specs.Wire.{AreBytes, Fits, wire}
+use Rattle.pmb_transaction.specs.Wire.{AreByteValues, Fits, wire}
 use Rattle.pmb_transaction.specs.Body.{write_address, forms, AllowsPec, checked, IsProperPrefix, IsWriteBody, IsReadBody, IsCallBody, Allowed}
 use Rattle.pmb_writer.specs.Invalid.{MayBegin, MayGoOn}
-use Rattle.pmb_writer.specs.machine.Lengths.{wire_length, pec_length, leaves_room, is_whole, may_go_on, is_request, may_begin}
+use Rattle.pmb_writer.specs.machine.Lengths.{wire_length, pec_length, leaves_room, is_whole_wire, may_go_on, is_request, may_begin}
 
 -- ---- bytes that begin the wire of a form
 
@@ -29,12 +29,12 @@ pub record Completion (form : Form) (bytes : List ℕ) : Type 0 where
 zeros : ℕ → List ℕ
 zeros n = replicate n 0
 
-small_zeros : (n : ℕ) → AreBytes (zeros n)
+small_zeros : (n : ℕ) → AreByteValues (zeros n)
 unfolding zeros
 small_zeros zero = tt
 small_zeros (suc n) = (omega arith, small_zeros n)
 
-small_filled : (bytes : List ℕ) (n : ℕ) → AreBytes bytes → AreBytes (bytes ++ zeros n)
+small_filled : (bytes : List ℕ) (n : ℕ) → AreByteValues bytes → AreByteValues (bytes ++ zeros n)
 small_filled [] n small = small_zeros n
 small_filled (b ∷ bytes) n small = (small.0, small_filled bytes n small.1)
 
@@ -46,7 +46,7 @@ length_left : (n m : ℕ) → m ≤ n → m + length (zeros (n - m)) ≡ n
 unfolding zeros
 length_left n m short = omega (arith, length-replicate {A = ℕ} (n - m) 0)
 
-pub complete : (form : Form) (bytes : List ℕ) → AreBytes bytes → length bytes ≤ wire_length form bytes → Completion form bytes
+pub complete : (form : Form) (bytes : List ℕ) → AreByteValues bytes → length bytes ≤ wire_length form bytes → Completion form bytes
 complete Zero bytes small short =
     record { whole = bytes ++ zeros (0 - length bytes); fits = record { small = small_filled bytes (0 - length bytes) small; taken = length_filled bytes 0 short }; rest = zeros (0 - length bytes); spelled = refl; long = length_left 0 (length bytes) short }
 complete One bytes small short =
@@ -114,7 +114,7 @@ pec_is_there Optional allowed = refl
 
 module _ (device : DeviceParts) where
   -- a write body of a form with or without a packet error code
-  plain_write : (code : ℕ) (form : Form) (bytes : List ℕ) → (forms device code).write ≡ Some form → AllowsPec device.pec false → AreBytes bytes
+  plain_write : (code : ℕ) (form : Form) (bytes : List ℕ) → (forms device code).write ≡ Some form → AllowsPec device.pec false → AreByteValues bytes
       → length bytes < wire_length form bytes → (body : List ℕ) × IsWriteBody device body × IsProperPrefix (code ∷ bytes) body
   plain_write code form bytes written mode small short =
       let done : Completion form bytes = complete form bytes small (omega arith) in (
@@ -123,7 +123,7 @@ module _ (device : DeviceParts) where
         proper (code ∷ bytes) done.rest (code ∷ wire form done.whole) (ap (λ w. code ∷ w) done.spelled) (omega (arith, done.long)),
       )
 
-  checked_write : (code : ℕ) (form : Form) (bytes : List ℕ) → (forms device code).write ≡ Some form → AllowsPec device.pec true → AreBytes bytes
+  checked_write : (code : ℕ) (form : Form) (bytes : List ℕ) → (forms device code).write ≡ Some form → AllowsPec device.pec true → AreByteValues bytes
       → length bytes < wire_length form bytes + 1 → (body : List ℕ) × IsWriteBody device body × IsProperPrefix (code ∷ bytes) body
   checked_write code form bytes written mode small short =
       let done : Completion form bytes = complete form bytes small (omega arith) in
@@ -136,7 +136,7 @@ module _ (device : DeviceParts) where
             (omega (arith, length-append done.rest (last ∷ []))),
       )
 
-  write_goes_on : (mode : PecMode) → device.pec ≡ mode → (code : ℕ) (form : Form) (bytes : List ℕ) → (forms device code).write ≡ Some form → AreBytes bytes
+  write_goes_on : (mode : PecMode) → device.pec ≡ mode → (code : ℕ) (form : Form) (bytes : List ℕ) → (forms device code).write ≡ Some form → AreByteValues bytes
       → length bytes < wire_length form bytes + pec_length mode → (body : List ℕ) × IsWriteBody device body × IsProperPrefix (code ∷ bytes) body
   write_goes_on Off is code form bytes written small short =
       plain_write code form bytes written (subst (λ m. AllowsPec m false) (sym is) refl) small (omega arith)
@@ -145,7 +145,7 @@ module _ (device : DeviceParts) where
   write_goes_on Optional is code form bytes written small short =
       checked_write code form bytes written (subst (λ m. AllowsPec m true) (sym is) tt) small short
 
-  call_goes_on : (code : ℕ) (form : Form) (bytes : List ℕ) → (forms device code).call ≡ Some form → AreBytes bytes
+  call_goes_on : (code : ℕ) (form : Form) (bytes : List ℕ) → (forms device code).call ≡ Some form → AreByteValues bytes
       → length bytes < wire_length form bytes → (body : List ℕ) × IsCallBody device body × IsProperPrefix (code ∷ bytes) body
   call_goes_on code form bytes called small short =
       let done : Completion form bytes = complete form bytes small (omega arith) in (
@@ -218,7 +218,7 @@ room_of : (form : Option Form) (more : ℕ) (bytes : List ℕ) → leaves_room f
 room_of None more bytes is = absurd (cc is)
 room_of (Some f) more bytes is = (f, refl, ltb-true (length bytes) (wire_length f bytes + more) is)
 
-whole_of : (form : Option Form) (bytes : List ℕ) → is_whole form bytes ≡ true → (f : Form) × (form ≡ Some f) × (length bytes ≡ wire_length f bytes)
+whole_of : (form : Option Form) (bytes : List ℕ) → is_whole_wire form bytes ≡ true → (f : Form) × (form ≡ Some f) × (length bytes ≡ wire_length f bytes)
 whole_of None bytes is = absurd (cc is)
 whole_of (Some f) bytes is = (f, refl, eqb-true (length bytes) (wire_length f bytes) is)
 
@@ -325,7 +325,7 @@ module _ (device : DeviceParts) (code : ℕ) where
   going : (parts : List PartData) (bytes : List ℕ) (last : ℕ) → (body : List ℕ) × Allowed device parts body × IsProperPrefix (code ∷ bytes) body → MayGoOn parts (code ∷ bytes ++ last ∷ []) device
   going parts bytes last (body, allowed, prefix) = (code ∷ bytes, last, body, refl, allowed, prefix)
 
-  pub goes_on : (parts : List PartData) (bytes : List ℕ) → AreBytes bytes
+  pub goes_on : (parts : List PartData) (bytes : List ℕ) → AreByteValues bytes
       → may_go_on (is_first parts) device.pec (forms device code) bytes ≡ true → (last : ℕ) → MayGoOn parts (code ∷ bytes ++ last ∷ []) device
   goes_on [] bytes small passes last =
       elim (either (leaves_room (forms device code).write (pec_length device.pec) bytes) (leaves_room (forms device code).call 0 bytes) passes) [
@@ -362,9 +362,9 @@ module _ (device : DeviceParts) (code : ℕ) where
       cc (room_for_more parts bytes prefix.rest prefix.next body allowed begun)
 
   -- a code and bytes are the body of a read or a call
-  pub requests : (bytes : List ℕ) → AreBytes bytes → is_request (forms device code) bytes ≡ true → IsReadBody device (code ∷ bytes) ⊎ IsCallBody device (code ∷ bytes)
+  pub requests : (bytes : List ℕ) → AreByteValues bytes → is_request (forms device code) bytes ≡ true → IsReadBody device (code ∷ bytes) ⊎ IsCallBody device (code ∷ bytes)
   requests bytes small passes =
-      elim (either (is_some (forms device code).read && nat_eq (length bytes) 0) (is_whole (forms device code).call bytes) passes) [
+      elim (either (is_some (forms device code).read && nat_eq (length bytes) 0) (is_whole_wire (forms device code).call bytes) passes) [
         | inl r ↦ let parts : (is_some (forms device code).read ≡ true) × (nat_eq (length bytes) 0 ≡ true) = both (is_some (forms device code).read) (nat_eq (length bytes) 0) r in
             let form : (f : Form) × ((forms device code).read ≡ Some f) = the_form (forms device code).read parts.0 in
             inl (code, form.0, record { read = form.1; spelled = ap (λ bs. code ∷ bs) (no_bytes bytes (eqb-true (length bytes) 0 parts.1)) })
@@ -382,12 +382,12 @@ module _ (device : DeviceParts) (code : ℕ) where
       let none : bytes ≡ [] = cc in
       let read : (forms device code).read ≡ Some form = subst (λ k. (forms device k).read ≡ Some form) same asked.read in
       let is : (is_some (forms device code).read && nat_eq (length bytes) 0) ≡ true = rw (read, none) refl in
-      cc (or_parts (is_some (forms device code).read && nat_eq (length bytes) 0) (is_whole (forms device code).call bytes) fails).0
+      cc (or_parts (is_some (forms device code).read && nat_eq (length bytes) 0) (is_whole_wire (forms device code).call bytes) fails).0
   requests_not bytes fails (inr (c, form, whole, asked)) =
       let spelled : code ∷ bytes ≡ c ∷ wire form whole = asked.spelled in
       let same : c ≡ code = cc in
       let all : wire form whole ≡ bytes = cc in
       let called : (forms device code).call ≡ Some form = subst (λ k. (forms device k).call ≡ Some form) same asked.called in
       let long : length bytes ≡ wire_length form bytes = subst (λ bs. length bs ≡ wire_length form bs) all (wire_is_as_long form whole asked.fits) in
-      let is : is_whole (forms device code).call bytes ≡ true = rw called (eq-eqb (length bytes) (wire_length form bytes) long) in
-      cc (or_parts (is_some (forms device code).read && nat_eq (length bytes) 0) (is_whole (forms device code).call bytes) fails).1
+      let is : is_whole_wire (forms device code).call bytes ≡ true = rw called (eq-eqb (length bytes) (wire_length form bytes) long) in
+      cc (or_parts (is_some (forms device code).read && nat_eq (length bytes) 0) (is_whole_wire (forms device code).call bytes) fails).1

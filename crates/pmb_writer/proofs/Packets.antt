@@ -16,10 +16,10 @@ use Rattle.pmb_bus.specs.Pec.{pec}
 use Rattle.pmb_command.specs.Bus.{IsDevice}
 use Rattle.pmb_command.specs.Parts.{CommandParts, DeviceParts, IsNew, command_with, device_with}
 use Rattle.pmb_transaction.specs.Transaction.{PartData, ReadData, CallData, RefusedData, TransactionData, Write, Read, Call, Refused, Alert, NoAlert}
-use Rattle.pmb_transaction.specs.Wire.{AreBytes, Fits, wire}
+use Rattle.pmb_transaction.specs.Wire.{AreByteValues, Fits, wire}
 use Rattle.pmb_transaction.specs.Body.{write_address, read_address, shape_of, forms, AllowsPec, checked, Allowed, IsWriteBody, IsReadBody, IsCallBody, IsProperPrefix}
 use Rattle.pmb_transaction.specs.Packet.{addresses, alert_address, leg, nacked, answered, PartEvents, PartsEvents, WritePacket, ReadPacket, CallPacket, ByteRefused, ReadRefused, RefusedLeg, RefusedPacket}
-use Rattle.pmb_writer.specs.Invalid.{AreKept, IsFirstBroken, IsAsked, HasPacket, command_at, forms_at, part_rules, parts_rules, write_rules, read_rules, call_rules, refused_leg_rules, refused_address_rules, refused_rules, transaction_rules}
+use Rattle.pmb_writer.specs.Invalid.{AreKept, IsFirstBroken, CanBeAsked, HasPacket, command_at, forms_at, part_rules, parts_rules, write_rules, read_rules, call_rules, refused_leg_rules, refused_address_rules, refused_rules, transaction_rules}
 
 the_one : {A : Type 0} (o : Option A) → IsSome o → (x : A) × (o ≡ Some x)
 the_one None some = absurd (cc some)
@@ -82,7 +82,7 @@ start_of_write device code rest (c, whole, true, write) =
     let same : c ≡ code = cc in
     (write.form, subst (λ k. (forms device k).write ≡ Some write.form) same write.written)
 
-body_is_asked : (device : DeviceParts) (code : ℕ) (rest : List ℕ) → IsReadBody device (code ∷ rest) ⊎ IsCallBody device (code ∷ rest) → IsAsked (forms device code)
+body_is_asked : (device : DeviceParts) (code : ℕ) (rest : List ℕ) → IsReadBody device (code ∷ rest) ⊎ IsCallBody device (code ∷ rest) → CanBeAsked (forms device code)
 body_is_asked device code rest (inl (c, form, asked)) =
     let spelled : code ∷ rest ≡ c ∷ [] = asked.spelled in
     let same : c ≡ code = cc in
@@ -94,7 +94,7 @@ body_is_asked device code rest (inr (c, form, whole, asked)) =
     let called : (forms device code).call ≡ Some form = subst (λ k. (forms device k).call ≡ Some form) same asked.called in
     inr (ap is_some called)
 
-asked_command : (device : DeviceParts) (code : ℕ) → IsAsked (forms device code) → IsSome (command_with code device.commands)
+asked_command : (device : DeviceParts) (code : ℕ) → CanBeAsked (forms device code) → IsSome (command_with code device.commands)
 asked_command device code (inl some) =
     let form : (f : Form) × ((forms device code).read ≡ Some f) = the_one (forms device code).read some in
     read_command device code form.0 form.1
@@ -301,7 +301,7 @@ module _ (profile : List DeviceParts) where
 
   -- ---- the leg that is refused
 
-  refused_leg_has_events : (parts : List PartData) (addr : ℕ) (sent : List ℕ) (at_read : Bool) → addr < 128 → AreBytes sent → AreKept (refused_leg_rules profile parts addr sent at_read)
+  refused_leg_has_events : (parts : List PartData) (addr : ℕ) (sent : List ℕ) (at_read : Bool) → addr < 128 → AreByteValues sent → AreKept (refused_leg_rules profile parts addr sent at_read)
       → (events : List Event) × RefusedLeg profile parts addr sent at_read events
   refused_leg_has_events parts addr [] false seven small kept =
       (Start ∷ Byte (write_address addr) ∷ Nack ∷ [], record { seven = seven; spelled = refl })
@@ -352,14 +352,14 @@ module _ (profile : List DeviceParts) where
   reply_keeps : (parts : List PartData) (addr code : ℕ) (bytes : List ℕ) (events : List Event) → ReadRefused profile parts addr (code ∷ bytes) events
       → AreKept (refused_leg_rules profile parts addr (code ∷ bytes) true)
   reply_keeps parts addr code bytes events has =
-      let asked : IsAsked (forms has.device code) = body_is_asked has.device code bytes has.body in (
+      let asked : CanBeAsked (forms has.device code) = body_is_asked has.device code bytes has.body in (
         some_one (device_with addr profile) has.device has.known,
         (
           has.alone,
           (
             has_command addr code has.device has.known (asked_command has.device code asked),
             (
-              subst IsAsked (sym (forms_are addr code has.device has.known)) asked,
+              subst CanBeAsked (sym (forms_are addr code has.device has.known)) asked,
               (
                 (has.device, has.known, has.body),
                 tt,
@@ -383,7 +383,7 @@ module _ (profile : List DeviceParts) where
   seven_bits parts addr [] true events devices has = known_address addr has.device profile devices has.known
   seven_bits parts addr (b ∷ bytes) true events devices has = known_address addr has.device profile devices has.known
 
-  refused_has_packet : (t : RefusedData) → length t.parts ≤ 15 → AreBytes t.sent → AreKept (refused_rules profile t) → (events : List Event) × RefusedPacket profile t events
+  refused_has_packet : (t : RefusedData) → length t.parts ≤ 15 → AreByteValues t.sent → AreKept (refused_rules profile t) → (events : List Event) × RefusedPacket profile t events
   refused_has_packet t few small kept =
       let split : AreKept (parts_rules profile [] t.parts) × AreKept (refused_address_rules profile t.parts t.addr t.sent t.at_read) =
       kept_parts (parts_rules profile [] t.parts) (refused_address_rules profile t.parts t.addr t.sent t.at_read) kept in

@@ -4,20 +4,20 @@ use Rattle.pmb_command.specs.declared.form.Shape.{Shape}
 use Rattle.pmb_command.specs.declared.pec_mode.PecMode.{PecMode}
 use Rattle.pmb_command.specs.Parts.{DeviceParts, command_with, device_with}
 use Rattle.pmb_transaction.specs.Transaction.{PartData}
-use Rattle.pmb_transaction.specs.Wire.{AreBytes}
+use Rattle.pmb_transaction.specs.Wire.{AreByteValues}
 use Rattle.pmb_transaction.specs.Body.{forms, shape_of, IsReadBody, IsCallBody}
 use Rattle.std.specs.Option.{option_and_then}
 use Rattle.pmb_writer.specs.declared.invalid.Invalid.TheVariants.{WrongLength, NotAllowed}
-use Rattle.pmb_writer.specs.Invalid.{AreKept, IsFirstBroken, OfDevice, MayBegin, MayGoOn, IsAsked, command_at, forms_at, has_device, has_command, unless, refused_leg_rules}
+use Rattle.pmb_writer.specs.Invalid.{AreKept, IsFirstBroken, OfDevice, MayBegin, MayGoOn, CanBeAsked, command_at, forms_at, has_device, has_command, rule_unless, refused_leg_rules}
 use Rattle.pmb_writer.specs.machine.Lengths.{may_go_on, is_request, may_begin}
 use Rattle.pmb_writer.proofs.Bodies.{is_first, begins, begins_not, goes_on, goes_on_not, requests, requests_not}
 
 -- the items of a slice of bytes
-pub small_items : (bytes : List ℕ) → ((k : ℕ) → get_or bytes k 0 < 256) → AreBytes bytes
+pub small_items : (bytes : List ℕ) → ((k : ℕ) → get_or bytes k 0 < 256) → AreByteValues bytes
 small_items [] small = tt
 small_items (b ∷ bytes) small = (small 0, small_items bytes (λ k. small (suc k)))
 
-pub small_front : (bytes : List ℕ) (last : ℕ) → AreBytes (bytes ++ last ∷ []) → AreBytes bytes
+pub small_front : (bytes : List ℕ) (last : ℕ) → AreByteValues (bytes ++ last ∷ []) → AreByteValues bytes
 small_front [] last small = tt
 small_front (b ∷ bytes) last small = (small.0, small_front bytes last small.1)
 
@@ -59,13 +59,13 @@ module _ (profile : List DeviceParts) (parts : List PartData) (addr code : ℕ) 
   taken_rules : (taken : List ℕ) (last : ℕ) → refused_leg_rules profile parts addr (code ∷ taken ++ last ∷ []) false ≡
       has_device profile addr
       ∷ has_command profile addr code
-      ∷ unless NotAllowed (OfDevice profile addr (MayBegin parts code))
-      ∷ unless WrongLength (OfDevice profile addr (MayGoOn parts (code ∷ taken ++ last ∷ [])))
+      ∷ rule_unless NotAllowed (OfDevice profile addr (MayBegin parts code))
+      ∷ rule_unless WrongLength (OfDevice profile addr (MayGoOn parts (code ∷ taken ++ last ∷ [])))
       ∷ []
   taken_rules [] last = refl
   taken_rules (b ∷ taken) last = refl
 
-  pub byte_is_refused : (first : Bool) (mode : PecMode) (taken : List ℕ) (last : ℕ) → AreBytes taken → Begins first true → GoesOn first mode taken true
+  pub byte_is_refused : (first : Bool) (mode : PecMode) (taken : List ℕ) (last : ℕ) → AreByteValues taken → Begins first true → GoesOn first mode taken true
       → AreKept (refused_leg_rules profile parts addr (code ∷ taken ++ last ∷ []) false)
   byte_is_refused first mode taken last small begins_so on =
       subst AreKept (sym (taken_rules taken last)) (
@@ -104,10 +104,10 @@ module _ (profile : List DeviceParts) (parts : List PartData) (addr code : ℕ) 
       (inr (has_one, inr (has_its_command, inl (the_device (MayBegin parts code) (begins_not device code parts (begun first false begins_so)), refl))))
 
   -- the command can be read or called
-  asked : IsAsked shape → IsAsked (forms_at profile addr code)
-  asked is = subst IsAsked (found.shape_is ∙ ap (λ d. shape_of (option_and_then (λ x. command_with code x.commands) d)) found.known) is
+  asked : CanBeAsked shape → CanBeAsked (forms_at profile addr code)
+  asked is = subst CanBeAsked (found.shape_is ∙ ap (λ d. shape_of (option_and_then (λ x. command_with code x.commands) d)) found.known) is
 
-  pub reply_is_refused : (bytes : List ℕ) → parts ≡ [] → AreBytes bytes → IsAsked shape → is_request shape bytes ≡ true
+  pub reply_is_refused : (bytes : List ℕ) → parts ≡ [] → AreByteValues bytes → CanBeAsked shape → is_request shape bytes ≡ true
       → AreKept (refused_leg_rules profile parts addr (code ∷ bytes) true)
   reply_is_refused bytes alone small is passes = (
     has_one,
@@ -126,7 +126,7 @@ module _ (profile : List DeviceParts) (parts : List PartData) (addr code : ℕ) 
     ),
   )
 
-  pub reply_is_no_request : (bytes : List ℕ) → parts ≡ [] → IsAsked shape → is_request shape bytes ≡ false
+  pub reply_is_no_request : (bytes : List ℕ) → parts ≡ [] → CanBeAsked shape → is_request shape bytes ≡ false
       → IsFirstBroken (refused_leg_rules profile parts addr (code ∷ bytes) true) WrongLength
   reply_is_no_request bytes alone is fails =
       inr (

@@ -18,7 +18,7 @@ use Rattle.pmb_transaction.specs.Wire.{Fits, wire}
 use Rattle.pmb_transaction.specs.Body.{write_address, read_address, shape_of, forms, checked}
 use Rattle.pmb_transaction.specs.Packet.{acked, nacked, leg, answered, PartEvents, PartsEvents, WritePacket, ReadPacket, CallPacket, ReadRefused, RefusedLeg, RefusedPacket, AlertPacket, Packet}
 use Rattle.pmb_writer.specs.Invalid.{HasPacket, forms_at}
-use Rattle.pmb_writer.specs.machine.Legs.{LegData, answered_by, asked_leg, code_on, leg_events, legs_events, part_leg, read_byte, refused_legs, reply_leg, wire_of, with_code, write_byte, written}
+use Rattle.pmb_writer.specs.machine.Legs.{LegData, answered_by, asked_leg, code_on, leg_events, legs_events, part_leg, read_byte, refused_legs, reply_leg, wire_of, with_code, write_byte, packet_events}
 use Rattle.pmb_writer.proofs.LegBytes.{begin_leg}
 use Rattle.pmb_writer.proofs.Packets.{forms_are, known_address, seven_bits}
 
@@ -196,14 +196,14 @@ module _ (laws : CodeLaws) (profile : List DeviceParts) (devices : AllByRecursio
   unfolding legs_events
   stop_is = refl
 
-  write_is : (parts : List PartData) (events : List Event) → WritePacket profile parts events → written profile (Write parts) ≡ events
+  write_is : (parts : List PartData) (events : List Event) → WritePacket profile parts events → packet_events profile (Write parts) ≡ events
   write_is parts events has =
       ap (legs_events true 0) (sym (append-nil (map (part_leg profile) parts)))
       ∙ parts_are parts has.legs [] fresh_end has.each 0
       ∙ ap (λ e. has.legs ++ e) stop_is
       ∙ sym has.spelled
 
-  read_is : (t : ReadData) (events : List Event) → ReadPacket profile t events → written profile (Read t) ≡ events
+  read_is : (t : ReadData) (events : List Event) → ReadPacket profile t events → packet_events profile (Read t) ≡ events
   read_is t events has =
       let form : (forms_at profile t.addr t.code).read ≡ Some has.form = ap (λ s. s.read) (forms_are profile t.addr t.code has.device has.known) ∙ has.read in
       let some : 0 < length (wire has.form t.reply) = some_wire has.form t.reply (read_has_data has.device t.code has.form (is_device t.addr has.device has.known) has.read) has.fits in
@@ -211,7 +211,7 @@ module _ (laws : CodeLaws) (profile : List DeviceParts) (devices : AllByRecursio
       ∙ answered_is laws t.addr (t.code ∷ []) (wire has.form t.reply) t.pec (seven t.addr has.device has.known) some
       ∙ sym has.spelled
 
-  call_is : (t : CallData) (events : List Event) → CallPacket profile t events → written profile (Call t) ≡ events
+  call_is : (t : CallData) (events : List Event) → CallPacket profile t events → packet_events profile (Call t) ≡ events
   call_is t events has =
       let form : (forms_at profile t.addr t.code).call ≡ Some has.form = ap (λ s. s.call) (forms_are profile t.addr t.code has.device has.known) ∙ has.called in
       let some : 0 < length (wire has.form t.reply) = some_wire has.form t.reply (call_has_data has.device t.code has.form (is_device t.addr has.device has.known) has.called) has.replied in
@@ -252,25 +252,25 @@ module _ (laws : CodeLaws) (profile : List DeviceParts) (devices : AllByRecursio
   refused_leg_is parts addr [] true events small has = reply_refused_is parts addr [] events small has
   refused_leg_is parts addr (b ∷ bytes) true events small has = reply_refused_is parts addr (b ∷ bytes) events small has
 
-  refused_is : (t : RefusedData) (events : List Event) → RefusedPacket profile t events → written profile (Refused t) ≡ events
+  refused_is : (t : RefusedData) (events : List Event) → RefusedPacket profile t events → packet_events profile (Refused t) ≡ events
   refused_is t events has =
       parts_are t.parts has.legs (refused_legs t.addr t.sent t.at_read) (refused_is_fresh t.addr t.sent t.at_read) has.each 0
       ∙ ap (λ e. has.legs ++ e) (refused_leg_is t.parts t.addr t.sent t.at_read has.last (seven_bits profile t.parts t.addr t.sent t.at_read has.last devices has.refused) has.refused)
       ∙ sym (append_assoc has.legs has.last (Stop ∷ []))
       ∙ sym has.spelled
 
-  alert_is : (t : AlertData) (events : List Event) → AlertPacket t events → written profile (Alert t) ≡ events
+  alert_is : (t : AlertData) (events : List Event) → AlertPacket t events → packet_events profile (Alert t) ≡ events
   unfolding legs_events
   alert_is t events has =
       ap (λ bytes. Start ∷ (answered_by Nack bytes ++ Stop ∷ [])) (checked_is laws t.pec 0x19 (t.byte ∷ []))
       ∙ ap (λ e. Start ∷ (e ++ Stop ∷ [])) (nacked_behind 0x19 (checked t.pec (0x19 ∷ []) (t.byte ∷ [])) (some_checked laws t.pec (0x19 ∷ []) (t.byte ∷ []) (omega arith)))
       ∙ sym has.spelled
 
-  no_alert_is : written profile NoAlert ≡ Start ∷ Byte 0x19 ∷ Nack ∷ Stop ∷ []
+  no_alert_is : packet_events profile NoAlert ≡ Start ∷ Byte 0x19 ∷ Nack ∷ Stop ∷ []
   unfolding legs_events
   no_alert_is = refl
 
-  pub written_is : (t : TransactionData) (events : List Event) → Packet profile t events → written profile t ≡ events
+  pub written_is : (t : TransactionData) (events : List Event) → Packet profile t events → packet_events profile t ≡ events
   written_is (Write parts) events has = write_is parts events has
   written_is (Read t) events has = read_is t events has
   written_is (Call t) events has = call_is t events has
@@ -278,5 +278,5 @@ module _ (laws : CodeLaws) (profile : List DeviceParts) (devices : AllByRecursio
   written_is (Alert t) events has = alert_is t events has
   written_is NoAlert events has = no_alert_is ∙ sym has
 
-  pub packet_written : (t : TransactionData) → HasPacket profile t → Packet profile t (written profile t)
+  pub packet_written : (t : TransactionData) → HasPacket profile t → Packet profile t (packet_events profile t)
   packet_written t (events, has) = subst (Packet profile t) (sym (written_is t events has)) has

@@ -24,8 +24,8 @@ pub record Rule : Type 1 where
   pub fault : Invalid
   pub need : Type 0
 
-abbrev pub unless : Invalid → Type 0 → Rule
-unless fault need = record { fault = fault; need = need }
+abbrev pub rule_unless : Invalid → Type 0 → Rule
+rule_unless fault need = record { fault = fault; need = need }
 
 -- all rules are kept
 abbrev pub AreKept : List Rule → Type 0
@@ -38,17 +38,17 @@ IsFirstBroken [] fault = ⊥
 IsFirstBroken (rule ∷ rules) fault = ((¬ rule.need) × (fault ≡ rule.fault)) ⊎ (rule.need × IsFirstBroken rules fault)
 
 -- An answer by rules: Ok where all are kept, else the fault of the first that is broken.
-abbrev pub IsAnswer : List Rule → Result (Unit {0}) Invalid → Type 0
-IsAnswer rules answer = MatchResult answer (λ _. AreKept rules) (IsFirstBroken rules)
+abbrev pub AnswersRules : List Rule → Result (Unit {0}) Invalid → Type 0
+AnswersRules rules answer = MatchResult answer (λ _. AreKept rules) (IsFirstBroken rules)
 
 -- ---- the rules of transactions
 
 -- There is a form, and data fit it.
-abbrev pub has_form : Option Form → Rule
-has_form form = unless NotAllowed (IsSome form)
+abbrev pub allows_form : Option Form → Rule
+allows_form form = rule_unless NotAllowed (IsSome form)
 
 abbrev pub fits_form : Option Form → (Form → Type 0) → Rule
-fits_form form are_fit = unless WrongLength (IfSome form are_fit)
+fits_form form are_fit = rule_unless WrongLength (IfSome form are_fit)
 
 -- some body that is allowed behind some parts begins with the code
 abbrev pub MayBegin : List PartData → ℕ → DeviceParts → Type 0
@@ -61,8 +61,8 @@ MayGoOn parts sent device =
     × (sent ≡ front ++ last ∷ []) × Allowed device parts body × IsProperPrefix front body
 
 -- the command can be read or called
-abbrev pub IsAsked : Shape → Type 0
-IsAsked shape = IsSome shape.read ⊎ IsSome shape.call
+abbrev pub CanBeAsked : Shape → Type 0
+CanBeAsked shape = IsSome shape.read ⊎ IsSome shape.call
 
 module _ (profile : List DeviceParts) where
   -- the command with a code of the device with an address, and its forms; none where there is no
@@ -79,23 +79,23 @@ module _ (profile : List DeviceParts) where
 
   -- A device has the address.
   abbrev pub has_device : ℕ → Rule
-  has_device addr = unless UnknownDevice (IsSome (device_with addr profile))
+  has_device addr = rule_unless UnknownDevice (IsSome (device_with addr profile))
 
   -- It has a command with the code.
   abbrev pub has_command : ℕ → ℕ → Rule
-  has_command addr code = unless UnknownCommand (IsSome (command_at addr code))
+  has_command addr code = rule_unless UnknownCommand (IsSome (command_at addr code))
 
   -- The device's mode allows a packet error code, or to leave it out.
   abbrev pub keeps_mode : ℕ → Bool → Rule
-  keeps_mode addr with_pec = unless PecMode (IfSome (device_with addr profile) (λ device. AllowsPec device.pec with_pec))
+  keeps_mode addr with_pec = rule_unless PecMode (IfSome (device_with addr profile) (λ device. AllowsPec device.pec with_pec))
 
   -- the rules of a part behind parts with some addresses
   abbrev pub part_rules : List ℕ → PartData → List Rule
   part_rules earlier part =
       has_device part.addr
-      ∷ unless AddressTwice (IsNew part.addr earlier)
+      ∷ rule_unless AddressTwice (IsNew part.addr earlier)
       ∷ has_command part.addr part.code
-      ∷ has_form (forms_at part.addr part.code).write
+      ∷ allows_form (forms_at part.addr part.code).write
       ∷ fits_form (forms_at part.addr part.code).write (λ form. Fits form part.bytes)
       ∷ keeps_mode part.addr part.pec
       ∷ []
@@ -106,13 +106,13 @@ module _ (profile : List DeviceParts) where
   parts_rules earlier (part ∷ parts) = part_rules earlier part ++ parts_rules (earlier ++ part.addr ∷ []) parts
 
   abbrev pub write_rules : List PartData → List Rule
-  write_rules parts = unless NoParts (1 ≤ length parts) ∷ parts_rules [] parts
+  write_rules parts = rule_unless NoParts (1 ≤ length parts) ∷ parts_rules [] parts
 
   abbrev pub read_rules : ReadData → List Rule
   read_rules t =
       has_device t.addr
       ∷ has_command t.addr t.code
-      ∷ has_form (forms_at t.addr t.code).read
+      ∷ allows_form (forms_at t.addr t.code).read
       ∷ fits_form (forms_at t.addr t.code).read (λ form. Fits form t.reply)
       ∷ keeps_mode t.addr t.pec
       ∷ []
@@ -121,7 +121,7 @@ module _ (profile : List DeviceParts) where
   call_rules t =
       has_device t.addr
       ∷ has_command t.addr t.code
-      ∷ has_form (forms_at t.addr t.code).call
+      ∷ allows_form (forms_at t.addr t.code).call
       ∷ fits_form (forms_at t.addr t.code).call (λ form. Fits form t.bytes × Fits form t.reply)
       ∷ keeps_mode t.addr t.pec
       ∷ []
@@ -134,27 +134,27 @@ module _ (profile : List DeviceParts) where
   refused_leg_rules parts addr (code ∷ b ∷ bytes) false =
       has_device addr
       ∷ has_command addr code
-      ∷ unless NotAllowed (OfDevice addr (MayBegin parts code))
-      ∷ unless WrongLength (OfDevice addr (MayGoOn parts (code ∷ b ∷ bytes)))
+      ∷ rule_unless NotAllowed (OfDevice addr (MayBegin parts code))
+      ∷ rule_unless WrongLength (OfDevice addr (MayGoOn parts (code ∷ b ∷ bytes)))
       ∷ []
   refused_leg_rules parts addr [] true =
       has_device addr
-      ∷ unless NotAllowed (parts ≡ [])
-      ∷ unless WrongLength ⊥
+      ∷ rule_unless NotAllowed (parts ≡ [])
+      ∷ rule_unless WrongLength ⊥
       ∷ []
   refused_leg_rules parts addr (code ∷ bytes) true =
       has_device addr
-      ∷ unless NotAllowed (parts ≡ [])
+      ∷ rule_unless NotAllowed (parts ≡ [])
       ∷ has_command addr code
-      ∷ unless NotAllowed (IsAsked (forms_at addr code))
-      ∷ unless WrongLength (OfDevice addr (λ device. IsReadBody device (code ∷ bytes) ⊎ IsCallBody device (code ∷ bytes)))
+      ∷ rule_unless NotAllowed (CanBeAsked (forms_at addr code))
+      ∷ rule_unless WrongLength (OfDevice addr (λ device. IsReadBody device (code ∷ bytes) ⊎ IsCallBody device (code ∷ bytes)))
       ∷ []
 
   -- those of its address, which has seven bits and is none of the parts, and of its leg
   abbrev pub refused_address_rules : List PartData → ℕ → List ℕ → Bool → List Rule
   refused_address_rules parts addr sent at_read =
-      unless UnknownDevice (addr < 128)
-      ∷ unless AddressTwice (IsNew addr (addresses parts))
+      rule_unless UnknownDevice (addr < 128)
+      ∷ rule_unless AddressTwice (IsNew addr (addresses parts))
       ∷ refused_leg_rules parts addr sent at_read
 
   abbrev pub refused_rules : RefusedData → List Rule

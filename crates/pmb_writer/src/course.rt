@@ -5,7 +5,7 @@
 
 ghost use Rattle.std.specs.Prelude.{◌≡◌, [], ◌∷◌, true, MatchOption};
 ghost use Rattle.pmb_transaction.specs.Transaction.{transaction_data};
-ghost use Rattle.pmb_writer.specs.machine.Legs.{course_events, legs_data, legs_events, legs_of, written};
+ghost use Rattle.pmb_writer.specs.machine.Legs.{course_events, legs_data, legs_events, legs_of, packet_events};
 
 use crate::leg::Leg;
 use crate::legs::Legs;

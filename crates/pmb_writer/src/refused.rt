@@ -3,8 +3,8 @@
 ghost use Rattle.std.specs.Prelude.{◌≡◌, ◌↔◌, ◌≤◌, ◌∷◌, map, length, nat_eq, IsTrue, false, true};
 ghost use Rattle.pmb_command.specs.Parts.{device_with};
 ghost use Rattle.pmb_transaction.specs.Transaction.{part_data};
-ghost use Rattle.pmb_writer.specs.Invalid.{IsAnswer, IsAsked, refused_leg_rules};
-ghost use Rattle.pmb_writer.specs.machine.Lengths.{wire_length, pec_length, leaves_room, is_whole, may_go_on, is_request, may_begin};
+ghost use Rattle.pmb_writer.specs.Invalid.{AnswersRules, CanBeAsked, refused_leg_rules};
+ghost use Rattle.pmb_writer.specs.machine.Lengths.{wire_length, pec_length, leaves_room, is_whole_wire, may_go_on, is_request, may_begin};
 
 use crate::commands::forms_of;
 use crate::invalid::Invalid;
@@ -53,7 +53,7 @@ fn leaves_room(form: Option<Form>, more: usize, bytes: &[u8]) -> bool
 
 /// Whether these bytes are as long as the wire of a form.
 fn is_whole(form: Option<Form>, bytes: &[u8]) -> bool
-    ensures { result ≡ is_whole form bytes.now }
+    ensures { result ≡ is_whole_wire form bytes.now }
 {
     match form {
         None => false,
@@ -70,7 +70,7 @@ fn may_begin(first: bool, forms: Shape) -> bool
 
 /// Whether a command of these forms can be read or called.
 fn is_asked(forms: Shape) -> bool
-    ensures { IsTrue result ↔ IsAsked forms }
+    ensures { IsTrue result ↔ CanBeAsked forms }
 {
     forms.read.is_some() || forms.call.is_some()
 }
@@ -96,7 +96,7 @@ fn check_refused_byte(
     address: u8,
     sent: &[u8],
 ) -> Result<(), Invalid>
-    ensures { IsAnswer (refused_leg_rules profile.now (map part_data parts.now) address sent.now false) result }
+    ensures { AnswersRules (refused_leg_rules profile.now (map part_data parts.now) address sent.now false) result }
 {
     let Some((code, behind_code)) = sent.split_first() else {
         return Ok(());
@@ -127,7 +127,7 @@ fn check_refused_reply(
     address: u8,
     sent: &[u8],
 ) -> Result<(), Invalid>
-    ensures { IsAnswer (refused_leg_rules profile.now (map part_data parts.now) address sent.now true) result }
+    ensures { AnswersRules (refused_leg_rules profile.now (map part_data parts.now) address sent.now true) result }
 {
     let Some(device) = profile.device(address) else {
         return Err(Invalid::UnknownDevice);
@@ -158,7 +158,7 @@ pub(crate) fn check_refused_leg(
     sent: &[u8],
     at_read: bool,
 ) -> Result<(), Invalid>
-    ensures { IsAnswer (refused_leg_rules profile.now (map part_data parts.now) address sent.now at_read) result }
+    ensures { AnswersRules (refused_leg_rules profile.now (map part_data parts.now) address sent.now at_read) result }
 {
     if at_read {
         check_refused_reply(profile, parts, address, sent)

@@ -4,8 +4,8 @@ ghost use Rattle.std.specs.Prelude.{◌≡◌, ◌↔◌, [], map, nat_eq, not, 
 ghost use Rattle.std.specs.List.{list_any};
 ghost use Rattle.pmb_transaction.specs.Transaction.{part_data, transaction_data};
 ghost use Rattle.pmb_transaction.specs.Packet.{addresses};
-ghost use Rattle.pmb_transaction.specs.Wire.{AreBytes};
-ghost use Rattle.pmb_writer.specs.Invalid.{IsAnswer, HasPacket, IsFirstFault, part_rules, parts_rules, write_rules, read_rules, call_rules, refused_address_rules, refused_rules, transaction_rules};
+ghost use Rattle.pmb_transaction.specs.Wire.{AreByteValues};
+ghost use Rattle.pmb_writer.specs.Invalid.{AnswersRules, HasPacket, IsFirstFault, part_rules, parts_rules, write_rules, read_rules, call_rules, refused_address_rules, refused_rules, transaction_rules};
 ghost use Rattle.pmb_writer.specs.machine.Typed.{IsTyped};
 
 use crate::commands::{allows_pec, fits, forms_of};
@@ -30,7 +30,7 @@ pub(crate) fn has_address(parts: &[Part], address: u8) -> bool
 
 /// Checks a part behind others.
 fn check_part(profile: &Profile, earlier: &[Part], part: &Part) -> Result<(), Invalid>
-    ensures { IsAnswer (part_rules profile.now (addresses (map part_data earlier.now)) (part_data part.now)) result }
+    ensures { AnswersRules (part_rules profile.now (addresses (map part_data earlier.now)) (part_data part.now)) result }
 {
     let Some(device) = profile.device(part.addr) else {
         return Err(Invalid::UnknownDevice);
@@ -55,7 +55,7 @@ fn check_part(profile: &Profile, earlier: &[Part], part: &Part) -> Result<(), In
 
 /// Checks parts, each behind those before it.
 fn check_parts(profile: &Profile, parts: &[Part]) -> Result<(), Invalid>
-    ensures { IsAnswer (parts_rules profile.now [] (map part_data parts.now)) result }
+    ensures { AnswersRules (parts_rules profile.now [] (map part_data parts.now)) result }
 {
     for (number, part) in parts.iter().enumerate() {
         check_part(profile, &parts[..number], part)?;
@@ -65,7 +65,7 @@ fn check_parts(profile: &Profile, parts: &[Part]) -> Result<(), Invalid>
 
 /// Checks a write of these parts.
 fn check_write(profile: &Profile, parts: &[Part]) -> Result<(), Invalid>
-    ensures { IsAnswer (write_rules profile.now (map part_data parts.now)) result }
+    ensures { AnswersRules (write_rules profile.now (map part_data parts.now)) result }
 {
     if parts.is_empty() {
         return Err(Invalid::NoParts);
@@ -75,7 +75,7 @@ fn check_write(profile: &Profile, parts: &[Part]) -> Result<(), Invalid>
 
 /// Checks a read.
 fn check_read(profile: &Profile, addr: u8, code: u8, reply: &[u8], pec: bool) -> Result<(), Invalid>
-    ensures { IsAnswer (read_rules profile.now (record { addr = addr; code = code; reply = reply.now; pec = pec })) result }
+    ensures { AnswersRules (read_rules profile.now (record { addr = addr; code = code; reply = reply.now; pec = pec })) result }
 {
     let Some(device) = profile.device(addr) else {
         return Err(Invalid::UnknownDevice);
@@ -104,7 +104,7 @@ fn check_call(
     reply: &[u8],
     pec: bool,
 ) -> Result<(), Invalid>
-    ensures { IsAnswer (call_rules profile.now (record { addr = addr; code = code; bytes = bytes.now; reply = reply.now; pec = pec })) result }
+    ensures { AnswersRules (call_rules profile.now (record { addr = addr; code = code; bytes = bytes.now; reply = reply.now; pec = pec })) result }
 {
     let Some(device) = profile.device(addr) else {
         return Err(Invalid::UnknownDevice);
@@ -132,7 +132,7 @@ fn check_refused_address(
     sent: &[u8],
     at_read: bool,
 ) -> Result<(), Invalid>
-    ensures { IsAnswer (refused_address_rules profile.now (map part_data parts.now) addr sent.now at_read) result }
+    ensures { AnswersRules (refused_address_rules profile.now (map part_data parts.now) addr sent.now at_read) result }
 {
     if addr > 0x7f {
         return Err(Invalid::UnknownDevice);
@@ -152,7 +152,7 @@ fn check_refused(
     sent: &[u8],
     at_read: bool,
 ) -> Result<(), Invalid>
-    ensures { IsAnswer (refused_rules profile.now (record { parts = map part_data parts.now; addr = addr; sent = sent.now; at_read = at_read })) result }
+    ensures { AnswersRules (refused_rules profile.now (record { parts = map part_data parts.now; addr = addr; sent = sent.now; at_read = at_read })) result }
 {
     match check_parts(profile, parts) {
         Ok(()) => check_refused_address(profile, parts, addr, sent, at_read),
@@ -162,14 +162,14 @@ fn check_refused(
 
 /// The items of a slice of bytes are below 256.
 fn items_are_bytes(bytes: &[u8])
-    ensures { AreBytes bytes.now }
+    ensures { AreByteValues bytes.now }
 {
     let _ = bytes;
 }
 
 /// Checks a transaction by its rules.
 fn check_rules(profile: &Profile, transaction: &Transaction) -> Result<(), Invalid>
-    ensures rules { IsAnswer (transaction_rules profile.now (transaction_data transaction.now)) result }
+    ensures rules { AnswersRules (transaction_rules profile.now (transaction_data transaction.now)) result }
     ensures typed { IsTyped (transaction_data transaction.now) }
 {
     match transaction {

@@ -21,7 +21,7 @@ IsPlace (places.Faulted fault) n text = ⊥
 
 -- A lexer stands at a text: n bytes of it were given since `new` (a `finish` counts as a space of
 -- no bytes), and the words that have ended in it are the tokens of the events.
-pub record StandsAt (lexer : Lexer) (n : ℕ) (text : List ℕ) (events : List Event) : Type 0 where
+pub record LexerStandsAt (lexer : Lexer) (n : ℕ) (text : List ℕ) (events : List Event) : Type 0 where
   pub ended : EndedWordsSpell text events
   pub begins : BeginsText text
   pub counted : lexer.used ≡ capped n

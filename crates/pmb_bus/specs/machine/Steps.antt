@@ -10,15 +10,15 @@ use Rattle.pmb_bus.specs.declared.lexer.Lexer.{Lexer}
 use Rattle.pmb_bus.specs.Event.{character, event_of}
 use Rattle.pmb_bus.specs.Text.{is_word, open_word, BeginsText}
 use Rattle.pmb_bus.specs.LexFault.{IsFaultOf, OpenWordIsBad}
-use Rattle.pmb_bus.specs.machine.Standing.{IsPlace, StandsAt, IsFaulted}
+use Rattle.pmb_bus.specs.machine.Standing.{IsPlace, LexerStandsAt, IsFaulted}
 
 -- some token begins with a word: the word itself, or that and a digit 0
 abbrev pub BeginsToken : List ℕ → Type 0
 BeginsToken word = (event : Event) × ((event_of word ≡ Some event) ⊎ (event_of (word ++ codes "0") ≡ Some event))
 
 -- the place behind a byte that ends a word
-abbrev pub place_behind : ℕ → Place
-place_behind byte = if byte == character "#" then places.Comment else places.Between
+abbrev pub place_behind_word : ℕ → Place
+place_behind_word byte = if byte == character "#" then places.Comment else places.Between
 
 -- what the word under way at the end of a text comes to if it ends there: there is none, its event,
 -- or a fault
@@ -42,6 +42,6 @@ pub record Stops (n : ℕ) (text : List ℕ) (events : List Event) (byte : ℕ) 
 
 -- what one byte more comes to for a lexer that stands at a text
 abbrev pub Steps : ℕ → List ℕ → List Event → ℕ → Step → Lexer → Type 0
-Steps n text events byte answers.Need after = StandsAt after (n + 1) (text ++ byte ∷ []) events
-Steps n text events byte (answers.Event event) after = StandsAt after (n + 1) (text ++ byte ∷ []) (events ++ event ∷ [])
+Steps n text events byte answers.Need after = LexerStandsAt after (n + 1) (text ++ byte ∷ []) events
+Steps n text events byte (answers.Event event) after = LexerStandsAt after (n + 1) (text ++ byte ∷ []) (events ++ event ∷ [])
 Steps n text events byte (answers.Fault fault) after = Stops n text events byte after fault

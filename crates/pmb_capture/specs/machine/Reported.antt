@@ -6,7 +6,7 @@ use Rattle.pmb_reader.specs.declared.reader.Took.{Took}
 use Rattle.pmb_reader.specs.declared.reader.Took.TheVariants as answers
 use Rattle.pmb_reader.specs.declared.refusal.Refusal.{Refusal as HeldRefusal}
 use Rattle.pmb_reader.specs.declared.reader.Reader.{Reader}
-use Rattle.pmb_reader.specs.Reader.{Standing, Open, Held, Passing, StandsAt}
+use Rattle.pmb_reader.specs.Reader.{Standing, Open, Held, Passing, ReaderStandsAt}
 use Rattle.pmb_reader.specs.Refusal.{refusal_data}
 use Rattle.pmb_transaction.specs.Reading.{Outcome, Accepted, Refusal, BehindStop, ReadsFrom}
 use Rattle.pmb_transaction.specs.Transaction.{TransactionData}
@@ -38,7 +38,7 @@ module _ (profile : List DeviceParts) where
   ReadsFromStanding (Passing n) rest outcomes = BehindStop (λ m behind. ReadsFrom profile m behind outcomes) (outcomes ≡ []) n rest
 
   -- What an event came to, and then that of whatever follows, is what these read as.
-  pub record Leads (standing : Standing) (event : Event) (outcomes : List Outcome) (after : Standing) : Type 0 where
+  pub record EventLeads (standing : Standing) (event : Event) (outcomes : List Outcome) (after : Standing) : Type 0 where
     pub reading : IsReading after
     pub whole : but_truncation outcomes ≡ outcomes
     pub leads : (rest : List Event) (others : List Outcome) → ReadsFromStanding after rest others → ReadsFromStanding standing (event ∷ rest) (outcomes ++ others)
@@ -50,4 +50,4 @@ module _ (profile : List DeviceParts) where
 
 -- where a reader stands, the events may end
 abbrev pub CanEnd : Reader → Type 0
-CanEnd reader = (profile : List DeviceParts) (standing : Standing) → StandsAt profile reader standing → IsReading standing → (last : List Outcome) × Ends profile standing last
+CanEnd reader = (profile : List DeviceParts) (standing : Standing) → ReaderStandsAt profile reader standing → IsReading standing → (last : List Outcome) × Ends profile standing last

@@ -7,13 +7,13 @@ use Rattle.pmb_command.specs.declared.commands.StandardKind.TheVariants as stand
 use Rattle.pmb_command.specs.Entry.{EntryParts}
 
 -- a standard kind as a kind
-abbrev pub kind_of : StandardKind → Kind
-kind_of standard.Raw = Raw
-kind_of standard.Linear11 = Linear11
-kind_of standard.Vout = Vout
-kind_of standard.VoutSigned = VoutSigned
-kind_of standard.Status = Status
+abbrev pub standard_kind : StandardKind → Kind
+standard_kind standard.Raw = Raw
+standard_kind standard.Linear11 = Linear11
+standard_kind standard.Vout = Vout
+standard_kind standard.VoutSigned = VoutSigned
+standard_kind standard.Status = Status
 
 -- a row as an entry
 abbrev pub row_parts : Row → EntryParts
-row_parts r = record { code = r.0; name = r.1.now; shape = r.2; kind = kind_of r.3; paged = r.4 }
+row_parts r = record { code = r.0; name = r.1.now; shape = r.2; kind = standard_kind r.3; paged = r.4 }

@@ -12,13 +12,13 @@ use Rattle.pmb_convert.specs.Answer.{Answer, code_text}
 use Rattle.pmb_convert.specs.Lines.{AnswersCounted}
 
 -- the text of what a number is converted to
-abbrev pub text_of : Converted → List ℕ
-text_of (Code code) = code_text code
-text_of (Value quantity) = spelling quantity
+abbrev pub converted_text : Converted → List ℕ
+converted_text (Code code) = code_text code
+converted_text (Value quantity) = spelling quantity
 
 -- the answer that it gives
 abbrev pub answer_of : Result Converted LineFault → Answer
-answer_of (Ok converted) = Ok (text_of converted)
+answer_of (Ok converted) = Ok (converted_text converted)
 answer_of (Err fault) = Err fault
 
 -- nothing was counted yet
@@ -31,6 +31,6 @@ with_answer converter (Ok text) = record converter { tally = with_packet convert
 with_answer converter (Err fault) = record converter { tally = with_refusal converter.tally }
 
 -- the conversion stays, and the text is the answers to the lines, which are counted
-pub record Stands (start now : Converter) (lines : List TextLine) (text : List ℕ) : Type 0 where
+pub record ConverterStands (start now : Converter) (lines : List TextLine) (text : List ℕ) : Type 0 where
   pub same : now.conversion ≡ start.conversion
   pub answered : AnswersCounted start.conversion now.tally lines text

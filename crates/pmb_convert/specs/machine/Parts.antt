@@ -1,8 +1,8 @@
 -- What the parts of a FORMAT say.
-use Rattle.std.specs.Prelude.{◌≡◌, ◌≢◌, ℕ, Option, MatchOption, ℤ, List, [], ◌∷◌, ◌++◌, codes, FitsSigned}
+use Rattle.std.specs.Prelude.{◌≡◌, ◌≢◌, ℕ, Option, MatchOption, ℤ, List, [], ◌∷◌, ◌++◌, codes, slice_index, FitsSigned}
 use mir.Syntax.{Width}
 use Rattle.std.specs.Borrow.{Bor}
-use Rattle.pmb_convert.specs.Spelling.{Saying, linear11_fixed, ulinear16, slinear16, vout, direct, Writes, WritesByte, WritesWord, WritesMode}
+use Rattle.pmb_convert.specs.Spelling.{Saying, linear11_fixed, ulinear16, slinear16, vout, direct, WritesInteger, WritesByte, WritesWord, WritesMode}
 
 -- what a text has behind a prefix; nothing where it begins otherwise
 abbrev pub StripsPrefix : List ℕ → List ℕ → Option (Bor (List ℕ)) → Type 0
@@ -15,7 +15,7 @@ comma front back = front ++ (codes "," ++ back)
 -- no comma in it
 abbrev pub HasNoComma : List ℕ → Type 0
 HasNoComma [] = Unit {0}
-HasNoComma (c ∷ cs) = (c ≢ 44) × HasNoComma cs
+HasNoComma (c ∷ cs) = (c ≢ slice_index (codes ",") 0) × HasNoComma cs
 
 -- the parts round the first comma; nothing where there is none
 abbrev pub SplitsAtComma : List ℕ → Option (Bor (List ℕ) × Bor (List ℕ)) → Type 0
@@ -26,7 +26,7 @@ SplitsAtComma text parts =
 -- the number that a text writes; nothing where it writes none that fits
 abbrev pub ReadsInteger : Width → List ℕ → Option ℤ → Type 0
 ReadsInteger w text number =
-    MatchOption number ((n : ℤ) → Writes text n → ¬ (FitsSigned w n)) (λ n. Writes text n × FitsSigned w n)
+    MatchOption number ((n : ℤ) → WritesInteger text n → ¬ (FitsSigned w n)) (λ n. WritesInteger text n × FitsSigned w n)
 
 -- the VOUT_MODE that a text writes; nothing where it writes none
 abbrev pub ReadsMode : List ℕ → Option ℕ → Type 0

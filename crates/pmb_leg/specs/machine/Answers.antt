@@ -5,8 +5,8 @@ use Rattle.pmb_leg.specs.Reply.{Answered}
 use Rattle.pmb_leg.specs.declared.answer.Answer.TheInside.{Inside}
 use Rattle.pmb_leg.specs.machine.Left.{Leaves}
 
-abbrev pub answered : Inside → Answered
-answered a = record { expected = record { form = a.form; mode = a.mode; code = a.code }; bytes = a.bytes.items }
+abbrev pub answered_so_far : Inside → Answered
+answered_so_far a = record { expected = record { form = a.form; mode = a.mode; code = a.code }; bytes = a.bytes.items }
 
 -- For what follows them bytes count by their code alone.
 abbrev pub CountsAlone : List ℕ → Type 0

@@ -4,7 +4,7 @@ use Rattle.pmb_command.specs.declared.form.Form.{Form}
 use Rattle.pmb_command.specs.declared.form.Form.TheVariants.{Zero, One, Two, Four, Eight, Block}
 use Rattle.pmb_command.specs.declared.pec_mode.PecMode.{PecMode}
 use Rattle.pmb_command.specs.declared.pec_mode.PecMode.TheVariants.{Off, On, Optional}
-use Rattle.pmb_transaction.specs.Wire.{AreBytes, Fits, Takes, wire}
+use Rattle.pmb_transaction.specs.Wire.{AreByteValues, Fits, Takes, wire}
 use Rattle.pmb_transaction.specs.Body.{AllowsPec, IsProperPrefix, checked}
 use Rattle.pmb_leg.specs.declared.left.Left.{Left}
 use Rattle.pmb_leg.specs.declared.left.Left.TheVariants.{Count, Data, Code, Nothing, Closed}
@@ -75,16 +75,16 @@ pub record SpellsData (form : Form) (mode : PecMode) (before : List ℕ) (whole 
   pub spelled : bytes ≡ checked with_pec before (wire form whole)
 
 -- some data
-abbrev pub Spells : Form → PecMode → List ℕ → List ℕ → Type 0
-Spells form mode before bytes = (whole : List ℕ) × (with_pec : Bool) × SpellsData form mode before whole with_pec bytes
+abbrev pub SpellsSomeData : Form → PecMode → List ℕ → List ℕ → Type 0
+SpellsSomeData form mode before bytes = (whole : List ℕ) × (with_pec : Bool) × SpellsData form mode before whole with_pec bytes
 
 -- some such data begin with the bytes
-abbrev pub Begins : Form → PecMode → List ℕ → List ℕ → Type 0
-Begins form mode before bytes = (all : List ℕ) × (rest : List ℕ) × Spells form mode before all × (all ≡ bytes ++ rest)
+abbrev pub BeginsData : Form → PecMode → List ℕ → List ℕ → Type 0
+BeginsData form mode before bytes = (all : List ℕ) × (rest : List ℕ) × SpellsSomeData form mode before all × (all ≡ bytes ++ rest)
 
 -- and go on
 abbrev pub IsInside : Form → PecMode → List ℕ → List ℕ → Type 0
-IsInside form mode before bytes = (all : List ℕ) × Spells form mode before all × IsProperPrefix bytes all
+IsInside form mode before bytes = (all : List ℕ) × SpellsSomeData form mode before all × IsProperPrefix bytes all
 
 -- the first bytes of the wire of a form that has so many bytes of data
 abbrev pub wire_front : Form → ℕ → List ℕ → List ℕ
@@ -98,7 +98,7 @@ wire_front Block n bytes = n ∷ bytes
 -- So many bytes of data are missing.
 pub record IsMissing (form : Form) (n : ℕ) (bytes : List ℕ) : Type 0 where
   pub front : List ℕ
-  pub small : AreBytes front
+  pub small : AreByteValues front
   pub some : 0 < n
   pub taken : Takes form (length front + n)
   pub spelled : bytes ≡ wire_front form (length front + n) front
@@ -123,7 +123,7 @@ Leaves form mode before bytes Count = (form ≡ Block) × (bytes ≡ [])
 Leaves form mode before bytes (Data n) = IsMissing form n bytes
 Leaves form mode before bytes Code = IsData form mode bytes
 Leaves form mode before bytes Nothing = IsEnded form mode before bytes
-Leaves form mode before bytes Closed = Begins form mode before bytes → ⊥
+Leaves form mode before bytes Closed = BeginsData form mode before bytes → ⊥
 
 -- where there is no form, nothing begins
 abbrev pub LeavesOf : Option Form → PecMode → List ℕ → List ℕ → Left → Type 0

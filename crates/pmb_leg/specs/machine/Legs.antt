@@ -12,8 +12,8 @@ use Rattle.pmb_leg.specs.declared.written.WrittenLeg.TheInside.{Inside}
 use Rattle.pmb_leg.specs.Leg.{Written, call_form}
 use Rattle.pmb_leg.specs.machine.Left.{LeavesOf}
 
-abbrev pub written : Inside → Written
-written leg = record { device = leg.device.now; place = leg.place; bytes = leg.bytes.items }
+abbrev pub written_so_far : Inside → Written
+written_so_far leg = record { device = leg.device.now; place = leg.place; bytes = leg.bytes.items }
 
 -- What is kept beside the bytes: the forms of the command, what is left of the body of a write and
 -- of that of a call, and the packet error code so far.
@@ -37,9 +37,9 @@ pub record IsBehindCode (leg : Kept) (code : ℕ) (behind : List ℕ) : Type 0 w
   pub call : LeavesOf (call_form leg.place leg.shape) Off (write_address leg.device.address ∷ code ∷ []) behind leg.call
 
 -- In front of the code nothing of it counts.
-abbrev pub IsKept : Kept → List ℕ → Type 0
-IsKept leg [] = Unit {0}
-IsKept leg (code ∷ behind) = IsBehindCode leg code behind
+abbrev pub IsKeptLeg : Kept → List ℕ → Type 0
+IsKeptLeg leg [] = Unit {0}
+IsKeptLeg leg (code ∷ behind) = IsBehindCode leg code behind
 
-abbrev pub IsUnderWay : Inside → Type 0
-IsUnderWay leg = IsKept (kept leg) leg.bytes.items
+abbrev pub IsLegUnderWay : Inside → Type 0
+IsLegUnderWay leg = IsKeptLeg (kept leg) leg.bytes.items

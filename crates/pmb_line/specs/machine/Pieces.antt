@@ -8,7 +8,7 @@ use Rattle.pmb_line.specs.declared.word_fault.WordFault.{WordFault}
 use Rattle.pmb_line.specs.declared.word_fault.WordFault.TheVariants.{BadWord, TooLong}
 use Rattle.pmb_line.specs.declared.words.Located.{Located}
 use Rattle.pmb_line.specs.declared.taking.ByteWord.{ByteWord}
-use Rattle.pmb_line.specs.machine.Reading.{StandsAt, Says, IsFaultOf, said, part_with, write_next, refused_next}
+use Rattle.pmb_line.specs.machine.Reading.{LineStandsAt, SaysTransaction, IsWordFaultOf, tokens_said, part_with, write_next, refused_next}
 
 -- The next word is not this one.
 abbrev pub IsNotNext : Token → List Located → Type 0
@@ -47,7 +47,7 @@ pub record AddsBytes (before : List Located) (old new : List ℕ) (after : List 
   pub bs : List ℕ
   pub front : List Located
   pub split : before ≡ front ++ after
-  pub are_bytes : said front ≡ map (λ b. Some (Byte b)) bs
+  pub are_bytes : tokens_said front ≡ map (λ b. Some (Byte b)) bs
   pub added : new ≡ old ++ bs
 
 -- One more comes, but the list is full.
@@ -78,20 +78,20 @@ TakesEnd before (Err fault) = (word : Located) × (rest : List Located) × (befo
 -- ---- what a reader answers that stood before the piece
 
 -- all words are those of a transaction
-abbrev pub Reads : List Located → ℕ → TransactionData → Result Unit WordFault → Type 0
-Reads all length t (Ok done) = Says all t
-Reads all length t (Err fault) = IsFaultOf all length fault
+abbrev pub ReadsLine : List Located → ℕ → TransactionData → Result Unit WordFault → Type 0
+ReadsLine all length t (Ok done) = SaysTransaction all t
+ReadsLine all length t (Err fault) = IsWordFaultOf all length fault
 
 -- a part of a write, and whether a `+` follows
 abbrev pub ReadsPart : List Located → ℕ → List PartData → Result Bool WordFault → List Located → Type 0
-ReadsPart all length ps (Ok true) after = StandsAt all (write_next ps) after
-ReadsPart all length ps (Ok false) after = Says all (says.Write ps)
-ReadsPart all length ps (Err fault) after = IsFaultOf all length fault
+ReadsPart all length ps (Ok true) after = LineStandsAt all (write_next ps) after
+ReadsPart all length ps (Ok false) after = SaysTransaction all (says.Write ps)
+ReadsPart all length ps (Err fault) after = IsWordFaultOf all length fault
 
 -- a part of a write comes, or all have come
 abbrev pub WritesOn : List Located → List PartData → Bool → List Located → Type 0
-WritesOn all ps true left = StandsAt all (write_next ps) left
-WritesOn all ps false left = Says all (says.Write ps)
+WritesOn all ps true left = LineStandsAt all (write_next ps) left
+WritesOn all ps false left = SaysTransaction all (says.Write ps)
 
 -- A part more of a refused packet, of an address and the bytes behind it.
 pub record Pushed (ps : List PartData) (addr : ℕ) (sent : List ℕ) (pec : Bool) (after : List PartData) : Type 0 where
@@ -113,11 +113,11 @@ PushesPart ps addr sent pec at (Err fault) after = NotPushed ps sent at fault
 
 -- an address of a refused packet and the bytes behind it: a part, or what was refused
 abbrev pub ReadsLeg : List Located → ℕ → List PartData → ℕ → List ℕ → Bool → Result Bool WordFault → List Located → Type 0
-ReadsLeg all length ps addr sent at_read (Ok true) after = StandsAt all (refused_next ps) after
-ReadsLeg all length ps addr sent at_read (Ok false) after = Says all (says.Refused (record { parts = ps; addr = addr; sent = sent; at_read = at_read }))
-ReadsLeg all length ps addr sent at_read (Err fault) after = IsFaultOf all length fault
+ReadsLeg all length ps addr sent at_read (Ok true) after = LineStandsAt all (refused_next ps) after
+ReadsLeg all length ps addr sent at_read (Ok false) after = SaysTransaction all (says.Refused (record { parts = ps; addr = addr; sent = sent; at_read = at_read }))
+ReadsLeg all length ps addr sent at_read (Err fault) after = IsWordFaultOf all length fault
 
 -- a part of a refused packet comes, or all has come
 abbrev pub RefusesOn : List Located → TransactionData → List PartData → Bool → List Located → Type 0
-RefusesOn all t ps true left = StandsAt all (refused_next ps) left
-RefusesOn all t ps false left = Says all t
+RefusesOn all t ps true left = LineStandsAt all (refused_next ps) left
+RefusesOn all t ps false left = SaysTransaction all t

@@ -199,8 +199,8 @@ abbrev pub located : Word → Located
 located word = record { at = word.at; token = token_of word.text }
 
 -- a byte that ends the word before it
-abbrev pub ends_word : ℕ → Bool
-ends_word b = is_blank b || is_comment b
+abbrev pub ends_line_word : ℕ → Bool
+ends_line_word b = is_blank b || is_comment b
 
 -- the byte that a word spells
 abbrev pub SpellsByte : List ℕ → Option ℕ → Type 0
@@ -208,14 +208,14 @@ SpellsByte word (Some b) = byte_of word ≡ Some (Byte b)
 SpellsByte word None = byte_of word ≡ None
 
 -- what words say
-abbrev pub said : List Located → List (Option Token)
-said ws = map (λ w. w.token) ws
+abbrev pub tokens_said : List Located → List (Option Token)
+tokens_said ws = map (λ w. w.token) ws
 
 -- Of all words, those before `left` say `s`, and there is room for it.
-pub record StandsAt (all : List Located) (s : Partial) (left : List Located) : Type 0 where
+pub record LineStandsAt (all : List Located) (s : Partial) (left : List Located) : Type 0 where
   pub before : List Located
   pub split : all ≡ before ++ left
-  pub ran : run (Some nothing) (said before) ≡ Some s
+  pub ran : run (Some nothing) (tokens_said before) ≡ Some s
   pub room : Room s
 
 -- ---- faults
@@ -225,14 +225,14 @@ pub record IsUnfit (all : List Located) (place : ℕ) : Type 0 where
   pub s : Partial
   pub word : Located
   pub left : List Located
-  pub stands : StandsAt all s (word ∷ left)
+  pub stands : LineStandsAt all s (word ∷ left)
   pub unfit : step s word.token ≡ None
   pub place_is : place ≡ word.at
 
 -- A word is missing at the end.
 pub record IsShort (all : List Located) (length : ℕ) (place : ℕ) : Type 0 where
   pub s : Partial
-  pub stands : StandsAt all s []
+  pub stands : LineStandsAt all s []
   pub begun : nothing ≢ s
   pub unfinished : finish s ≡ None
   pub place_is : place ≡ length
@@ -243,19 +243,19 @@ pub record IsFull (all : List Located) (place : ℕ) : Type 0 where
   pub word : Located
   pub left : List Located
   pub after : Partial
-  pub stands : StandsAt all s (word ∷ left)
+  pub stands : LineStandsAt all s (word ∷ left)
   pub fits : step s word.token ≡ Some after
   pub full : Room after → ⊥
   pub place_is : place ≡ word.at
 
 -- what is wrong with a line of these words that ends at `length`
-abbrev pub IsFaultOf : List Located → ℕ → WordFault → Type 0
-IsFaultOf all length Blank = all ≡ []
-IsFaultOf all length (BadWord place) = IsUnfit all place ⊎ IsShort all length place
-IsFaultOf all length (TooLong place) = IsFull all place
+abbrev pub IsWordFaultOf : List Located → ℕ → WordFault → Type 0
+IsWordFaultOf all length Blank = all ≡ []
+IsWordFaultOf all length (BadWord place) = IsUnfit all place ⊎ IsShort all length place
+IsWordFaultOf all length (TooLong place) = IsFull all place
 
 -- The words spell a transaction.
-pub record Says (all : List Located) (t : TransactionData) : Type 0 where
+pub record SaysTransaction (all : List Located) (t : TransactionData) : Type 0 where
   pub s : Partial
-  pub stands : StandsAt all s []
+  pub stands : LineStandsAt all s []
   pub finished : finish s ≡ Some t

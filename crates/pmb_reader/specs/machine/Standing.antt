@@ -35,7 +35,7 @@ IsMode modes.Passing (Held n refusal) = ⊥
 IsMode modes.Passing (Passing n) = Unit {0}
 
 -- A reader that was made for a profile stands there.
-pub record StandsAt (profile : List DeviceParts) (reader : Reader) (standing : Standing) : Type 0 where
+pub record ReaderStandsAt (profile : List DeviceParts) (reader : Reader) (standing : Standing) : Type 0 where
   pub mode : IsMode reader.mode standing
   pub counted : reader.used ≡ capped (count_of standing)
   pub inside : StandsIn profile reader.under_way (events_of standing)

@@ -90,9 +90,9 @@ pub record HasAsked (profile : List DeviceParts) (u : UnderWay) (front : List Ev
   pub spelled : front ≡ leg (write_address written.device.address ∷ written.bytes)
 
 -- what was asked in front of the leg, and the address that is read
-abbrev pub IsAsked : Source → List DeviceParts → UnderWay → List Event → ℕ → Type 0
-IsAsked sources.Device profile u front addr = HasAsked profile u front addr
-IsAsked sources.Alert profile u front addr = (front ≡ []) × (addr ≡ alert_address)
+abbrev pub IsAskedOfSource : Source → List DeviceParts → UnderWay → List Event → ℕ → Type 0
+IsAskedOfSource sources.Device profile u front addr = HasAsked profile u front addr
+IsAskedOfSource sources.Alert profile u front addr = (front ≡ []) × (addr ≡ alert_address)
 
 -- the answer that is kept answers that
 pub record AnswersDevice (u : UnderWay) : Type 0 where
@@ -106,31 +106,31 @@ pub record AnswersAlert (u : UnderWay) : Type 0 where
   pub answers : (all : List ℕ) → (IsReply u.answer.expected all ↔ IsAlertAnswer all)
   pub says : (reply : List ℕ) (with_pec : Bool) (all : List ℕ) → (SaysReply u.answer.expected reply with_pec all ↔ SaysAlert reply with_pec all)
 
-abbrev pub Answers : Source → UnderWay → Type 0
-Answers sources.Device u = AnswersDevice u
-Answers sources.Alert u = AnswersAlert u
+abbrev pub AnswersSource : Source → UnderWay → Type 0
+AnswersSource sources.Device u = AnswersDevice u
+AnswersSource sources.Alert u = AnswersAlert u
 
 -- The address byte was sent.
 pub record AtReadAddress (profile : List DeviceParts) (u : UnderWay) (source : Source) (events : List Event) : Type 0 where
   pub front : List Event
   pub addr : ℕ
-  pub asked : IsAsked source profile u front addr
+  pub asked : IsAskedOfSource source profile u front addr
   pub spelled : events ≡ front ++ Start ∷ Byte (read_address addr) ∷ []
 
 -- The bytes of the answer were taken.
 pub record InAnswer (profile : List DeviceParts) (u : UnderWay) (source : Source) (events : List Event) : Type 0 where
   pub front : List Event
   pub addr : ℕ
-  pub asked : IsAsked source profile u front addr
-  pub answers : Answers source u
+  pub asked : IsAskedOfSource source profile u front addr
+  pub answers : AnswersSource source u
   pub spelled : events ≡ front ++ leg (read_address addr ∷ u.answer.bytes)
 
 -- Its last byte was sent.
 pub record BehindAnswerByte (profile : List DeviceParts) (u : UnderWay) (source : Source) (events : List Event) : Type 0 where
   pub front : List Event
   pub addr : ℕ
-  pub asked : IsAsked source profile u front addr
-  pub answers : Answers source u
+  pub asked : IsAskedOfSource source profile u front addr
+  pub answers : AnswersSource source u
   pub bytes : List ℕ
   pub byte : ℕ
   pub last : u.answer.bytes ≡ bytes ++ byte ∷ []
@@ -145,23 +145,23 @@ pub record AtEnd (profile : List DeviceParts) (u : UnderWay) (events : List Even
   pub packet : Packet profile u.kept.last (events ++ Stop ∷ [])
 
 -- what each place says of the events
-abbrev pub IsPlace : Place → List DeviceParts → UnderWay → List Event → Type 0
-IsPlace places.Between profile u events = events ≡ []
-IsPlace places.Start profile u events = (events ≡ Start ∷ []) × (u.kept.parts ≡ [])
-IsPlace (places.Address addr) profile u events = AtAddress profile u addr events
-IsPlace places.Leg profile u events = InLeg profile u events
-IsPlace (places.LegByte byte) profile u events = BehindByte profile u byte events
-IsPlace places.Restart profile u events = BehindStart profile u events
-IsPlace (places.ReadAddress source) profile u events = AtReadAddress profile u source events
-IsPlace (places.Answer source) profile u events = InAnswer profile u source events
-IsPlace (places.AnswerByte source) profile u events = BehindAnswerByte profile u source events
-IsPlace places.End profile u events = AtEnd profile u events
+abbrev pub IsPacketPlace : Place → List DeviceParts → UnderWay → List Event → Type 0
+IsPacketPlace places.Between profile u events = events ≡ []
+IsPacketPlace places.Start profile u events = (events ≡ Start ∷ []) × (u.kept.parts ≡ [])
+IsPacketPlace (places.Address addr) profile u events = AtAddress profile u addr events
+IsPacketPlace places.Leg profile u events = InLeg profile u events
+IsPacketPlace (places.LegByte byte) profile u events = BehindByte profile u byte events
+IsPacketPlace places.Restart profile u events = BehindStart profile u events
+IsPacketPlace (places.ReadAddress source) profile u events = AtReadAddress profile u source events
+IsPacketPlace (places.Answer source) profile u events = InAnswer profile u source events
+IsPacketPlace (places.AnswerByte source) profile u events = BehindAnswerByte profile u source events
+IsPacketPlace places.End profile u events = AtEnd profile u events
 
 -- The events are those of the packet under way.
 pub record StandsIn (profile : List DeviceParts) (u : UnderWay) (events : List Event) : Type 0 where
   pub known : u.profile.now ≡ profile
   pub goes : IsUnderWay profile events
-  pub place : IsPlace u.place profile u events
+  pub place : IsPacketPlace u.place profile u events
 
 -- the transaction whose packet ended last
 abbrev pub packet_of : UnderWay → TransactionData
@@ -170,7 +170,7 @@ packet_of u = u.kept.last
 -- ---- one part more
 
 -- The leg that is kept was pushed to the parts.
-pub record PushesPart (u : UnderWay) (after : UnderWay) : Type 0 where
+pub record PushesLeg (u : UnderWay) (after : UnderWay) : Type 0 where
   pub written : Written
   pub is : u.leg ≡ Some written
   pub part : PartData

@@ -93,8 +93,8 @@ legs_of profile (Alert t) = record { bytes = 0x19 ∷ t.byte ∷ []; pec = t.pec
 legs_of profile NoAlert = record { bytes = 0x19 ∷ []; pec = false; last = Nack; goes_on = false } ∷ []
 
 -- what a transaction's packet is made of
-abbrev pub written : List DeviceParts → TransactionData → List Event
-written profile t = legs_events true 0 (legs_of profile t)
+abbrev pub packet_events : List DeviceParts → TransactionData → List Event
+packet_events profile t = legs_events true 0 (legs_of profile t)
 
 -- ---- the code's legs
 

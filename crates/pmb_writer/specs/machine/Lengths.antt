@@ -28,9 +28,9 @@ leaves_room None more bytes = false
 leaves_room (Some form) more bytes = nat_lt (length bytes) (wire_length form bytes + more)
 
 -- There is a form, and the bytes are as long as its wire.
-abbrev pub is_whole : Option Form → List ℕ → Bool
-is_whole None bytes = false
-is_whole (Some form) bytes = nat_eq (length bytes) (wire_length form bytes)
+abbrev pub is_whole_wire : Option Form → List ℕ → Bool
+is_whole_wire None bytes = false
+is_whole_wire (Some form) bytes = nat_eq (length bytes) (wire_length form bytes)
 
 -- A body may go on behind a code and some bytes: that of a write, or in a first leg of a call.
 abbrev pub may_go_on : Bool → PecMode → Shape → List ℕ → Bool
@@ -38,7 +38,7 @@ may_go_on first mode shape bytes = leaves_room shape.write (pec_length mode) byt
 
 -- A code and some bytes are the body of a read or a call.
 abbrev pub is_request : Shape → List ℕ → Bool
-is_request shape bytes = (is_some shape.read && nat_eq (length bytes) 0) || is_whole shape.call bytes
+is_request shape bytes = (is_some shape.read && nat_eq (length bytes) 0) || is_whole_wire shape.call bytes
 
 -- A body may begin with the code of a command of these forms.
 abbrev pub may_begin : Bool → Shape → Bool

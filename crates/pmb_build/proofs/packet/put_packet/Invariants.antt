@@ -1,12 +1,12 @@
 use Rattle.std.proofs.Common.{◌≡◌, ◌++◌, List, ℕ}
 use Rattle.pmb_bus.specs.Event.{canonical_text}
-use Rattle.pmb_io.specs.Outgoing.{Writes}
+use Rattle.pmb_io.specs.Outgoing.{PutsText}
 use Rattle.pmb_build.proofs.packet.put_packet.Given as goal
 
 -- The text so far and that of the events that are left is the text of all.
 abbrev pub invariant-loop-event : goal.invariant-loop-event
 invariant-loop-event g l = record {
-  put : (text : List ℕ) × Writes (g.W.Sink.contents l.fn.writer) l.fn.waiting.items (g.W.Sink.contents l.writer) l.waiting.items text
+  put : (text : List ℕ) × PutsText (g.W.Sink.contents l.fn.writer) l.fn.waiting.items (g.W.Sink.contents l.writer) l.waiting.items text
       × (text ++ canonical_text l.event-iterator ≡ canonical_text l.initial.event-iterator);
   failures : g.W.Sink.failures l.writer ≡ g.W.Sink.failures l.fn.writer;
 }

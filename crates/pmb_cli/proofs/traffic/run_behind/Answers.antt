@@ -7,7 +7,7 @@ use Rattle.pmb_io.specs.declared.fault.ToolFault.{ToolFault}
 use Rattle.pmb_io.specs.declared.fault.ToolFault.TheVariants.{Read, Write}
 use Rattle.pmb_table.specs.Profile.{Says}
 use Rattle.pmb_status.specs.Status.{run_status}
-use Rattle.pmb_cli.specs.Traffic.{WritesFront, Wrote}
+use Rattle.pmb_cli.specs.Traffic.{WorkWritesFront, Wrote}
 use Rattle.pmb_cli.proofs.Behind.{behind_all, behind_mark, part_behind, part_of_profile}
 use Rattle.pmb_cli.proofs.Statuses.{at_ok, ended_well, io_fault, is_read, is_too_long, no_failed_read, no_failure, not_refused, read_often_behind, two_or_more, write_or_read}
 use Rattle.pmb_cli.proofs.Often.{reads_behind, reads_of_front}
@@ -62,9 +62,9 @@ returns-in-Ok-from_toml-clause-part g c three =
     ] in
     elim (write_or_read c.run.result status) [
       | inl write ↦ inl (c.run.ensures.write write)
-      | inr failed ↦ inr (part_behind (WritesFront c.args.work) (λ reader. record { left = g.R.Source.remaining reader; given = g.R.Source.given reader; reads = g.R.Source.reads reader }) c.args.reader.now c.front.new.reader _ _ _ _ _ c.in-Ok.front devices c.in-Ok.ensures.ok (sym c.has_capture.ensures ∙ c.if-has_capture.true)
+      | inr failed ↦ inr (part_behind (WorkWritesFront c.args.work) (λ reader. record { left = g.R.Source.remaining reader; given = g.R.Source.given reader; reads = g.R.Source.reads reader }) c.args.reader.now c.front.new.reader _ _ _ _ _ c.in-Ok.front devices c.in-Ok.ensures.ok (sym c.has_capture.ensures ∙ c.if-has_capture.true)
           (subst (λ (text : List ℕ). Says text (Ok devices)) c.profile.ensures says)
-          (subst (λ (rest : List ℕ). Through (WritesFront c.args.work devices) rest (record { left = g.R.Source.remaining c.front.new.reader; given = g.R.Source.given c.front.new.reader; held = g.W.Sink.contents c.args.out.now })
+          (subst (λ (rest : List ℕ). Through (WorkWritesFront c.args.work devices) rest (record { left = g.R.Source.remaining c.front.new.reader; given = g.R.Source.given c.front.new.reader; held = g.W.Sink.contents c.args.out.now })
           (record { left = g.R.Source.remaining c.run.new.reader; given = g.R.Source.given c.run.new.reader; held = g.W.Sink.contents c.run.new.out })) c.rest.ensures (c.run.ensures.before failed)))
     ]
 
@@ -117,7 +117,7 @@ returns-in-Err-clause-none_failed g c other =
 pub returns-in-Err-clause-part : goal.returns-in-Err-clause-part
 returns-in-Err-clause-part g c three =
     let read : c.in-Err.fault ≡ Read = is_read c.in-Err.fault (λ is. c.in-Err.ensures.no_write (ap (λ (f : ToolFault). Err f) is)) (λ is. c.in-Err.ensures.few_reads (ap (λ (f : ToolFault). Err f) is)) (sym c.tell.ensures.status ∙ three) in
-    inr (part_of_profile (WritesFront c.args.work) (λ reader. record { left = g.R.Source.remaining reader; given = g.R.Source.given reader; reads = g.R.Source.reads reader }) c.args.reader.now c.front.new.reader _ (c.in-Err.ensures.before_read (ap (λ (f : ToolFault). Err f) read)))
+    inr (part_of_profile (WorkWritesFront c.args.work) (λ reader. record { left = g.R.Source.remaining reader; given = g.R.Source.given reader; reads = g.R.Source.reads reader }) c.args.reader.now c.front.new.reader _ (c.in-Err.ensures.before_read (ap (λ (f : ToolFault). Err f) read)))
 
 pub returns-in-Err-clause-io_failed : goal.returns-in-Err-clause-io_failed
 returns-in-Err-clause-io_failed g c three =

@@ -3,13 +3,13 @@ use Rattle.pmb_transaction.specs.Transaction.{part_data}
 use Rattle.pmb_line.specs.declared.words.Located.{Located}
 use Rattle.pmb_line.specs.machine.Left.{left, end}
 use Rattle.pmb_line.specs.machine.Pieces.{WritesOn}
-use Rattle.pmb_line.specs.machine.Reading.{StandsAt, write_next}
+use Rattle.pmb_line.specs.machine.Reading.{LineStandsAt, write_next}
 use Rattle.pmb_line.proofs.reading.read_write.Given as goal
 
 -- a part comes, or all of them have come
 abbrev pub invariant-loop-goes_on : goal.invariant-loop-goes_on
 invariant-loop-goes_on l = record {
-  stands : (all : List Located) → StandsAt all (write_next []) (left l.fn.words) → WritesOn all (map part_data l.parts.items) l.goes_on (left l.words);
+  stands : (all : List Located) → LineStandsAt all (write_next []) (left l.fn.words) → WritesOn all (map part_data l.parts.items) l.goes_on (left l.words);
   ends : end l.words ≡ end l.fn.words;
 }
 

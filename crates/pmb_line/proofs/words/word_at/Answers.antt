@@ -1,7 +1,7 @@
 use Rattle.std.proofs.Common.{◌≡◌, ℕ, ◌+◌, ◌-◌, ◌∷◌, take, drop, length, sym, ap, ◌∙◌, arith}
 use Rattle.std.specs.Prelude.{option_map}
 use Rattle.std.proofs.lemmas.List.{length-take, length-drop, length-take-le}
-use Rattle.pmb_line.specs.Words.{bounds, word_behind, words, words_from}
+use Rattle.pmb_line.specs.Words.{bounds, word_behind, line_words, words_from}
 use Rattle.pmb_line.proofs.WordLemmas.{here, next_at, passed_by, take_all}
 use Rattle.pmb_line.proofs.words.word_at.Goals as goal
 
@@ -15,7 +15,7 @@ returns-then-start-from c =
     let R = take (length text - at) (drop at text) in
     let next : words_from at (drop at text) ≡ record { at = start; text = take len T } ∷ words_from (start + len) (drop (start + len) text) =
     next_at at c.blanks.result len text R T (take_all at text) (take_all start text) (c.blanks.ensures.passed at) (omega arith) c.word_len-len.ensures.within c.word_len-len.ensures.each c.word_len-len.ensures.stops in
-    let so_far : word_behind c.args.from (words c.args.line.now) ≡ word_behind c.args.from (record { at = start; text = take len T } ∷ words_from (start + len) (drop (start + len) text)) =
+    let so_far : word_behind c.args.from (line_words c.args.line.now) ≡ word_behind c.args.from (record { at = start; text = take len T } ∷ words_from (start + len) (drop (start + len) text)) =
     c.loop-at.invariant.rest ∙ ap (word_behind c.args.from) next in
     here c.args.from start len (take len T) (words_from (start + len) (drop (start + len) text)) c.if-start-from.true (length-take-le len T c.word_len-len.ensures.within) ∙ ap (option_map bounds) (sym so_far)
 
@@ -29,7 +29,7 @@ loop-at-preserved c =
     let R = take (length text - at) (drop at text) in
     let next : words_from at (drop at text) ≡ record { at = start; text = take len T } ∷ words_from (start + len) (drop (start + len) text) =
     next_at at c.blanks.result len text R T (take_all at text) (take_all start text) (c.blanks.ensures.passed at) (omega arith) c.word_len-len.ensures.within c.word_len-len.ensures.each c.word_len-len.ensures.stops in
-    let so_far : word_behind c.args.from (words c.args.line.now) ≡ word_behind c.args.from (record { at = start; text = take len T } ∷ words_from (start + len) (drop (start + len) text)) =
+    let so_far : word_behind c.args.from (line_words c.args.line.now) ≡ word_behind c.args.from (record { at = start; text = take len T } ∷ words_from (start + len) (drop (start + len) text)) =
     c.loop-at.invariant.rest ∙ ap (word_behind c.args.from) next in
     let short : length T ≡ length text - start = omega (arith, length-take {A = ℕ}, length-drop {A = ℕ}) in
     record {

@@ -1,6 +1,6 @@
 use Rattle.std.proofs.Common.{inl, inr, subst, arith}
 use Rattle.clap.specs.Words.{kind_of}
-use Rattle.pmb_words.specs.Asked.{Asks, asking_of}
+use Rattle.pmb_words.specs.Asked.{SubcommandAsks, asking_of}
 use Rattle.pmb_words.proofs.AskedOnce.{is_telling, only_memory, refused_is_no_telling}
 use Rattle.pmb_words.proofs.tasks.asked.Goals as goal
 
@@ -8,7 +8,7 @@ use Rattle.pmb_words.proofs.tasks.asked.Goals as goal
 pub returns-in-Some-clause-ok : goal.returns-in-Some-clause-ok
 returns-in-Some-clause-ok g c = record {
   no_fault = c.in-Ok.ensures.kinds;
-  asks = subst (λ s. Asks s (asking_of c.in-Some.task)) c.in-Ok.ensures.matches c.in-Some.ensures;
+  asks = subst (λ s. SubcommandAsks s (asking_of c.in-Some.task)) c.in-Ok.ensures.matches c.in-Some.ensures;
 }
 
 -- ---- where the words have no fault, only memory is lacking

@@ -1,6 +1,6 @@
 use Rattle.std.proofs.Common.{◌≡◌, ◌∙◌, [], ◌∷◌, ◌++◌, false, map, refl, sym, ap, subst, arith}
 use Rattle.pmb_transaction.specs.Transaction.{part_data}
-use Rattle.pmb_transaction.specs.Wire.{AreBytes}
+use Rattle.pmb_transaction.specs.Wire.{AreByteValues}
 use Rattle.pmb_writer.specs.declared.invalid.Invalid.TheVariants.{WrongLength}
 use Rattle.pmb_writer.specs.Invalid.{AreKept, IsFirstBroken, refused_leg_rules}
 use Rattle.pmb_writer.proofs.Bodies.{first_is_first}
@@ -15,10 +15,10 @@ found c = record { known = c.in-Some-device.ensures.device; command = c.in-Some-
 split : (c : In-Some-forms_of) → c.args.sent.now ≡ c.in-Some.code.now ∷ c.in-Some-split_last.taken.now ++ c.in-Some-split_last.field-0-0.now ∷ []
 split c = c.in-Some.ensures.cases.0 ∙ ap (λ bytes. c.in-Some.code.now ∷ bytes) c.in-Some-split_last.ensures.cases.0
 
-small : (c : In-Some-forms_of) → AreBytes c.in-Some-split_last.taken.now
+small : (c : In-Some-forms_of) → AreByteValues c.in-Some-split_last.taken.now
 small c =
-    let all : AreBytes c.args.sent.now = small_items c.args.sent.now (λ k. omega (arith, c.type_inv.sent k)) in
-    let parts : AreBytes (c.in-Some.code.now ∷ c.in-Some-split_last.taken.now ++ c.in-Some-split_last.field-0-0.now ∷ []) = subst AreBytes (split c) all in
+    let all : AreByteValues c.args.sent.now = small_items c.args.sent.now (λ k. omega (arith, c.type_inv.sent k)) in
+    let parts : AreByteValues (c.in-Some.code.now ∷ c.in-Some-split_last.taken.now ++ c.in-Some-split_last.field-0-0.now ∷ []) = subst AreByteValues (split c) all in
     small_front c.in-Some-split_last.taken.now c.in-Some-split_last.field-0-0.now parts.1
 
 pub returns-then-not-may_go_on : goal.returns-then-not-may_go_on

@@ -1,6 +1,6 @@
 use Rattle.std.proofs.Common.{refl, subst, rules}
 use Rattle.std.proofs.lemmas.Result.{on_ok_weaker}
-use Rattle.pmb_io.specs.Outgoing.{Writes}
+use Rattle.pmb_io.specs.Outgoing.{PutsText}
 use Rattle.pmb_build.specs.Answer.{Built, Refused}
 use Rattle.pmb_build.proofs.builder.Builder.take_text.Goals as goal
 
@@ -11,7 +11,7 @@ returns-in_ok-put_packet-in-Ok-clause-takes g c =
     let parsed = c.in-Ok.ensures.ok in record {
       answer = Built put.holds.events;
       answers = record { t = _; spells = parsed.spells; packet = put.holds.packet };
-      writes = subst (λ t. Writes (g.W.Sink.contents c.args.writer.now) c.args.waiting.now.items (g.W.Sink.contents c.put_packet.new.writer) c.put_packet.new.waiting.items t) put.holds.whole put.writes;
+      writes = subst (λ t. PutsText (g.W.Sink.contents c.args.writer.now) c.args.waiting.now.items (g.W.Sink.contents c.put_packet.new.writer) c.put_packet.new.waiting.items t) put.holds.whole put.writes;
       same = refl;
       lines = refl;
       tally = c.count_packet.ensures;

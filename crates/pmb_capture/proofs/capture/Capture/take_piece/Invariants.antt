@@ -2,7 +2,7 @@ use Rattle.std.proofs.Common.{◌≡◌, length, List, ℕ}
 use Rattle.pmb_command.specs.Parts.{DeviceParts}
 use Rattle.pmb_transaction.specs.Reading.{Outcome}
 use Rattle.pmb_capture.specs.Output.{OutputText}
-use Rattle.pmb_capture.specs.machine.Capture.{Stands}
+use Rattle.pmb_capture.specs.machine.Capture.{CaptureStands}
 use Rattle.pmb_capture.proofs.Taking.{TookUpTo}
 use Rattle.pmb_capture.proofs.capture.Capture.take_piece.Given as goal
 
@@ -14,6 +14,6 @@ decreases-words g l = length l.rest
 abbrev pub invariant-words : goal.invariant-words
 invariant-words g l = record {
   failures : g.W.Sink.failures l.writer ≡ g.W.Sink.failures l.fn.writer;
-  took : (output : OutputText) (profile : List DeviceParts) (bytes : List ℕ) (outcomes : List Outcome) → Stands g.O.Output.text g.O.Output.Stands output profile l.fn.self bytes outcomes
+  took : (output : OutputText) (profile : List DeviceParts) (bytes : List ℕ) (outcomes : List Outcome) → CaptureStands g.O.Output.text g.O.Output.Stands output profile l.fn.self bytes outcomes
       → TookUpTo g.O.Output.text g.O.Output.Stands output profile bytes outcomes l.fn.piece l.rest (g.W.Sink.contents l.fn.writer) l.fn.waiting.items (g.W.Sink.contents l.writer) l.waiting.items l.self;
 }

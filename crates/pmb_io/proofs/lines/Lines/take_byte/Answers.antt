@@ -1,6 +1,6 @@
 use Rattle.std.proofs.Common.{◌++◌, ◌∷◌, List, ℕ, [], append-nil, subst, sym}
 use Rattle.pmb_io.specs.Lines.{cut, ended_lines}
-use Rattle.pmb_io.specs.machine.Lines.{Stands}
+use Rattle.pmb_io.specs.machine.Lines.{StandsInLine}
 use Rattle.pmb_io.proofs.LineRuns.{after_lf, keeps_byte}
 use Rattle.pmb_io.proofs.Writing.{writes_nothing}
 use Rattle.pmb_io.proofs.lines.Lines.take_byte.Goals as goal
@@ -12,7 +12,7 @@ returns-then-byte-ne10-clause-takes g c start bytes text stands =
     let given = subst (λ task. g.T.LineTask.Stands start task (ended_lines g.row.MOST bytes) text) (sym c.keep.ensures.task) stands.given in record {
       text = [];
       writes = writes_nothing _ _;
-      holds = subst (λ (t : List ℕ). Stands (g.T.LineTask.Stands start c.keep.new.self.task) g.row.MOST c.keep.new.self.line.items c.keep.new.self.is_longer (bytes ++ c.args.byte ∷ []) t) (sym (append-nil text))
+      holds = subst (λ (t : List ℕ). StandsInLine (g.T.LineTask.Stands start c.keep.new.self.task) g.row.MOST c.keep.new.self.line.items c.keep.new.self.is_longer (bytes ++ c.args.byte ∷ []) t) (sym (append-nil text))
           (keeps_byte (g.T.LineTask.Stands start c.keep.new.self.task) g.row.MOST bytes text _ _ c.args.byte c.if-byte-ne10.true kept longer given);
     }
 

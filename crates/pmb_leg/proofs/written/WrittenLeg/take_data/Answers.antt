@@ -1,7 +1,7 @@
 use Rattle.std.proofs.Common.{◌≢◌, [], List, ℕ, refl, sym, ap, ◌∙◌, arith}
 use Rattle.pmb_leg.specs.Leg.{Written}
 use Rattle.pmb_leg.specs.declared.left.Left.{Left}
-use Rattle.pmb_leg.specs.machine.Legs.{IsKept, kept}
+use Rattle.pmb_leg.specs.machine.Legs.{IsKeptLeg, kept}
 use Rattle.pmb_leg.proofs.Legs.{next_kept, not_empty, tells_room, tells_takes}
 use Rattle.pmb_leg.proofs.written.WrittenLeg.take_data.Goals as goal
 
@@ -23,7 +23,7 @@ pub invariant_of-self : goal.invariant_of-self
 invariant_of-self c =
     let some : c.self.inside.bytes.items ≢ [] = λ none. c.requires (sym (ap (λ (leg : Written). leg.bytes) c.self.view_is) ∙ none) in
     let next = next_kept (kept c.self.inside) c.self.inside.bytes.items c.self.invariant some c.args.byte c.pec_next-self-inside.result (omega arith) c.pec_next-self-inside.ensures.goes_on in
-    let P : Left → Left → List ℕ → Type 0 = λ (w k : Left) (bs : List ℕ). IsKept (record (kept c.self.inside) { write = w; call = k; crc = c.pec_next-self-inside.result }) bs in
+    let P : Left → Left → List ℕ → Type 0 = λ (w k : Left) (bs : List ℕ). IsKeptLeg (record (kept c.self.inside) { write = w; call = k; crc = c.pec_next-self-inside.result }) bs in
     rw (c.push.ensures.items, c.after-self-inside.ensures, c.after-self-inside-2.ensures, c.pec.ensures) next
 
 pub returns-clause-begins : goal.returns-clause-begins
