@@ -1,7 +1,9 @@
 //! Lines, the packets of what they spell, and their notes.
 
 use pmb_bus::{Event, event_text};
-use pmb_packet::{Context, Feed, Outcome, Reader, check, events_of, line_of, parse_line};
+use pmb_packet::{
+    Context, Events, Feed, Note, Outcome, Reader, check, events_of, line_of, parse_line,
+};
 use pmb_table::{Profile, SAMPLE};
 use std::alloc::{AllocError, Global};
 use std::test::Fail;
@@ -47,7 +49,8 @@ fn each_line_makes_its_packet(rt: HostRuntime) -> Result<(), Fail> {
         let said = parse_line(&profile, line.as_bytes()).map_err(|_| "line")?;
         assert_eq!(rt; check(&profile, &said), Ok(()), "{line}");
         let mut events = Vec::new(rt.alloc());
-        for event in events_of(&profile, &said) {
+        let packet: Events<'_> = events_of(&profile, &said);
+        for event in packet {
             events.push(event)?;
         }
         assert_eq!(rt; text_of(rt.alloc(), &events)?.as_str(), *capture, "{line}");
@@ -59,7 +62,8 @@ fn each_line_makes_its_packet(rt: HostRuntime) -> Result<(), Fail> {
         assert_eq!(rt; read, said, "{line}");
         assert_eq!(rt; line_of(&read).as_str(), *line, "{line}");
         let context = Context::new(&profile);
-        assert_eq!(rt; context.note(&read).as_str(), *note, "{line}");
+        let told: Note = context.note(&read);
+        assert_eq!(rt; told.as_str(), *note, "{line}");
     }
     Ok(())
 }
