@@ -1,3 +1,4 @@
+pub mod Address
 pub mod Count
 pub mod Event
 pub mod Kinds

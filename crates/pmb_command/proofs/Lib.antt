@@ -4,3 +4,4 @@ pub mod FormLemmas
 pub mod NameLemmas
 pub mod RowLemmas
 pub mod StandardLemmas
+pub mod WireLemmas

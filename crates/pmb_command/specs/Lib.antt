@@ -3,7 +3,9 @@ pub mod Commands
 pub mod StatusBits
 pub mod Names
 pub mod Fitting
+pub mod Wire
 pub mod Parts
+pub mod PecMode
 pub mod Bus
 pub mod Standard
 pub mod machine

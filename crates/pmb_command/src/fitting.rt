@@ -174,10 +174,6 @@ pub const fn is_length(form: Option<Form>, length: usize) -> bool
 {
     match form {
         None | Some(Form::Zero) => false,
-        Some(Form::One) => length == 1,
-        Some(Form::Two) => length == 2,
-        Some(Form::Four) => length == 4,
-        Some(Form::Eight) => length == 8,
-        Some(Form::Block) => length <= 255,
+        Some(form) => form.takes(length),
     }
 }

@@ -3,14 +3,16 @@
 //!
 //! [`standard`] and [`by_name`] are the standard's command table, and [`bit_name`] has the names of
 //! status bits. [`is_fitting`] says which forms, kinds and pages go together, and [`register_form`]
-//! and [`is_length`] what a register holds. The definitions of the parts of a profile, and of what
-//! an accepted bus is, stand here too.
+//! and [`is_length`] what a register holds. A [`Form`] says how many bytes its data have and how they
+//! go over the bus, a [`PecMode`] whether a packet error code may follow. The definitions of the
+//! parts of a profile, and of what an accepted bus is, stand here too.
 //!
 //! ```rust
 //! let code = by_name("STATUS_WORD").ok_or("no command")?;
 //! assert_eq!(rt; code, 0x79);
 //! let entry = standard(code).ok_or("no command")?;
 //! assert_eq!(rt; entry.shape.read, Some(Form::Two));
+//! assert!(rt; Form::Two.takes(2));
 //! assert_eq!(rt; bit_name(code, 15), Some("VOUT"));
 //! ```
 #![tactic(auto)]

@@ -1,13 +1,14 @@
 -- What is asked by a body, and how it is answered.
 use Rattle.std.proofs.Common.{◌≡◌, ℕ, ◌⊎◌, ◌↔◌, inl, inr, Bool, true, Option, Some, List, [], ◌∷◌, ◌++◌, length, sym, ap, subst, ◌∙◌, arith}
 use Rattle.pmb_bus.specs.Pec.{pec}
+use Rattle.pmb_bus.specs.Address.{read_address, write_address}
 use Rattle.pmb_command.specs.declared.form.Form.{Form}
 use Rattle.pmb_command.specs.declared.form.Form.TheVariants.{Zero, One, Two, Four, Eight, Block}
 use Rattle.pmb_command.specs.declared.form.Shape.{Shape}
 use Rattle.pmb_command.specs.Fitting.{calls_fit}
 use Rattle.pmb_command.specs.Parts.{DeviceParts}
-use Rattle.pmb_transaction.specs.Wire.{Fits, wire}
-use Rattle.pmb_transaction.specs.Body.{checked, forms, read_address, write_address, ReadBody, CallBody}
+use Rattle.pmb_command.specs.Wire.{Fits, wire}
+use Rattle.pmb_transaction.specs.Body.{checked, forms, ReadBody, CallBody}
 use Rattle.pmb_transaction.specs.Viable.{IsAnswer}
 use Rattle.pmb_leg.specs.Leg.{IsRequest, reply_form}
 use Rattle.pmb_leg.specs.Reply.{Expected, IsReply, SaysAnswer, SaysReply}

@@ -7,8 +7,9 @@ use Rattle.pmb_command.specs.declared.form.Form.{Form}
 use Rattle.pmb_command.specs.declared.form.Form.TheVariants.{Zero, One, Two, Four, Eight, Block}
 use Rattle.pmb_command.specs.declared.pec_mode.PecMode.{PecMode}
 use Rattle.pmb_command.specs.declared.pec_mode.PecMode.TheVariants.{Off, On, Optional}
-use Rattle.pmb_transaction.specs.Wire.{IsByte, Fits, Takes, wire}
-use Rattle.pmb_transaction.specs.Body.{AllowsPec, IsProperPrefix, checked}
+use Rattle.pmb_command.specs.PecMode.{AllowsPec}
+use Rattle.pmb_command.specs.Wire.{IsByte, Fits, Takes, wire}
+use Rattle.pmb_transaction.specs.Body.{IsProperPrefix, checked}
 use Rattle.pmb_leg.specs.declared.left.Left.{Left}
 use Rattle.pmb_leg.specs.declared.left.Left.TheVariants.{Count, Data, Code, Nothing, Closed}
 use Rattle.pmb_leg.specs.machine.Left.{after, ends_data, goes_on, has_code, is_whole, start, takes, wire_front, BeginsData, IsData, IsEnded, IsInside, IsMissing, Leaves, LeavesOf, SpellsSomeData, SpellsData}

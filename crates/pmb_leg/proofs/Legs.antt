@@ -7,7 +7,6 @@ use Rattle.pmb_command.specs.declared.pec_mode.PecMode.TheVariants.{Off}
 use Rattle.pmb_command.specs.Fitting.{calls_fit}
 use Rattle.pmb_command.specs.Parts.{DeviceParts}
 use Rattle.pmb_transaction.specs.Transaction.{PartData}
-use Rattle.pmb_transaction.specs.Wire.{IsByte}
 use Rattle.pmb_transaction.specs.Body.{forms}
 use Rattle.pmb_transaction.specs.Viable.{BeginsBody, IsInsideBody}
 use Rattle.pmb_leg.specs.declared.place.LegPlace.{LegPlace}
@@ -17,6 +16,7 @@ use Rattle.pmb_leg.specs.machine.Left.{after, goes_on, start, takes, LeavesOf}
 use Rattle.pmb_leg.proofs.Bodies.{begins_body, begins_code, code_begins, begins_takes_of, body_begins, body_inside, goes_on_of, in_front, inside_body, inside_of, moved_on_of, on_of, room_of, takes_begins_of, BeginsOf, InsideOf}
 use Rattle.pmb_leg.proofs.Lefts.{started_of}
 use Rattle.std.proofs.Math.Dec.{eqb-suc-zero}
+use Rattle.pmb_command.specs.Wire.{IsByte}
 
 pub either : (a b : Bool) → (a || b) ≡ true → (a ≡ true) ⊎ (b ≡ true)
 either true b is = inl refl

@@ -1,13 +1,13 @@
 -- Answers, by what the code keeps of them.
 use Rattle.std.proofs.Common.{◌≡◌, ℕ, ◌<◌, ◌↔◌, Bool, true, false, IsTrue, List, [], ◌∷◌, ◌++◌, length, refl, sym, ap, subst, ◌∙◌, append_assoc, arith}
 use Rattle.pmb_bus.specs.Pec.{pec}
+use Rattle.pmb_bus.specs.Address.{read_address, alert_address}
 use Rattle.pmb_command.specs.declared.form.Form.{Form}
 use Rattle.pmb_command.specs.declared.form.Form.TheVariants.{One}
 use Rattle.pmb_command.specs.declared.pec_mode.PecMode.{PecMode}
 use Rattle.pmb_command.specs.declared.pec_mode.PecMode.TheVariants.{Optional}
-use Rattle.pmb_transaction.specs.Wire.{IsByte, wire}
-use Rattle.pmb_transaction.specs.Body.{checked, read_address}
-use Rattle.pmb_transaction.specs.Packet.{alert_address}
+use Rattle.pmb_command.specs.Wire.{IsByte, wire}
+use Rattle.pmb_transaction.specs.Body.{checked}
 use Rattle.pmb_transaction.specs.Following.{BeginsAnswer, IsAlertAnswer, IsInsideAnswer}
 use Rattle.pmb_leg.specs.Reply.{Expected, IsReply, SaysAlert, SaysReply}
 use Rattle.pmb_leg.specs.declared.answer.Answer.TheInside.{Inside}

@@ -5,7 +5,7 @@ use Rattle.pmb_command.specs.declared.form.Shape.{Shape}
 use Rattle.pmb_command.specs.declared.pec_mode.PecMode.{PecMode}
 use Rattle.pmb_command.specs.declared.pec_mode.PecMode.TheVariants.{Off}
 use Rattle.pmb_command.specs.Parts.{DeviceParts}
-use Rattle.pmb_transaction.specs.Wire.{wire}
+use Rattle.pmb_command.specs.Wire.{wire}
 use Rattle.pmb_transaction.specs.Body.{checked, forms, WriteBody, ReadBody, IsWriteBody, IsReadBody, IsCallBody}
 use Rattle.pmb_leg.specs.declared.left.Left.{Left}
 use Rattle.pmb_leg.specs.declared.place.LegPlace.{LegPlace}

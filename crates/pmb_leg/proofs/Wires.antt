@@ -4,7 +4,7 @@ use Rattle.std.proofs.lemmas.List.{append-nil, length-replicate}
 use Rattle.pmb_bus.specs.Pec.{pec}
 use Rattle.pmb_command.specs.declared.form.Form.{Form}
 use Rattle.pmb_command.specs.declared.form.Form.TheVariants.{Zero, One, Two, Four, Eight, Block}
-use Rattle.pmb_transaction.specs.Wire.{AreByteValues, Fits, Takes, wire}
+use Rattle.pmb_command.specs.Wire.{AreByteValues, Fits, Takes, wire}
 use Rattle.pmb_transaction.specs.Body.{checked}
 use Rattle.pmb_leg.specs.machine.Left.{wire_front}
 

@@ -1,12 +1,13 @@
 -- What contracts see of an answer under way.
 use Rattle.std.specs.Prelude.{◌≡◌, ℕ, ◌⊎◌, Bool, List, [], ◌∷◌, ◌++◌}
 use Rattle.pmb_bus.specs.Pec.{pec}
+use Rattle.pmb_bus.specs.Address.{alert_address, write_address, read_address}
 use Rattle.pmb_command.specs.declared.form.Form.{Form}
 use Rattle.pmb_command.specs.declared.pec_mode.PecMode.{PecMode}
-use Rattle.pmb_transaction.specs.Wire.{IsByte, Fits, wire}
-use Rattle.pmb_transaction.specs.Packet.{alert_address}
 use Rattle.pmb_command.specs.Parts.{DeviceParts}
-use Rattle.pmb_transaction.specs.Body.{write_address, read_address, AllowsPec, checked, ReadBody, CallBody}
+use Rattle.pmb_command.specs.PecMode.{AllowsPec}
+use Rattle.pmb_command.specs.Wire.{IsByte, Fits, wire}
+use Rattle.pmb_transaction.specs.Body.{checked, ReadBody, CallBody}
 
 -- What an answer has to be: data in a form, and a packet error code where the mode allows one. That
 -- covers bytes in front of the answer too, whose own code is this number.

@@ -4,7 +4,7 @@
 //! down; the form is not needed again behind the first byte, nor are the bytes that were taken.
 
 ghost use Rattle.std.specs.Prelude.{◌≡◌, ◌||◌, ℕ, List};
-ghost use Rattle.pmb_transaction.specs.Wire.{wire};
+ghost use Rattle.pmb_command.specs.Wire.{wire};
 ghost use Rattle.pmb_transaction.specs.Body.{checked};
 ghost use Rattle.pmb_leg.specs.machine.Left.{after, ends_data, goes_on, has_code, is_whole, start, takes};
 

@@ -6,9 +6,10 @@
 //! with the code.
 
 ghost use Rattle.std.specs.Prelude.{◌≡◌, ◌≢◌, ◌<◌, ◌≤◌, ◌↔◌, Bool, [], ◌∷◌, ◌++◌, IsTrue, IsSome, IfSome, length, List, ℕ, false, true};
+ghost use Rattle.pmb_bus.specs.Address.{write_address};
 ghost use Rattle.pmb_command.specs.Fitting.{calls_fit};
 ghost use Rattle.pmb_transaction.specs.Transaction.{PartData};
-ghost use Rattle.pmb_transaction.specs.Body.{IsWriteBody, WriteBody, forms, write_address};
+ghost use Rattle.pmb_transaction.specs.Body.{IsWriteBody, WriteBody, forms};
 ghost use Rattle.pmb_transaction.specs.Viable.{BeginsBody, IsAnswer, IsInsideBody};
 ghost use Rattle.pmb_leg.specs.Leg.{IsAsked, IsRequest, begins_with, call_form, is_read, place_of, reply_form};
 ghost use Rattle.pmb_leg.specs.Reply.{IsReply, SaysAnswer, SaysReply};

@@ -7,9 +7,9 @@ use Rattle.pmb_command.specs.declared.form.Form.TheVariants.{Zero, One, Two, Fou
 use Rattle.pmb_command.specs.declared.form.Shape.{Shape}
 use Rattle.pmb_command.specs.Bus.{IsBus}
 use Rattle.pmb_command.specs.Parts.{DeviceParts, device_with}
+use Rattle.pmb_command.specs.Wire.{AreByteValues, Fits, wire}
 use Rattle.pmb_transaction.specs.Transaction.{PartData, TransactionData}
 use Rattle.pmb_transaction.specs.Transaction as says
-use Rattle.pmb_transaction.specs.Wire.{AreByteValues, Fits, wire}
 use Rattle.pmb_transaction.specs.Body.{IsReadBody, IsCallBody}
 use Rattle.pmb_transaction.specs.Packet.{Packet, PartsEvents, RefusedLeg}
 use Rattle.pmb_transaction.proofs.Known.{code_is_byte, device_is}

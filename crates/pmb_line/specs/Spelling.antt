@@ -8,9 +8,9 @@
 --     alert none
 use Rattle.std.specs.Prelude.{◌≡◌, ◌≢◌, ℕ, ◌<◌, Bool, true, false, Some, List, [], ◌∷◌, ◌++◌, map, codes}
 use Rattle.std.specs.List.{AllByRecursion, flat_map}
+use Rattle.pmb_command.specs.Wire.{AreByteValues}
 use Rattle.pmb_transaction.specs.Transaction.{PartData, ReadData, CallData, RefusedData, AlertData, TransactionData}
 use Rattle.pmb_transaction.specs.Transaction as says
-use Rattle.pmb_transaction.specs.Wire.{AreByteValues}
 use Rattle.pmb_line.specs.declared.token.Token.{Token}
 use Rattle.pmb_line.specs.declared.token.Token.TheVariants.{Byte, Write, Read, Call, Refused, Alert, Nobody, Pec, Plus, Colon}
 use Rattle.pmb_line.specs.Token.{token_of, token_text}

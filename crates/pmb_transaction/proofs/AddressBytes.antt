@@ -4,11 +4,11 @@ use Rattle.std.specs.List.{IsDistinct}
 use Rattle.pmb_bus.specs.Pec.{pec}
 use Rattle.pmb_bus.specs.declared.event.Event.{Event}
 use Rattle.pmb_bus.specs.declared.event.Event.TheVariants.{Start, Byte, Ack, Nack, Stop}
+use Rattle.pmb_bus.specs.Address.{write_address, read_address, alert_address}
 use Rattle.pmb_command.specs.Bus.{IsBus}
 use Rattle.pmb_command.specs.Parts.{DeviceParts, IsNew, device_with}
 use Rattle.pmb_transaction.specs.Transaction.{PartData}
-use Rattle.pmb_transaction.specs.Body.{write_address, read_address}
-use Rattle.pmb_transaction.specs.Packet.{PartsEvents, acked, addresses, alert_address, leg, nacked}
+use Rattle.pmb_transaction.specs.Packet.{PartsEvents, acked, addresses, leg, nacked}
 use Rattle.pmb_transaction.specs.Capture.{IsPacket, MayFollow}
 use Rattle.pmb_transaction.specs.Viable.{AlertBegins, LegBegins, at_alert, alert_answer, leg_start, leg_address, leg_taken, leg_sent, written, alert}
 use Rattle.pmb_transaction.specs.Following.{IsFirstAddress, alert_first, written_first}

@@ -3,11 +3,12 @@ use Rattle.std.proofs.Common.{ℕ, ◌<◌, inr, false, List, [], ◌∷◌, ◌
 use Rattle.pmb_bus.specs.Pec.{pec}
 use Rattle.pmb_bus.specs.declared.event.Event.{Event}
 use Rattle.pmb_bus.specs.declared.event.Event.TheVariants.{Start, Byte, Ack, Nack, Stop}
+use Rattle.pmb_bus.specs.Address.{read_address, alert_address}
 use Rattle.pmb_command.specs.Bus.{IsBus}
 use Rattle.pmb_command.specs.Parts.{DeviceParts}
 use Rattle.pmb_transaction.specs.Transaction.{AlertData, Alert, NoAlert}
-use Rattle.pmb_transaction.specs.Body.{read_address, checked}
-use Rattle.pmb_transaction.specs.Packet.{AlertPacket, alert_address, leg, nacked}
+use Rattle.pmb_transaction.specs.Body.{checked}
+use Rattle.pmb_transaction.specs.Packet.{AlertPacket, leg, nacked}
 use Rattle.pmb_transaction.specs.Capture.{IsPacket, MayFollow}
 use Rattle.pmb_transaction.specs.Viable.{AlertBegins, AnswerBegins, IsBeginning, answer_taken, alert, alert_answer, at_alert}
 use Rattle.pmb_transaction.specs.Following.{IsAlertAnswer}

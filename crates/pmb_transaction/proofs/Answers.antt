@@ -3,6 +3,7 @@
 use Rattle.std.proofs.Common.{◌≡◌, ℕ, ◌<◌, ◌⊎◌, inl, inr, Bool, true, false, Some, List, [], ◌∷◌, ◌++◌, refl, sym, ap, ◌∙◌, subst, append_assoc, arith}
 use Rattle.std.proofs.lemmas.List.{same_from_push}
 use Rattle.pmb_bus.specs.declared.event.Event.TheVariants.{Byte, Nack}
+use Rattle.pmb_bus.specs.Address.{write_address, read_address}
 use Rattle.pmb_command.specs.declared.form.Form.{Form}
 use Rattle.pmb_command.specs.declared.form.Form.TheVariants.{Zero, One, Two, Four, Eight, Block}
 use Rattle.pmb_command.specs.declared.pec_mode.PecMode.{PecMode}
@@ -10,8 +11,9 @@ use Rattle.pmb_command.specs.declared.pec_mode.PecMode.TheVariants.{Off, On, Opt
 use Rattle.pmb_command.specs.Bus.{IsBus, IsDevice}
 use Rattle.pmb_command.specs.Fitting.{same_form}
 use Rattle.pmb_command.specs.Parts.{DeviceParts, device_with}
-use Rattle.pmb_transaction.specs.Body.{write_address, read_address, AllowsPec, ReadBody, CallBody, IsReadBody, IsCallBody, IsProperPrefix, checked}
-use Rattle.pmb_transaction.specs.Wire.{Fits, wire}
+use Rattle.pmb_command.specs.PecMode.{AllowsPec}
+use Rattle.pmb_command.specs.Wire.{Fits, wire}
+use Rattle.pmb_transaction.specs.Body.{ReadBody, CallBody, IsReadBody, IsCallBody, IsProperPrefix, checked}
 use Rattle.pmb_transaction.specs.Packet.{acked, leg, nacked}
 use Rattle.pmb_transaction.specs.Viable.{AnswerBegins, IsAnswer, answer_taken, answer_sent}
 use Rattle.pmb_transaction.proofs.Completions.{nacked_append}

@@ -5,12 +5,13 @@ use Rattle.std.proofs.lemmas.List.{append-nil, length-append, same_from_push}
 use Rattle.pmb_bus.specs.Pec.{pec}
 use Rattle.pmb_bus.specs.declared.event.Event.{Event}
 use Rattle.pmb_bus.specs.declared.event.Event.TheVariants.{Start, Byte, Ack, Nack, Stop}
+use Rattle.pmb_bus.specs.Address.{write_address, read_address, alert_address}
 use Rattle.pmb_command.specs.Bus.{IsBus}
 use Rattle.pmb_command.specs.Parts.{DeviceParts, IsNew, device_with}
+use Rattle.pmb_command.specs.Wire.{IsByte, AreByteValues, wire}
 use Rattle.pmb_transaction.specs.Transaction.{PartData, ReadData, CallData, TransactionData, Write, Read, Call, Refused, Alert, NoAlert}
-use Rattle.pmb_transaction.specs.Wire.{IsByte, AreByteValues, wire}
-use Rattle.pmb_transaction.specs.Body.{write_address, read_address, checked, IsProperPrefix, IsWriteBody, IsReadBody, IsCallBody, Allowed}
-use Rattle.pmb_transaction.specs.Packet.{Packet, PartEvents, PartsEvents, ReadPacket, CallPacket, ByteRefused, ReadRefused, RefusedLeg, acked, nacked, leg, addresses, alert_address}
+use Rattle.pmb_transaction.specs.Body.{checked, IsProperPrefix, IsWriteBody, IsReadBody, IsCallBody, Allowed}
+use Rattle.pmb_transaction.specs.Packet.{Packet, PartEvents, PartsEvents, ReadPacket, CallPacket, ByteRefused, ReadRefused, RefusedLeg, acked, nacked, leg, addresses}
 use Rattle.pmb_transaction.specs.Capture.{Viable}
 use Rattle.pmb_transaction.specs.Viable.{BeginsBody, IsInsideBody, IsAnswer, AnswerBegins, AlertBegins, ReadBegins, LegBegins, PartsAndLeg, IsBeginning, answer_taken, answer_sent, at_alert, alert_answer, read_start, read_address_sent, read_answer, leg_start, leg_address, leg_taken, leg_sent, whole, before_stop, written, read, alert}
 use Rattle.pmb_transaction.proofs.Addresses.{distinct_none, parts_before}

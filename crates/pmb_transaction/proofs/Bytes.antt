@@ -4,15 +4,16 @@ use Rattle.pmb_bus.specs.Event as of_events
 use Rattle.pmb_bus.specs.Pec.{pec}
 use Rattle.pmb_bus.specs.declared.event.Event.{Event}
 use Rattle.pmb_bus.specs.declared.event.Event.TheVariants.{Start, Byte, Ack, Nack, Stop}
+use Rattle.pmb_bus.specs.Address.{read_address, write_address, alert_address}
 use Rattle.pmb_command.specs.declared.form.Form.{Form}
 use Rattle.pmb_command.specs.declared.form.Form.TheVariants.{Zero, One, Two, Four, Eight, Block}
 use Rattle.pmb_command.specs.declared.form.Shape.{Shape}
 use Rattle.pmb_command.specs.Bus.{IsBus}
 use Rattle.pmb_command.specs.Parts.{DeviceParts, device_with}
-use Rattle.pmb_transaction.specs.Body.{IsCallBody, IsReadBody, WriteBody, checked, read_address, write_address}
-use Rattle.pmb_transaction.specs.Packet.{Packet, PartsEvents, ReadRefused, RefusedLeg, acked, alert_address, answered, leg, nacked}
+use Rattle.pmb_command.specs.Wire.{AreByteValues, Fits, wire}
+use Rattle.pmb_transaction.specs.Body.{IsCallBody, IsReadBody, WriteBody, checked}
+use Rattle.pmb_transaction.specs.Packet.{Packet, PartsEvents, ReadRefused, RefusedLeg, acked, answered, leg, nacked}
 use Rattle.pmb_transaction.specs.Transaction.{PartData, TransactionData, Write, Read, Call, Refused, Alert, NoAlert}
-use Rattle.pmb_transaction.specs.Wire.{AreByteValues, Fits, wire}
 use Rattle.pmb_transaction.proofs.Known.{code_is_byte, device_is}
 
 -- ---- lists of bytes

@@ -5,12 +5,13 @@ use Rattle.std.proofs.lemmas.List.{append-nil, length-map, length_push}
 use Rattle.pmb_bus.specs.Pec.{pec}
 use Rattle.pmb_bus.specs.declared.event.Event.{Event}
 use Rattle.pmb_bus.specs.declared.event.Event.TheVariants.{Start, Byte, Ack, Nack, Stop}
+use Rattle.pmb_bus.specs.Address.{write_address, read_address, alert_address}
 use Rattle.pmb_command.specs.Bus.{IsBus}
 use Rattle.pmb_command.specs.Parts.{DeviceParts, IsNew, device_with}
+use Rattle.pmb_command.specs.Wire.{IsByte, AreByteValues, wire}
 use Rattle.pmb_transaction.specs.Transaction.{PartData, ReadData, CallData, RefusedData, AlertData, TransactionData, Write, Read, Call, Refused, Alert, NoAlert}
-use Rattle.pmb_transaction.specs.Wire.{IsByte, AreByteValues, wire}
-use Rattle.pmb_transaction.specs.Body.{write_address, read_address, checked, ReadBody, CallBody, IsWriteBody, IsReadBody, IsCallBody, Allowed}
-use Rattle.pmb_transaction.specs.Packet.{Packet, PartEvents, PartsEvents, WritePacket, ReadPacket, CallPacket, ReadRefused, RefusedLeg, RefusedPacket, AlertPacket, acked, nacked, leg, addresses, alert_address, answered}
+use Rattle.pmb_transaction.specs.Body.{checked, ReadBody, CallBody, IsWriteBody, IsReadBody, IsCallBody, Allowed}
+use Rattle.pmb_transaction.specs.Packet.{Packet, PartEvents, PartsEvents, WritePacket, ReadPacket, CallPacket, ReadRefused, RefusedLeg, RefusedPacket, AlertPacket, acked, nacked, leg, addresses, answered}
 use Rattle.pmb_transaction.specs.Capture.{IsPacket, Viable}
 use Rattle.pmb_transaction.specs.Viable.{IsInsideBody, IsAnswer, AnswerBegins, AlertBegins, ReadBegins, LegBegins, IsBeginning, answer_taken, answer_sent, at_alert, alert_answer, read_start, read_address_sent, read_answer, leg_start, leg_address, leg_taken, leg_sent, whole, before_stop, written, read, alert}
 use Rattle.pmb_transaction.proofs.Addresses.{distinct_none, distinct_with, free}

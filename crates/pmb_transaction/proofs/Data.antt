@@ -5,8 +5,8 @@ use Rattle.pmb_bus.specs.Pec.{pec}
 use Rattle.pmb_command.specs.declared.form.Form.{Form}
 use Rattle.pmb_command.specs.declared.form.Form.TheVariants.{Zero, One, Two, Four, Eight, Block}
 use Rattle.pmb_command.specs.Fitting.{same_form}
+use Rattle.pmb_command.specs.Wire.{Fits, wire}
 use Rattle.pmb_transaction.specs.Body.{checked}
-use Rattle.pmb_transaction.specs.Wire.{Fits, wire}
 
 -- data, and whether a packet error code follows them
 pub record Data : Type 0 where

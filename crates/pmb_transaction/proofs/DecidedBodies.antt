@@ -1,13 +1,15 @@
 -- Which data, bodies and answers a form and a device take is decided.
 use Rattle.std.proofs.Common.{◌≡◌, ℕ, ◌<◌, ◌≤◌, ◌⊎◌, inl, inr, Bool, true, false, Some, List, [], ◌∷◌, ◌++◌, length, refl, sym, ap, ◌∙◌, subst, arith}
+use Rattle.pmb_bus.specs.Address.{write_address}
 use Rattle.pmb_command.specs.declared.form.Form.{Form}
 use Rattle.pmb_command.specs.declared.form.Form.TheVariants.{Zero, One, Two, Four, Eight, Block}
 use Rattle.pmb_command.specs.declared.pec_mode.PecMode.{PecMode}
 use Rattle.pmb_command.specs.declared.pec_mode.PecMode.TheVariants.{Off, On, Optional}
 use Rattle.pmb_command.specs.Parts.{DeviceParts}
+use Rattle.pmb_command.specs.PecMode.{AllowsPec}
+use Rattle.pmb_command.specs.Wire.{IsByte, AreByteValues, Fits, Takes, wire}
 use Rattle.pmb_transaction.specs.Transaction.{PartData}
-use Rattle.pmb_transaction.specs.Wire.{IsByte, AreByteValues, Fits, Takes, wire}
-use Rattle.pmb_transaction.specs.Body.{write_address, forms, AllowsPec, checked, IsProperPrefix, ReadBody, CallBody, IsWriteBody, IsReadBody, IsCallBody, Allowed}
+use Rattle.pmb_transaction.specs.Body.{forms, checked, IsProperPrefix, ReadBody, CallBody, IsWriteBody, IsReadBody, IsCallBody, Allowed}
 use Rattle.pmb_transaction.proofs.Decided.{Decided, at_most, below, both, either_way, of_each, of_some, one_of, same_bool, same_number}
 use Rattle.pmb_transaction.proofs.Finite.{Few, bools, data_bytes, some_of}
 

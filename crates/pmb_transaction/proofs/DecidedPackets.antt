@@ -4,12 +4,14 @@ use Rattle.std.specs.List.{AllByRecursion, IsDistinct, list_any}
 use Rattle.std.proofs.lemmas.List.{same_from_push}
 use Rattle.pmb_bus.specs.declared.event.Event.{Event}
 use Rattle.pmb_bus.specs.declared.event.Event.TheVariants.{Start, Byte, Ack, Nack, Stop}
+use Rattle.pmb_bus.specs.Address.{write_address, read_address, alert_address}
 use Rattle.pmb_command.specs.declared.form.Form.{Form}
 use Rattle.pmb_command.specs.Parts.{DeviceParts, IsNew, device_with}
+use Rattle.pmb_command.specs.PecMode.{AllowsPec}
+use Rattle.pmb_command.specs.Wire.{AreByteValues, Fits, wire}
 use Rattle.pmb_transaction.specs.Transaction.{PartData, ReadData, CallData, RefusedData, TransactionData, Write, Read, Call, Refused, Alert, NoAlert}
-use Rattle.pmb_transaction.specs.Wire.{AreByteValues, Fits, wire}
-use Rattle.pmb_transaction.specs.Body.{write_address, read_address, forms, AllowsPec, checked}
-use Rattle.pmb_transaction.specs.Packet.{Packet, PartEvents, PartsEvents, WritePacket, ReadPacket, CallPacket, RefusedPacket, AlertPacket, AddressRefused, ByteRefused, ReadRefused, RefusedLeg, addresses, alert_address, answered, leg, nacked}
+use Rattle.pmb_transaction.specs.Body.{forms, checked}
+use Rattle.pmb_transaction.specs.Packet.{Packet, PartEvents, PartsEvents, WritePacket, ReadPacket, CallPacket, RefusedPacket, AlertPacket, AddressRefused, ByteRefused, ReadRefused, RefusedLeg, addresses, answered, leg, nacked}
 use Rattle.pmb_transaction.proofs.Decided.{Decided, at_most, begins_with, below, both, either_way, of_each, of_some, same_bool, same_number}
 use Rattle.pmb_transaction.proofs.OnePacket.{one_packet}
 use Rattle.pmb_transaction.proofs.DecidedBodies.{Asks, Goes, allows, are_bytes, asks, fits, goes}

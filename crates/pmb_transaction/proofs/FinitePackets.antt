@@ -12,8 +12,8 @@ use Rattle.pmb_command.specs.declared.form.Form.TheVariants.{Zero, One, Two, Fou
 use Rattle.pmb_command.specs.declared.form.Shape.{Shape}
 use Rattle.pmb_command.specs.Bus.{IsBus}
 use Rattle.pmb_command.specs.Parts.{DeviceParts}
+use Rattle.pmb_command.specs.Wire.{Fits, wire}
 use Rattle.pmb_transaction.specs.Transaction.{PartData, ReadData, CallData, RefusedData, AlertData, TransactionData, Write, Read, Call, Refused, Alert, NoAlert}
-use Rattle.pmb_transaction.specs.Wire.{Fits, wire}
 use Rattle.pmb_transaction.specs.Body.{checked, IsProperPrefix, IsWriteBody, IsReadBody, IsCallBody, Allowed}
 use Rattle.pmb_transaction.specs.Packet.{Packet, PartEvents, PartsEvents, ReadRefused, RefusedLeg}
 use Rattle.pmb_transaction.specs.Capture.{MayFollow, Viable}

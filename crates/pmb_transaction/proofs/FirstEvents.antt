@@ -3,12 +3,13 @@ use Rattle.std.proofs.Common.{◌≡◌, ℕ, ◌<◌, inl, inr, Bool, true, fal
 use Rattle.pmb_bus.specs.Pec.{pec}
 use Rattle.pmb_bus.specs.declared.event.Event.{Event}
 use Rattle.pmb_bus.specs.declared.event.Event.TheVariants.{Start, Byte, Ack, Nack, Stop}
+use Rattle.pmb_bus.specs.Address.{read_address, write_address, alert_address}
 use Rattle.pmb_command.specs.Bus.{IsBus}
 use Rattle.pmb_command.specs.Parts.{DeviceParts}
-use Rattle.pmb_transaction.specs.Body.{checked, read_address, write_address}
+use Rattle.pmb_command.specs.Wire.{wire}
+use Rattle.pmb_transaction.specs.Body.{checked}
 use Rattle.pmb_transaction.specs.Transaction.{PartData, TransactionData, Write, Read, Call, Refused, Alert, NoAlert}
-use Rattle.pmb_transaction.specs.Wire.{wire}
-use Rattle.pmb_transaction.specs.Packet.{Packet, PartsEvents, RefusedLeg, acked, alert_address, answered, leg, nacked}
+use Rattle.pmb_transaction.specs.Packet.{Packet, PartsEvents, RefusedLeg, acked, answered, leg, nacked}
 use Rattle.pmb_transaction.specs.Capture.{MayFollow}
 use Rattle.pmb_transaction.specs.Viable.{leg_start, written}
 use Rattle.pmb_transaction.proofs.Addresses.{distinct_none}

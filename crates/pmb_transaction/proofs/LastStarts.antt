@@ -4,11 +4,12 @@ use Rattle.std.specs.List.{IsDistinct}
 use Rattle.std.proofs.lemmas.List.{append-nil}
 use Rattle.pmb_bus.specs.declared.event.Event.{Event}
 use Rattle.pmb_bus.specs.declared.event.Event.TheVariants.{Start, Byte, Ack, Nack, Stop}
+use Rattle.pmb_bus.specs.Address.{write_address, read_address, alert_address}
 use Rattle.pmb_command.specs.Parts.{DeviceParts, device_with}
+use Rattle.pmb_command.specs.Wire.{wire}
 use Rattle.pmb_transaction.specs.Transaction.{PartData, TransactionData, Write, Read, Call, Refused, Alert, NoAlert}
-use Rattle.pmb_transaction.specs.Wire.{wire}
-use Rattle.pmb_transaction.specs.Body.{write_address, read_address, checked, IsReadBody, IsCallBody}
-use Rattle.pmb_transaction.specs.Packet.{Packet, PartEvents, PartsEvents, RefusedLeg, acked, addresses, alert_address, leg, nacked}
+use Rattle.pmb_transaction.specs.Body.{checked, IsReadBody, IsCallBody}
+use Rattle.pmb_transaction.specs.Packet.{Packet, PartEvents, PartsEvents, RefusedLeg, acked, addresses, leg, nacked}
 use Rattle.pmb_transaction.specs.Capture.{IsPacket}
 use Rattle.pmb_transaction.specs.Reason.{has_start}
 use Rattle.pmb_transaction.specs.Turns.{is_stop, stands_behind}

@@ -5,11 +5,12 @@ use Rattle.std.proofs.lemmas.List.{length_push}
 use Rattle.pmb_bus.specs.Pec.{pec}
 use Rattle.pmb_bus.specs.declared.event.Event.{Event}
 use Rattle.pmb_bus.specs.declared.event.Event.TheVariants.{Start, Byte, Stop}
+use Rattle.pmb_bus.specs.Address.{write_address, read_address, alert_address}
 use Rattle.pmb_command.specs.Bus.{IsBus}
 use Rattle.pmb_command.specs.Parts.{DeviceParts, IsNew, device_with}
 use Rattle.pmb_transaction.specs.Transaction.{PartData}
-use Rattle.pmb_transaction.specs.Body.{write_address, read_address, IsWriteBody, IsReadBody, IsCallBody}
-use Rattle.pmb_transaction.specs.Packet.{PartEvents, PartsEvents, acked, addresses, alert_address, leg, nacked}
+use Rattle.pmb_transaction.specs.Body.{IsWriteBody, IsReadBody, IsCallBody}
+use Rattle.pmb_transaction.specs.Packet.{PartEvents, PartsEvents, acked, addresses, leg, nacked}
 use Rattle.pmb_transaction.specs.Capture.{MayFollow, Viable}
 use Rattle.pmb_transaction.specs.Viable.{AnswerBegins, LegBegins, answer_taken, answer_sent, leg_start, leg_address, leg_taken, leg_sent, written, read, read_start, read_address_sent}
 use Rattle.pmb_transaction.specs.Following.{IsNextAddress, LegMayFollow, leg_of_group, leg_of_reply, next_leg, reply_leg}

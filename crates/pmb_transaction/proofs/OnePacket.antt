@@ -3,11 +3,12 @@ use Rattle.std.proofs.Common.{◌≡◌, ℕ, Bool, true, false, Option, Some, L
 use Rattle.std.proofs.lemmas.Option.{same_Some}
 use Rattle.pmb_bus.specs.declared.event.Event.{Event}
 use Rattle.pmb_bus.specs.declared.event.Event.TheVariants.{Stop}
+use Rattle.pmb_bus.specs.Address.{write_address}
 use Rattle.pmb_command.specs.declared.form.Form.{Form}
 use Rattle.pmb_command.specs.Parts.{DeviceParts, device_with}
-use Rattle.pmb_transaction.specs.Body.{WriteBody, checked, forms, write_address}
+use Rattle.pmb_command.specs.Wire.{wire}
+use Rattle.pmb_transaction.specs.Body.{WriteBody, checked, forms}
 use Rattle.pmb_transaction.specs.Transaction.{PartData, ReadData, CallData, TransactionData, Write, Read, Call, Refused, Alert, NoAlert}
-use Rattle.pmb_transaction.specs.Wire.{wire}
 use Rattle.pmb_transaction.specs.Packet.{CallPacket, Packet, PartEvents, PartsEvents, ReadPacket, RefusedLeg, answered, leg}
 
 -- what is found is one thing

@@ -2,13 +2,14 @@
 use Rattle.std.proofs.Common.{◌≡◌, ℕ, Bool, true, false, Option, Some, map, List, [], ◌∷◌, ◌++◌, refl, sym, ap, ◌∙◌, append_assoc}
 use Rattle.pmb_bus.specs.declared.event.Event.{Event}
 use Rattle.pmb_bus.specs.declared.event.Event.TheVariants.{Start, Byte, Nack, Stop}
+use Rattle.pmb_bus.specs.Address.{read_address, write_address, alert_address}
 use Rattle.pmb_command.specs.declared.form.Form.{Form}
 use Rattle.pmb_command.specs.Bus.{IsBus}
 use Rattle.pmb_command.specs.Parts.{DeviceParts, device_with}
-use Rattle.pmb_transaction.specs.Body.{checked, read_address, write_address}
+use Rattle.pmb_command.specs.Wire.{wire}
+use Rattle.pmb_transaction.specs.Body.{checked}
 use Rattle.pmb_transaction.specs.Transaction.{PartData, ReadData, CallData, TransactionData, Write, Read, Call, Refused, Alert, NoAlert}
-use Rattle.pmb_transaction.specs.Wire.{wire}
-use Rattle.pmb_transaction.specs.Packet.{AlertPacket, CallPacket, Packet, PartEvents, PartsEvents, ReadPacket, RefusedLeg, WritePacket, acked, alert_address, answered, leg, nacked}
+use Rattle.pmb_transaction.specs.Packet.{AlertPacket, CallPacket, Packet, PartEvents, PartsEvents, ReadPacket, RefusedLeg, WritePacket, acked, answered, leg, nacked}
 use Rattle.pmb_transaction.proofs.Data.{Data, checked_is, code_behind, data_alone, data_of, data_with_code, first_byte}
 use Rattle.pmb_transaction.proofs.Known.{call_has_data, device_is, read_has_data}
 use Rattle.pmb_transaction.proofs.Legs.{Leg, events_of_legs, legs_then, legs_then-append, one_row_of_legs}

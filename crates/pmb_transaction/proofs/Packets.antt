@@ -6,13 +6,15 @@ use Rattle.std.proofs.lemmas.Option.{same_Some}
 use Rattle.pmb_bus.specs.Pec.{pec}
 use Rattle.pmb_bus.specs.declared.event.Event.{Event}
 use Rattle.pmb_bus.specs.declared.event.Event.TheVariants.{Start, Byte, Ack, Nack, Stop}
+use Rattle.pmb_bus.specs.Address.{write_address, read_address, alert_address}
 use Rattle.pmb_command.specs.declared.form.Form.{Form}
 use Rattle.pmb_command.specs.Bus.{IsBus}
 use Rattle.pmb_command.specs.Parts.{DeviceParts, IsNew, device_with}
+use Rattle.pmb_command.specs.PecMode.{AllowsPec}
+use Rattle.pmb_command.specs.Wire.{IsByte, Fits, wire}
 use Rattle.pmb_transaction.specs.Transaction.{PartData, Write, Read, Call, Refused, Alert}
-use Rattle.pmb_transaction.specs.Wire.{IsByte, Fits, wire}
-use Rattle.pmb_transaction.specs.Body.{write_address, read_address, AllowsPec, checked, forms, WriteBody, ReadBody, CallBody, IsReadBody, IsCallBody}
-use Rattle.pmb_transaction.specs.Packet.{Packet, PartEvents, PartsEvents, addresses, alert_address, answered, leg, nacked}
+use Rattle.pmb_transaction.specs.Body.{checked, forms, WriteBody, ReadBody, CallBody, IsReadBody, IsCallBody}
+use Rattle.pmb_transaction.specs.Packet.{Packet, PartEvents, PartsEvents, addresses, answered, leg, nacked}
 use Rattle.pmb_transaction.specs.Viable.{IsInsideBody}
 use Rattle.pmb_transaction.proofs.Addresses.{distinct_none, distinct_with}
 use Rattle.pmb_transaction.proofs.Answers.{asked_has_data, wire_has_byte}

@@ -2,8 +2,8 @@
 use Rattle.std.proofs.Common.{◌≡◌, ◌≢◌, ℕ, ◌%◌, ◌==◌, Bool, true, false, not, if◌then◌else◌, List, [], ◌∷◌, ◌++◌, refl, ap, ◌∙◌, append_assoc}
 use Rattle.pmb_bus.specs.declared.event.Event.{Event}
 use Rattle.pmb_bus.specs.declared.event.Event.TheVariants.{Start, Byte, Ack, Nack, Stop}
+use Rattle.pmb_bus.specs.Address.{write_address, read_address}
 use Rattle.pmb_transaction.specs.declared.reason.Reason.TheVariants.{BadPec}
-use Rattle.pmb_transaction.specs.Body.{write_address, read_address}
 use Rattle.pmb_transaction.specs.Packet.{acked, leg}
 use Rattle.pmb_transaction.specs.Reason.{Place, BehindAddress, BehindCode, BehindRestart, FurtherOn, InReply, byte_reason, has_start, is_first_leg, last_leg, place_behind, place_in, place_written}
 use Rattle.pmb_transaction.proofs.Starts.{no_start-sent, starts}

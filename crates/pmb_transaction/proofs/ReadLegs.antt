@@ -4,9 +4,9 @@ use Rattle.std.proofs.Common.{◌≡◌, ℕ, ◌<◌, ◌⊎◌, inl, inr, List
 use Rattle.pmb_bus.specs.Pec.{pec}
 use Rattle.pmb_bus.specs.declared.event.Event.{Event}
 use Rattle.pmb_bus.specs.declared.event.Event.TheVariants.{Start, Byte, Ack, Nack, Stop}
+use Rattle.pmb_bus.specs.Address.{read_address}
 use Rattle.pmb_command.specs.Bus.{IsBus}
 use Rattle.pmb_command.specs.Parts.{DeviceParts}
-use Rattle.pmb_transaction.specs.Body.{read_address}
 use Rattle.pmb_transaction.specs.Packet.{acked, leg, nacked}
 use Rattle.pmb_transaction.specs.Capture.{IsPacket, MayFollow}
 use Rattle.pmb_transaction.specs.Viable.{AnswerBegins, IsBeginning, answer_sent, answer_taken}

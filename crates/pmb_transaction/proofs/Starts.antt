@@ -3,7 +3,7 @@
 use Rattle.std.proofs.Common.{◌≡◌, ℕ, ◌+◌, ◌*◌, true, false, List, [], ◌∷◌, ◌++◌, refl, sym, ap, arith}
 use Rattle.pmb_bus.specs.declared.event.Event.{Event}
 use Rattle.pmb_bus.specs.declared.event.Event.TheVariants.{Start, Byte, Ack, Nack, Stop}
-use Rattle.pmb_transaction.specs.Body.{write_address, read_address}
+use Rattle.pmb_bus.specs.Address.{write_address, read_address}
 use Rattle.pmb_transaction.specs.Packet.{acked, nacked}
 use Rattle.pmb_transaction.specs.Reason.{has_start}
 use Rattle.pmb_transaction.specs.Viable.{AnswerBegins, answer_taken, answer_sent}

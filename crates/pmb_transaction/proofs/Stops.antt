@@ -5,11 +5,12 @@ use Rattle.std.proofs.lemmas.List.Folds.{list_all-append}
 use Rattle.std.proofs.lemmas.Bool.{and_parts}
 use Rattle.pmb_bus.specs.declared.event.Event.{Event}
 use Rattle.pmb_bus.specs.declared.event.Event.TheVariants.{Start, Byte, Ack, Nack, Stop}
+use Rattle.pmb_bus.specs.Address.{write_address, read_address, alert_address}
 use Rattle.pmb_command.specs.Parts.{DeviceParts}
-use Rattle.pmb_transaction.specs.Body.{write_address, read_address, checked}
+use Rattle.pmb_command.specs.Wire.{wire}
+use Rattle.pmb_transaction.specs.Body.{checked}
 use Rattle.pmb_transaction.specs.Transaction.{PartData, TransactionData, Write, Read, Call, Refused, Alert, NoAlert}
-use Rattle.pmb_transaction.specs.Wire.{wire}
-use Rattle.pmb_transaction.specs.Packet.{Packet, PartsEvents, RefusedLeg, acked, alert_address, answered, leg, nacked}
+use Rattle.pmb_transaction.specs.Packet.{Packet, PartsEvents, RefusedLeg, acked, answered, leg, nacked}
 use Rattle.pmb_transaction.specs.Capture.{EndsAtStop, HasNoStop}
 
 -- an event other than STOP

@@ -6,11 +6,11 @@ use Rattle.std.proofs.lemmas.List.{append-nil, same_from_push}
 use Rattle.pmb_bus.specs.Pec.{pec}
 use Rattle.pmb_bus.specs.declared.event.Event.{Event}
 use Rattle.pmb_bus.specs.declared.event.Event.TheVariants.{Start, Byte, Ack, Nack, Stop}
+use Rattle.pmb_bus.specs.Address.{write_address}
 use Rattle.pmb_command.specs.Bus.{IsBus}
 use Rattle.pmb_command.specs.Parts.{DeviceParts, IsNew, device_with}
+use Rattle.pmb_command.specs.Wire.{IsByte}
 use Rattle.pmb_transaction.specs.Transaction.{PartData}
-use Rattle.pmb_transaction.specs.Wire.{IsByte}
-use Rattle.pmb_transaction.specs.Body.{write_address}
 use Rattle.pmb_transaction.specs.Packet.{PartsEvents, acked, addresses, leg}
 use Rattle.pmb_transaction.specs.Capture.{IsPacket, MayFollow, Viable}
 use Rattle.pmb_transaction.specs.Viable.{BeginsBody, IsInsideBody, LegBegins, leg_start, leg_address, leg_taken, leg_sent, written}

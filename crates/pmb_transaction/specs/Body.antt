@@ -1,21 +1,13 @@
 -- Bodies: the bytes behind the address in a written leg.
-use Rattle.std.specs.Prelude.{◌≡◌, ℕ, ◌+◌, ◌*◌, ◌⊎◌, Bool, true, false, Option, Some, None, List, [], ◌∷◌, ◌++◌}
+use Rattle.std.specs.Prelude.{◌≡◌, ℕ, ◌⊎◌, Bool, true, false, Option, Some, None, List, [], ◌∷◌, ◌++◌}
 use Rattle.pmb_bus.specs.Pec.{pec}
+use Rattle.pmb_bus.specs.Address.{write_address}
 use Rattle.pmb_command.specs.declared.form.Form.{Form}
 use Rattle.pmb_command.specs.declared.form.Shape.{Shape}
-use Rattle.pmb_command.specs.declared.pec_mode.PecMode.{PecMode}
-use Rattle.pmb_command.specs.declared.pec_mode.PecMode.TheVariants.{Off, On, Optional}
 use Rattle.pmb_command.specs.Parts.{CommandParts, DeviceParts, command_with}
+use Rattle.pmb_command.specs.PecMode.{AllowsPec}
+use Rattle.pmb_command.specs.Wire.{Fits, wire}
 use Rattle.pmb_transaction.specs.Transaction.{PartData}
-use Rattle.pmb_transaction.specs.Wire.{Fits, wire}
-
--- The byte that addresses a device: the address in bits 7 to 1, and in bit 0 the direction, 0 for
--- writing and 1 for reading.
-abbrev pub write_address : ℕ → ℕ
-write_address addr = 2 * addr
-
-abbrev pub read_address : ℕ → ℕ
-read_address addr = 2 * addr + 1
 
 -- the forms of a command; none where there is no command
 abbrev pub shape_of : Option CommandParts → Shape
@@ -25,12 +17,6 @@ shape_of (Some command) = command.entry.shape
 -- the forms in which a device takes a command code
 abbrev pub forms : DeviceParts → ℕ → Shape
 forms device code = shape_of (command_with code device.commands)
-
--- A device's mode allows a packet, or a part of one, with or without a packet error code.
-abbrev pub AllowsPec : PecMode → Bool → Type 0
-AllowsPec Off with_pec = with_pec ≡ false
-AllowsPec On with_pec = with_pec ≡ true
-AllowsPec Optional with_pec = Unit {0}
 
 -- Bytes, and behind them, where one is asked for, the packet error code (SMBus 3.0 section 6.4) over
 -- all bytes so far: those `before` and these.

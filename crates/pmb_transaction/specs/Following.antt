@@ -1,11 +1,12 @@
 -- What may follow at some places of a packet: the address behind a START, a leg behind a written
 -- one, and the bytes of an answer.
 use Rattle.std.specs.Prelude.{◌≡◌, ℕ, ◌<◌, ◌⊎◌, Bool, List, [], ◌∷◌, ◌++◌, length}
+use Rattle.pmb_bus.specs.Address.{write_address, read_address, alert_address}
 use Rattle.pmb_command.specs.Parts.{DeviceParts, IsNew}
+use Rattle.pmb_command.specs.Wire.{IsByte}
 use Rattle.pmb_transaction.specs.Transaction.{PartData}
-use Rattle.pmb_transaction.specs.Wire.{IsByte}
-use Rattle.pmb_transaction.specs.Body.{write_address, read_address, checked, IsProperPrefix, IsWriteBody, IsReadBody, IsCallBody}
-use Rattle.pmb_transaction.specs.Packet.{addresses, alert_address}
+use Rattle.pmb_transaction.specs.Body.{checked, IsProperPrefix, IsWriteBody, IsReadBody, IsCallBody}
+use Rattle.pmb_transaction.specs.Packet.{addresses}
 
 -- ---- addresses
 

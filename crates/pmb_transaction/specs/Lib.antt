@@ -1,5 +1,4 @@
 pub mod Transaction
-pub mod Wire
 pub mod Body
 pub mod Packet
 pub mod Capture

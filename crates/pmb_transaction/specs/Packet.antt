@@ -8,11 +8,13 @@ use Rattle.std.specs.Prelude.{◌≡◌, ℕ, ◌<◌, ◌≤◌, ◌⊎◌, Boo
 use Rattle.std.specs.List.{IsDistinct}
 use Rattle.pmb_bus.specs.declared.event.Event.{Event}
 use Rattle.pmb_bus.specs.declared.event.Event.TheVariants.{Start, Byte, Ack, Nack, Stop}
+use Rattle.pmb_bus.specs.Address.{write_address, read_address, alert_address}
 use Rattle.pmb_command.specs.declared.form.Form.{Form}
 use Rattle.pmb_command.specs.Parts.{DeviceParts, IsNew, device_with}
+use Rattle.pmb_command.specs.PecMode.{AllowsPec}
+use Rattle.pmb_command.specs.Wire.{IsByte, AreByteValues, Fits, wire}
 use Rattle.pmb_transaction.specs.Transaction.{PartData, ReadData, CallData, RefusedData, AlertData, TransactionData, Write, Read, Call, Refused, Alert, NoAlert}
-use Rattle.pmb_transaction.specs.Wire.{IsByte, AreByteValues, Fits, wire}
-use Rattle.pmb_transaction.specs.Body.{write_address, read_address, forms, AllowsPec, checked, IsProperPrefix, WriteBody, IsReadBody, IsCallBody, Allowed}
+use Rattle.pmb_transaction.specs.Body.{forms, checked, IsProperPrefix, WriteBody, IsReadBody, IsCallBody, Allowed}
 
 -- each byte, followed by ACK
 abbrev pub acked : List ℕ → List Event
@@ -32,10 +34,6 @@ leg bytes = Start ∷ acked bytes
 -- the addresses of parts, which are distinct in a packet
 abbrev pub addresses : List PartData → List ℕ
 addresses parts = map (λ part. part.addr) parts
-
--- the Alert Response Address (SMBus 3.0 appendix C), which is read
-abbrev pub alert_address : ℕ
-alert_address = 0x0c
 
 -- A written leg, the leg of the reply, and STOP. The packet error code covers the bytes of both.
 --

@@ -4,12 +4,14 @@ use Rattle.std.specs.Prelude.{◌≡◌, ℕ, ◌<◌, ◌≤◌, ◌⊎◌, Boo
 use Rattle.std.specs.List.{IsDistinct}
 use Rattle.pmb_bus.specs.declared.event.Event.{Event}
 use Rattle.pmb_bus.specs.declared.event.Event.TheVariants.{Start, Byte, Stop}
+use Rattle.pmb_bus.specs.Address.{write_address, read_address, alert_address}
 use Rattle.pmb_command.specs.declared.form.Form.{Form}
 use Rattle.pmb_command.specs.Parts.{DeviceParts, IsNew, device_with}
+use Rattle.pmb_command.specs.PecMode.{AllowsPec}
+use Rattle.pmb_command.specs.Wire.{IsByte, Fits, wire}
 use Rattle.pmb_transaction.specs.Transaction.{PartData}
-use Rattle.pmb_transaction.specs.Wire.{IsByte, Fits, wire}
-use Rattle.pmb_transaction.specs.Body.{write_address, read_address, AllowsPec, checked, IsProperPrefix, ReadBody, CallBody, IsReadBody, IsCallBody, Allowed}
-use Rattle.pmb_transaction.specs.Packet.{leg, addresses, alert_address, PartsEvents}
+use Rattle.pmb_transaction.specs.Body.{checked, IsProperPrefix, ReadBody, CallBody, IsReadBody, IsCallBody, Allowed}
+use Rattle.pmb_transaction.specs.Packet.{leg, addresses, PartsEvents}
 use Rattle.pmb_transaction.specs.Capture.{IsPacket}
 
 -- ---- bytes

@@ -6,11 +6,12 @@ ghost use Rattle.std.specs.Prelude.{◌≡◌, ◌≢◌, ℕ, ◌<◌, ◌≤�
 ghost use Rattle.std.specs.List.{IsDistinct};
 ghost use Rattle.pmb_bus.specs.declared.event.Event.{Event};
 ghost use Rattle.pmb_bus.specs.declared.event.Event.TheVariants.{Start, Byte, Ack, Nack, Stop};
+ghost use Rattle.pmb_bus.specs.Address.{write_address, read_address, alert_address};
 ghost use Rattle.pmb_command.specs.Parts.{DeviceParts, IsNew, device_with};
 ghost use Rattle.pmb_command.specs.Bus.{IsBus};
 ghost use Rattle.pmb_transaction.specs.Transaction.{PartData};
-ghost use Rattle.pmb_transaction.specs.Body.{write_address, read_address, IsWriteBody, IsReadBody, IsCallBody};
-ghost use Rattle.pmb_transaction.specs.Packet.{addresses, alert_address, leg, PartsEvents};
+ghost use Rattle.pmb_transaction.specs.Body.{IsWriteBody, IsReadBody, IsCallBody};
+ghost use Rattle.pmb_transaction.specs.Packet.{addresses, leg, PartsEvents};
 ghost use Rattle.pmb_transaction.specs.Capture.{HasNoStop, IsPacket, MayFollow, Viable};
 ghost use Rattle.pmb_transaction.specs.Viable.{IsAnswer};
 ghost use Rattle.pmb_transaction.specs.Reading.{IsUnderWay};

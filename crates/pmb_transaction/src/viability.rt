@@ -4,11 +4,11 @@ ghost use Rattle.std.specs.Prelude.{◌≡◌, ◌≢◌, ℕ, ◌≤◌, true, 
 ghost use Rattle.std.specs.List.{IsDistinct};
 ghost use Rattle.pmb_bus.specs.declared.event.Event.{Event};
 ghost use Rattle.pmb_bus.specs.declared.event.Event.TheVariants.{Start, Byte, Ack, Nack};
+ghost use Rattle.pmb_bus.specs.Address.{write_address};
 ghost use Rattle.pmb_command.specs.Parts.{DeviceParts, IsNew, device_with};
 ghost use Rattle.pmb_command.specs.Bus.{IsBus};
+ghost use Rattle.pmb_command.specs.Wire.{IsByte};
 ghost use Rattle.pmb_transaction.specs.Transaction.{PartData};
-ghost use Rattle.pmb_transaction.specs.Wire.{IsByte};
-ghost use Rattle.pmb_transaction.specs.Body.{write_address};
 ghost use Rattle.pmb_transaction.specs.Packet.{addresses, leg, PartsEvents};
 ghost use Rattle.pmb_transaction.specs.Capture.{IsPacket, MayFollow, Viable};
 ghost use Rattle.pmb_transaction.specs.Viable.{BeginsBody, IsBeginning, IsInsideBody};

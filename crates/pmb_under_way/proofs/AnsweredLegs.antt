@@ -3,12 +3,14 @@ use Rattle.std.proofs.Common.{◌≡◌, ℕ, ◌⊎◌, Bool, true, Some, List,
 use Rattle.std.proofs.lemmas.List.{append-nil}
 use Rattle.pmb_bus.specs.declared.event.Event.{Event}
 use Rattle.pmb_bus.specs.declared.event.Event.TheVariants.{Start, Byte, Ack}
+use Rattle.pmb_bus.specs.Address.{write_address, read_address, alert_address}
 use Rattle.pmb_command.specs.declared.form.Form.{Form}
 use Rattle.pmb_command.specs.Bus.{IsBus}
 use Rattle.pmb_command.specs.Parts.{DeviceParts, device_with}
-use Rattle.pmb_transaction.specs.Wire.{IsByte, Fits, wire}
-use Rattle.pmb_transaction.specs.Body.{write_address, read_address, AllowsPec, checked, ReadBody, CallBody}
-use Rattle.pmb_transaction.specs.Packet.{alert_address, leg}
+use Rattle.pmb_command.specs.PecMode.{AllowsPec}
+use Rattle.pmb_command.specs.Wire.{IsByte, Fits, wire}
+use Rattle.pmb_transaction.specs.Body.{checked, ReadBody, CallBody}
+use Rattle.pmb_transaction.specs.Packet.{leg}
 use Rattle.pmb_transaction.specs.Transaction.{PartData, Refused}
 use Rattle.pmb_transaction.specs.Following.{BeginsAnswer, IsAlertAnswer, IsInsideAnswer}
 use Rattle.pmb_transaction.specs.Viable.{IsAnswer}

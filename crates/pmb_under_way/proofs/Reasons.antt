@@ -5,11 +5,12 @@ use Rattle.pmb_bus.specs.declared.event.Event.TheVariants.{Byte, Ack, Nack, Stop
 use Rattle.pmb_bus.specs.declared.event.Event.TheVariants as events_are
 use Rattle.pmb_bus.specs.declared.kinds.Kinds.{Kinds}
 use Rattle.pmb_bus.specs.Kinds.{AreKindsOf, bits, holds, kind_of}
+use Rattle.pmb_bus.specs.Address.{write_address, read_address, alert_address}
 use Rattle.pmb_command.specs.Bus.{IsBus}
 use Rattle.pmb_command.specs.Parts.{DeviceParts, device_with}
 use Rattle.pmb_transaction.specs.declared.reason.Reason.TheVariants.{BadPec, WrongEvent}
-use Rattle.pmb_transaction.specs.Body.{write_address, read_address, IsReadBody, IsCallBody}
-use Rattle.pmb_transaction.specs.Packet.{alert_address, leg}
+use Rattle.pmb_transaction.specs.Body.{IsReadBody, IsCallBody}
+use Rattle.pmb_transaction.specs.Packet.{leg}
 use Rattle.pmb_transaction.specs.Capture.{MayFollow, Viable}
 use Rattle.pmb_transaction.specs.Reason.{FollowsAlone, SomeByteMayFollow, BehindAddress, BehindCode, FurtherOn, InReply, ack_reason, byte_reason, nack_reason, place_behind}
 use Rattle.pmb_transaction.specs.Reason as behind

@@ -3,11 +3,12 @@ use Rattle.std.proofs.Common.{◌≡◌, ℕ, ◌+◌, ◌*◌, ◌/◌, ◌%◌
 use Rattle.std.specs.List.{IsDistinct}
 use Rattle.pmb_bus.specs.declared.event.Event.{Event}
 use Rattle.pmb_bus.specs.declared.event.Event.TheVariants.{Start, Byte, Ack, Nack, Stop}
+use Rattle.pmb_bus.specs.Address.{write_address}
 use Rattle.pmb_command.specs.Bus.{IsBus}
 use Rattle.pmb_command.specs.Parts.{DeviceParts, IsNew, device_with}
+use Rattle.pmb_command.specs.Wire.{IsByte}
 use Rattle.pmb_transaction.specs.Transaction.{PartData, Write, Refused}
-use Rattle.pmb_transaction.specs.Wire.{IsByte}
-use Rattle.pmb_transaction.specs.Body.{write_address, WriteBody, IsWriteBody}
+use Rattle.pmb_transaction.specs.Body.{WriteBody, IsWriteBody}
 use Rattle.pmb_transaction.specs.Packet.{Packet, PartsEvents, addresses, leg}
 use Rattle.pmb_transaction.specs.Capture.{MayFollow}
 use Rattle.pmb_transaction.specs.Following.{IsFirstAddress, IsNextAddress, alert_first, next_leg, reply_leg, written_first}

@@ -4,17 +4,19 @@ use Rattle.std.proofs.lemmas.Bool.{ltb-true, lt-ltb, eqb-true, or_parts, or_left
 use Rattle.std.proofs.Math.Dec.{eqb-suc-zero}
 use Rattle.std.proofs.lemmas.List.{length-replicate, append-nil}
 use Rattle.pmb_bus.specs.Pec.{pec}
+use Rattle.pmb_bus.specs.Address.{write_address}
 use Rattle.pmb_command.specs.declared.form.Form.{Form}
 use Rattle.pmb_command.specs.declared.form.Form.TheVariants.{Zero, One, Two, Four, Eight, Block}
 use Rattle.pmb_command.specs.declared.pec_mode.PecMode.{PecMode}
 use Rattle.pmb_command.specs.declared.pec_mode.PecMode.TheVariants.{Off, On, Optional}
 use Rattle.pmb_command.specs.Parts.{DeviceParts}
+use Rattle.pmb_command.specs.PecMode.{AllowsPec}
+use Rattle.pmb_command.specs.Wire.{AreByteValues, Fits, wire, wire_length}
 use Rattle.pmb_transaction.specs.declared.part.Part.{Part}
 use Rattle.pmb_transaction.specs.Transaction.{PartData, part_data}
-use Rattle.pmb_transaction.specs.Wire.{AreByteValues, Fits, wire}
-use Rattle.pmb_transaction.specs.Body.{write_address, forms, AllowsPec, checked, IsProperPrefix, IsWriteBody, IsReadBody, IsCallBody, Allowed}
+use Rattle.pmb_transaction.specs.Body.{forms, checked, IsProperPrefix, IsWriteBody, IsReadBody, IsCallBody, Allowed}
 use Rattle.pmb_writer.specs.Invalid.{MayBegin, MayGoOn}
-use Rattle.pmb_writer.specs.machine.Lengths.{wire_length, pec_length, leaves_room, is_whole_wire, may_go_on, is_request, may_begin}
+use Rattle.pmb_writer.specs.machine.Lengths.{pec_length, leaves_room, is_whole_wire, may_go_on, is_request, may_begin}
 
 -- ---- bytes that begin the wire of a form
 

@@ -13,12 +13,14 @@ use Rattle.pmb_bus.specs.declared.event.Event.TheVariants.{Start, Byte, Nack, St
 use Rattle.pmb_command.specs.declared.form.Form.{Form}
 use Rattle.pmb_command.specs.declared.form.Shape.{Shape}
 use Rattle.pmb_bus.specs.Pec.{pec}
+use Rattle.pmb_bus.specs.Address.{write_address, read_address, alert_address}
 use Rattle.pmb_command.specs.Bus.{IsDevice}
 use Rattle.pmb_command.specs.Parts.{CommandParts, DeviceParts, IsNew, command_with, device_with}
+use Rattle.pmb_command.specs.PecMode.{AllowsPec}
+use Rattle.pmb_command.specs.Wire.{AreByteValues, Fits, wire}
 use Rattle.pmb_transaction.specs.Transaction.{PartData, ReadData, CallData, RefusedData, TransactionData, Write, Read, Call, Refused, Alert, NoAlert}
-use Rattle.pmb_transaction.specs.Wire.{AreByteValues, Fits, wire}
-use Rattle.pmb_transaction.specs.Body.{write_address, read_address, shape_of, forms, AllowsPec, checked, Allowed, IsWriteBody, IsReadBody, IsCallBody, IsProperPrefix}
-use Rattle.pmb_transaction.specs.Packet.{addresses, alert_address, leg, nacked, answered, PartEvents, PartsEvents, WritePacket, ReadPacket, CallPacket, ByteRefused, ReadRefused, RefusedLeg, RefusedPacket}
+use Rattle.pmb_transaction.specs.Body.{shape_of, forms, checked, Allowed, IsWriteBody, IsReadBody, IsCallBody, IsProperPrefix}
+use Rattle.pmb_transaction.specs.Packet.{addresses, leg, nacked, answered, PartEvents, PartsEvents, WritePacket, ReadPacket, CallPacket, ByteRefused, ReadRefused, RefusedLeg, RefusedPacket}
 use Rattle.pmb_writer.specs.Invalid.{AreKept, IsFirstBroken, CanBeAsked, HasPacket, command_at, forms_at, part_rules, parts_rules, write_rules, read_rules, call_rules, refused_leg_rules, refused_address_rules, refused_rules, transaction_rules}
 
 the_one : {A : Type 0} (o : Option A) → IsSome o → (x : A) × (o ≡ Some x)

@@ -4,9 +4,9 @@ use Rattle.pmb_command.specs.declared.form.Shape.{Shape}
 use Rattle.pmb_command.specs.declared.pec_mode.PecMode.{PecMode}
 use Rattle.pmb_command.specs.Parts.{DeviceParts, command_with, device_with}
 use Rattle.pmb_transaction.specs.Transaction.{PartData}
-use Rattle.pmb_transaction.specs.Wire.{AreByteValues}
 use Rattle.pmb_transaction.specs.Body.{forms, shape_of, IsReadBody, IsCallBody}
 use Rattle.std.specs.Option.{option_and_then}
+use Rattle.pmb_command.specs.Wire.{AreByteValues}
 use Rattle.pmb_writer.specs.declared.invalid.Invalid.TheVariants.{WrongLength, NotAllowed}
 use Rattle.pmb_writer.specs.Invalid.{AreKept, IsFirstBroken, OfDevice, MayBegin, MayGoOn, CanBeAsked, command_at, forms_at, has_device, has_command, rule_unless, refused_leg_rules}
 use Rattle.pmb_writer.specs.machine.Lengths.{may_go_on, is_request, may_begin}

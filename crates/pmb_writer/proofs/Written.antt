@@ -7,15 +7,16 @@ use Rattle.std.proofs.lemmas.List.{append-nil}
 use Rattle.pmb_bus.specs.declared.event.Event.{Event}
 use Rattle.pmb_bus.specs.declared.event.Event.TheVariants.{Start, Byte, Ack, Nack, Stop}
 use Rattle.pmb_bus.specs.Pec.{pec}
+use Rattle.pmb_bus.specs.Address.{write_address, read_address}
 use Rattle.pmb_command.specs.Bus.{IsCommand, IsDevice}
 use Rattle.pmb_command.specs.declared.form.Form.{Form}
 use Rattle.pmb_command.specs.declared.form.Form.TheVariants.{Zero, One, Two, Four, Eight, Block}
 use Rattle.pmb_command.specs.declared.form.Shape.{Shape}
 use Rattle.pmb_command.specs.Fitting.{calls_fit, reads_data}
 use Rattle.pmb_command.specs.Parts.{CommandParts, DeviceParts, command_with, device_with}
+use Rattle.pmb_command.specs.Wire.{Fits, wire}
 use Rattle.pmb_transaction.specs.Transaction.{PartData, ReadData, CallData, RefusedData, AlertData, TransactionData, Write, Read, Call, Refused, Alert, NoAlert}
-use Rattle.pmb_transaction.specs.Wire.{Fits, wire}
-use Rattle.pmb_transaction.specs.Body.{write_address, read_address, shape_of, forms, checked}
+use Rattle.pmb_transaction.specs.Body.{shape_of, forms, checked}
 use Rattle.pmb_transaction.specs.Packet.{acked, nacked, leg, answered, PartEvents, PartsEvents, WritePacket, ReadPacket, CallPacket, ReadRefused, RefusedLeg, RefusedPacket, AlertPacket, Packet}
 use Rattle.pmb_writer.specs.Invalid.{HasPacket, forms_at}
 use Rattle.pmb_writer.specs.machine.Legs.{LegData, answered_by, asked_leg, code_on, leg_events, legs_events, part_leg, read_byte, refused_legs, reply_leg, wire_of, with_code, write_byte, packet_events}

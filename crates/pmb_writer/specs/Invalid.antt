@@ -6,9 +6,10 @@ use Rattle.pmb_bus.specs.declared.event.Event.{Event}
 use Rattle.pmb_command.specs.declared.form.Form.{Form}
 use Rattle.pmb_command.specs.declared.form.Shape.{Shape}
 use Rattle.pmb_command.specs.Parts.{CommandParts, DeviceParts, IsNew, command_with, device_with}
+use Rattle.pmb_command.specs.PecMode.{AllowsPec}
+use Rattle.pmb_command.specs.Wire.{Fits}
 use Rattle.pmb_transaction.specs.Transaction.{PartData, ReadData, CallData, RefusedData, TransactionData, Write, Read, Call, Refused, Alert, NoAlert}
-use Rattle.pmb_transaction.specs.Wire.{Fits}
-use Rattle.pmb_transaction.specs.Body.{shape_of, AllowsPec, IsProperPrefix, IsReadBody, IsCallBody, Allowed}
+use Rattle.pmb_transaction.specs.Body.{shape_of, IsProperPrefix, IsReadBody, IsCallBody, Allowed}
 use Rattle.pmb_transaction.specs.Packet.{addresses, Packet}
 use Rattle.pmb_writer.specs.declared.invalid.Invalid.{Invalid}
 use Rattle.pmb_writer.specs.declared.invalid.Invalid.TheVariants.{NoParts, UnknownDevice, AddressTwice, UnknownCommand, NotAllowed, WrongLength, PecMode}

@@ -2,8 +2,9 @@
 
 ghost use Rattle.std.specs.Prelude.{◌≡◌, ◌↔◌, IsTrue, IsSome, IfSome};
 ghost use Rattle.pmb_command.specs.Parts.{command_with};
-ghost use Rattle.pmb_transaction.specs.Body.{AllowsPec, forms};
-ghost use Rattle.pmb_transaction.specs.Wire.{Fits};
+ghost use Rattle.pmb_command.specs.PecMode.{AllowsPec};
+ghost use Rattle.pmb_command.specs.Wire.{Fits};
+ghost use Rattle.pmb_transaction.specs.Body.{forms};
 
 use pmb_command::{Form, PecMode, Shape};
 use pmb_table::DeviceProfile;

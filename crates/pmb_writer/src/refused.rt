@@ -2,9 +2,10 @@
 
 ghost use Rattle.std.specs.Prelude.{◌≡◌, ◌↔◌, ◌≤◌, ◌∷◌, map, length, nat_eq, IsTrue, false, true};
 ghost use Rattle.pmb_command.specs.Parts.{device_with};
+ghost use Rattle.pmb_command.specs.Wire.{wire_length};
 ghost use Rattle.pmb_transaction.specs.Transaction.{part_data};
 ghost use Rattle.pmb_writer.specs.Invalid.{AnswersRules, CanBeAsked, refused_leg_rules};
-ghost use Rattle.pmb_writer.specs.machine.Lengths.{wire_length, pec_length, leaves_room, is_whole_wire, may_go_on, is_request, may_begin};
+ghost use Rattle.pmb_writer.specs.machine.Lengths.{pec_length, leaves_room, is_whole_wire, may_go_on, is_request, may_begin};
 
 use crate::commands::forms_of;
 use crate::invalid::Invalid;

@@ -1,6 +1,9 @@
 //! The program at the head of `pmb_bus`.
 
-use pmb_bus::{Event, Kinds, Lexed, Lexer, Step, event_text, pec_next, pec_of};
+use pmb_bus::{
+    ALERT_ADDRESS, Event, Kinds, Lexed, Lexer, Step, event_text, pec_next, pec_of, read_address,
+    write_address,
+};
 
 #[test]
 fn the_program_of_the_doc(rt: HostRuntime) {
@@ -25,4 +28,6 @@ fn the_program_of_the_doc(rt: HostRuntime) {
     assert!(rt; Kinds::all().contains(Kinds::of(Event::Byte(0xb0))));
     assert_eq!(rt; pec_of(&[0xb0, 0x03]), 0x46);
     assert_eq!(rt; pec_next(pec_of(&[0xb0]), 0x03), 0x46);
+    assert_eq!(rt; write_address(0x58), 0xb0);
+    assert_eq!(rt; read_address(ALERT_ADDRESS), 0x19);
 }

@@ -1,8 +1,10 @@
 //! Tests over the public names of `pmb_bus`. Of capture text, both ways: tables of rows, each row
 //! with a name, its text and the events that it spells, all told by hand. Of packet error codes:
-//! known vectors and the plain computation. Of the set of event kinds.
+//! known vectors and the plain computation. Of the set of event kinds, and of the bytes of addresses.
 #![tactic(auto)]
 
+#[cfg(test)]
+mod addresses;
 #[cfg(test)]
 mod cuts;
 #[cfg(test)]

@@ -1,11 +1,16 @@
-//! Tests of what commands are: the standard's table, the names of status bits, and what an accepted
-//! profile says of its devices and commands.
+//! Tests of what commands are: the standard's table, the names of status bits, how the data of each
+//! form go over the bus, which packets carry a packet error code, and what an accepted profile says
+//! of its devices and commands.
 //!
 //! A table of rows a subject; a row that fails prints its name.
 #![tactic(auto)]
 
 #[cfg(test)]
+mod forms;
+#[cfg(test)]
 mod meanings;
+#[cfg(test)]
+mod modes;
 #[cfg(test)]
 mod parts;
 #[cfg(test)]

@@ -9,6 +9,7 @@ fn of_pmb_command(rt: HostRuntime) -> Result<(), Fail> {
     assert_eq!(rt; code, 0x79);
     let entry = standard(code).ok_or("no command")?;
     assert_eq!(rt; entry.shape.read, Some(Form::Two));
+    assert!(rt; Form::Two.takes(2));
     assert_eq!(rt; bit_name(code, 15), Some("VOUT"));
     Ok(())
 }

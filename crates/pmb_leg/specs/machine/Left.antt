@@ -4,8 +4,9 @@ use Rattle.pmb_command.specs.declared.form.Form.{Form}
 use Rattle.pmb_command.specs.declared.form.Form.TheVariants.{Zero, One, Two, Four, Eight, Block}
 use Rattle.pmb_command.specs.declared.pec_mode.PecMode.{PecMode}
 use Rattle.pmb_command.specs.declared.pec_mode.PecMode.TheVariants.{Off, On, Optional}
-use Rattle.pmb_transaction.specs.Wire.{AreByteValues, Fits, Takes, wire}
-use Rattle.pmb_transaction.specs.Body.{AllowsPec, IsProperPrefix, checked}
+use Rattle.pmb_command.specs.PecMode.{AllowsPec}
+use Rattle.pmb_command.specs.Wire.{AreByteValues, Fits, Takes, wire}
+use Rattle.pmb_transaction.specs.Body.{IsProperPrefix, checked}
 use Rattle.pmb_leg.specs.declared.left.Left.{Left}
 use Rattle.pmb_leg.specs.declared.left.Left.TheVariants.{Count, Data, Code, Nothing, Closed}
 

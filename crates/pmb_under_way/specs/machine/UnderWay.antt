@@ -3,11 +3,12 @@ use Rattle.std.specs.Prelude.{◌≡◌, ℕ, ◌<◌, ◌≤◌, ◌↔◌, Boo
 use Rattle.std.specs.List.{IsDistinct}
 use Rattle.pmb_bus.specs.declared.event.Event.{Event}
 use Rattle.pmb_bus.specs.declared.event.Event.TheVariants.{Start, Byte, Nack, Stop}
+use Rattle.pmb_bus.specs.Address.{write_address, read_address, alert_address}
 use Rattle.pmb_command.specs.Parts.{DeviceParts, IsNew, device_with}
+use Rattle.pmb_command.specs.Wire.{IsByte}
 use Rattle.pmb_transaction.specs.Transaction.{PartData, TransactionData}
-use Rattle.pmb_transaction.specs.Wire.{IsByte}
-use Rattle.pmb_transaction.specs.Body.{write_address, read_address, WriteBody, IsWriteBody}
-use Rattle.pmb_transaction.specs.Packet.{Packet, PartsEvents, addresses, alert_address, leg}
+use Rattle.pmb_transaction.specs.Body.{WriteBody, IsWriteBody}
+use Rattle.pmb_transaction.specs.Packet.{Packet, PartsEvents, addresses, leg}
 use Rattle.pmb_transaction.specs.Viable.{IsAnswer, IsInsideBody}
 use Rattle.pmb_transaction.specs.Following.{IsAlertAnswer}
 use Rattle.pmb_transaction.specs.Reading.{IsUnderWay}

@@ -6,8 +6,8 @@ use Rattle.pmb_bus.specs.declared.event.Event.{Event}
 use Rattle.pmb_bus.specs.declared.event.Event.TheVariants.{Start, Byte, Ack, Nack, Stop}
 use Rattle.pmb_command.specs.declared.form.Form.{Form}
 use Rattle.pmb_command.specs.Parts.{DeviceParts}
+use Rattle.pmb_command.specs.Wire.{wire}
 use Rattle.pmb_transaction.specs.Transaction.{PartData, TransactionData, Write, Read, Call, Refused, Alert, NoAlert, part_data}
-use Rattle.pmb_transaction.specs.Wire.{wire}
 use Rattle.pmb_writer.specs.Invalid.{forms_at}
 use Rattle.pmb_writer.specs.declared.course.Course.{Course}
 use Rattle.pmb_writer.specs.declared.leg.Leg.{Leg}

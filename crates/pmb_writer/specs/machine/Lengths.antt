@@ -1,20 +1,10 @@
 -- How many bytes a body has whose first bytes are known.
-use Rattle.std.specs.Prelude.{ℕ, ◌+◌, Bool, false, ◌&&◌, ◌||◌, Option, Some, None, List, [], ◌∷◌, length, nat_eq, nat_lt, is_some}
+use Rattle.std.specs.Prelude.{ℕ, ◌+◌, Bool, false, ◌&&◌, ◌||◌, Option, Some, None, List, length, nat_eq, nat_lt, is_some}
 use Rattle.pmb_command.specs.declared.form.Form.{Form}
-use Rattle.pmb_command.specs.declared.form.Form.TheVariants.{Zero, One, Two, Four, Eight, Block}
 use Rattle.pmb_command.specs.declared.form.Shape.{Shape}
 use Rattle.pmb_command.specs.declared.pec_mode.PecMode.{PecMode}
 use Rattle.pmb_command.specs.declared.pec_mode.PecMode.TheVariants.{Off, On, Optional}
-
--- How many bytes the wire of a form has that begins with some bytes. A block tells it by its count.
-abbrev pub wire_length : Form → List ℕ → ℕ
-wire_length Zero bytes = 0
-wire_length One bytes = 1
-wire_length Two bytes = 2
-wire_length Four bytes = 4
-wire_length Eight bytes = 8
-wire_length Block [] = 1
-wire_length Block (count ∷ bytes) = 1 + count
+use Rattle.pmb_command.specs.Wire.{wire_length}
 
 -- How many bytes may follow the wire of a write: a packet error code where the mode allows one.
 abbrev pub pec_length : PecMode → ℕ

@@ -1,7 +1,7 @@
 -- What its type says of a transaction.
 use Rattle.std.specs.Prelude.{◌≤◌, length}
+use Rattle.pmb_command.specs.Wire.{IsByte, AreByteValues}
 use Rattle.pmb_transaction.specs.Transaction.{TransactionData, Write, Read, Call, Refused, Alert, NoAlert}
-use Rattle.pmb_transaction.specs.Wire.{IsByte, AreByteValues}
 
 -- It has no more parts than there is room for, and what no rule asks about are bytes.
 abbrev pub IsTyped : TransactionData → Type 0

@@ -1,5 +1,5 @@
 use Rattle.std.proofs.Common.{[]}
-use Rattle.pmb_transaction.specs.Packet.{alert_address}
+use Rattle.pmb_bus.specs.Address.{alert_address}
 use Rattle.pmb_transaction.specs.Following.{IsAlertAnswer}
 use Rattle.pmb_transaction.proofs.Alerts.{alert_is_read}
 use Rattle.pmb_transaction.proofs.ReadLegs.{byte_taken}

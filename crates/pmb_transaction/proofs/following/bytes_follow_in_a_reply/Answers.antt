@@ -1,5 +1,5 @@
 use Rattle.std.proofs.Common.{◌∷◌}
-use Rattle.pmb_transaction.specs.Body.{write_address}
+use Rattle.pmb_bus.specs.Address.{write_address}
 use Rattle.pmb_transaction.specs.Packet.{leg}
 use Rattle.pmb_transaction.specs.Viable.{IsAnswer}
 use Rattle.pmb_transaction.proofs.ReadLegs.{byte_follows}

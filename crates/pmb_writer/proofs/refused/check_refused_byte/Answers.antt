@@ -1,6 +1,6 @@
 use Rattle.std.proofs.Common.{◌≡◌, ◌∙◌, [], ◌∷◌, ◌++◌, false, map, refl, sym, ap, subst, arith}
+use Rattle.pmb_command.specs.Wire.{AreByteValues}
 use Rattle.pmb_transaction.specs.Transaction.{part_data}
-use Rattle.pmb_transaction.specs.Wire.{AreByteValues}
 use Rattle.pmb_writer.specs.declared.invalid.Invalid.TheVariants.{WrongLength}
 use Rattle.pmb_writer.specs.Invalid.{AreKept, IsFirstBroken, refused_leg_rules}
 use Rattle.pmb_writer.proofs.Bodies.{first_is_first}

@@ -1,6 +1,6 @@
 use Rattle.std.proofs.Common.{◌∙◌, ◌∷◌, true, map, refl, sym, subst, arith}
+use Rattle.pmb_command.specs.Wire.{AreByteValues}
 use Rattle.pmb_transaction.specs.Transaction.{part_data}
-use Rattle.pmb_transaction.specs.Wire.{AreByteValues}
 use Rattle.pmb_writer.specs.Invalid.{AreKept, refused_leg_rules}
 use Rattle.pmb_writer.proofs.Bodies.{no_parts}
 use Rattle.pmb_writer.proofs.RefusedLegs.{Found, reply_is_refused, small_items}

@@ -1,6 +1,6 @@
 use Rattle.std.proofs.Common.{◌≡◌, ◌∙◌, List, ℕ, Bool, IsTrue, ap, subst, sym}
+use Rattle.pmb_command.specs.Wire.{wire}
 use Rattle.pmb_transaction.specs.Body.{checked}
-use Rattle.pmb_transaction.specs.Wire.{wire}
 use Rattle.pmb_leg.specs.machine.Left.{SpellsData, has_code, is_whole}
 use Rattle.pmb_leg.specs.Reply.{Answered, Expected, IsReply, SaysReply}
 use Rattle.pmb_leg.proofs.Replies.{data_of, says_data, tells_whole}

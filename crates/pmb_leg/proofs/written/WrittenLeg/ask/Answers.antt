@@ -1,6 +1,6 @@
 use Rattle.std.proofs.Common.{◌≡◌, ◌∷◌, ◌++◌, ◌+◌, [], List, ℕ, Some, sym, ap, subst, ◌∙◌}
 use Rattle.pmb_bus.specs.Pec.{pec}
-use Rattle.pmb_transaction.specs.Body.{read_address}
+use Rattle.pmb_bus.specs.Address.{read_address}
 use Rattle.pmb_leg.specs.Leg.{IsRequest, Written, reply_form}
 use Rattle.pmb_leg.specs.machine.Answers.{CountsAlone}
 use Rattle.pmb_leg.specs.machine.Legs.{kept}

@@ -1,7 +1,7 @@
 use Rattle.std.proofs.Common.{◌≡◌, ◌∷◌, List, ℕ, Bool, true, false, refl, sym, ap, subst, ◌∙◌}
 use Rattle.pmb_command.specs.declared.pec_mode.PecMode.{PecMode}
+use Rattle.pmb_command.specs.Wire.{wire}
 use Rattle.pmb_transaction.specs.Body.{checked, IsWriteBody, WriteBody}
-use Rattle.pmb_transaction.specs.Wire.{wire}
 use Rattle.pmb_leg.specs.machine.Legs.{kept, IsBehindCode}
 use Rattle.pmb_leg.specs.machine.Left.{has_code, is_whole, SpellsData}
 use Rattle.pmb_leg.proofs.Bodies.{in_front}

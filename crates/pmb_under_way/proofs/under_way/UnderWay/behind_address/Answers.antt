@@ -1,8 +1,8 @@
 use Rattle.pmb_bus.specs.declared.event.Event.TheVariants.{Byte}
+use Rattle.pmb_bus.specs.Address.{write_address}
 use Rattle.pmb_under_way.specs.declared.under_way.Place.TheVariants as places
 use Rattle.pmb_under_way.proofs.Steps.{at_place, no_answer_here, not_its_turn}
 use Rattle.pmb_under_way.proofs.WrittenLegs.{address_ends}
-use Rattle.pmb_transaction.specs.Body.{write_address}
 use Rattle.pmb_under_way.proofs.under_way.UnderWay.behind_address.Goals as goal
 
 pub returns-in-Start : goal.returns-in-Start

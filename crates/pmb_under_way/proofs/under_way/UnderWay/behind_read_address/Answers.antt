@@ -1,5 +1,5 @@
 use Rattle.pmb_bus.specs.declared.event.Event.TheVariants.{Byte}
-use Rattle.pmb_transaction.specs.Body.{read_address}
+use Rattle.pmb_bus.specs.Address.{read_address}
 use Rattle.pmb_under_way.specs.declared.under_way.Place.TheVariants as places
 use Rattle.pmb_under_way.proofs.Steps.{at_place, no_answer_here, not_its_turn}
 use Rattle.pmb_under_way.proofs.AnsweredLegs.{read_address_ends}

@@ -2,8 +2,8 @@ use Rattle.std.proofs.Common.{List, [], ◌∷◌, ◌++◌, ap, subst, sym, ◌
 use Rattle.pmb_bus.specs.declared.event.Event.{Event}
 use Rattle.pmb_bus.specs.declared.event.Event.TheVariants.{Byte, Ack, Nack}
 use Rattle.pmb_bus.specs.declared.event.Event.TheVariants as events_are
+use Rattle.pmb_bus.specs.Address.{write_address}
 use Rattle.pmb_command.specs.Bus.{IsBus}
-use Rattle.pmb_transaction.specs.Body.{write_address}
 use Rattle.pmb_transaction.specs.Reason.{byte_reason, place_behind}
 use Rattle.pmb_under_way.specs.declared.under_way.Place.TheVariants as places
 use Rattle.pmb_under_way.proofs.Steps.{at_place}

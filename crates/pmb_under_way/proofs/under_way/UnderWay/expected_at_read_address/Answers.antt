@@ -1,7 +1,7 @@
 use Rattle.std.proofs.Common.{true, subst, refl}
 use Rattle.pmb_bus.specs.declared.event.Event.TheVariants.{Ack, Nack}
+use Rattle.pmb_bus.specs.Address.{read_address}
 use Rattle.pmb_command.specs.Bus.{IsBus}
-use Rattle.pmb_transaction.specs.Body.{read_address}
 use Rattle.pmb_under_way.specs.declared.under_way.Place.TheVariants as places
 use Rattle.pmb_under_way.proofs.Steps.{at_place}
 use Rattle.pmb_under_way.proofs.Expected.{answers_may_follow}

@@ -1,7 +1,7 @@
 use Rattle.std.proofs.Common.{◌++◌, ◌∷◌, [], true, refl, subst}
 use Rattle.pmb_bus.specs.declared.event.Event.TheVariants.{Ack, Byte, Nack}
 use Rattle.pmb_command.specs.Bus.{IsBus}
-use Rattle.pmb_transaction.specs.Wire.{IsByte}
+use Rattle.pmb_command.specs.Wire.{IsByte}
 use Rattle.pmb_transaction.specs.Viable.{BeginsBody, IsInsideBody}
 use Rattle.pmb_under_way.specs.declared.under_way.Place.TheVariants as places
 use Rattle.pmb_under_way.proofs.Expected.{answers_may_follow}

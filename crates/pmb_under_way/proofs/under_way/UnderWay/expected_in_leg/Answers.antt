@@ -1,8 +1,8 @@
 use Rattle.std.proofs.Common.{◌<◌, ℕ, List, length, ap, subst, sym, arith, ◌∙◌}
 use Rattle.pmb_bus.specs.declared.event.Event.TheVariants.{Start, Byte, Stop}
 use Rattle.pmb_command.specs.Bus.{IsBus}
+use Rattle.pmb_command.specs.Wire.{IsByte}
 use Rattle.pmb_transaction.specs.Transaction.{PartData}
-use Rattle.pmb_transaction.specs.Wire.{IsByte}
 use Rattle.pmb_transaction.specs.Body.{IsWriteBody}
 use Rattle.pmb_transaction.specs.Viable.{IsInsideBody}
 use Rattle.pmb_transaction.specs.Following.{LegMayFollow}

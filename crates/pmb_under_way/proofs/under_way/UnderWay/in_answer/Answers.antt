@@ -1,8 +1,8 @@
 use Rattle.std.proofs.Common.{List, [], ◌∷◌, ◌++◌, ap, subst, sym, refl, ◌∙◌}
 use Rattle.pmb_bus.specs.declared.event.Event.{Event}
 use Rattle.pmb_bus.specs.declared.event.Event.TheVariants.{Byte}
+use Rattle.pmb_bus.specs.Address.{read_address}
 use Rattle.pmb_command.specs.Bus.{IsBus}
-use Rattle.pmb_transaction.specs.Body.{read_address}
 use Rattle.pmb_transaction.specs.Packet.{leg}
 use Rattle.pmb_transaction.specs.Capture.{MayFollow}
 use Rattle.pmb_transaction.specs.Following.{BeginsAnswer}

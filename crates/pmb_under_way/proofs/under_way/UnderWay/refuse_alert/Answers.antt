@@ -1,8 +1,8 @@
 use Rattle.std.proofs.Common.{◌≡◌, ℕ, List, [], ◌∷◌, ◌++◌, ap, subst, sym, refl, ◌∙◌}
 use Rattle.pmb_bus.specs.declared.event.Event.{Event}
 use Rattle.pmb_bus.specs.declared.event.Event.TheVariants.{Start, Byte, Nack, Stop}
-use Rattle.pmb_transaction.specs.Body.{read_address}
-use Rattle.pmb_transaction.specs.Packet.{Packet, alert_address}
+use Rattle.pmb_bus.specs.Address.{read_address, alert_address}
+use Rattle.pmb_transaction.specs.Packet.{Packet}
 use Rattle.pmb_transaction.specs.Capture.{MayFollow}
 use Rattle.pmb_under_way.specs.declared.under_way.Place.TheVariants as places
 use Rattle.pmb_under_way.specs.declared.under_way.Source.TheVariants as sources

@@ -1,10 +1,10 @@
 use Rattle.std.proofs.Common.{◌<◌, ℕ, List, [], ◌∷◌, ◌++◌, length, ap, subst, sym, arith, refl, ◌∙◌}
 use Rattle.pmb_bus.specs.declared.event.Event.TheVariants.{Byte, Nack, Stop}
 use Rattle.pmb_command.specs.Bus.{IsBus}
+use Rattle.pmb_command.specs.Wire.{IsByte}
 use Rattle.pmb_transaction.specs.Transaction.{PartData}
 use Rattle.pmb_transaction.specs.Packet.{Packet}
 use Rattle.pmb_under_way.specs.declared.under_way.Place.TheVariants as places
-use Rattle.pmb_transaction.specs.Wire.{IsByte}
 use Rattle.pmb_transaction.specs.Viable.{IsInsideBody}
 use Rattle.pmb_under_way.proofs.Steps.{at_place, moves_on}
 use Rattle.pmb_under_way.proofs.WrittenLegs.{kept_byte, refused_byte_ends, refused_said, tail_law}

@@ -1,8 +1,8 @@
 use Rattle.std.proofs.Common.{◌<◌, subst, arith, refl}
 use Rattle.pmb_bus.specs.declared.event.Event.TheVariants.{Byte}
 use Rattle.pmb_command.specs.Bus.{IsBus}
+use Rattle.pmb_command.specs.Wire.{IsByte}
 use Rattle.pmb_under_way.specs.declared.under_way.Place.TheVariants as places
-use Rattle.pmb_transaction.specs.Wire.{IsByte}
 use Rattle.pmb_transaction.specs.Viable.{IsInsideBody}
 use Rattle.pmb_under_way.proofs.Steps.{at_place, moves_to}
 use Rattle.pmb_under_way.proofs.WrittenLegs.{kept_leg, leg_law}

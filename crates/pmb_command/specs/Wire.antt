@@ -1,5 +1,5 @@
 -- Bytes, and how the data of a form go over the bus (SMBus 3.0 section 6.5).
-use Rattle.std.specs.Prelude.{◌≡◌, ℕ, ◌<◌, ◌≤◌, List, ◌∷◌, length}
+use Rattle.std.specs.Prelude.{◌≡◌, ℕ, ◌+◌, ◌<◌, ◌≤◌, List, [], ◌∷◌, length}
 use Rattle.std.specs.List.{AllByRecursion}
 use Rattle.pmb_command.specs.declared.form.Form.{Form}
 use Rattle.pmb_command.specs.declared.form.Form.TheVariants.{Zero, One, Two, Four, Eight, Block}
@@ -33,3 +33,13 @@ wire Two bytes = bytes
 wire Four bytes = bytes
 wire Eight bytes = bytes
 wire Block bytes = length bytes ∷ bytes
+
+-- How many bytes the wire of a form has that begins with some bytes. A block tells it by its count.
+abbrev pub wire_length : Form → List ℕ → ℕ
+wire_length Zero bytes = 0
+wire_length One bytes = 1
+wire_length Two bytes = 2
+wire_length Four bytes = 4
+wire_length Eight bytes = 8
+wire_length Block [] = 1
+wire_length Block (count ∷ bytes) = 1 + count
