@@ -4,32 +4,15 @@ ghost use Rattle.std.specs.Prelude.{◌≡◌, ◌≤◌, [], ◌∷◌, ◌++�
 ghost use Rattle.std.specs.Option.{option_to_list};
 ghost use Rattle.pmb_transaction.specs.Transaction.{part_data, transaction_data, Call, Read, Refused};
 ghost use Rattle.pmb_writer.specs.Invalid.{forms_at};
-ghost use Rattle.pmb_writer.specs.machine.Legs.{asked_leg, leg_data, legs_data, legs_of, part_leg, read_byte, reply_leg, wire_of, write_byte};
+ghost use Rattle.pmb_writer.specs.machine.Legs.{asked_leg, leg_data, legs_data, legs_of, part_leg, reply_leg, wire_of};
 
 use crate::commands::forms_of;
 use crate::leg::Leg;
-use pmb_bus::Event;
+use pmb_bus::{ALERT_ADDRESS, Event, read_address, write_address};
 use pmb_command::{Form, Shape};
 use pmb_table::Profile;
 use pmb_transaction::{Part, Transaction};
 use std::slice;
-
-/// The Alert Response Address (SMBus 3.0 appendix C).
-const ALERT_ADDRESS: u8 = 0x0c;
-
-/// The byte that addresses a device for writing.
-fn write_byte(address: u8) -> u8
-    ensures { result ≡ write_byte address }
-{
-    address.wrapping_mul(2)
-}
-
-/// The byte that addresses a device for reading.
-fn read_byte(address: u8) -> u8
-    ensures { result ≡ read_byte address }
-{
-    address.wrapping_mul(2).wrapping_add(1)
-}
 
 /// The forms in which a device takes a command code.
 fn forms_at(profile: &Profile, address: u8, code: u8) -> Shape
@@ -46,14 +29,14 @@ fn forms_at(profile: &Profile, address: u8, code: u8) -> Shape
     })
 }
 
-/// What goes in front of data in the form: the count of a block.
+/// The count that data in the form have in front of them, where there is a form.
 fn count_of(form: Option<Form>, bytes: &[u8]) -> Option<u8>
     requires { length bytes.now ≤ 255 }
     ensures { option_to_list result ++ bytes.now ≡ wire_of form bytes.now }
 {
     match form {
-        Some(Form::Block) => Some(bytes.len() as u8),
-        _ => None,
+        Some(form) => form.count(bytes),
+        None => None,
     }
 }
 
@@ -73,7 +56,7 @@ fn part_leg<'a>(profile: &Profile, part: &'a Part) -> Leg<'a>
     let forms = forms_at(profile, part.addr, part.code);
     let data = part.bytes.as_slice();
     Leg {
-        address: Some(write_byte(part.addr)),
+        address: Some(write_address(part.addr)),
         code: Some(part.code),
         count: count_of(forms.write, data),
         data,
@@ -105,7 +88,7 @@ fn asked_leg<'a>(address: u8, code: u8, count: Option<u8>, bytes: &'a [u8]) -> L
     ensures { leg_data result ≡ asked_leg address (code ∷ (option_to_list count ++ bytes.now)) }
 {
     Leg {
-        address: Some(write_byte(address)),
+        address: Some(write_address(address)),
         code: Some(code),
         count,
         data: bytes,
@@ -118,7 +101,7 @@ fn reply_leg<'a>(address: u8, count: Option<u8>, bytes: &'a [u8], pec: bool) -> 
     ensures { leg_data result ≡ reply_leg address (option_to_list count ++ bytes.now) pec }
 {
     Leg {
-        address: Some(read_byte(address)),
+        address: Some(read_address(address)),
         count,
         data: bytes,
         pec,
@@ -192,7 +175,7 @@ fn refused_legs<'a>(
             profile,
             parts,
             first: Some(Leg {
-                address: Some(write_byte(addr)),
+                address: Some(write_address(addr)),
                 data: sent,
                 ..Leg::none()
             }),
@@ -202,7 +185,7 @@ fn refused_legs<'a>(
         Legs {
             profile,
             parts,
-            first: Some(refused_leg(write_byte(addr), sent, false)),
+            first: Some(refused_leg(write_address(addr), sent, false)),
             second: None,
         }
     }
@@ -215,7 +198,7 @@ fn alert_legs<'a>(profile: &'a Profile, reply: &'a [u8], pec: bool) -> Legs<'a>
     Legs {
         profile,
         parts: &[],
-        first: Some(refused_leg(read_byte(ALERT_ADDRESS), reply, pec)),
+        first: Some(refused_leg(read_address(ALERT_ADDRESS), reply, pec)),
         second: None,
     }
 }

@@ -2,7 +2,6 @@
 
 ghost use Rattle.std.specs.Prelude.{◌≡◌, ◌↔◌, ◌≤◌, ◌∷◌, map, length, nat_eq, IsTrue, false, true};
 ghost use Rattle.pmb_command.specs.Parts.{device_with};
-ghost use Rattle.pmb_command.specs.Wire.{wire_length};
 ghost use Rattle.pmb_transaction.specs.Transaction.{part_data};
 ghost use Rattle.pmb_writer.specs.Invalid.{AnswersRules, CanBeAsked, refused_leg_rules};
 ghost use Rattle.pmb_writer.specs.machine.Lengths.{pec_length, leaves_room, is_whole_wire, may_go_on, is_request, may_begin};
@@ -13,32 +12,11 @@ use pmb_command::{Form, PecMode, Shape};
 use pmb_table::Profile;
 use pmb_transaction::Part;
 
-/// How many bytes the wire of a form has that begins with these bytes.
-fn wire_length(form: Form, bytes: &[u8]) -> usize
-    ensures length { result ≡ wire_length form bytes.now }
-    ensures short { result ≤ 256 }
-{
-    match form {
-        Form::Zero => 0,
-        Form::One => 1,
-        Form::Two => 2,
-        Form::Four => 4,
-        Form::Eight => 8,
-        Form::Block => match bytes.first() {
-            None => 1,
-            Some(count) => 1 + *count as usize,
-        },
-    }
-}
-
 /// How many bytes may follow the wire of a write.
 fn pec_length(mode: PecMode) -> usize
     ensures { result ≡ pec_length mode }
 {
-    match mode {
-        PecMode::Off => 0,
-        PecMode::On | PecMode::Optional => 1,
-    }
+    if mode.may_carry() { 1 } else { 0 }
 }
 
 /// Whether the wire of a form, with so many bytes behind it, is longer than these bytes.
@@ -48,7 +26,7 @@ fn leaves_room(form: Option<Form>, more: usize, bytes: &[u8]) -> bool
 {
     match form {
         None => false,
-        Some(form) => bytes.len() < wire_length(form, bytes) + more,
+        Some(form) => bytes.len() < form.wire_length(bytes) + more,
     }
 }
 
@@ -58,7 +36,7 @@ fn is_whole(form: Option<Form>, bytes: &[u8]) -> bool
 {
     match form {
         None => false,
-        Some(form) => bytes.len() == wire_length(form, bytes),
+        Some(form) => bytes.len() == form.wire_length(bytes),
     }
 }
 

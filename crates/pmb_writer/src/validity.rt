@@ -8,7 +8,7 @@ ghost use Rattle.pmb_transaction.specs.Packet.{addresses};
 ghost use Rattle.pmb_writer.specs.Invalid.{AnswersRules, HasPacket, IsFirstFault, part_rules, parts_rules, write_rules, read_rules, call_rules, refused_address_rules, refused_rules, transaction_rules};
 ghost use Rattle.pmb_writer.specs.machine.Typed.{IsTyped};
 
-use crate::commands::{allows_pec, fits, forms_of};
+use crate::commands::forms_of;
 use crate::invalid::Invalid;
 use crate::refused::check_refused_leg;
 use pmb_table::Profile;
@@ -44,10 +44,10 @@ fn check_part(profile: &Profile, earlier: &[Part], part: &Part) -> Result<(), In
     let Some(form) = forms.write else {
         return Err(Invalid::NotAllowed);
     };
-    if !fits(form, part.bytes.as_slice()) {
+    if !form.fits(part.bytes.as_slice()) {
         return Err(Invalid::WrongLength);
     }
-    if !allows_pec(device.pec(), part.pec) {
+    if !device.pec().allows(part.pec) {
         return Err(Invalid::PecMode);
     }
     Ok(())
@@ -86,10 +86,10 @@ fn check_read(profile: &Profile, addr: u8, code: u8, reply: &[u8], pec: bool) ->
     let Some(form) = forms.read else {
         return Err(Invalid::NotAllowed);
     };
-    if !fits(form, reply) {
+    if !form.fits(reply) {
         return Err(Invalid::WrongLength);
     }
-    if !allows_pec(device.pec(), pec) {
+    if !device.pec().allows(pec) {
         return Err(Invalid::PecMode);
     }
     Ok(())
@@ -115,10 +115,10 @@ fn check_call(
     let Some(form) = forms.call else {
         return Err(Invalid::NotAllowed);
     };
-    if !fits(form, bytes) || !fits(form, reply) {
+    if !form.fits(bytes) || !form.fits(reply) {
         return Err(Invalid::WrongLength);
     }
-    if !allows_pec(device.pec(), pec) {
+    if !device.pec().allows(pec) {
         return Err(Invalid::PecMode);
     }
     Ok(())

@@ -1,6 +1,7 @@
 -- What is left to be written: legs, each as its bytes, and the packet error code so far.
-use Rattle.std.specs.Prelude.{ℕ, ◌+◌, ◌*◌, ◌%◌, Bool, true, false, Option, Some, None, List, [], ◌∷◌, ◌++◌, map, bit_xor, option_map}
+use Rattle.std.specs.Prelude.{ℕ, ◌%◌, Bool, true, false, Option, Some, None, List, [], ◌∷◌, ◌++◌, map, bit_xor, option_map}
 use Rattle.std.specs.Option.{option_to_list}
+use Rattle.pmb_bus.specs.Address.{write_address, read_address, alert_address}
 use Rattle.pmb_bus.specs.Pec.{pec}
 use Rattle.pmb_bus.specs.declared.event.Event.{Event}
 use Rattle.pmb_bus.specs.declared.event.Event.TheVariants.{Start, Byte, Ack, Nack, Stop}
@@ -57,10 +58,10 @@ legs_events stop crc (l ∷ legs) =
 
 -- the byte of an address with the direction in bit 0, where bit 7 has room in a byte
 abbrev pub write_byte : ℕ → ℕ
-write_byte addr = (addr * 2) % 256
+write_byte addr = write_address addr % 256
 
 abbrev pub read_byte : ℕ → ℕ
-read_byte addr = ((addr * 2) % 256 + 1) % 256
+read_byte addr = read_address addr % 256
 
 -- the wire of a form, where there is one
 abbrev pub wire_of : Option Form → List ℕ → List ℕ
@@ -89,8 +90,8 @@ legs_of profile (Call t) =
     ∷ reply_leg t.addr (wire_of (forms_at profile t.addr t.code).call t.reply) t.pec
     ∷ []
 legs_of profile (Refused t) = map (part_leg profile) t.parts ++ refused_legs t.addr t.sent t.at_read
-legs_of profile (Alert t) = record { bytes = 0x19 ∷ t.byte ∷ []; pec = t.pec; last = Nack; goes_on = false } ∷ []
-legs_of profile NoAlert = record { bytes = 0x19 ∷ []; pec = false; last = Nack; goes_on = false } ∷ []
+legs_of profile (Alert t) = record { bytes = read_address alert_address ∷ t.byte ∷ []; pec = t.pec; last = Nack; goes_on = false } ∷ []
+legs_of profile NoAlert = record { bytes = read_address alert_address ∷ []; pec = false; last = Nack; goes_on = false } ∷ []
 
 -- what a transaction's packet is made of
 abbrev pub packet_events : List DeviceParts → TransactionData → List Event
