@@ -1,5 +1,5 @@
 -- What the code says is left, by the bytes that were taken: at the start, and behind each byte.
-use Rattle.std.proofs.Common.{◌≡◌, ℕ, ◌+◌, ◌-◌, ◌<◌, ◌≤◌, ◌⊎◌, inl, inr, zero, suc, Bool, true, false, if◌then◌else◌, nat_eq, nat_lt, Option, Some, None, List, [], ◌∷◌, ◌++◌, length, refl, sym, ap, subst, ◌∙◌, append_assoc, arith, length-append, eq-eqb}
+use Rattle.std.proofs.Common.{◌≡◌, ◌≢◌, ◌↔◌, ℕ, ◌+◌, ◌-◌, ◌<◌, ◌≤◌, ◌⊎◌, inl, inr, zero, suc, Bool, true, false, if◌then◌else◌, nat_eq, nat_lt, Option, Some, None, List, [], ◌∷◌, ◌++◌, length, refl, sym, ap, subst, ◌∙◌, append_assoc, arith, length-append, eq-eqb}
 use Rattle.std.proofs.lemmas.Bool.{ltb-true, ltb-false, eqb-true}
 use Rattle.std.proofs.lemmas.List.{append-nil}
 use Rattle.pmb_bus.specs.Pec.{pec}
@@ -14,6 +14,24 @@ use Rattle.pmb_leg.specs.declared.left.Left.{Left}
 use Rattle.pmb_leg.specs.declared.left.Left.TheVariants.{Count, Data, Code, Nothing, Closed}
 use Rattle.pmb_leg.specs.machine.Left.{after, ends_data, goes_on, has_code, is_whole, start, takes, wire_front, BeginsData, IsData, IsEnded, IsInside, IsMissing, Leaves, LeavesOf, SpellsSomeData, SpellsData}
 use Rattle.pmb_leg.proofs.Wires.{checked_is, code_behind, data_fit, front_push, length_zeros, not_ended, one_wire, small_append, small_zeros, wire_of_front, zeros}
+
+-- ---- the start, by the form's length
+
+pub starts_whole : (form : Form) (mode : PecMode) (n : ℕ) → ((m : ℕ) → Takes form m ↔ (m ≡ n)) → n ≡ 0 → ends_data mode ≡ start (Some form) mode
+starts_whole Zero mode n only none = refl
+starts_whole One mode n only none = absurd (omega (arith, (only 1).0 refl, none))
+starts_whole Two mode n only none = absurd (omega (arith, (only 2).0 refl, none))
+starts_whole Four mode n only none = absurd (omega (arith, (only 4).0 refl, none))
+starts_whole Eight mode n only none = absurd (omega (arith, (only 8).0 refl, none))
+starts_whole Block mode n only none = absurd (omega (arith, (only 1).0 (omega arith), none))
+
+pub starts_data : (form : Form) (mode : PecMode) (n : ℕ) → ((m : ℕ) → Takes form m ↔ (m ≡ n)) → n ≢ 0 → Data n ≡ start (Some form) mode
+starts_data Zero mode n only some = absurd (some (sym ((only 0).0 refl)))
+starts_data One mode n only some = ap Data (sym ((only 1).0 refl))
+starts_data Two mode n only some = ap Data (sym ((only 2).0 refl))
+starts_data Four mode n only some = ap Data (sym ((only 4).0 refl))
+starts_data Eight mode n only some = ap Data (sym ((only 8).0 refl))
+starts_data Block mode n only some = absurd (omega (arith, (only 0).0 (omega arith), (only 1).0 (omega arith)))
 
 module _ (before : List ℕ) where
   -- ---- whole data

@@ -108,6 +108,10 @@ module _ (a : Inside) (is : IsAnswered a) where
 
 -- ---- the Alert Response Address
 
+-- the code over the byte that is sent to read there
+pub alert_code : (byte code : ℕ) → byte ≡ read_address alert_address → code ≡ pec (byte ∷ []) → pec (read_address alert_address ∷ []) ≡ code
+alert_code byte code is over = ap (λ (b : ℕ). pec (b ∷ [])) (sym is) ∙ sym over
+
 module _ (code : ℕ) (alike : CountsAlone (read_address alert_address ∷ [])) (is : pec (read_address alert_address ∷ []) ≡ code) where
   abbrev alert_expects : Expected
   alert_expects = record { form = One; mode = Optional; code = code }

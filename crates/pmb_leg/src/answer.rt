@@ -12,12 +12,9 @@ use crate::left::{Left, data_within};
 use crate::said::Reply;
 use arrayvec::ArrayVec;
 use pmb_bus::laws::{pec_is_all_that_counts, worked_pecs};
-use pmb_bus::pec_next;
+use pmb_bus::{ALERT_ADDRESS, pec_next, read_address};
 use pmb_command::{Form, PecMode};
 use std::marker::Model;
-
-/// The byte that addresses the Alert Response Address for reading (SMBus 3.0 appendix C).
-const ALERT_READ: u8 = 0x19;
 
 /// An answer under way: what a device replies to a read or a call, or at the Alert Response Address.
 #[derive(Clone, Debug, Drop)]
@@ -58,7 +55,7 @@ impl Answer {
     {
         worked_pecs();
         pec_is_all_that_counts();
-        let code = pec_next(0, ALERT_READ);
+        let code = pec_next(0, read_address(ALERT_ADDRESS));
         Answer {
             form: Form::One,
             mode: PecMode::Optional,
@@ -77,7 +74,11 @@ impl Answer {
     {
         worked_pecs();
         pec_is_all_that_counts();
-        self.restart(Form::One, PecMode::Optional, pec_next(0, ALERT_READ));
+        self.restart(
+            Form::One,
+            PecMode::Optional,
+            pec_next(0, read_address(ALERT_ADDRESS)),
+        );
     }
 
     /// Begins an answer in a form in place of this one, where the bytes in front of it have the code.

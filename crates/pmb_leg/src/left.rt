@@ -29,9 +29,10 @@ pub(crate) enum Left {
 fn behind_data(mode: PecMode) -> Left
     ensures { result ≡ ends_data mode }
 {
-    match mode {
-        PecMode::Off => Left::Nothing,
-        PecMode::On | PecMode::Optional => Left::Code,
+    if mode.may_carry() {
+        Left::Code
+    } else {
+        Left::Nothing
     }
 }
 
@@ -40,14 +41,13 @@ impl Left {
     pub fn start(form: Option<Form>, mode: PecMode) -> Left
         ensures { result ≡ start form mode }
     {
-        match form {
-            None => Left::Closed,
-            Some(Form::Zero) => behind_data(mode),
-            Some(Form::One) => Left::Data(1),
-            Some(Form::Two) => Left::Data(2),
-            Some(Form::Four) => Left::Data(4),
-            Some(Form::Eight) => Left::Data(8),
-            Some(Form::Block) => Left::Count,
+        let Some(form) = form else {
+            return Left::Closed;
+        };
+        match form.length() {
+            None => Left::Count,
+            Some(0) => behind_data(mode),
+            Some(length) => Left::Data(length as u8),
         }
     }
 
@@ -126,10 +126,7 @@ impl Left {
     {
         match self {
             Left::Count | Left::Data(_) | Left::Code | Left::Closed => false,
-            Left::Nothing => match mode {
-                PecMode::Off => false,
-                PecMode::On | PecMode::Optional => true,
-            },
+            Left::Nothing => mode.may_carry(),
         }
     }
 }
@@ -150,19 +147,15 @@ pub(crate) fn one_takes(write: Left, call: Left, crc: u8, byte: u8) -> bool
     write.takes(crc, byte) || call.takes(crc, byte)
 }
 
-/// The data within their bytes on the bus: what stands behind the count of a block, and in front of
-/// a packet error code.
+/// The data within their bytes on the bus, which a packet error code may follow.
 pub(crate) fn data_within(form: Form, pec: bool, bytes: &[u8]) -> &[u8]
     requires { (before : List ℕ) × (whole : List ℕ) × (bytes.now ≡ checked pec before (wire form whole)) }
     ensures { (before : List ℕ) (whole : List ℕ) → bytes.now ≡ checked pec before (wire form whole) → result.now ≡ whole }
 {
-    let behind_count = match form {
-        Form::Zero | Form::One | Form::Two | Form::Four | Form::Eight => bytes,
-        Form::Block => &bytes[1..],
-    };
-    if pec {
-        &behind_count[..behind_count.len() - 1]
+    let without_code = if pec {
+        &bytes[..bytes.len() - 1]
     } else {
-        behind_count
-    }
+        bytes
+    };
+    form.data_within(without_code)
 }

@@ -6,7 +6,6 @@
 //! with the code.
 
 ghost use Rattle.std.specs.Prelude.{◌≡◌, ◌≢◌, ◌<◌, ◌≤◌, ◌↔◌, Bool, [], ◌∷◌, ◌++◌, IsTrue, IsSome, IfSome, length, List, ℕ, false, true};
-ghost use Rattle.pmb_bus.specs.Address.{write_address};
 ghost use Rattle.pmb_command.specs.Fitting.{calls_fit};
 ghost use Rattle.pmb_transaction.specs.Transaction.{PartData};
 ghost use Rattle.pmb_transaction.specs.Body.{IsWriteBody, WriteBody, forms};
@@ -20,7 +19,7 @@ use crate::place::LegPlace;
 use crate::said::{Asked, Said};
 use arrayvec::ArrayVec;
 use pmb_bus::laws::{pec_is_all_that_counts, worked_pecs};
-use pmb_bus::pec_next;
+use pmb_bus::{pec_next, read_address, write_address};
 use pmb_command::{Form, PecMode, Shape};
 use pmb_table::DeviceProfile;
 use std::marker::Model;
@@ -31,13 +30,6 @@ const NO_FORMS: Shape = Shape {
     read: None,
     call: None,
 };
-
-/// The byte that addresses a device for writing.
-fn write_byte(device: &DeviceProfile) -> u8
-    ensures { result ≡ write_address device.now.address }
-{
-    device.address() * 2
-}
 
 /// The forms in which a device takes a command code.
 fn forms_of(device: &DeviceProfile, code: u8) -> Shape
@@ -218,7 +210,7 @@ impl<'p> WrittenLeg<'p> {
         self.forms = forms;
         self.write = Left::start(forms.write, self.device.pec());
         self.call = Left::start(call_form(forms, self.place), PecMode::Off);
-        self.crc = pec_next(pec_next(0, write_byte(self.device)), code);
+        self.crc = pec_next(pec_next(0, write_address(self.device.address())), code);
         self.bytes.push(code);
         true
     }
@@ -310,7 +302,7 @@ impl<'p> WrittenLeg<'p> {
     {
         pec_is_all_that_counts();
         let form = reply_form(self.forms, self.bytes.as_slice());
-        let code = pec_next(self.crc, write_byte(self.device) + 1);
+        let code = pec_next(self.crc, read_address(self.device.address()));
         if let Some(form) = form {
             answer.restart(form, self.device.pec(), code);
         }

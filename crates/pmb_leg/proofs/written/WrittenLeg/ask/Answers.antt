@@ -1,4 +1,4 @@
-use Rattle.std.proofs.Common.{◌≡◌, ◌∷◌, ◌++◌, ◌+◌, [], List, ℕ, Some, sym, ap, subst, ◌∙◌}
+use Rattle.std.proofs.Common.{◌≡◌, ◌∷◌, ◌++◌, [], List, ℕ, Some, sym, ap, subst, ◌∙◌, arith}
 use Rattle.pmb_bus.specs.Pec.{pec}
 use Rattle.pmb_bus.specs.Address.{read_address}
 use Rattle.pmb_leg.specs.Leg.{IsRequest, Written, reply_form}
@@ -8,10 +8,14 @@ use Rattle.pmb_leg.proofs.Asking.{leg_answers, leg_says}
 use Rattle.pmb_leg.proofs.written.WrittenLeg.ask.Goals as goal
 use Rattle.pmb_leg.proofs.written.WrittenLeg.ask.Goals.{After-restart}
 
+-- the byte that is sent to read the device
+read_byte : (c : After-restart) → c.read_address.result ≡ read_address c.self.inside.device.now.address
+read_byte c = omega (arith, c.address.ensures.address, c.address.ensures.seven_bits, c.read_address.ensures.low_bits)
+
 -- the code over the read address too
 goes_on : (c : After-restart) (bytes : List ℕ) → pec bytes ≡ c.self.inside.crc → c.pec_next-code.result ≡ pec (bytes ++ read_address c.self.inside.device.now.address ∷ [])
 goes_on c bytes so_far =
-    c.pec_next-code.ensures.goes_on bytes so_far ∙ ap (λ (b : ℕ). pec (bytes ++ (b + 1) ∷ [])) c.write_byte.ensures
+    c.pec_next-code.ensures.goes_on bytes so_far ∙ ap (λ (b : ℕ). pec (bytes ++ b ∷ [])) (read_byte c)
 
 alike : (c : After-restart) (bytes : List ℕ) → CountsAlone bytes
 alike c bytes others more same = c.pec_is_all_that_counts.ensures others bytes more same

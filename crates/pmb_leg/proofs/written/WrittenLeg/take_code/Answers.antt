@@ -1,4 +1,5 @@
-use Rattle.std.proofs.Common.{◌≡◌, ◌∷◌, ◌++◌, [], List, ℕ, true, refl, sym, ap, subst, ◌∙◌}
+use Rattle.std.proofs.Common.{◌≡◌, ◌∷◌, ◌++◌, [], List, ℕ, true, refl, sym, ap, subst, ◌∙◌, arith}
+use Rattle.pmb_bus.specs.Address.{write_address}
 use Rattle.pmb_bus.specs.Pec.{pec}
 use Rattle.pmb_command.specs.declared.form.Shape.{Shape}
 use Rattle.pmb_command.specs.Fitting.{calls_fit}
@@ -13,9 +14,11 @@ invariant_of-self c =
     let none : c.self.inside.bytes.items ≡ [] = ap (λ (leg : Written). leg.bytes) c.self.view_is ∙ c.requires in
     let one : c.push.new.self.items ≡ c.args.code ∷ [] = c.push.ensures.items ∙ ap (λ (bs : List ℕ). bs ++ c.args.code ∷ []) none in
     let address = c.pec_next.ensures.goes_on [] c.worked_pecs.ensures.nothing in
-    let start_with : pec (c.write_byte.result ∷ []) ≡ c.pec_next.result = sym address in
+    let address_byte : c.write_address.result ≡ write_address c.self.inside.device.now.address =
+    omega (arith, c.address.ensures.address, c.address.ensures.seven_bits, c.write_address.ensures.low_bits) in
+    let start_with : pec (c.write_address.result ∷ []) ≡ c.pec_next.result = sym address in
     let crc : c.pec_next-self-inside.result ≡ pec (in_front c.self.inside.device.now c.args.code) =
-    c.pec_next-self-inside.ensures.goes_on (c.write_byte.result ∷ []) start_with ∙ ap (λ (b : ℕ). pec (b ∷ c.args.code ∷ [])) c.write_byte.ensures in
+    c.pec_next-self-inside.ensures.goes_on (c.write_address.result ∷ []) start_with ∙ ap (λ (b : ℕ). pec (b ∷ c.args.code ∷ [])) address_byte in
     let called : calls_fit (forms c.self.inside.device.now c.args.code).call ≡ true = subst (λ (s : Shape). calls_fit s.call ≡ true) c.forms_of-forms.ensures.forms c.forms_of-forms.ensures.called_with_data in
     rw (one, c.start-self-inside.ensures, c.start-self-inside-2.ensures, c.call_form.ensures, c.forms_of-forms.ensures.forms, c.pec.ensures)
     (first_kept c.self.inside.device.now c.self.inside.place c.args.code c.pec_next-self-inside.result called crc)
