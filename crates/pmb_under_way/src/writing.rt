@@ -11,7 +11,7 @@ ghost use Rattle.pmb_under_way.specs.machine.UnderWay.{PushesLeg, SaysNoPart, St
 
 use crate::legs::{MOST_BEFORE, is_asking, leg_may_follow, place_behind};
 use crate::under_way::{Move, Place, Source, UnderWay};
-use pmb_bus::Event;
+use pmb_bus::{ALERT_ADDRESS, Event, read_address};
 use pmb_leg::WrittenLeg;
 use pmb_table::DeviceProfile;
 use pmb_table::laws::accepted_bus;
@@ -22,9 +22,6 @@ use pmb_transaction::laws::{
     packets_begin_with_start, packets_go_on, refused_addresses_are_packets,
     refused_bytes_are_packets, writes_are_packets, writes_end_with_stop,
 };
-
-/// The byte at the Alert Response Address, read (SMBus 3.0 appendix C).
-const ALERT_READ: u8 = 0x19;
 
 impl<'p> UnderWay<'p> {
     /// Between packets.
@@ -60,7 +57,7 @@ impl<'p> UnderWay<'p> {
         if byte % 2 == 0 {
             self.place = Place::Address(byte / 2);
             Move::On
-        } else if byte == ALERT_READ {
+        } else if byte == read_address(ALERT_ADDRESS) {
             self.place = Place::ReadAddress(Source::Alert);
             Move::On
         } else {

@@ -1,4 +1,5 @@
-use Rattle.std.proofs.Common.{◌<◌, ◌/◌, ℕ, List, [], ◌∷◌, ◌++◌, ap, subst, arith, refl, ◌∙◌}
+use Rattle.std.proofs.Common.{◌≡◌, ◌<◌, ◌/◌, ℕ, List, [], ◌∷◌, ◌++◌, ap, subst, arith, refl, sym, ◌∙◌}
+use Rattle.pmb_bus.specs.Address.{read_address, alert_address}
 use Rattle.pmb_bus.specs.declared.event.Event.{Event}
 use Rattle.pmb_bus.specs.declared.event.Event.TheVariants.{Start, Byte}
 use Rattle.pmb_command.specs.Bus.{IsBus}
@@ -31,32 +32,33 @@ returns-then-byte-eq0 c = λ profile events at stands.
     (byte_is_no_stop c.args.event c.in-Byte.byte c.in-Byte.is)
     (first_address profile (record c.args.self.now { place = places.Address (c.in-Byte.byte / 2) }) c.in-Byte.byte events c.args.event small c.if-byte-eq0.true here.1 here.0 c.in-Byte.is)
 
-pub returns-then-byte-eq-ALERT_READ : goal.returns-then-byte-eq-ALERT_READ
-returns-then-byte-eq-ALERT_READ c = λ profile events at stands.
+pub returns-then-byte-read_address : goal.returns-then-byte-read_address
+returns-then-byte-read_address c = λ profile events at stands.
     let bus = subst IsBus stands.known c.accepted_bus.ensures in
+    let alert : c.in-Byte.byte ≡ read_address alert_address = c.if-byte-read_address.true ∙ c.read_address.ensures.seven_bits (omega arith) in
     let here = at_place profile c.args.self.now events places.Start at stands in
     moves_to profile c.args.self.now (places.ReadAddress sources.Alert) events c.args.event c.packets_go_on.ensures stands.known
     (
     first_follows profile c.in-Byte.byte events c.args.event (c.first_addresses.ensures profile c.in-Byte.byte bus).1 here.0 c.in-Byte.is
-    (alert_first c.if-byte-eq-ALERT_READ.true)
+    (alert_first alert)
     )
     (byte_is_no_stop c.args.event c.in-Byte.byte c.in-Byte.is)
     (
     record {
       front = [];
-      addr = 0x0c;
+      addr = alert_address;
       asked = (refl, refl);
       spelled = ap (λ (es : List Event). es ++ c.args.event ∷ []) here.0 ∙ ap (λ (e : Event). Start ∷ e ∷ []) c.in-Byte.is
-          ∙ ap (λ (b : ℕ). Start ∷ Byte b ∷ []) c.if-byte-eq-ALERT_READ.true;
+          ∙ ap (λ (b : ℕ). Start ∷ Byte b ∷ []) alert;
     }
     )
 
-pub returns-else-byte-eq-ALERT_READ : goal.returns-else-byte-eq-ALERT_READ
-returns-else-byte-eq-ALERT_READ c = λ profile events at stands.
+pub returns-else-byte-read_address : goal.returns-else-byte-read_address
+returns-else-byte-read_address c = λ profile events at stands.
     let bus = subst IsBus stands.known c.accepted_bus.ensures in
     let here = at_place profile c.args.self.now events places.Start at stands in (
       λ follows.
-          no_first_address c.in-Byte.byte c.if-byte-eq0.false c.if-byte-eq-ALERT_READ.false
+          no_first_address c.in-Byte.byte c.if-byte-eq0.false (λ (is : c.in-Byte.byte ≡ read_address alert_address). c.if-byte-read_address.false (is ∙ sym (c.read_address.ensures.seven_bits (omega arith))))
           (
           (c.first_addresses.ensures profile c.in-Byte.byte bus).0
           (
