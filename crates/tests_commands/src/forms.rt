@@ -63,8 +63,12 @@ fn wires_have_their_length(rt: HostRuntime) {
 
 #[test]
 fn data_stand_behind_the_count(rt: HostRuntime) {
-    assert_eq!(rt; Form::Zero.data_within(&[]), &[]);
-    assert_eq!(rt; Form::Two.data_within(&[0x06, 0xd3]), &[0x06, 0xd3]);
-    assert_eq!(rt; Form::Block.data_within(&[0x00]), &[]);
-    assert_eq!(rt; Form::Block.data_within(&[0x02, 0x06, 0xd3]), &[0x06, 0xd3]);
+    let word: [u8; 2] = [0x06, 0xd3];
+    assert!(rt; Form::Zero.data_within(&[]).is_empty());
+    assert_eq!(rt; Form::Two.data_within(&[0x06, 0xd3]), word.as_slice());
+    assert!(rt; Form::Block.data_within(&[0x00]).is_empty());
+    assert_eq!(rt;
+        Form::Block.data_within(&[0x02, 0x06, 0xd3]),
+        word.as_slice()
+    );
 }
