@@ -9,7 +9,7 @@ use std::process::Abort;
 use std::test::Fail;
 
 /// How often each row is damaged.
-const TIMES: u32 = 100;
+const TIMES: u32 = 50;
 
 /// Numbers that follow no pattern (Marsaglia's xorshift of 32 bits).
 #[derive(Clone, Copy)]

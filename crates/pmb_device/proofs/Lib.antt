@@ -1,0 +1,13 @@
+pub mod Signals
+pub mod Taken
+pub mod Owns
+pub mod Phases
+pub mod Acks
+pub mod Asking
+pub mod Hearing
+pub mod Requests
+pub mod Writing
+pub mod Addresses
+pub mod ReadAddresses
+pub mod Outcomes
+pub mod TakenWrites

@@ -1,0 +1,74 @@
+-- What STOP does to a simulated device. Its registers and its page change at STOP alone, by its own
+-- legs of the packet: this project's own rule, for which PMBus Part I 1.3 section 5.2.3 asks in groups.
+use Rattle.std.specs.Prelude.{◌≡◌, ℕ, ◌⊎◌, Bool, true, false, List, [], ◌∷◌, ◌++◌}
+use Rattle.pmb_command.specs.Parts.{DeviceParts}
+use Rattle.pmb_bus.specs.Address.{write_address, read_address}
+use Rattle.pmb_transaction.specs.Body.{WriteBody, IsWriteBody, IsReadBody, IsCallBody}
+use Rattle.pmb_transaction.specs.Reason.{Whether}
+use Rattle.pmb_registers.specs.State.{DeviceState}
+use Rattle.pmb_registers.specs.Answer.{answer}
+use Rattle.pmb_registers.specs.Apply.{after_write, bit_of_answer, bit_of_sent, with_noted}
+use Rattle.pmb_leg.specs.declared.place.LegPlace.{LegPlace}
+use Rattle.pmb_device.specs.Legs.{Leg, Legs, Outside, Inside, sent, some_is_to, place_behind}
+use Rattle.pmb_device.specs.Rules.{HasRoom, Takes, TakesAll}
+
+module _ (device : DeviceParts) where
+  -- The leg of a packet that is written to the device: the first that begins with its address for
+  -- writing. Behind the address these bytes were sent.
+  pub record OwnLeg (legs : List Leg) (bytes : List ℕ) : Type 0 where
+    pub before : List Leg
+    pub own : Leg
+    pub behind : List Leg
+    pub split : legs ≡ before ++ own ∷ behind
+    pub first : some_is_to (write_address device.address) before ≡ false
+    pub bytes_are : sent own ≡ write_address device.address ∷ bytes
+
+  -- The device's own address for reading came behind that.
+  abbrev pub IsReadLater : List Leg → Bool
+  IsReadLater behind = some_is_to (read_address device.address) behind
+
+  -- A body in a leg all of whose bytes were taken, where the device is not read behind it: a write
+  -- takes effect, and nothing else does.
+  pub data Acts (bytes : List ℕ) (before after : DeviceState) : Type 0 where
+    writes : (code : ℕ) (content : List ℕ) (with_pec : Bool) → WriteBody device code content with_pec bytes
+        → after ≡ after_write device code content before → Acts bytes before after
+    no_write : (IsWriteBody device bytes → ⊥) → after ≡ before → Acts bytes before after
+
+  -- Where it is read directly behind the packet's first leg, in which it was asked, and refuses, that
+  -- is noted in STATUS_CML.
+  pub data NotesAnswer (earlier : List Leg) (bytes : List ℕ) (behind : List Leg) (before after : DeviceState) : Type 0 where
+    asked : earlier ≡ [] → IsReadBody device bytes ⊎ IsCallBody device bytes → (next : Leg) (more : List Leg) → behind ≡ next ∷ more
+        → some_is_to (read_address device.address) (next ∷ []) ≡ true
+        → after ≡ with_noted device (bit_of_answer (answer device before bytes)) before → NotesAnswer earlier bytes behind before after
+    not_asked : (earlier ≡ [] → IsReadBody device bytes ⊎ IsCallBody device bytes → (next : Leg) (more : List Leg) → behind ≡ next ∷ more
+        → some_is_to (read_address device.address) (next ∷ []) ≡ true → ⊥) → after ≡ before → NotesAnswer earlier bytes behind before after
+
+  -- A byte was refused, behind some that were taken: that is noted where some byte had a place there.
+  pub record Refuses (place : LegPlace) (bytes : List ℕ) (before after : DeviceState) : Type 0 where
+    pub front : List ℕ
+    pub byte : ℕ
+    pub rest : List ℕ
+    pub split : bytes ≡ front ++ byte ∷ rest
+    pub taken : TakesAll device place [] front
+    pub refused : Takes device place front byte → ⊥
+    pub noted : Whether (HasRoom device place front) (after ≡ with_noted device (bit_of_sent (front ++ byte ∷ [])) before) (after ≡ before)
+
+  abbrev pub ReadOrActs : Bool → List Leg → List ℕ → List Leg → DeviceState → DeviceState → Type 0
+  ReadOrActs true earlier bytes behind before after = NotesAnswer earlier bytes behind before after
+  ReadOrActs false earlier bytes behind before after = Acts bytes before after
+
+  abbrev pub OwnLegEnds : List Leg → List ℕ → List Leg → DeviceState → DeviceState → Type 0
+  OwnLegEnds earlier bytes behind before after =
+      Whether (TakesAll device (place_behind earlier) [] bytes)
+      (ReadOrActs (some_is_to (read_address device.address) behind) earlier bytes behind before after)
+      (Refuses (place_behind earlier) bytes before after)
+
+  -- What STOP makes of the device's state behind the legs of a packet: its own leg acts, or it notes
+  -- what it refused; without an own leg nothing changes.
+  pub data LegsEnd (legs : List Leg) (before after : DeviceState) : Type 0 where
+    own_leg : (bytes : List ℕ) → (own : OwnLeg legs bytes) → OwnLegEnds own.before bytes own.behind before after → LegsEnd legs before after
+    no_leg : some_is_to (write_address device.address) legs ≡ false → after ≡ before → LegsEnd legs before after
+
+  abbrev pub Ends : Legs → DeviceState → DeviceState → Type 0
+  Ends Outside before after = after ≡ before
+  Ends (Inside earlier leg) before after = LegsEnd (earlier ++ leg ∷ []) before after

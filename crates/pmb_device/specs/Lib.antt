@@ -1,0 +1,5 @@
+pub mod Legs
+pub mod Rules
+pub mod Ends
+pub mod Exchange
+pub mod machine

@@ -1,0 +1,2 @@
+-- What the private fields say of the signals that came.
+pub mod Standing

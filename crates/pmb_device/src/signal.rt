@@ -1,0 +1,31 @@
+//! What a host puts on a bus, and what a device answers.
+
+/// What a host puts on a bus.
+#[derive(Clone, Copy, Debug, PartialEq, Eq)]
+pub enum HostSignal {
+    /// START, also a repeated one.
+    Start,
+    /// A byte, to which the devices answer.
+    Byte(u8),
+    /// The clocks for a byte that a device is to put on the bus.
+    Ask,
+    /// ACK behind such a byte.
+    Ack,
+    /// NACK behind such a byte.
+    Nack,
+    /// STOP.
+    Stop,
+}
+
+/// What a device answers to a signal.
+#[derive(Clone, Copy, Debug, PartialEq, Eq)]
+pub enum DeviceSignal {
+    /// Nothing.
+    Silent,
+    /// ACK, to a byte.
+    Ack,
+    /// NACK, to a byte.
+    Nack,
+    /// A byte, where it was asked for one.
+    Byte(u8),
+}

@@ -1,0 +1,10 @@
+pub mod OwnLegs
+pub mod Parsing
+pub mod Givers
+pub mod Devices
+pub mod Writes
+pub mod ReadLegs
+pub mod Refusals
+pub mod Applied
+pub mod Stopped
+pub mod Runs

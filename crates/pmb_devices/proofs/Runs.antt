@@ -1,0 +1,222 @@
+-- Where nothing is refused but an end inside a packet, each stretch of a run is one packet, and the
+-- devices are what the transactions make of them, one after the other.
+use Rattle.std.proofs.Common.{◌≡◌, ◌≢◌, ℕ, suc, ◌+◌, ◌<◌, inl, inr, List, [], ◌∷◌, ◌++◌, length, map, arith, refl, sym, ap, subst, ◌∙◌, append_assoc}
+use Rattle.std.specs.List.{Contains}
+use Rattle.std.proofs.lemmas.List.{map-id}
+use Rattle.std.proofs.lemmas.Simd.{map-map}
+use Rattle.pmb_bus.specs.declared.event.Event.{Event}
+use Rattle.pmb_bus.specs.declared.event.Event.TheVariants as wire
+use Rattle.pmb_command.specs.Bus.{IsBus}
+use Rattle.pmb_command.specs.Parts.{DeviceParts}
+use Rattle.pmb_transaction.specs.declared.reason.Reason.{Reason}
+use Rattle.pmb_transaction.specs.declared.reason.Reason.TheVariants.{Truncated}
+use Rattle.pmb_transaction.specs.Capture.{EndsAtStop, HasNoStop}
+use Rattle.pmb_transaction.specs.Packet.{Packet}
+use Rattle.pmb_transaction.specs.Reading.{Accepted, IsUnderWay, Outcome, ReadsFrom, Refusal, RefusalData}
+use Rattle.pmb_transaction.specs.Reason.{IsReason, Place, BehindStart, BehindRestart, BehindAddress, BehindCode, FurtherOn, InReply, Nowhere, ack_reason, byte_reason, nack_reason, place_behind}
+use Rattle.pmb_transaction.specs.Transaction.{TransactionData}
+use Rattle.pmb_registers.specs.State.{DeviceState, InState, first_state}
+use Rattle.pmb_registers.specs.Apply.{apply, apply_all}
+use Rattle.pmb_device.specs.declared.signal.HostSignal.{HostSignal}
+use Rattle.pmb_device.specs.declared.signal.HostSignal.TheVariants.{Start, Byte, Ask, Ack, Nack, Stop}
+use Rattle.pmb_device.specs.declared.signal.DeviceSignal.{DeviceSignal}
+use Rattle.pmb_device.specs.declared.signal.DeviceSignal.TheVariants as answers
+use Rattle.pmb_device.specs.Ends.{Ends}
+use Rattle.pmb_device.specs.Legs.{Legs, Outside, with_signal}
+use Rattle.pmb_devices.specs.Bus.{AreAnswered, Exchange, acknowledged, events_of, legs_after, recorded}
+use Rattle.pmb_devices.specs.Runs.{AllEnd, IsTruncation, Runs, all_after, first_members, run_events}
+use Rattle.pmb_devices.proofs.Applied.{transactions_are_applied}
+use Rattle.pmb_devices.proofs.Parsing.{given_no_stop}
+use Rattle.pmb_devices.proofs.Stopped.{no_stop_behind, no_stop_in_none, same_cut, up_to_stop}
+
+-- ---- what is recorded since the last STOP
+
+-- the answer to a byte is not recorded as STOP
+acknowledged_no_stop : (result : DeviceSignal) → acknowledged result ≡ wire.Stop → ⊥
+acknowledged_no_stop answers.Silent is = cc is
+acknowledged_no_stop answers.Ack is = cc is
+acknowledged_no_stop answers.Nack is = cc is
+acknowledged_no_stop (answers.Byte b) is = cc is
+
+-- nor is a signal other than STOP, whatever the answer
+recorded_no_stop : (signal : HostSignal) (result : DeviceSignal) (more : List Event) → signal ≢ Stop → HasNoStop more
+    → HasNoStop (recorded signal result ++ more)
+recorded_no_stop Start result more other none = no_stop_behind wire.Start more (λ is. cc is) none
+recorded_no_stop (Byte b) result more other none =
+    no_stop_behind (wire.Byte b) (acknowledged result ∷ more) (λ is. cc is) (no_stop_behind _ more (acknowledged_no_stop result) none)
+recorded_no_stop Ask result more other none = no_stop_behind _ more (given_no_stop result) none
+recorded_no_stop Ack result more other none = no_stop_behind wire.Ack more (λ is. cc is) none
+recorded_no_stop Nack result more other none = no_stop_behind wire.Nack more (λ is. cc is) none
+recorded_no_stop Stop result more other none = absurd (other refl)
+
+-- So since the last STOP none is recorded.
+events_no_stop : (members : List InState) (legs : Legs) (history : List Exchange) → AreAnswered members legs history → HasNoStop (events_of history)
+events_no_stop members legs [] answered = no_stop_in_none
+events_no_stop members legs (exchange ∷ more) answered =
+    recorded_no_stop exchange.signal exchange.result (events_of more) answered.0
+    (events_no_stop members (with_signal legs exchange.signal) more answered.2)
+
+-- ---- each device goes where its transaction leads it
+
+-- what a transaction makes of a device, with its state
+abbrev after_one : TransactionData → InState → InState
+after_one t member = record { device = member.device; state = apply member.device t member.state }
+
+-- Where STOP makes of each device what a transaction makes of it, it does so of the list of them.
+all_are_applied : (t : TransactionData) (legs : Legs) (olds news : List InState) → AllEnd legs olds news
+    → ((member : InState) (after : DeviceState) → Contains olds member → Ends member.device legs member.state after
+    → after ≡ apply member.device t member.state) → news ≡ map (after_one t) olds
+all_are_applied t legs [] [] ends each = refl
+all_are_applied t legs [] (new ∷ news) ends each = absurd ends
+all_are_applied t legs (old ∷ olds) [] ends each = absurd ends
+all_are_applied t legs (old ∷ olds) (new ∷ news) ends each =
+    let first : 0 < length (old ∷ olds) = omega arith in
+    let state_is : new.state ≡ apply old.device t old.state = each old new.state (0, first, refl) ends.1 in
+    let new_is : new ≡ after_one t old =
+    ap (λ (d : DeviceParts). record { device = d; state = new.state }) ends.0
+    ∙ ap (λ (s : DeviceState). record { device = old.device; state = s }) state_is in
+    let later =
+    all_are_applied t legs olds news ends.2
+    (
+    λ member after inside ended.
+    let below : suc inside.0 < length (old ∷ olds) = omega (arith, inside.1) in
+    each member after (suc inside.0, below, inside.2) ended
+    ) in
+    ap (λ (m : InState). m ∷ news) new_is ∙ ap (λ (ms : List InState). after_one t old ∷ ms) later
+
+-- the devices stay
+same_devices : (t : TransactionData) (members : List InState) → map (λ m. m.device) (map (after_one t) members) ≡ map (λ m. m.device) members
+same_devices t members = map-map (λ m. m.device) (after_one t) members
+
+-- the first states are of the devices of the profile
+first_devices : (profile : List DeviceParts) → map (λ m. m.device) (first_members profile) ≡ profile
+first_devices profile =
+    map-map (λ (m : InState). m.device) (λ (d : DeviceParts). record { device = d; state = first_state d }) profile ∙ map-id profile
+
+-- transactions behind a first one
+one_then_others : (t : TransactionData) (ts : List TransactionData) (members : List InState)
+    → all_after ts (map (after_one t) members) ≡ all_after (t ∷ ts) members
+one_then_others t ts members =
+    map-map (λ (member : InState). record { device = member.device; state = apply_all member.device ts member.state }) (after_one t) members
+
+-- ---- why events are refused
+
+-- no reason of a refused byte is that the events end inside a packet
+byte_not_truncated : (place : Place) → byte_reason place ≡ Truncated → ⊥
+byte_not_truncated BehindStart is = cc is
+byte_not_truncated BehindRestart is = cc is
+byte_not_truncated BehindAddress is = cc is
+byte_not_truncated BehindCode is = cc is
+byte_not_truncated FurtherOn is = cc is
+byte_not_truncated InReply is = cc is
+byte_not_truncated Nowhere is = cc is
+
+-- nor of an ACK
+ack_not_truncated : (place : Place) → ack_reason place ≡ Truncated → ⊥
+ack_not_truncated BehindStart is = cc is
+ack_not_truncated BehindRestart is = cc is
+ack_not_truncated BehindAddress is = cc is
+ack_not_truncated BehindCode is = cc is
+ack_not_truncated FurtherOn is = cc is
+ack_not_truncated InReply is = cc is
+ack_not_truncated Nowhere is = cc is
+
+-- nor of a NACK
+nack_not_truncated : (place : Place) → nack_reason place ≡ Truncated → ⊥
+nack_not_truncated BehindStart is = cc is
+nack_not_truncated BehindRestart is = cc is
+nack_not_truncated BehindAddress is = cc is
+nack_not_truncated BehindCode is = cc is
+nack_not_truncated FurtherOn is = cc is
+nack_not_truncated InReply is = cc is
+nack_not_truncated Nowhere is = cc is
+
+module _ (profile : List DeviceParts) where
+  -- nor of any event
+  event_not_truncated : (front : List Event) (event : Event) (reason : Reason) → IsReason profile front event reason → reason ≡ Truncated → ⊥
+  event_not_truncated front wire.Start reason why is = cc (why, is)
+  event_not_truncated front wire.Stop reason why is = cc (why, is)
+  event_not_truncated front (wire.Byte b) reason (inl w) is = byte_not_truncated (place_behind front) (sym w.1 ∙ is)
+  event_not_truncated front (wire.Byte b) reason (inr w) is = cc (w.1, is)
+  event_not_truncated front wire.Ack reason (inl w) is = ack_not_truncated (place_behind front) (sym w.1 ∙ is)
+  event_not_truncated front wire.Ack reason (inr w) is = cc (w.1, is)
+  event_not_truncated front wire.Nack reason (inl w) is = nack_not_truncated (place_behind front) (sym w.1 ∙ is)
+  event_not_truncated front wire.Nack reason (inr w) is = cc (w.1, is)
+
+  module _ (bus : IsBus profile) (stops : (t : TransactionData) (events : List Event) → Packet profile t events → EndsAtStop events)
+      (going : (events : List Event) → IsUnderWay profile events → HasNoStop events) where
+    -- ---- what is read
+
+    -- Events that a refusal ends inside a packet hold no STOP.
+    truncated_no_stop : (n : ℕ) (events : List Event) (refusal : RefusalData) → refusal.reason ≡ Truncated
+        → ReadsFrom profile n events (Refusal refusal ∷ []) → HasNoStop events
+    truncated_no_stop n events refusal is (inl w) = absurd (event_not_truncated w.0 w.1 refusal.reason w.4.reason is)
+    truncated_no_stop n events refusal is (inr w) = going events w.0.under_way
+
+    -- So where no transaction is read, and nothing is refused but such an end, there is none.
+    end_no_stop : (n : ℕ) (events : List Event) (end : List Outcome) → IsTruncation end → ReadsFrom profile n events end → HasNoStop events
+    end_no_stop n events end (inl none) reads =
+        let empty : events ≡ [] = subst (ReadsFrom profile n events) none reads in
+        subst HasNoStop (sym empty) no_stop_in_none
+    end_no_stop n events end (inr w) reads = truncated_no_stop n events w.0 w.2 (subst (ReadsFrom profile n events) w.1 reads)
+
+    -- Without a STOP no transaction is read.
+    nothing_accepted : (n : ℕ) (events : List Event) (ts : List TransactionData) (end : List Outcome) → HasNoStop events
+        → ReadsFrom profile n events (map Accepted ts ++ end) → ts ≡ []
+    nothing_accepted n events [] end none reads = refl
+    nothing_accepted n events (t ∷ ts) end none reads =
+        let taken = up_to_stop profile stops t events reads.0 reads.1 reads.2 reads.3 in
+        absurd (none taken.front reads.1 taken.split)
+
+    -- ---- a run
+
+    -- A stretch that is a transaction's packet makes of the devices what the transaction makes of them.
+    stretch_applied : (members next : List InState) (stretch : List Exchange) (t : TransactionData) → map (λ m. m.device) members ≡ profile
+        → AreAnswered members Outside stretch → Packet profile t (events_of stretch ++ wire.Stop ∷ [])
+        → AllEnd (legs_after Outside stretch) members next → next ≡ map (after_one t) members
+    stretch_applied members next stretch t are answered packet ends =
+        all_are_applied t (legs_after Outside stretch) members next ends
+        (λ member after inside ended. transactions_are_applied profile members stretch t member after bus are answered packet inside ended)
+
+    -- where a run's first stretch ends, and what comes behind it
+    first_stretch : (stretch : List Exchange) (more : List (List Exchange)) (history : List Exchange)
+        → run_events (stretch ∷ more) ++ events_of history ≡ events_of stretch ++ wire.Stop ∷ (run_events more ++ events_of history)
+    first_stretch stretch more history =
+        append_assoc (events_of stretch ++ wire.Stop ∷ []) (run_events more) (events_of history)
+        ∙ append_assoc (events_of stretch) (wire.Stop ∷ []) (run_events more ++ events_of history)
+
+    -- Transactions are applied in turn, from whatever states.
+    run_applied : (stretches : List (List Exchange)) (n : ℕ) (members now : List InState) (history : List Exchange) (ts : List TransactionData)
+        (end : List Outcome) → map (λ m. m.device) members ≡ profile → Runs members stretches now → AreAnswered now Outside history
+        → ReadsFrom profile n (run_events stretches ++ events_of history) (map Accepted ts ++ end) → IsTruncation end → now ≡ all_after ts members
+    run_applied [] n members now history ts end are runs answered reads truncated =
+        let none = nothing_accepted n (events_of history) ts end (events_no_stop now Outside history answered) reads in
+        runs ∙ sym (map-id members) ∙ ap (λ (us : List TransactionData). all_after us members) (sym none)
+    run_applied (stretch ∷ more) n members now history [] end are runs answered reads truncated =
+        let none = end_no_stop n (run_events (stretch ∷ more) ++ events_of history) end truncated reads in
+        absurd (none (events_of stretch) (run_events more ++ events_of history) (first_stretch stretch more history))
+    run_applied (stretch ∷ more) n members now history (t ∷ ts) end are runs answered reads truncated =
+        let events = run_events (stretch ∷ more) ++ events_of history in
+        let behind = run_events more ++ events_of history in
+        let taken = up_to_stop profile stops t events reads.0 reads.1 reads.2 reads.3 in
+        let cut =
+        same_cut taken.front (events_of stretch) reads.1 behind taken.no_stop (events_no_stop members Outside stretch runs.0)
+        (sym taken.split ∙ first_stretch stretch more history) in
+        let packet = subst (λ (es : List Event). Packet profile t (es ++ wire.Stop ∷ [])) cut.0 taken.packet in
+        let next_is = stretch_applied members runs.1.0 stretch t are runs.0 packet runs.1.1 in
+        let devices_are : map (λ (m : InState). m.device) runs.1.0 ≡ profile =
+        ap (λ (ms : List InState). map (λ (m : InState). m.device) ms) next_is
+        ∙ same_devices t members
+        ∙ are in
+        let rest = subst (λ (es : List Event). ReadsFrom profile (n + length reads.0) es (map Accepted ts ++ end)) cut.1 reads.4 in
+        run_applied more (n + length reads.0) runs.1.0 now history ts end devices_are runs.1.2 answered rest truncated
+        ∙ ap (λ (ms : List InState). all_after ts ms) next_is
+        ∙ one_then_others t ts members
+
+    -- Transactions are applied in turn.
+    pub applied_in_turn : (stretches : List (List Exchange)) (now : List InState) (history : List Exchange) (ts : List TransactionData)
+        (end : List Outcome) → Runs (first_members profile) stretches now → AreAnswered now Outside history
+        → ReadsFrom profile 0 (run_events stretches ++ events_of history) (map Accepted ts ++ end) → IsTruncation end
+        → now ≡ all_after ts (first_members profile)
+    applied_in_turn stretches now history ts end runs answered reads truncated =
+        run_applied stretches 0 (first_members profile) now history ts end (first_devices profile) runs answered reads truncated

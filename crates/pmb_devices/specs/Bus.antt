@@ -1,0 +1,78 @@
+-- A bus of devices: what is recorded of the host's signals and the devices' answers.
+--
+-- Each device answers for itself. A byte is recorded with ACK where a device gave one, and else with
+-- NACK, as the wire has it (SMBus 3.0 section 6.5). An Ask to which no device gave a byte is recorded
+-- as NACK alone, so that no byte stands in a capture that nobody sent: this project's own rule.
+use Rattle.std.specs.Prelude.{◌≢◌, ◌⊎◌, List, [], ◌∷◌, ◌++◌}
+use Rattle.std.specs.List.{AllByRecursion, Contains}
+use Rattle.pmb_bus.specs.declared.event.Event.{Event}
+use Rattle.pmb_bus.specs.declared.event.Event.TheVariants as events
+use Rattle.pmb_registers.specs.State.{InState}
+use Rattle.pmb_device.specs.declared.signal.HostSignal.{HostSignal}
+use Rattle.pmb_device.specs.declared.signal.HostSignal.TheVariants.{Start, Byte, Ask, Ack, Nack, Stop}
+use Rattle.pmb_device.specs.declared.signal.DeviceSignal.{DeviceSignal}
+use Rattle.pmb_device.specs.declared.signal.DeviceSignal.TheVariants as answers
+use Rattle.pmb_device.specs.Legs.{Legs, with_signal}
+use Rattle.pmb_device.specs.Rules.{Answers}
+
+-- ---- what is recorded
+
+-- the answer to a byte, on the wire
+abbrev pub acknowledged : DeviceSignal → Event
+acknowledged answers.Silent = events.Nack
+acknowledged answers.Ack = events.Ack
+acknowledged answers.Nack = events.Nack
+acknowledged (answers.Byte b) = events.Nack
+
+-- the byte that a device gave, or NACK
+abbrev pub given : DeviceSignal → Event
+given answers.Silent = events.Nack
+given answers.Ack = events.Nack
+given answers.Nack = events.Nack
+given (answers.Byte b) = events.Byte b
+
+-- the events of a signal and the answer to it
+abbrev pub recorded : HostSignal → DeviceSignal → List Event
+recorded Start result = events.Start ∷ []
+recorded (Byte b) result = events.Byte b ∷ acknowledged result ∷ []
+recorded Ask result = given result ∷ []
+recorded Ack result = events.Ack ∷ []
+recorded Nack result = events.Nack ∷ []
+recorded Stop result = events.Stop ∷ []
+
+-- ---- what is answered
+
+-- A device answers this, or is silent.
+abbrev pub AnswersOrSilent : Legs → HostSignal → DeviceSignal → InState → Type 0
+AnswersOrSilent legs signal result member =
+    Answers member.device member.state legs signal result ⊎ Answers member.device member.state legs signal answers.Silent
+
+-- The answer on the bus is that of each device that is not silent, and silence where all are.
+pub record BusAnswers (members : List InState) (legs : Legs) (signal : HostSignal) (result : DeviceSignal) : Type 0 where
+  pub each : AllByRecursion (AnswersOrSilent legs signal result) members
+  pub given_by_one : result ≢ answers.Silent
+      → (member : InState) × Contains members member × Answers member.device member.state legs signal result
+
+-- ---- since the last STOP
+
+-- a signal, and the answer to it
+pub record Exchange : Type 0 where
+  pub signal : HostSignal
+  pub result : DeviceSignal
+
+-- what came since the last STOP: each signal, other than STOP, has the answer of the bus behind those before it
+abbrev pub AreAnswered : List InState → Legs → List Exchange → Type 0
+AreAnswered members legs [] = Unit {0}
+AreAnswered members legs (exchange ∷ more) =
+    (exchange.signal ≢ Stop) × BusAnswers members legs exchange.signal exchange.result
+    × AreAnswered members (with_signal legs exchange.signal) more
+
+-- the legs that they make, behind others
+abbrev pub legs_after : Legs → List Exchange → Legs
+legs_after legs [] = legs
+legs_after legs (exchange ∷ more) = legs_after (with_signal legs exchange.signal) more
+
+-- and the events that are recorded of them
+abbrev pub events_of : List Exchange → List Event
+events_of [] = []
+events_of (exchange ∷ more) = recorded exchange.signal exchange.result ++ events_of more

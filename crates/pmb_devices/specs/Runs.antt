@@ -1,0 +1,49 @@
+-- What a bus of devices went through since it was made: stretches of signals, each ended by STOP, and
+-- what came since the last one.
+use Rattle.std.specs.Prelude.{◌≡◌, ◌⊎◌, List, [], ◌∷◌, ◌++◌, map}
+use Rattle.pmb_bus.specs.declared.event.Event.{Event}
+use Rattle.pmb_bus.specs.declared.event.Event.TheVariants.{Stop}
+use Rattle.pmb_command.specs.Parts.{DeviceParts}
+use Rattle.pmb_transaction.specs.declared.reason.Reason.TheVariants.{Truncated}
+use Rattle.pmb_transaction.specs.Transaction.{TransactionData}
+use Rattle.pmb_transaction.specs.Reading.{Outcome, Refusal, RefusalData}
+use Rattle.pmb_registers.specs.State.{InState, first_state}
+use Rattle.pmb_registers.specs.Apply.{apply_all}
+use Rattle.pmb_device.specs.Legs.{Legs, Outside}
+use Rattle.pmb_device.specs.Ends.{Ends}
+use Rattle.pmb_devices.specs.Bus.{AreAnswered, Exchange, events_of, legs_after}
+
+-- each device of a profile in its first state
+abbrev pub first_members : List DeviceParts → List InState
+first_members profile = map (λ device. record { device = device; state = first_state device }) profile
+
+-- Each device goes where STOP leads it behind these legs.
+abbrev pub AllEnd : Legs → List InState → List InState → Type 0
+AllEnd legs [] [] = Unit {0}
+AllEnd legs [] (new ∷ news) = ⊥
+AllEnd legs (old ∷ olds) [] = ⊥
+AllEnd legs (old ∷ olds) (new ∷ news) = (new.device ≡ old.device) × Ends old.device legs old.state new.state × AllEnd legs olds news
+
+-- The devices go from some states to others by stretches, each of which STOP ends.
+abbrev pub Runs : List InState → List (List Exchange) → List InState → Type 0
+Runs members [] now = now ≡ members
+Runs members (stretch ∷ more) now =
+    AreAnswered members Outside stretch
+    × ((next : List InState) × AllEnd (legs_after Outside stretch) members next × Runs next more now)
+
+-- the events that are recorded of them
+abbrev pub run_events : List (List Exchange) → List Event
+run_events [] = []
+run_events (stretch ∷ more) = (events_of stretch ++ Stop ∷ []) ++ run_events more
+
+-- what transactions make of each device, in their order
+abbrev pub all_after : List TransactionData → List InState → List InState
+all_after ts members = map (λ member. record { device = member.device; state = apply_all member.device ts member.state }) members
+
+-- Nothing is refused, or the events end inside a packet.
+abbrev pub IsTruncation : List Outcome → Type 0
+IsTruncation outcomes = (outcomes ≡ []) ⊎ ((refusal : RefusalData) × (outcomes ≡ Refusal refusal ∷ []) × (refusal.reason ≡ Truncated))
+
+-- Events are none, or STOP is the last one.
+abbrev pub AreStopped : List Event → Type 0
+AreStopped events = (events ≡ []) ⊎ ((front : List Event) × (events ≡ front ++ Stop ∷ []))

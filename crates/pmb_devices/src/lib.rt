@@ -1,0 +1,4 @@
+//! A bus of simulated devices.
+#![tactic(auto)]
+
+pub mod laws;

@@ -1,0 +1,5 @@
+mod Cleared
+mod Changed
+mod Held
+mod Places
+mod Beginning

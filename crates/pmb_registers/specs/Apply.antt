@@ -1,0 +1,143 @@
+-- What a transaction does to the state of a simulated device.
+--
+-- PAGE is of PMBus Part II 1.3 section 11.10, CLEAR_FAULTS of section 15.1, how the bits of a status
+-- register are cleared of section 10.2, STATUS_CML of chapter 17. That a device keeps what it is told,
+-- and acts in no other way, is this project's own rule.
+use Rattle.std.specs.Prelude.{ℕ, ◌-◌, Bool, true, false, ◌&&◌, ◌||◌, if◌then◌else◌, Option, Some, None, Result, Ok, Err, List, [], ◌∷◌, is_some, map, nat_eq}
+use Rattle.std.specs.Int.Bits.{bit_and, bit_or}
+use Rattle.pmb_command.specs.declared.form.Form.TheVariants.{Zero}
+use Rattle.pmb_command.specs.declared.entry.Kind.{Kind}
+use Rattle.pmb_command.specs.declared.entry.Kind.TheVariants.{Raw, Linear11, Linear11Fixed, Vout, VoutSigned, Direct, Status}
+use Rattle.pmb_command.specs.Fitting.{is_form}
+use Rattle.pmb_command.specs.Parts.{CommandParts, DeviceParts, command_with}
+use Rattle.pmb_transaction.specs.Transaction.{PartData, RefusedData, TransactionData, Write, Read, Call, Refused, Alert, NoAlert}
+use Rattle.pmb_transaction.specs.Body.{forms}
+use Rattle.pmb_registers.specs.declared.cml_bit.CmlBit.{CmlBit}
+use Rattle.pmb_registers.specs.declared.cml_bit.CmlBit.TheVariants.{BadCommand, BadValue, PecFailed}
+use Rattle.pmb_registers.specs.State.{RegisterData, DeviceState}
+use Rattle.pmb_registers.specs.Answer.{all_pages, answer}
+
+-- ---- which registers a write reaches
+
+-- Under a selected page: the register of that page, or under ffh of each; one that all pages share
+-- always.
+abbrev pub reaches : ℕ → Option ℕ → Bool
+reaches selected None = true
+reaches selected (Some page) = nat_eq selected all_pages || nat_eq selected page
+
+-- A register of some codes, where it is reached, with other bytes; another one as it was.
+abbrev pub changed_one : ℕ → (ℕ → Bool) → (List ℕ → List ℕ) → RegisterData → RegisterData
+changed_one selected codes change r = if codes r.code && reaches selected r.page then record r { bytes = change r.bytes } else r
+
+-- each of the registers
+abbrev pub changed : ℕ → (ℕ → Bool) → (List ℕ → List ℕ) → List RegisterData → List RegisterData
+changed selected codes change registers = map (changed_one selected codes change) registers
+
+-- ---- what a write does
+
+abbrev pub is_status_kind : Kind → Bool
+is_status_kind Raw = false
+is_status_kind Linear11 = false
+is_status_kind (Linear11Fixed exponent) = false
+is_status_kind Vout = false
+is_status_kind VoutSigned = false
+is_status_kind (Direct coefficients) = false
+is_status_kind Status = true
+
+abbrev pub holds_status : Option CommandParts → Bool
+holds_status None = false
+holds_status (Some command) = is_status_kind command.entry.kind
+
+-- the command of a code has status bits
+abbrev pub is_status : DeviceParts → ℕ → Bool
+is_status device code = holds_status (command_with code device.commands)
+
+-- Status bits that are written as 1 are cleared, the others stay.
+abbrev pub cleared_bits : List ℕ → List ℕ → List ℕ
+cleared_bits written [] = []
+cleared_bits [] (byte ∷ bytes) = byte ∷ bytes
+cleared_bits (mask ∷ masks) (byte ∷ bytes) = bit_and byte (255 - mask) ∷ cleared_bits masks bytes
+
+-- the page that a write of PAGE selects
+abbrev pub selected_by : ℕ → List ℕ → ℕ
+selected_by page [] = page
+selected_by page (byte ∷ bytes) = byte
+
+-- What a complete write does, by its code and data. PAGE selects a page, and its register takes it.
+-- CLEAR_FAULTS makes the bits of all status registers 0. Another write without data does nothing. A
+-- status register loses the bits that are written as 1, and any other takes the bytes.
+abbrev pub after_write : DeviceParts → ℕ → List ℕ → DeviceState → DeviceState
+after_write device code bytes state =
+    if nat_eq code 0x00 then record { page = selected_by state.page bytes; registers = changed state.page (nat_eq code) (λ old. bytes) state.registers }
+    else if nat_eq code 0x03 then record state { registers = changed state.page (is_status device) (map (λ byte. 0)) state.registers }
+    else if is_form Zero (forms device code).write then state
+    else if is_status device code then record state { registers = changed state.page (nat_eq code) (cleared_bits bytes) state.registers }
+    else record state { registers = changed state.page (nat_eq code) (λ old. bytes) state.registers }
+
+-- ---- what a refusal does
+
+-- the value of a bit of STATUS_CML
+abbrev pub bit_value : CmlBit → ℕ
+bit_value BadCommand = 0x80
+bit_value BadValue = 0x40
+bit_value PecFailed = 0x20
+
+-- A bit of STATUS_CML is set, where the device has that register and it can be read.
+abbrev pub with_bit : DeviceParts → CmlBit → DeviceState → DeviceState
+with_bit device bit state =
+    if is_some (forms device 0x7e).read
+    then record state { registers = changed state.page (nat_eq 0x7e) (map (λ byte. bit_or byte (bit_value bit))) state.registers }
+    else state
+
+abbrev pub with_noted : DeviceParts → Option CmlBit → DeviceState → DeviceState
+with_noted device None state = state
+with_noted device (Some bit) state = with_bit device bit state
+
+-- The bit of bytes behind an address of which the last was refused: the code, the value of PAGE, or
+-- what stands where the packet error code has to.
+abbrev pub bit_of_sent : List ℕ → Option CmlBit
+bit_of_sent [] = None
+bit_of_sent (code ∷ []) = Some BadCommand
+bit_of_sent (code ∷ byte ∷ []) = if nat_eq code 0x00 then Some BadValue else Some PecFailed
+bit_of_sent (code ∷ byte ∷ next ∷ bytes) = Some PecFailed
+
+-- the bit of an answer that is refused
+abbrev pub bit_of_answer : Result (List ℕ) CmlBit → Option CmlBit
+bit_of_answer (Ok reply) = None
+bit_of_answer (Err bit) = Some bit
+
+abbrev pub bit_of_refused : DeviceParts → DeviceState → List ℕ → Bool → Option CmlBit
+bit_of_refused device state sent false = bit_of_sent sent
+bit_of_refused device state sent true = bit_of_answer (answer device state sent)
+
+-- ---- what a transaction does
+
+module _ (device : DeviceParts) where
+  -- a complete part, if it is the device's
+  abbrev pub after_part : PartData → DeviceState → DeviceState
+  after_part part state = if nat_eq part.addr device.address then after_write device part.code part.bytes state else state
+
+  -- complete parts, in their order
+  abbrev pub after_parts : List PartData → DeviceState → DeviceState
+  after_parts [] state = state
+  after_parts (part ∷ parts) state = after_parts parts (after_part part state)
+
+  -- A leg that the device refused sets a bit of STATUS_CML, and does nothing else.
+  abbrev pub after_refusal : RefusedData → DeviceState → DeviceState
+  after_refusal t state =
+      if nat_eq t.addr device.address then with_noted device (bit_of_refused device state t.sent t.at_read) state else state
+
+  -- What a transaction makes of a device's state: each complete part acts, a refused leg is noted, and
+  -- what is read or called, or answered to an alert, changes nothing.
+  abbrev pub apply : TransactionData → DeviceState → DeviceState
+  apply (Write parts) state = after_parts parts state
+  apply (Read t) state = state
+  apply (Call t) state = state
+  apply (Refused t) state = after_refusal t (after_parts t.parts state)
+  apply (Alert t) state = state
+  apply NoAlert state = state
+
+  -- transactions, in their order
+  abbrev pub apply_all : List TransactionData → DeviceState → DeviceState
+  apply_all [] state = state
+  apply_all (t ∷ ts) state = apply_all ts (apply t state)

@@ -1,0 +1,5 @@
+pub mod State
+pub mod Answer
+pub mod Apply
+pub mod Reply
+pub mod machine

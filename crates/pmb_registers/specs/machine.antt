@@ -1,0 +1,3 @@
+-- What the code keeps of registers.
+pub mod Registers
+pub mod Places

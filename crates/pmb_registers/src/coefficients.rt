@@ -1,0 +1,44 @@
+//! What a device answers to COEFFICIENTS (PMBus Part II 1.3 section 14.1).
+
+ghost use Rattle.std.specs.Prelude.{◌≡◌};
+ghost use Rattle.pmb_registers.specs.Answer.{answer_coefficients, coefficient_bytes, coefficients_of};
+
+use crate::cml_bit::CmlBit;
+use pmb_coefficients::Direct;
+use pmb_command::Kind;
+use pmb_table::DeviceProfile;
+
+/// The coefficients of a command's numbers, where they are in DIRECT, or an output voltage that may
+/// be.
+fn coefficients_of(device: &DeviceProfile, code: u8) -> Option<Direct>
+    ensures { result ≡ coefficients_of device.now code }
+{
+    let entry = device.entry(code)?;
+    match entry.kind {
+        Kind::Direct(direct) => Some(direct),
+        Kind::Vout | Kind::VoutSigned => device.vout_direct(),
+        Kind::Raw | Kind::Linear11 | Kind::Linear11Fixed(_) | Kind::Status => None,
+    }
+}
+
+/// m and b as words, low byte first, and R.
+fn coefficient_bytes(direct: Direct) -> [u8; 5]
+    ensures { result ≡ coefficient_bytes direct }
+{
+    let m = direct.m().cast_unsigned().to_le_bytes();
+    let b = direct.b().cast_unsigned().to_le_bytes();
+    [m[0], m[1], b[0], b[1], direct.r().cast_unsigned()]
+}
+
+/// The answer to what is behind the code of COEFFICIENTS: a count, a command's code and a byte.
+pub(crate) fn answer_coefficients(device: &DeviceProfile, behind: &[u8]) -> Result<[u8; 5], CmlBit>
+    ensures { result ≡ answer_coefficients device.now behind.now }
+{
+    let [_, code, _] = behind else {
+        return Err(CmlBit::BadValue);
+    };
+    match coefficients_of(device, *code) {
+        Some(direct) => Ok(coefficient_bytes(direct)),
+        None => Err(CmlBit::BadValue),
+    }
+}

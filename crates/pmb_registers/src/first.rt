@@ -1,0 +1,180 @@
+//! The registers that a device begins with.
+
+ghost use Rattle.std.specs.Prelude.{◌≡◌, ◌+◌, ◌<◌, ◌≤◌, [], ◌++◌, OnOk, Some, length, map, take};
+ghost use Rattle.std.specs.List.{flat_map, range_with_len};
+ghost use Rattle.pmb_command.specs.Parts.{CommandParts, command_with};
+ghost use Rattle.pmb_registers.specs.State.{first_bytes, registers_of, zeros};
+ghost use Rattle.pmb_registers.specs.machine.Registers.{register_data};
+ghost use Rattle.pmb_registers.specs.machine.Places.{ArePlaces, NoneHas, registers_of_some};
+
+use crate::forms::register_form;
+use crate::place::Place;
+use crate::register::Register;
+use arrayvec::ArrayVec;
+use pmb_command::{Entry, Form};
+use pmb_table::DeviceProfile;
+use pmb_table::laws::accepted_device;
+use std::alloc::AllocError;
+
+/// The code of VOUT_MODE.
+const VOUT_MODE: u8 = 0x20;
+
+/// Zeros, as many as a form has bytes; a block begins empty.
+fn zeros(form: Form) -> &'static [u8]
+    ensures value { result.now ≡ zeros form }
+    ensures few { length result.now ≤ 255 }
+{
+    match form {
+        Form::Zero | Form::Block => &[],
+        Form::One => &[0],
+        Form::Two => &[0, 0],
+        Form::Four => &[0, 0, 0, 0],
+        Form::Eight => &[0, 0, 0, 0, 0, 0, 0, 0],
+    }
+}
+
+/// A list of these bytes.
+fn list_of(bytes: &[u8]) -> ArrayVec<u8, 255>
+    requires { length bytes.now ≤ 255 }
+    ensures { result.items ≡ bytes.now }
+{
+    let mut list = ArrayVec::new();
+    let _ = list.try_extend_from_slice(bytes);
+    list
+}
+
+/// What the register of a code holds at first, in its form.
+fn first_bytes(device: &DeviceProfile, code: u8, form: Form) -> ArrayVec<u8, 255>
+    ensures { (command : CommandParts) → command_with code device.now.commands ≡ Some command → result.items ≡ first_bytes device.now command form }
+{
+    if code == VOUT_MODE {
+        return list_of(&[device.vout_mode()]);
+    }
+    match device.initial(code) {
+        Some(bytes) => list_of(bytes),
+        None => list_of(zeros(form)),
+    }
+}
+
+/// A register with these bytes.
+fn register_of(code: u8, page: Option<u8>, bytes: &[u8]) -> Register
+    requires { length bytes.now ≤ 255 }
+    ensures { register_data result ≡ record { code = code; page = page; bytes = bytes.now } }
+{
+    Register {
+        code,
+        page,
+        bytes: list_of(bytes),
+    }
+}
+
+/// Adds a register for each page.
+fn push_pages(
+    registers: &mut Vec<Register>,
+    code: u8,
+    pages: u8,
+    bytes: &[u8],
+) -> Result<(), AllocError>
+    requires { length bytes.now ≤ 255 }
+    ensures { OnOk result (map register_data registers.new.items ≡ map register_data registers.old.items
+        ++ map (λ page. record { code = code; page = page; bytes = bytes.now }) (map Some (range_with_len 0 pages))) }
+{
+    for page in 0..pages {
+        registers.push(register_of(code, Some(page), bytes))?;
+    }
+    Ok(())
+}
+
+/// Adds the registers of a code.
+fn push_registers(
+    registers: &mut Vec<Register>,
+    device: &DeviceProfile,
+    code: u8,
+) -> Result<(), AllocError>
+    ensures { OnOk result (map register_data registers.new.items ≡ map register_data registers.old.items
+        ++ registers_of_some device.now (command_with code device.now.commands)) }
+{
+    let Some(entry) = device.entry(code) else {
+        return Ok(());
+    };
+    let Some(form) = register_form(entry.shape) else {
+        return Ok(());
+    };
+    let bytes = first_bytes(device, code, form);
+    if entry.paged {
+        return push_pages(registers, code, device.pages(), bytes.as_slice());
+    }
+    registers.push(register_of(code, None, bytes.as_slice()))?;
+    Ok(())
+}
+
+/// Adds the registers of a code that has none yet, and keeps their place.
+fn add_registers(
+    registers: &mut Vec<Register>,
+    places: &mut [Place; 256],
+    device: &DeviceProfile,
+    code: u8,
+) -> Result<(), AllocError>
+    requires placed { ArePlaces places.old (map register_data registers.old.items) }
+    requires none_yet { NoneHas code (map register_data registers.old.items) }
+    ensures added { OnOk result (map register_data registers.new.items ≡ map register_data registers.old.items
+        ++ registers_of_some device.now (command_with code device.now.commands)) }
+    ensures placed { OnOk result (ArePlaces places.new (map register_data registers.new.items)) }
+{
+    let start = registers.len();
+    push_registers(registers, device, code)?;
+    places[code as usize] = Place {
+        start,
+        end: registers.len(),
+    };
+    Ok(())
+}
+
+/// Adds the registers of the command at an index, behind those of the commands before it.
+pub(crate) fn add_command(
+    registers: &mut Vec<Register>,
+    places: &mut [Place; 256],
+    device: &DeviceProfile,
+    index: usize,
+) -> Result<(), AllocError>
+    requires within { index < length device.now.commands }
+    requires before { map register_data registers.old.items ≡ flat_map (registers_of device.now) (take index device.now.commands) }
+    requires placed { ArePlaces places.old (map register_data registers.old.items) }
+    ensures added { OnOk result (map register_data registers.new.items ≡ flat_map (registers_of device.now) (take (index + 1) device.now.commands)) }
+    ensures placed { OnOk result (ArePlaces places.new (map register_data registers.new.items)) }
+{
+    accepted_device(device);
+    match device.entry_at(index) {
+        Some(entry) => add_registers(registers, places, device, entry.code),
+        None => Ok(()),
+    }
+}
+
+/// Places without registers.
+pub(crate) fn no_places() -> [Place; 256]
+    ensures { ArePlaces result [] }
+{
+    [Place { start: 0, end: 0 }; 256]
+}
+
+/// How many registers the device has.
+pub(crate) fn count_registers(device: &DeviceProfile) -> usize {
+    let mut count: usize = 0;
+    for i in 0..device.len() {
+        if let Some(entry) = device.entry_at(i) {
+            count = count.saturating_add(count_of(entry, device.pages()));
+        }
+    }
+    count
+}
+
+/// How many registers a command has.
+fn count_of(entry: &Entry, pages: u8) -> usize {
+    if register_form(entry.shape).is_none() {
+        0
+    } else if entry.paged {
+        pages as usize
+    } else {
+        1
+    }
+}

@@ -1,0 +1,29 @@
+//! The state of a simulated device: its registers and the page that is selected.
+//!
+//! [`Registers`] begin as a device's profile says. A complete write changes them, a read or a call is
+//! answered from them, and a refused one sets a bit of STATUS_CML. The definitions of all this stand
+//! here as a map that a transaction changes; of events and signals this crate knows nothing.
+//!
+//! ```rust
+//! let profile = Profile::from_toml(rt.alloc(), SAMPLE.as_bytes())?;
+//! let device = profile.device(0x58).ok_or("no device")?;
+//! let mut registers = Registers::new(rt.alloc(), device)?;
+//! registers.write(0x21, &[0x00, 0x18]);
+//! assert_eq!(rt; registers.register(0, 0x21), Some(b"\x00\x18".as_slice()));
+//! ```
+#![tactic(auto)]
+
+mod bits;
+mod change;
+mod cml_bit;
+mod coefficients;
+mod first;
+mod forms;
+mod place;
+mod register;
+mod registers;
+mod reply;
+
+pub use cml_bit::CmlBit;
+pub use registers::Registers;
+pub use reply::Reply;
