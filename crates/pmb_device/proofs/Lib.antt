@@ -11,3 +11,4 @@ pub mod Addresses
 pub mod ReadAddresses
 pub mod Outcomes
 pub mod TakenWrites
+pub mod Stopping

@@ -1,10 +1,10 @@
 -- A write that takes effect: what was taken of it.
-use Rattle.std.proofs.Common.{◌≡◌, ℕ, ◌<◌, ◌⊎◌, Bool, true, false, List, [], ◌∷◌, ◌++◌, length, refl, sym, ap, subst, ◌∙◌, arith}
+use Rattle.std.proofs.Common.{◌≡◌, ℕ, ◌<◌, ◌≤◌, ◌⊎◌, Bool, true, false, List, [], ◌∷◌, ◌++◌, length, refl, sym, ap, subst, ◌∙◌, arith}
 use Rattle.pmb_command.specs.declared.form.Form.{Form}
-use Rattle.pmb_command.specs.declared.form.Form.TheVariants.{One}
+use Rattle.pmb_command.specs.declared.form.Form.TheVariants.{Zero, One, Two, Four, Eight, Block}
 use Rattle.pmb_command.specs.Parts.{DeviceParts}
 use Rattle.pmb_command.specs.Bus.{IsDevice}
-use Rattle.pmb_command.specs.Wire.{Fits, wire}
+use Rattle.pmb_command.specs.Wire.{Fits, Takes, wire}
 use Rattle.pmb_bus.specs.Address.{write_address}
 use Rattle.pmb_transaction.specs.Body.{checked, WriteBody}
 use Rattle.pmb_leg.specs.declared.place.LegPlace.{LegPlace}
@@ -19,6 +19,18 @@ use Rattle.pmb_device.specs.machine.Standing.{AllTaken, BytesAre, IsOwn, Kept, O
 use Rattle.pmb_device.specs.Exchange.{IsTakenWrite}
 use Rattle.pmb_device.proofs.Acks.{own_in}
 use Rattle.pmb_device.proofs.Requests.{page_form}
+
+-- a form takes at most 255 data
+few_data : (form : Form) (n : ℕ) → Takes form n → n ≤ 255
+few_data Zero n taken = omega arith
+few_data One n taken = omega arith
+few_data Two n taken = omega arith
+few_data Four n taken = omega arith
+few_data Eight n taken = omega arith
+few_data Block n taken = taken
+
+pub few_bytes : (device : DeviceParts) (code : ℕ) (content : List ℕ) (with_pec : Bool) (bytes : List ℕ) → WriteBody device code content with_pec bytes → length content ≤ 255
+few_bytes device code content with_pec bytes body = few_data body.form (length content) body.fits.taken
 
 one_of : (bytes : List ℕ) → length bytes ≡ 1 → (byte : ℕ) × (bytes ≡ byte ∷ [])
 one_of [] is = cc is

@@ -5,7 +5,7 @@
 -- `IsAskedIn exchange device state legs byte body` says that behind those legs came this byte too,
 -- and that the device's registers have to answer this body. What they say of the fields is in
 -- `machine`, and nothing here needs it to be understood.
-use Rattle.std.specs.Prelude.{◌≡◌, ℕ, ◌<◌, ◌⊎◌, Some, List, [], ◌∷◌}
+use Rattle.std.specs.Prelude.{◌≡◌, ℕ, ◌<◌, ◌≤◌, ◌⊎◌, Some, List, [], ◌∷◌, length}
 use Rattle.pmb_command.specs.declared.form.Form.{Form}
 use Rattle.pmb_command.specs.Parts.{DeviceParts}
 use Rattle.pmb_transaction.specs.Body.{ReadBody, CallBody, forms}
@@ -57,3 +57,9 @@ abbrev pub IsTakenOutcome : DeviceParts → Outcome → Type 0
 IsTakenOutcome device Nothing = Unit {0}
 IsTakenOutcome device (Write code bytes) = IsTakenWrite device code bytes.now
 IsTakenOutcome device (Note bit) = Unit {0}
+
+-- whatever came before: the data of a write are at most as many as a count can tell
+abbrev pub HasFewBytes : Outcome → Type 0
+HasFewBytes Nothing = Unit {0}
+HasFewBytes (Write code bytes) = length bytes.now ≤ 255
+HasFewBytes (Note bit) = Unit {0}

@@ -1,2 +1,3 @@
 -- What the private fields say of the signals that came.
 pub mod Standing
+pub mod Device

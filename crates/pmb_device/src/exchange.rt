@@ -18,7 +18,7 @@ ghost use Rattle.pmb_device.specs.declared.signal.DeviceSignal.TheVariants as an
 ghost use Rattle.pmb_device.specs.Legs.{Legs, Outside, with_signal};
 ghost use Rattle.pmb_device.specs.Rules.{Answers, HasRoom, IsPageValue, Takes};
 ghost use Rattle.pmb_device.specs.Ends.{Ends};
-ghost use Rattle.pmb_device.specs.Exchange.{Hears, IsAskedIn, IsTakenOutcome, StandsIn, after_outcome};
+ghost use Rattle.pmb_device.specs.Exchange.{HasFewBytes, Hears, IsAskedIn, IsTakenOutcome, StandsIn, after_outcome};
 ghost use Rattle.pmb_device.specs.machine.Standing.{IsAskable, is_own_first};
 
 use crate::reply::put_reply;
@@ -376,6 +376,7 @@ impl<'p> Exchange<'p> {
             → Ends device legs state (after_outcome device result state) }
         ensures taken { (device : DeviceParts) (state : DeviceState) (legs : Legs) → StandsIn self.now device state legs
             → IsTakenOutcome device result }
+        ensures few { HasFewBytes result }
     {
         if let Phase::Outside = self.phase {
             return Outcome::Nothing;

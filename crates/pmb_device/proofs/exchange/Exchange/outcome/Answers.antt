@@ -1,6 +1,6 @@
 use Rattle.std.proofs.Common.{sym, ◌∙◌}
 use Rattle.pmb_device.proofs.Outcomes.{ends_outside, ends_so, no_own_outcome, no_write_outcome, noted_outcome, silent_outcome, write_outcome}
-use Rattle.pmb_device.proofs.TakenWrites.{write_is_taken}
+use Rattle.pmb_device.proofs.TakenWrites.{few_bytes, write_is_taken}
 use Rattle.pmb_device.proofs.exchange.Exchange.outcome.Goals as goal
 use Rattle.pmb_device.proofs.exchange.Exchange.outcome.Goals.{then-self-via-else-self+then-self-2, then-self-via-then-self}
 
@@ -41,3 +41,6 @@ pub returns-in-Some-says-clause-taken : goal.returns-in-Some-says-clause-taken
 returns-in-Some-says-clause-taken c = λ device state legs stands.
     write_is_taken c.args.self.now device state legs _ _ c.in-Some-says.said.pec c.in_default.not-Outside c.if-not-self.false c.if-self.false
     c.in-Some-says.ensures.says stands
+
+pub returns-in-Some-says-clause-few : goal.returns-in-Some-says-clause-few
+returns-in-Some-says-clause-few c = few_bytes _ _ _ c.in-Some-says.said.pec _ c.in-Some-says.ensures.says
