@@ -8,3 +8,8 @@ pub mod Refusals
 pub mod Applied
 pub mod Stopped
 pub mod Runs
+pub mod Handing
+pub mod Loud
+pub mod Behind
+pub mod Signals
+pub mod Members

@@ -63,7 +63,7 @@ abbrev after_one : TransactionData → InState → InState
 after_one t member = record { device = member.device; state = apply member.device t member.state }
 
 -- Where STOP makes of each device what a transaction makes of it, it does so of the list of them.
-all_are_applied : (t : TransactionData) (legs : Legs) (olds news : List InState) → AllEnd legs olds news
+pub all_are_applied : (t : TransactionData) (legs : Legs) (olds news : List InState) → AllEnd legs olds news
     → ((member : InState) (after : DeviceState) → Contains olds member → Ends member.device legs member.state after
     → after ≡ apply member.device t member.state) → news ≡ map (after_one t) olds
 all_are_applied t legs [] [] ends each = refl
@@ -89,7 +89,7 @@ same_devices : (t : TransactionData) (members : List InState) → map (λ m. m.d
 same_devices t members = map-map (λ m. m.device) (after_one t) members
 
 -- the first states are of the devices of the profile
-first_devices : (profile : List DeviceParts) → map (λ m. m.device) (first_members profile) ≡ profile
+pub first_devices : (profile : List DeviceParts) → map (λ m. m.device) (first_members profile) ≡ profile
 first_devices profile =
     map-map (λ (m : InState). m.device) (λ (d : DeviceParts). record { device = d; state = first_state d }) profile ∙ map-id profile
 

@@ -1,2 +1,5 @@
 pub mod Bus
 pub mod Runs
+pub mod Recorded
+pub mod Signal
+pub mod machine

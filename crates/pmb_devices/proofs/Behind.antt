@@ -1,0 +1,86 @@
+-- Where a bus stands behind one signal more.
+use Rattle.std.proofs.Common.{◌≡◌, ◌≢◌, List, [], ◌∷◌, ◌++◌, map, refl, ap}
+use Rattle.pmb_command.specs.Parts.{DeviceParts}
+use Rattle.pmb_registers.specs.State.{InState}
+use Rattle.pmb_device.specs.declared.signal.HostSignal.{HostSignal}
+use Rattle.pmb_device.specs.declared.signal.HostSignal.TheVariants.{Start, Byte, Ask, Ack, Nack, Stop}
+use Rattle.pmb_device.specs.declared.signal.DeviceSignal.{DeviceSignal}
+use Rattle.pmb_device.specs.declared.device.Device.{Device}
+use Rattle.pmb_device.specs.Legs.{Legs, Outside, with_signal}
+use Rattle.pmb_device.specs.Device.{DeviceStanding, DeviceStandsAt, Leads}
+use Rattle.pmb_devices.specs.Bus.{AreAnswered, BusAnswers, Exchange, legs_after}
+use Rattle.pmb_devices.specs.Runs.{AllEnd}
+use Rattle.pmb_devices.specs.machine.Standing.{AllStand}
+use Rattle.pmb_devices.specs.machine.Hands.{AllMoved}
+
+-- ---- what came since the last STOP
+
+-- the legs behind one signal more
+pub legs_behind : (legs : Legs) (history : List Exchange) (next : Exchange) → legs_after legs (history ++ next ∷ []) ≡ with_signal (legs_after legs history) next.signal
+legs_behind legs [] next = refl
+legs_behind legs (exchange ∷ history) next = legs_behind (with_signal legs exchange.signal) history next
+
+-- one answer more
+pub answered_behind : (members : List InState) (legs : Legs) (history : List Exchange) (next : Exchange) → AreAnswered members legs history
+    → next.signal ≢ Stop → BusAnswers members (legs_after legs history) next.signal next.result → AreAnswered members legs (history ++ next ∷ [])
+answered_behind members legs [] next answered other answer = (other, answer, tt)
+answered_behind members legs (exchange ∷ history) next answered other answer =
+    (answered.0, answered.1, answered_behind members (with_signal legs exchange.signal) history next answered.2 other answer)
+
+-- ---- the devices
+
+-- where a device goes at a signal other than STOP
+led : (standing : DeviceStanding) (signal : HostSignal) (d : Device) → signal ≢ Stop → Leads standing signal d
+    → DeviceStandsAt d (record standing { legs = with_signal standing.legs signal })
+led standing Start d other leads = leads
+led standing (Byte b) d other leads = leads
+led standing Ask d other leads = leads
+led standing Ack d other leads = leads
+led standing Nack d other leads = leads
+led standing Stop d other leads = absurd (other refl)
+
+-- Behind a signal other than STOP all devices stand behind it.
+pub all_stand_behind : (legs : Legs) (signal : HostSignal) → signal ≢ Stop → (devices : List Device) (members : List InState) (results : List DeviceSignal)
+    → AllMoved legs signal devices members results → AllStand (with_signal legs signal) devices members
+all_stand_behind legs signal other [] [] [] all = tt
+all_stand_behind legs signal other [] [] (result ∷ results) all = absurd all
+all_stand_behind legs signal other [] (member ∷ members) results all = absurd all
+all_stand_behind legs signal other (d ∷ devices) [] results all = absurd all
+all_stand_behind legs signal other (d ∷ devices) (member ∷ members) [] all = absurd all
+all_stand_behind legs signal other (d ∷ devices) (member ∷ members) (result ∷ results) all = (
+  led (record { device = member.device; state = member.state; legs = legs }) signal d other all.0.leads,
+  all_stand_behind legs signal other devices members results all.1,
+)
+
+-- What STOP makes of all devices.
+pub record Ended (legs : Legs) (devices : List Device) (members : List InState) : Type 0 where
+  pub news : List InState
+  pub ends : AllEnd legs members news
+  pub stand : AllStand Outside devices news
+  pub same : map (λ m. m.device) news ≡ map (λ m. m.device) members
+
+pub all_end : (legs : Legs) (devices : List Device) (members : List InState) (results : List DeviceSignal)
+    → AllMoved legs Stop devices members results → Ended legs devices members
+all_end legs [] [] [] all = record { news = []; ends = tt; stand = tt; same = refl }
+all_end legs [] [] (result ∷ results) all = absurd all
+all_end legs [] (member ∷ members) results all = absurd all
+all_end legs (d ∷ devices) [] results all = absurd all
+all_end legs (d ∷ devices) (member ∷ members) [] all = absurd all
+all_end legs (d ∷ devices) (member ∷ members) (result ∷ results) all =
+    let leads = all.0.leads in
+    let more = all_end legs devices members results all.1 in
+    record {
+      news = record { device = member.device; state = leads.0 } ∷ more.news;
+      ends = (refl, leads.1, more.ends);
+      stand = (leads.2, more.stand);
+      same = ap (λ (ds : List DeviceParts). member.device ∷ ds) more.same;
+    }
+
+-- ---- one device more
+
+pub stand_more : (legs : Legs) (devices : List Device) (members : List InState) (d : Device) (member : InState) → AllStand legs devices members
+    → DeviceStandsAt d (record { device = member.device; state = member.state; legs = legs }) → AllStand legs (devices ++ d ∷ []) (members ++ member ∷ [])
+stand_more legs [] [] d member all one = (one, tt)
+stand_more legs [] (m ∷ members) d member all one = absurd all
+stand_more legs (first ∷ devices) [] d member all one = absurd all
+stand_more legs (first ∷ devices) (m ∷ members) d member all one = (all.0, stand_more legs devices members d member all.1 one)

@@ -1,0 +1,90 @@
+-- What a signal comes to on a bus.
+use Rattle.std.proofs.Common.{◌≡◌, ◌≢◌, List, [], ◌∷◌, ◌++◌, map, nat_eq, refl, sym, subst, ◌∙◌}
+use Rattle.std.specs.List.{Contains, IsDistinct}
+use Rattle.pmb_bus.specs.declared.event.Event.TheVariants as wire
+use Rattle.pmb_command.specs.Bus.{IsBus}
+use Rattle.pmb_command.specs.Parts.{DeviceParts}
+use Rattle.pmb_transaction.specs.Packet.{Packet}
+use Rattle.pmb_transaction.specs.Transaction.{TransactionData}
+use Rattle.pmb_registers.specs.State.{DeviceState, InState}
+use Rattle.pmb_registers.specs.Apply.{apply}
+use Rattle.pmb_device.specs.declared.signal.HostSignal.{HostSignal}
+use Rattle.pmb_device.specs.declared.signal.HostSignal.TheVariants.{Start, Byte, Ask, Ack, Nack, Stop}
+use Rattle.pmb_device.specs.declared.signal.DeviceSignal.{DeviceSignal}
+use Rattle.pmb_device.specs.Legs.{Legs, Outside}
+use Rattle.pmb_device.specs.Ends.{Ends}
+use Rattle.pmb_devices.specs.declared.bus.Bus.{Bus}
+use Rattle.pmb_devices.specs.Bus.{AreAnswered, BusAnswers, Exchange, events_of, legs_after}
+use Rattle.pmb_devices.specs.Signal.{BusEnds, BusLeads, BusStandsAt, BusStanding, BusTakes, behind}
+use Rattle.pmb_devices.specs.machine.Standing.{AllStand}
+use Rattle.pmb_devices.specs.machine.Hands.{HandsOn}
+use Rattle.pmb_devices.proofs.Behind.{all_end, all_stand_behind, answered_behind, legs_behind}
+use Rattle.pmb_devices.proofs.Loud.{bus_answers}
+use Rattle.pmb_devices.proofs.Runs.{all_are_applied}
+
+-- what a transaction's packet makes of each device
+abbrev pub AreApplied : Type 0
+AreApplied = (profile : List DeviceParts) (members : List InState) (history : List Exchange) (t : TransactionData)
+    (member : InState) (after : DeviceState) → IsBus profile → map (λ m. m.device) members ≡ profile
+    → AreAnswered members Outside history → Packet profile t (events_of history ++ wire.Stop ∷ [])
+    → Contains members member → Ends member.device (legs_after Outside history) member.state after
+    → after ≡ apply member.device t member.state
+
+module _ (bus new : Bus) (same : new.profile.now ≡ bus.profile.now) (standing : BusStanding) (at : BusStandsAt bus standing) where
+  own_addresses : IsDistinct nat_eq (map (λ d. d.address) (map (λ m. m.device) standing.members))
+  own_addresses = subst (λ (ds : List DeviceParts). IsDistinct nat_eq (map (λ d. d.address) ds)) (sym at.profile) at.accepted.own_addresses
+
+  -- the answer on the bus
+  answers_are : (signal : HostSignal) (result : DeviceSignal) → HandsOn (legs_after Outside standing.history) signal standing.members result new.devices.items
+      → BusAnswers standing.members (legs_after Outside standing.history) signal result
+  answers_are signal result handed =
+      subst (BusAnswers standing.members (legs_after Outside standing.history) signal) (sym handed.last)
+      (bus_answers (legs_after Outside standing.history) signal new.devices.items standing.members handed.results own_addresses handed.moved)
+
+  -- where a signal other than STOP leads
+  goes_on : (signal : HostSignal) (result : DeviceSignal) → signal ≢ Stop
+      → HandsOn (legs_after Outside standing.history) signal standing.members result new.devices.items → BusStandsAt new (behind standing signal result)
+  goes_on signal result other handed =
+      let next : Exchange = record { signal = signal; result = result } in
+      record {
+        accepted = subst IsBus (sym same) at.accepted;
+        profile = at.profile ∙ sym same;
+        devices = subst (λ (legs : Legs). AllStand legs new.devices.items standing.members) (sym (legs_behind Outside standing.history next))
+            (all_stand_behind (legs_after Outside standing.history) signal other new.devices.items standing.members handed.results handed.moved);
+        answered = answered_behind standing.members Outside standing.history next at.answered other (answers_are signal result handed);
+      }
+
+  -- and where STOP does
+  ends_so : (result : DeviceSignal) → AreApplied → HandsOn (legs_after Outside standing.history) Stop standing.members result new.devices.items → BusEnds standing new
+  ends_so result applied handed =
+      let ended = all_end (legs_after Outside standing.history) new.devices.items standing.members handed.results handed.moved in
+      record {
+        members = ended.news;
+        ends = ended.ends;
+        stands = record {
+          accepted = subst IsBus (sym same) at.accepted;
+          profile = ended.same ∙ at.profile ∙ sym same;
+          devices = ended.stand;
+          answered = tt;
+        };
+        applied = λ t packet.
+            all_are_applied t (legs_after Outside standing.history) standing.members ended.news ended.ends
+            (λ member after inside ends.
+            applied (map (λ m. m.device) standing.members) standing.members standing.history t member after
+            (subst IsBus (sym at.profile) at.accepted) refl at.answered packet inside ends);
+      }
+
+  leads_so : (signal : HostSignal) (result : DeviceSignal) → AreApplied
+      → HandsOn (legs_after Outside standing.history) signal standing.members result new.devices.items → BusLeads standing signal result new
+  leads_so Start result applied handed = goes_on Start result (λ is. cc is) handed
+  leads_so (Byte b) result applied handed = goes_on (Byte b) result (λ is. cc is) handed
+  leads_so Ask result applied handed = goes_on Ask result (λ is. cc is) handed
+  leads_so Ack result applied handed = goes_on Ack result (λ is. cc is) handed
+  leads_so Nack result applied handed = goes_on Nack result (λ is. cc is) handed
+  leads_so Stop result applied handed = ends_so result applied handed
+
+  pub takes : (signal : HostSignal) (told result : DeviceSignal) → told ≡ result → AreApplied
+      → HandsOn (legs_after Outside standing.history) signal standing.members result new.devices.items → BusTakes standing signal told new
+  takes signal told result is applied handed =
+      subst (λ (r : DeviceSignal). BusTakes standing signal r new) (sym is)
+      (record { answers = answers_are signal result handed; leads = leads_so signal result applied handed })

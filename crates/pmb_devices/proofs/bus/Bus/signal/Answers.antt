@@ -1,0 +1,23 @@
+use Rattle.std.proofs.Common.{List, refl, sym, ap, subst, arith}
+use Rattle.std.specs.Vec.{with_items}
+use Rattle.std.proofs.lemmas.List.{with_items_is}
+use Rattle.pmb_device.specs.declared.device.Device.{Device}
+use Rattle.pmb_device.specs.Legs.{Outside}
+use Rattle.pmb_devices.specs.declared.bus.Bus.{Bus}
+use Rattle.pmb_devices.specs.Bus.{legs_after}
+use Rattle.pmb_devices.specs.Recorded.{RecordedData}
+use Rattle.pmb_devices.specs.machine.Standing.{AllStand}
+use Rattle.pmb_devices.specs.machine.Hands.{HandsOn}
+use Rattle.pmb_devices.proofs.Signals.{takes}
+use Rattle.pmb_devices.proofs.bus.Bus.signal.Goals as goal
+
+pub returns-clause-takes : goal.returns-clause-takes
+returns-clause-takes c = λ standing at.
+    let legs = legs_after Outside standing.history in
+    let stand = subst (λ (devices : List Device). AllStand legs devices standing.members) (sym c.as_mut_slice.ensures.value) at.devices in
+    let handed = c.hand_on-answer.ensures legs standing.members stand in
+    let items = with_items_is c.args.self.now.devices c.hand_on-answer.new.devices (omega arith) in
+    let new : Bus = record { profile = c.args.self.now.profile; devices = with_items c.args.self.now.devices c.hand_on-answer.new.devices } in
+    takes c.args.self.now new refl standing at c.args.signal c.new.result.result c.hand_on-answer.result
+    (ap (λ (r : RecordedData). r.result) c.new.ensures) c.transactions_are_applied.ensures
+    (subst (HandsOn legs c.args.signal standing.members c.hand_on-answer.result) (sym items) handed)

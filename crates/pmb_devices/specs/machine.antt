@@ -1,0 +1,3 @@
+-- What the fields of a bus say of where it stands.
+pub mod Standing
+pub mod Hands

@@ -1,0 +1,30 @@
+-- What the devices of a bus say of where it stands.
+use Rattle.std.specs.Prelude.{◌≡◌, List, [], ◌∷◌, map}
+use Rattle.pmb_command.specs.Bus.{IsBus}
+use Rattle.pmb_registers.specs.State.{InState}
+use Rattle.pmb_device.specs.declared.device.Device.{Device}
+use Rattle.pmb_device.specs.Legs.{Legs, Outside}
+use Rattle.pmb_device.specs.Device.{DeviceStandsAt}
+use Rattle.pmb_devices.specs.declared.bus.Bus.{Bus}
+use Rattle.pmb_devices.specs.Bus.{AreAnswered, Exchange, legs_after}
+
+-- Each device with its state at the last STOP, or its first one; and each signal since then, with the
+-- answer to it.
+pub record BusStanding : Type 0 where
+  pub members : List InState
+  pub history : List Exchange
+
+-- Each device stands behind these legs, in its own state.
+abbrev pub AllStand : Legs → List Device → List InState → Type 0
+AllStand legs [] [] = Unit {0}
+AllStand legs [] (member ∷ members) = ⊥
+AllStand legs (d ∷ devices) [] = ⊥
+AllStand legs (d ∷ devices) (member ∷ members) =
+    DeviceStandsAt d (record { device = member.device; state = member.state; legs = legs }) × AllStand legs devices members
+
+-- A bus stands there.
+pub record BusStandsAt (bus : Bus) (standing : BusStanding) : Type 0 where
+  pub accepted : IsBus bus.profile.now
+  pub profile : map (λ member. member.device) standing.members ≡ bus.profile.now
+  pub devices : AllStand (legs_after Outside standing.history) bus.devices.items standing.members
+  pub answered : AreAnswered standing.members Outside standing.history

@@ -1,0 +1,105 @@
+//! A bus of devices.
+//!
+//! Each signal of the host is given to each device. At most one of them is not silent, since no two
+//! have one address: its answer is the one on the bus.
+
+ghost use Rattle.std.specs.Prelude.{◌≡◌, ℕ, ◌+◌, ◌<◌, List, [], IfOk, MatchOption, OnOk, length, take};
+ghost use Rattle.pmb_registers.specs.State.{InState};
+ghost use Rattle.pmb_device.specs.Legs.{Legs, Outside};
+ghost use Rattle.pmb_devices.specs.Bus.{recorded};
+ghost use Rattle.pmb_devices.specs.Runs.{first_members};
+ghost use Rattle.pmb_devices.specs.Signal.{BusStanding, BusStandsAt, BusTakes, HasNone, Tells};
+ghost use Rattle.pmb_devices.specs.machine.Standing.{AllStand};
+ghost use Rattle.pmb_devices.specs.machine.Hands.{HandsOn, or_else};
+
+use crate::laws::transactions_are_applied;
+use crate::recorded::Recorded;
+use pmb_device::{Device, DeviceSignal, HostSignal};
+use pmb_table::Profile;
+use pmb_table::laws::accepted_bus;
+use std::alloc::{AllocError, Global};
+
+/// The simulated devices of a profile on one bus.
+#[derive(Drop)]
+pub struct Bus<'p> {
+    profile: &'p Profile,
+    /// The devices, in the profile's order.
+    devices: Vec<Device<'p>>,
+}
+
+/// One answer, or, where that is silence, another one.
+fn or_else(answer: DeviceSignal, other: DeviceSignal) -> DeviceSignal
+    ensures { result ≡ or_else answer other }
+{
+    match answer {
+        DeviceSignal::Silent => other,
+        DeviceSignal::Ack | DeviceSignal::Nack | DeviceSignal::Byte(_) => answer,
+    }
+}
+
+/// Gives a signal to each device, and returns the last answer that is not silence.
+fn hand_on(devices: &mut [Device<'_>], signal: HostSignal) -> DeviceSignal
+    ensures { (legs : Legs) (members : List InState) → AllStand legs devices.old members → HandsOn legs signal members result devices.new }
+{
+    let mut answer = DeviceSignal::Silent;
+    for device in devices.iter_mut() {
+        answer = or_else(device.on(signal), answer);
+    }
+    answer
+}
+
+/// Adds the device at a place of the profile.
+fn add_device<'p>(
+    devices: &mut Vec<Device<'p>>,
+    alloc: Global,
+    profile: &'p Profile,
+    i: usize,
+) -> Result<(), AllocError>
+    requires { i < length profile.now }
+    ensures { AllStand Outside devices.old.items (first_members (take i profile.now))
+        → OnOk result (AllStand Outside devices.new.items (first_members (take (i + 1) profile.now))) }
+{
+    if let Some(device) = profile.device_at(i) {
+        devices.push(Device::new(alloc, device)?)?;
+    }
+    Ok(())
+}
+
+impl<'p> Bus<'p> {
+    /// A bus of the devices of a profile, each in its first state. It takes all memory that the
+    /// devices will ever need; where an allocation is refused nothing was made.
+    pub fn new(alloc: Global, profile: &'p Profile) -> Result<Self, AllocError>
+        ensures { IfOk result (λ bus. BusStandsAt bus (record { members = first_members profile.now; history = [] })) }
+    {
+        accepted_bus(profile);
+        let mut devices = Vec::with_capacity(alloc, profile.len())?;
+        for i in 0..profile.len() {
+            add_device(&mut devices, alloc, profile, i)?;
+        }
+        Ok(Bus { profile, devices })
+    }
+
+    /// Gives a signal to each device, and records it with the answer on the bus. At STOP each device
+    /// does what its own leg asks for.
+    pub fn signal(&mut self, signal: HostSignal) -> Recorded
+        ensures events { result.events ≡ recorded signal result.result }
+        ensures takes { (standing : BusStanding) → BusStandsAt self.old standing → BusTakes standing signal result.result self.new }
+    {
+        transactions_are_applied();
+        let answer = hand_on(self.devices.as_mut_slice(), signal);
+        Recorded::new(signal, answer)
+    }
+
+    /// The device with an address.
+    pub fn device(&self, address: u8) -> Option<&Device<'p>>
+        ensures { (standing : BusStanding) → BusStandsAt self.now standing
+            → MatchOption result (HasNone standing address) (λ device. Tells standing address device.now) }
+    {
+        for device in self.devices.iter() {
+            if device.address() == address {
+                return Some(device);
+            }
+        }
+        None
+    }
+}
