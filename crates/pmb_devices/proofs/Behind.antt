@@ -1,5 +1,5 @@
 -- Where a bus stands behind one signal more.
-use Rattle.std.proofs.Common.{◌≡◌, ◌≢◌, List, [], ◌∷◌, ◌++◌, map, refl, ap}
+use Rattle.std.proofs.Common.{subst, ◌≡◌, ◌≢◌, List, [], ◌∷◌, ◌++◌, map, refl, ap}
 use Rattle.pmb_command.specs.Parts.{DeviceParts}
 use Rattle.pmb_registers.specs.State.{InState}
 use Rattle.pmb_device.specs.declared.signal.HostSignal.{HostSignal}
@@ -9,7 +9,7 @@ use Rattle.pmb_device.specs.declared.device.Device.{Device}
 use Rattle.pmb_device.specs.Legs.{Legs, Outside, with_signal}
 use Rattle.pmb_device.specs.Device.{DeviceStanding, DeviceStandsAt, Leads}
 use Rattle.pmb_devices.specs.Bus.{AreAnswered, BusAnswers, Exchange, legs_after}
-use Rattle.pmb_devices.specs.Runs.{AllEnd}
+use Rattle.pmb_devices.specs.Runs.{AllEnd, Runs}
 use Rattle.pmb_devices.specs.machine.Standing.{AllStand}
 use Rattle.pmb_devices.specs.machine.Hands.{AllMoved}
 
@@ -84,3 +84,14 @@ stand_more legs [] [] d member all one = (one, tt)
 stand_more legs [] (m ∷ members) d member all one = absurd all
 stand_more legs (first ∷ devices) [] d member all one = absurd all
 stand_more legs (first ∷ devices) (m ∷ members) d member all one = (all.0, stand_more legs devices members d member all.1 one)
+
+-- ---- one stretch more
+
+pub runs_more : (members : List InState) (past : List (List Exchange)) (now : List InState) (stretch : List Exchange) (next : List InState)
+    → Runs members past now → AreAnswered now Outside stretch → AllEnd (legs_after Outside stretch) now next → Runs members (past ++ stretch ∷ []) next
+runs_more members [] now stretch next runs answered ends =
+    let here : AreAnswered members Outside stretch = subst (λ (ms : List InState). AreAnswered ms Outside stretch) runs answered in
+    let there : AllEnd (legs_after Outside stretch) members next = subst (λ (ms : List InState). AllEnd (legs_after Outside stretch) ms next) runs ends in
+    (here, (next, there, refl))
+runs_more members (first ∷ past) now stretch next runs answered ends =
+    (runs.0, (runs.1.0, runs.1.1, runs_more runs.1.0 past now stretch next runs.1.2 answered ends))

@@ -19,7 +19,7 @@ nat_eq_flips a b other = ne_eqb b a (λ same. eqb-false a b other (sym same))
 -- ---- one address, one device
 
 -- a number that is the address of none of some members
-other_at : (a : ℕ) (members : List InState) (k : ℕ) (member : InState)
+pub other_at : (a : ℕ) (members : List InState) (k : ℕ) (member : InState)
     → AllByRecursion (λ b. nat_eq a b ≡ false) (map (λ d. d.address) (map (λ m. m.device) members))
     → k < length members → get_or members k member ≡ member → nat_eq a member.device.address ≡ false
 other_at a [] k member each small is = absurd (omega arith)

@@ -13,3 +13,11 @@ pub mod Loud
 pub mod Behind
 pub mod Signals
 pub mod Members
+pub mod Commands
+pub mod FirstStates
+pub mod AskedBytes
+pub mod FittingStates
+pub mod ReplyForms
+pub mod ReplyGivers
+pub mod Answering
+pub mod RunStates

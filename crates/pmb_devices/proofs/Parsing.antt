@@ -31,7 +31,7 @@ given_no_stop answers.Nack is = cc is
 given_no_stop (answers.Byte b) is = cc is
 
 -- as a byte only where a device gave that byte
-given_byte : (result : DeviceSignal) (b : ℕ) → given result ≡ wire.Byte b → result ≡ answers.Byte b
+pub given_byte : (result : DeviceSignal) (b : ℕ) → given result ≡ wire.Byte b → result ≡ answers.Byte b
 given_byte answers.Silent b is = absurd (cc is)
 given_byte answers.Ack b is = absurd (cc is)
 given_byte answers.Nack b is = absurd (cc is)
@@ -45,7 +45,7 @@ acknowledged_is answers.Nack is = absurd (cc is)
 acknowledged_is (answers.Byte b) is = absurd (cc is)
 
 -- events behind one of which none is START
-no_start_behind : (event : Event) (more : List Event) → has_start (event ∷ more) ≡ false → has_start more ≡ false
+pub no_start_behind : (event : Event) (more : List Event) → has_start (event ∷ more) ≡ false → has_start more ≡ false
 no_start_behind wire.Start more none = absurd (cc none)
 no_start_behind (wire.Byte b) more none = none
 no_start_behind wire.Ack more none = none

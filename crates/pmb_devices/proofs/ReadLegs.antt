@@ -23,7 +23,7 @@ use Rattle.pmb_devices.proofs.Parsing.{Stands, acknowledged_is, at_stop, closed,
 use Rattle.pmb_devices.proofs.Writes.{by_test, other_written}
 
 -- none of the bytes of a reply is START
-no_start_nacked : (bytes : List ℕ) → has_start (nacked bytes ++ wire.Stop ∷ []) ≡ false
+pub no_start_nacked : (bytes : List ℕ) → has_start (nacked bytes ++ wire.Stop ∷ []) ≡ false
 no_start_nacked [] = refl
 no_start_nacked (b ∷ []) = refl
 no_start_nacked (b ∷ c ∷ bytes) = no_start_nacked (c ∷ bytes)

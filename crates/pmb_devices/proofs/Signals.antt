@@ -15,10 +15,11 @@ use Rattle.pmb_device.specs.Legs.{Legs, Outside}
 use Rattle.pmb_device.specs.Ends.{Ends}
 use Rattle.pmb_devices.specs.declared.bus.Bus.{Bus}
 use Rattle.pmb_devices.specs.Bus.{AreAnswered, BusAnswers, Exchange, events_of, legs_after}
+use Rattle.pmb_devices.specs.Runs.{Runs, first_members}
 use Rattle.pmb_devices.specs.Signal.{BusEnds, BusLeads, BusStandsAt, BusStanding, BusTakes, behind}
 use Rattle.pmb_devices.specs.machine.Standing.{AllStand}
 use Rattle.pmb_devices.specs.machine.Hands.{HandsOn}
-use Rattle.pmb_devices.proofs.Behind.{all_end, all_stand_behind, answered_behind, legs_behind}
+use Rattle.pmb_devices.proofs.Behind.{all_end, all_stand_behind, answered_behind, legs_behind, runs_more}
 use Rattle.pmb_devices.proofs.Loud.{bus_answers}
 use Rattle.pmb_devices.proofs.Runs.{all_are_applied}
 
@@ -33,6 +34,10 @@ AreApplied = (profile : List DeviceParts) (members : List InState) (history : Li
 module _ (bus new : Bus) (same : new.profile.now ≡ bus.profile.now) (standing : BusStanding) (at : BusStandsAt bus standing) where
   own_addresses : IsDistinct nat_eq (map (λ d. d.address) (map (λ m. m.device) standing.members))
   own_addresses = subst (λ (ds : List DeviceParts). IsDistinct nat_eq (map (λ d. d.address) ds)) (sym at.profile) at.accepted.own_addresses
+
+  -- the profile stays
+  runs_so : (past : List (List Exchange)) (members : List InState) → Runs (first_members bus.profile.now) past members → Runs (first_members new.profile.now) past members
+  runs_so past members runs = subst (λ (ds : List DeviceParts). Runs (first_members ds) past members) (sym same) runs
 
   -- the answer on the bus
   answers_are : (signal : HostSignal) (result : DeviceSignal) → HandsOn (legs_after Outside standing.history) signal standing.members result new.devices.items
@@ -49,6 +54,7 @@ module _ (bus new : Bus) (same : new.profile.now ≡ bus.profile.now) (standing 
       record {
         accepted = subst IsBus (sym same) at.accepted;
         profile = at.profile ∙ sym same;
+        runs = runs_so standing.past standing.members at.runs;
         devices = subst (λ (legs : Legs). AllStand legs new.devices.items standing.members) (sym (legs_behind Outside standing.history next))
             (all_stand_behind (legs_after Outside standing.history) signal other new.devices.items standing.members handed.results handed.moved);
         answered = answered_behind standing.members Outside standing.history next at.answered other (answers_are signal result handed);
@@ -64,6 +70,8 @@ module _ (bus new : Bus) (same : new.profile.now ≡ bus.profile.now) (standing 
         stands = record {
           accepted = subst IsBus (sym same) at.accepted;
           profile = ended.same ∙ at.profile ∙ sym same;
+          runs = runs_so (standing.past ++ standing.history ∷ []) ended.news
+              (runs_more (first_members bus.profile.now) standing.past standing.members standing.history ended.news at.runs at.answered ended.ends);
           devices = ended.stand;
           answered = tt;
         };

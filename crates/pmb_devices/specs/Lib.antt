@@ -1,5 +1,6 @@
 pub mod Bus
 pub mod Runs
+pub mod Replies
 pub mod Recorded
 pub mod Signal
 pub mod machine

@@ -1,7 +1,8 @@
 -- What a bus answers to a signal, and what it makes of its devices.
 --
 -- `BusStandsAt bus standing` says where a bus stands that was made from a profile and given some signals
--- since. What this says of the fields is in `machine`, and nothing here needs it to be understood.
+-- since: `standing` has all of them, with their answers. What this says of the fields is in `machine`, and
+-- nothing here needs it to be understood.
 use Rattle.std.specs.Prelude.{◌≡◌, ◌≢◌, ℕ, List, [], ◌∷◌, ◌++◌, map}
 use Rattle.std.specs.List.{AllByRecursion, Contains}
 use Rattle.pmb_bus.specs.declared.event.Event.TheVariants as events
@@ -29,7 +30,7 @@ all_applied t members = map (λ member. record { device = member.device; state =
 pub record BusEnds (standing : BusStanding) (new : Bus) : Type 0 where
   pub members : List InState
   pub ends : AllEnd (legs_after Outside standing.history) standing.members members
-  pub stands : BusStandsAt new (record { members = members; history = [] })
+  pub stands : BusStandsAt new (record { past = standing.past ++ standing.history ∷ []; members = members; history = [] })
   pub applied : (t : TransactionData)
       → Packet (map (λ member. member.device) standing.members) t (events_of standing.history ++ events.Stop ∷ [])
       → members ≡ all_applied t standing.members

@@ -69,7 +69,7 @@ impl<'p> Bus<'p> {
     /// A bus of the devices of a profile, each in its first state. It takes all memory that the
     /// devices will ever need; where an allocation is refused nothing was made.
     pub fn new(alloc: Global, profile: &'p Profile) -> Result<Self, AllocError>
-        ensures { IfOk result (λ bus. BusStandsAt bus (record { members = first_members profile.now; history = [] })) }
+        ensures { IfOk result (λ bus. BusStandsAt bus (record { past = []; members = first_members profile.now; history = [] })) }
     {
         accepted_bus(profile);
         let mut devices = Vec::with_capacity(alloc, profile.len())?;

@@ -16,6 +16,7 @@
 
 mod bus;
 pub mod laws;
+pub mod laws_on_replies;
 mod recorded;
 
 pub use bus::Bus;

@@ -7,10 +7,12 @@ use Rattle.pmb_device.specs.Legs.{Legs, Outside}
 use Rattle.pmb_device.specs.Device.{DeviceStandsAt}
 use Rattle.pmb_devices.specs.declared.bus.Bus.{Bus}
 use Rattle.pmb_devices.specs.Bus.{AreAnswered, Exchange, legs_after}
+use Rattle.pmb_devices.specs.Runs.{Runs, first_members}
 
--- Each device with its state at the last STOP, or its first one; and each signal since then, with the
--- answer to it.
+-- What a bus went through since it was made: the stretches that STOP ended, each device with its state at
+-- the last STOP, or its first one, and each signal since then, with the answer to it.
 pub record BusStanding : Type 0 where
+  pub past : List (List Exchange)
   pub members : List InState
   pub history : List Exchange
 
@@ -26,5 +28,6 @@ AllStand legs (d ∷ devices) (member ∷ members) =
 pub record BusStandsAt (bus : Bus) (standing : BusStanding) : Type 0 where
   pub accepted : IsBus bus.profile.now
   pub profile : map (λ member. member.device) standing.members ≡ bus.profile.now
+  pub runs : Runs (first_members bus.profile.now) standing.past standing.members
   pub devices : AllStand (legs_after Outside standing.history) bus.devices.items standing.members
   pub answered : AreAnswered standing.members Outside standing.history

@@ -1,4 +1,4 @@
-use Rattle.std.proofs.Common.{List, subst, arith}
+use Rattle.std.proofs.Common.{refl, List, subst, arith}
 use Rattle.std.proofs.lemmas.List.{take_all}
 use Rattle.pmb_command.specs.Parts.{DeviceParts}
 use Rattle.pmb_device.specs.Legs.{Outside}
@@ -11,6 +11,7 @@ pub returns : goal.returns
 returns c = record {
   accepted = c.accepted_bus.ensures;
   profile = first_devices c.args.profile.now;
+  runs = refl;
   devices = subst (λ (ds : List DeviceParts). AllStand Outside c.loop-i.devices.items (first_members ds))
       (take_all c.loop-i.i c.args.profile.now (omega (arith, c.len-i-end.ensures.len, c.loop-i-test.false))) c.loop-i.invariant;
   answered = tt;
