@@ -9,7 +9,7 @@ use Rattle.pmb_device.specs.declared.signal.HostSignal.TheVariants.{Ack, Nack}
 use Rattle.pmb_leg.specs.declared.place.LegPlace.{LegPlace}
 use Rattle.pmb_leg.specs.declared.place.LegPlace.TheVariants.{First, Later}
 use Rattle.pmb_bus.specs.Address.{write_address}
-use Rattle.pmb_device.specs.Legs.{Leg, Legs, Outside, Inside, is_to, place_behind, with_other, with_start}
+use Rattle.pmb_device.specs.Legs.{Leg, Legs, Outside, Inside, is_to, leg_place, with_other, with_start}
 use Rattle.pmb_device.specs.machine.Standing.{InLeg, Kept, OwnIsIn, StandsIn, is_behind_own, is_own_first, kept, none, under_way}
 use Rattle.pmb_device.proofs.Owns.{or_nothing, own_at_start, own_is}
 use Rattle.pmb_device.proofs.Signals.{sent_same}
@@ -78,12 +78,12 @@ own_in phases.Written x device state earlier leg is = under_way is.bytes is.own
 
 -- whether the first leg is its own
 own_first : (device : DeviceParts) (state : DeviceState) (k : Kept) (earlier : List Leg) (leg : Leg) → OwnIsIn device state k earlier leg
-    → is_own_first (place_behind earlier) k.own ≡ is_behind_own device (earlier ++ leg ∷ [])
+    → is_own_first (leg_place earlier) k.own ≡ is_behind_own device (earlier ++ leg ∷ [])
 own_first device state k [] leg own = own_is device state k [] leg own ∙ sym (or_nothing (is_to (write_address device.address) leg))
 own_first device state k (first ∷ []) leg own = refl
 own_first device state k (first ∷ second ∷ earlier) leg own = refl
 
-later_behind : (earlier : List Leg) (leg : Leg) → Later ≡ place_behind (earlier ++ leg ∷ [])
+later_behind : (earlier : List Leg) (leg : Leg) → Later ≡ leg_place (earlier ++ leg ∷ [])
 later_behind [] leg = refl
 later_behind (first ∷ earlier) leg = refl
 

@@ -14,7 +14,7 @@ use Rattle.pmb_device.specs.declared.exchange.Heard.TheVariants as heard
 use Rattle.pmb_device.specs.declared.signal.HostSignal.TheVariants.{Byte}
 use Rattle.pmb_device.specs.declared.signal.DeviceSignal.{DeviceSignal}
 use Rattle.pmb_device.specs.declared.signal.DeviceSignal.TheVariants as answered
-use Rattle.pmb_device.specs.Legs.{Leg, Legs, Outside, Inside, is_to, place_behind, sent, some_is_to}
+use Rattle.pmb_device.specs.Legs.{Leg, Legs, Outside, Inside, is_to, leg_place, sent, some_is_to}
 use Rattle.pmb_device.specs.Rules.{AnswersAddress, AnswersByte, IsRead, IsWritten, others, written}
 use Rattle.pmb_device.specs.machine.Standing.{AtStart, InDeaf, InLeg, Kept, OwnIsIn, StandsIn, ended, is_behind_own, kept, no_answer, no_reply, none, under_way}
 use Rattle.pmb_device.specs.Exchange.{Hears}
@@ -130,7 +130,7 @@ hears_own x leg_after phase own leg_is device state (Inside earlier leg) stands 
     let byte = write_address x.device.now.address in
     let to_own : byte ≡ write_address device.address = ap (λ (d : DeviceParts). write_address d.address) stands.known in
     let once : some_is_to (write_address device.address) earlier ≡ false = sym (own_here device state (kept x) earlier leg at.nothing at.own) ∙ own in
-    let fresh : Written = record { device = device; place = place_behind earlier; bytes = [] } in
+    let fresh : Written = record { device = device; place = leg_place earlier; bytes = [] } in
     let is : leg_after ≡ fresh =
     leg_is ∙ ap (λ (d : DeviceParts). let l : Written = record { device = d; place = x.place; bytes = [] } in l) stands.known
     ∙ ap (λ (p : LegPlace). let l : Written = record { device = device; place = p; bytes = [] } in l) stands.behind.0 in (

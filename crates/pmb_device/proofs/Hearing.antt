@@ -9,7 +9,7 @@ use Rattle.pmb_device.specs.declared.exchange.Exchange.{Exchange}
 use Rattle.pmb_device.specs.declared.exchange.Heard.TheVariants as heard
 use Rattle.pmb_device.specs.declared.signal.HostSignal.TheVariants.{Byte}
 use Rattle.pmb_device.specs.declared.signal.DeviceSignal.TheVariants as answered
-use Rattle.pmb_device.specs.Legs.{Leg, Legs, Outside, Inside, behind_address, place_behind, sent}
+use Rattle.pmb_device.specs.Legs.{Leg, Legs, Outside, Inside, behind_address, leg_place, sent}
 use Rattle.pmb_device.specs.Rules.{AnswersByte, IsRead, IsWritten, TakesAll}
 use Rattle.pmb_device.specs.machine.Standing.{HasGiven, InDeaf, InLeg, InReply, IsAddressed, IsMute, IsReplied, Kept, StandsIn, no_reply, reply_ended}
 use Rattle.pmb_device.specs.Exchange.{Hears}
@@ -23,14 +23,14 @@ module _ (device : DeviceParts) (state : DeviceState) where
 
   -- the leg is written to the device, and not all bytes were taken
   abbrev Unheard : List Leg → ℕ → List ℕ → Type 0
-  Unheard earlier address bytes = Whether (IsWritten device earlier address) (TakesAll device (place_behind earlier) [] bytes → ⊥) (Unit {0})
+  Unheard earlier address bytes = Whether (IsWritten device earlier address) (TakesAll device (leg_place earlier) [] bytes → ⊥) (Unit {0})
 
   unheard_more : (earlier : List Leg) (address : ℕ) (bytes : List ℕ) (byte : ℕ) → Unheard earlier address bytes → Unheard earlier address (bytes ++ byte ∷ [])
-  unheard_more earlier address bytes byte (inl w) = inl (w.0, λ all. w.1 (front_taken device (place_behind earlier) [] bytes (byte ∷ []) all))
+  unheard_more earlier address bytes byte (inl w) = inl (w.0, λ all. w.1 (front_taken device (leg_place earlier) [] bytes (byte ∷ []) all))
   unheard_more earlier address bytes byte (inr w) = inr w
 
   not_taken : (earlier : List Leg) (address : ℕ) (bytes : List ℕ) → Unheard earlier address bytes → IsWritten device earlier address
-      → TakesAll device (place_behind earlier) [] bytes → ⊥
+      → TakesAll device (leg_place earlier) [] bytes → ⊥
   not_taken earlier address bytes (inl w) is = w.1
   not_taken earlier address bytes (inr w) is = absurd (w.0 is)
 

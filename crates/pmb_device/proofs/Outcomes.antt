@@ -10,7 +10,7 @@ use Rattle.pmb_registers.specs.Apply.{after_write, with_bit, with_noted}
 use Rattle.pmb_device.specs.declared.exchange.Phase.{Phase}
 use Rattle.pmb_device.specs.declared.exchange.Phase.TheVariants as phases
 use Rattle.pmb_device.specs.declared.exchange.Exchange.{Exchange}
-use Rattle.pmb_device.specs.Legs.{Leg, Legs, Outside, Inside, is_to, place_behind, some_is_to}
+use Rattle.pmb_device.specs.Legs.{Leg, Legs, Outside, Inside, is_to, leg_place, some_is_to}
 use Rattle.pmb_device.specs.Rules.{TakesAll}
 use Rattle.pmb_device.specs.Ends.{Acts, Ends, LegsEnd, NotesAnswer, OwnLegEnds, ReadOrActs, Refuses, asked, no_leg, no_write, not_asked, own_leg, writes}
 use Rattle.pmb_device.specs.machine.Standing.{AllTaken, BytesAre, HasToAnswer, InLeg, IsOwn, Kept, Notes, OwnIsIn, StandsIn, answers, ended, head_is_to, kept, no_answer, none, under_way}
@@ -67,9 +67,9 @@ module _ (device : DeviceParts) (state : DeviceState) where
   body_ends false k before bytes behind after refused read acts all =
       inl (all.taken, taken_ends k before bytes behind after (some_is_to (read_address device.address) behind) (read refl) (λ never. acts refl never all) all)
   body_ends true k before bytes behind after refused read acts w =
-      let never : TakesAll device (place_behind before) [] bytes → ⊥ =
-      λ taken. w.refused (taken_at device (place_behind before) [] w.front w.byte w.rest (subst (TakesAll device (place_behind before) []) w.split taken)) in
-      inr (never, subst (Refuses device (place_behind before) bytes state) (sym (refused refl)) w)
+      let never : TakesAll device (leg_place before) [] bytes → ⊥ =
+      λ taken. w.refused (taken_at device (leg_place before) [] w.front w.byte w.rest (subst (TakesAll device (leg_place before) []) w.split taken)) in
+      inr (never, subst (Refuses device (leg_place before) bytes state) (sym (refused refl)) w)
 
   -- what an outcome has to be
   pub record IsOutcome (k : Kept) (after : DeviceState) : Type 0 where
@@ -98,12 +98,12 @@ module _ (device : DeviceParts) (state : DeviceState) where
       let here : OwnIsIn device state k earlier leg = none own before is in
       no_leg (sym (own_is device state k earlier leg here) ∙ own) (outcome.others own)
   legs_end k earlier leg after outcome (under_way bytes o) =
-      own_leg bytes (record { before = earlier; own = leg; behind = []; split = refl; first = o.first; bytes_are = o.bytes_are })
+      own_leg bytes (record { earlier = earlier; own = leg; behind = []; split = refl; first = o.first; bytes_are = o.bytes_are })
       (own_ends k after outcome earlier leg bytes [] o)
   legs_end k earlier leg after outcome (ended before own mid bytes split o) =
       own_leg bytes
       (record {
-        before = before;
+        earlier = before;
         own = own;
         behind = mid ++ leg ∷ [];
         split = ap (λ (legs : List Leg). legs ++ leg ∷ []) split ∙ append_assoc before (own ∷ mid) (leg ∷ []);

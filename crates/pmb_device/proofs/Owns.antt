@@ -4,7 +4,7 @@ use Rattle.pmb_command.specs.Parts.{DeviceParts}
 use Rattle.pmb_bus.specs.Address.{write_address, read_address}
 use Rattle.pmb_registers.specs.declared.cml_bit.CmlBit.{CmlBit}
 use Rattle.pmb_registers.specs.State.{DeviceState}
-use Rattle.pmb_device.specs.Legs.{Leg, is_first_byte, is_to, place_behind, sent, some_is_to}
+use Rattle.pmb_device.specs.Legs.{Leg, is_first_byte, is_to, leg_place, sent, some_is_to}
 use Rattle.pmb_device.specs.Rules.{IsWritten, TakesAll}
 use Rattle.pmb_device.specs.machine.Standing.{BytesAre, IsOwn, Kept, Notes, OwnIsIn, answers, ended, head_is_to, no_answer, none, under_way}
 use Rattle.pmb_device.proofs.Signals.{is_to_first, some_of_both}
@@ -97,7 +97,7 @@ module _ (device : DeviceParts) (state : DeviceState) where
       ended before own mid bytes split (ended_longer k before own bytes mid leg longer (ap (is_first_byte (read_address device.address)) (sym same)) o)
 
   refuses_more : (k : Kept) (refused : Bool) (earlier : List Leg) (leg : Leg) (bytes : List ℕ) (byte : ℕ)
-      → (TakesAll device (place_behind earlier) [] bytes → ⊥) → BytesAre refused device state k earlier bytes []
+      → (TakesAll device (leg_place earlier) [] bytes → ⊥) → BytesAre refused device state k earlier bytes []
       → BytesAre refused device state k earlier (bytes ++ byte ∷ []) []
   refuses_more k false earlier leg bytes byte never all = absurd (never all.taken)
   refuses_more k true earlier leg bytes byte never r = record {
@@ -113,7 +113,7 @@ module _ (device : DeviceParts) (state : DeviceState) where
   -- a byte behind the address, of which the device takes none
   pub own_passes : (k : Kept) (earlier : List Leg) (leg longer : Leg) (address : ℕ) (bytes : List ℕ) (byte : ℕ) → sent leg ≡ address ∷ bytes
       → sent longer ≡ address ∷ bytes ++ byte ∷ []
-      → (IsWritten device earlier address → TakesAll device (place_behind earlier) [] bytes → ⊥)
+      → (IsWritten device earlier address → TakesAll device (leg_place earlier) [] bytes → ⊥)
       → OwnIsIn device state k earlier leg → OwnIsIn device state k earlier longer
   own_passes k earlier leg longer address bytes byte is more never (none own before other) =
       let wa = write_address device.address in
@@ -122,7 +122,7 @@ module _ (device : DeviceParts) (state : DeviceState) where
       let same : address ∷ bytes ≡ write_address device.address ∷ front = sym is ∙ o.bytes_are in
       let same_bytes : bytes ≡ front = cc same in
       let same_address : address ≡ write_address device.address = cc same in
-      let refused : TakesAll device (place_behind earlier) [] bytes → ⊥ = never (record { own = same_address; once = o.first }) in
+      let refused : TakesAll device (leg_place earlier) [] bytes → ⊥ = never (record { own = same_address; once = o.first }) in
       let body : BytesAre k.refused device state k earlier bytes [] = subst (λ (bs : List ℕ). BytesAre k.refused device state k earlier bs []) (sym same_bytes) o.body in
       under_way (bytes ++ byte ∷ []) (record {
         kept_own = o.kept_own;

@@ -17,8 +17,8 @@ use Rattle.pmb_device.specs.declared.exchange.Heard.{Heard}
 use Rattle.pmb_device.specs.declared.exchange.Heard.TheVariants as heard
 use Rattle.pmb_device.specs.declared.signal.HostSignal.TheVariants.{Byte}
 use Rattle.pmb_device.specs.declared.signal.DeviceSignal.TheVariants as answered
-use Rattle.pmb_device.specs.Legs.{Leg, Legs, Outside, Inside, is_to, place_behind, sent}
-use Rattle.pmb_device.specs.Rules.{AnswersByte, HasRoom, IsRead, IsReplyTo, IsWritten, TakesAll, is_ended, others, read, taken_or_not}
+use Rattle.pmb_device.specs.Legs.{Leg, Legs, Outside, Inside, is_to, leg_place, sent}
+use Rattle.pmb_device.specs.Rules.{AnswersByte, GoesOn, IsRead, IsReplyTo, IsWritten, TakesAll, is_ended, others, read, taken_or_not}
 use Rattle.pmb_device.specs.machine.Standing.{AllTaken, AtStart, BytesAre, Counts, HasGiven, InDeaf, InLeg, InReply, IsAddressed, IsReplied, IsAskable, IsAskedIn, Kept, Notes, OwnIsIn, StandsIn, answers, ended, head_is_to, is_behind_own, kept, no_answer, no_reply, none, under_way}
 use Rattle.pmb_device.specs.Exchange.{Hears}
 use Rattle.pmb_device.proofs.Signals.{behind_first_byte, first_byte, is_to_first, is_to_none}
@@ -50,10 +50,10 @@ module _ (device : DeviceParts) (state : DeviceState) where
   -- ---- what is kept of its own leg
 
   by_refused : (r : Bool) (k : Kept) (before : List Leg) (bytes : List ℕ) (behind : List Leg) → BytesAre r device state k before bytes behind
-      → TakesAll device (place_behind before) [] bytes → (r ≡ false) × AllTaken device state k before bytes behind
+      → TakesAll device (leg_place before) [] bytes → (r ≡ false) × AllTaken device state k before bytes behind
   by_refused false k before bytes behind all taken = (refl, all)
   by_refused true k before bytes behind w taken =
-      absurd (w.refused (taken_at device (place_behind before) [] w.front w.byte w.rest (subst (TakesAll device (place_behind before) []) w.split taken)))
+      absurd (w.refused (taken_at device (leg_place before) [] w.front w.byte w.rest (subst (TakesAll device (leg_place before) []) w.split taken)))
 
   pub none_before_read : (noted : Option CmlBit) (before : List Leg) (bytes : List ℕ) (behind : List Leg) → head_is_to (read_address device.address) behind ≡ false
       → Notes device state noted before bytes behind → noted ≡ None
@@ -74,10 +74,10 @@ module _ (device : DeviceParts) (state : DeviceState) where
   }
 
   -- the kept leg is a first one
-  first_kept : (k : Kept) (before : List Leg) (bytes : List ℕ) → before ≡ [] → k.leg ≡ record { device = device; place = place_behind before; bytes = bytes }
+  first_kept : (k : Kept) (before : List Leg) (bytes : List ℕ) → before ≡ [] → k.leg ≡ record { device = device; place = leg_place before; bytes = bytes }
       → k.leg ≡ record { device = device; place = First; bytes = bytes }
   first_kept k before bytes first is =
-      is ∙ ap (λ (legs : List Leg). let w : Written = record { device = device; place = place_behind legs; bytes = bytes } in w) first
+      is ∙ ap (λ (legs : List Leg). let w : Written = record { device = device; place = leg_place legs; bytes = bytes } in w) first
 
   read_asks : IsDevice device → (k : Kept) (earlier : List Leg) (leg : Leg) → sent leg ≡ [] → OwnIsIn device state k earlier leg
       → (address : ℕ) (body : List ℕ) → IsRead device earlier address body → KeepsRequest k
@@ -88,7 +88,7 @@ module _ (device : DeviceParts) (state : DeviceState) where
       let only = only_leg before own mid r.asked.first (sym split ∙ r.asked.alone) in
       let same : body ≡ bytes = cc (sym r.asked.own ∙ ap sent (sym only.1) ∙ o.bytes_are) in
       let request : IsRequest device bytes = subst (IsRequest device) same r.asked.request in
-      let taken : TakesAll device (place_behind before) [] bytes = subst (λ (legs : List Leg). TakesAll device (place_behind legs) [] bytes) (sym only.0) (request_is_taken device accepted bytes request) in
+      let taken : TakesAll device (leg_place before) [] bytes = subst (λ (legs : List Leg). TakesAll device (leg_place legs) [] bytes) (sym only.0) (request_is_taken device accepted bytes request) in
       let all = by_refused k.refused k before bytes (mid ++ leg ∷ []) o.body taken in
       request_kept k bytes all.0 (first_kept k before bytes only.0 all.1.leg_is) request
 
@@ -104,12 +104,12 @@ module _ (device : DeviceParts) (state : DeviceState) where
   -- what is noted of a byte that was refused
   abbrev NotedAs : Option CmlBit → List Leg → List ℕ → ℕ → Type 0
   NotedAs noted before front byte =
-      Whether (HasRoom device (place_behind before) front) (with_noted device noted state ≡ with_noted device (bit_of_sent (front ++ byte ∷ [])) state)
+      Whether (GoesOn device (leg_place before) front) (with_noted device noted state ≡ with_noted device (bit_of_sent (front ++ byte ∷ [])) state)
       (with_noted device noted state ≡ state)
 
   bytes_read : (r : Bool) (k after : Kept) (before : List Leg) (bytes : List ℕ) (mid : List Leg) (leg longer : Leg) → after.leg ≡ k.leg → after.noted ≡ k.noted
       → is_to (read_address device.address) leg ≡ false
-      → (r ≡ false → k.leg ≡ record { device = device; place = place_behind before; bytes = bytes } → before ≡ [] → mid ≡ [] → IsRequest device bytes → ⊥)
+      → (r ≡ false → k.leg ≡ record { device = device; place = leg_place before; bytes = bytes } → before ≡ [] → mid ≡ [] → IsRequest device bytes → ⊥)
       → BytesAre r device state k before bytes (mid ++ leg ∷ []) → BytesAre r device state after before bytes (mid ++ longer ∷ [])
   bytes_read false k after before bytes mid leg longer leg_is noted other never all = record {
     leg_is = leg_is ∙ all.leg_is;
@@ -137,7 +137,7 @@ module _ (device : DeviceParts) (state : DeviceState) where
       let ra = read_address device.address in
       let longer = leg ++ Byte byte ∷ [] in
       let here : is_to ra longer ≡ true = is_to_first ra byte [] longer (first_byte leg byte at.nothing) ∙ ap (λ (b : ℕ). nat_eq b ra) to_own ∙ same_byte ra in
-      let not_asked : k.refused ≡ false → k.leg ≡ record { device = device; place = place_behind before; bytes = bytes } → before ≡ [] → mid ≡ [] → IsRequest device bytes → ⊥ =
+      let not_asked : k.refused ≡ false → k.leg ≡ record { device = device; place = leg_place before; bytes = bytes } → before ≡ [] → mid ≡ [] → IsRequest device bytes → ⊥ =
       λ not_refused is no_before no_mid request.
       let one : earlier ≡ first ∷ [] = split ∙ ap (λ (legs : List Leg). legs ++ first ∷ mid) no_before ∙ ap (λ (legs : List Leg). first ∷ legs) no_mid in
       let behind : behind_first ≡ true = at.behind_own ∙ ap (is_behind_own device) one ∙ is_to_first _ _ bytes first o.bytes_are ∙ same_byte (write_address device.address) in
@@ -177,7 +177,7 @@ hears_no_request x phase own never device state (Inside earlier leg) stands =
 
 -- its registers have to be asked
 module _ (device : DeviceParts) (state : DeviceState) where
-  asked_in : (x y : Exchange) (earlier : List Leg) (leg : Leg) (byte : ℕ) → y.device.now ≡ device → IsDevice device → y.place ≡ place_behind earlier
+  asked_in : (x y : Exchange) (earlier : List Leg) (leg : Leg) (byte : ℕ) → y.device.now ≡ device → IsDevice device → y.place ≡ leg_place earlier
       → AtStart device state (kept x) x.behind_first earlier leg
       → byte ≡ read_address device.address → IsAskable x → x.own ≡ true → y.own ≡ x.own → y.refused ≡ x.refused → y.read ≡ true → y.noted ≡ x.noted → y.leg ≡ x.leg
       → OwnIsIn device state (kept x) earlier leg → (body : List ℕ) × IsAskedIn y device state (Inside earlier leg) byte body

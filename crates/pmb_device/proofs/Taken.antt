@@ -8,7 +8,7 @@ use Rattle.pmb_transaction.specs.Viable.{BeginsBody, IsInsideBody}
 use Rattle.pmb_leg.specs.declared.place.LegPlace.{LegPlace}
 use Rattle.pmb_leg.specs.declared.place.LegPlace.TheVariants.{First, Later}
 use Rattle.pmb_leg.specs.Leg.{place_of}
-use Rattle.pmb_device.specs.Rules.{AllowedAt, BeginsAt, HasRoom, IsPageValue, Takes, TakesAll}
+use Rattle.pmb_device.specs.Rules.{AllowedAt, BeginsAt, GoesOn, IsPageValue, TakesByte, TakesAll}
 
 module _ (device : DeviceParts) (place : LegPlace) where
   -- ---- bytes behind others
@@ -20,17 +20,17 @@ module _ (device : DeviceParts) (place : LegPlace) where
 
   -- and each at its place
   pub taken_at : (taken front : List ℕ) (byte : ℕ) (rest : List ℕ) → TakesAll device place taken (front ++ byte ∷ rest)
-      → Takes device place (taken ++ front) byte
-  taken_at taken [] byte rest all = subst (λ (bs : List ℕ). Takes device place bs byte) (sym (append-nil taken)) all.0
+      → TakesByte device place (taken ++ front) byte
+  taken_at taken [] byte rest all = subst (λ (bs : List ℕ). TakesByte device place bs byte) (sym (append-nil taken)) all.0
   taken_at taken (b ∷ front) byte rest all =
-      subst (λ (bs : List ℕ). Takes device place bs byte) (append_assoc taken (b ∷ []) front) (taken_at (taken ++ b ∷ []) front byte rest all.1)
+      subst (λ (bs : List ℕ). TakesByte device place bs byte) (append_assoc taken (b ∷ []) front) (taken_at (taken ++ b ∷ []) front byte rest all.1)
 
   -- one byte more
-  pub one_more_taken : (taken bytes : List ℕ) (byte : ℕ) → TakesAll device place taken bytes → Takes device place (taken ++ bytes) byte
+  pub one_more_taken : (taken bytes : List ℕ) (byte : ℕ) → TakesAll device place taken bytes → TakesByte device place (taken ++ bytes) byte
       → TakesAll device place taken (bytes ++ byte ∷ [])
-  one_more_taken taken [] byte all takes = (subst (λ (bs : List ℕ). Takes device place bs byte) (append-nil taken) takes, tt)
+  one_more_taken taken [] byte all takes = (subst (λ (bs : List ℕ). TakesByte device place bs byte) (append-nil taken) takes, tt)
   one_more_taken taken (b ∷ bytes) byte all takes =
-      (all.0, one_more_taken (taken ++ b ∷ []) bytes byte all.1 (subst (λ (bs : List ℕ). Takes device place bs byte) (sym (append_assoc taken (b ∷ []) bytes)) takes))
+      (all.0, one_more_taken (taken ++ b ∷ []) bytes byte all.1 (subst (λ (bs : List ℕ). TakesByte device place bs byte) (sym (append_assoc taken (b ∷ []) bytes)) takes))
 
 -- ---- as a written leg says it
 
@@ -62,11 +62,11 @@ module _ (device : DeviceParts) where
   pub begins_body : (place : LegPlace) (bytes : List ℕ) → BeginsAt device place bytes → BeginsBody device (some_parts place).0 bytes
   begins_body place bytes w = inr (w.0, w.1, is_allowed place w.0 w.2, w.3)
 
-  pub has_room : (place : LegPlace) (bytes : List ℕ) → IsInsideBody device (some_parts place).0 bytes → HasRoom device place bytes
+  pub has_room : (place : LegPlace) (bytes : List ℕ) → IsInsideBody device (some_parts place).0 bytes → GoesOn device place bytes
   has_room place bytes (inl none) = inl none
   has_room place bytes (inr w) = inr (w.0, allowed place w.0 w.1, w.2)
 
-  pub is_inside : (place : LegPlace) (bytes : List ℕ) → HasRoom device place bytes → IsInsideBody device (some_parts place).0 bytes
+  pub is_inside : (place : LegPlace) (bytes : List ℕ) → GoesOn device place bytes → IsInsideBody device (some_parts place).0 bytes
   is_inside place bytes (inl none) = inl none
   is_inside place bytes (inr w) = inr (w.0, is_allowed place w.0 w.1, w.2)
 
@@ -75,7 +75,7 @@ module _ (device : DeviceParts) where
 -- one byte more
 pub takes_byte : (device kept : DeviceParts) (place : LegPlace) (bytes : List ℕ) (byte : ℕ) (result : Bool) → kept ≡ device → IsPageValue device bytes byte
     → ((parts : List PartData) → place_of parts ≡ place → (IsTrue result ↔ BeginsBody kept parts (bytes ++ byte ∷ [])))
-    → (IsTrue result ↔ Takes device place bytes byte)
+    → (IsTrue result ↔ TakesByte device place bytes byte)
 takes_byte device kept place bytes byte result same page begins =
     let P : DeviceParts → Type 0 = λ d. (parts : List PartData) → place_of parts ≡ place → (IsTrue result ↔ BeginsBody d parts (bytes ++ byte ∷ [])) in
     let here : P device = subst P same begins in
@@ -85,7 +85,7 @@ takes_byte device kept place bytes byte result same page begins =
     )
 
 pub room_of : (device : DeviceParts) (place : LegPlace) (bytes : List ℕ) (result : Bool)
-    → ((parts : List PartData) → place_of parts ≡ place → (IsTrue result ↔ IsInsideBody device parts bytes)) → (IsTrue result ↔ HasRoom device place bytes)
+    → ((parts : List PartData) → place_of parts ≡ place → (IsTrue result ↔ IsInsideBody device parts bytes)) → (IsTrue result ↔ GoesOn device place bytes)
 room_of device place bytes result inside =
     let told = inside (some_parts place).0 (some_parts place).1 in
     (λ is. has_room device place bytes (told.0 is), λ room. told.1 (is_inside device place bytes room))

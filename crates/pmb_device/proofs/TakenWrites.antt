@@ -13,7 +13,7 @@ use Rattle.pmb_registers.specs.State.{DeviceState}
 use Rattle.pmb_registers.specs.Answer.{all_pages}
 use Rattle.pmb_device.specs.declared.exchange.Phase.TheVariants as phases
 use Rattle.pmb_device.specs.declared.exchange.Exchange.{Exchange}
-use Rattle.pmb_device.specs.Legs.{Leg, Legs, Outside, Inside, place_behind}
+use Rattle.pmb_device.specs.Legs.{Leg, Legs, Outside, Inside, leg_place}
 use Rattle.pmb_device.specs.Rules.{TakesAll}
 use Rattle.pmb_device.specs.machine.Standing.{AllTaken, BytesAre, IsOwn, Kept, OwnIsIn, StandsIn, ended, kept, none, under_way}
 use Rattle.pmb_device.specs.Exchange.{IsTakenWrite}
@@ -65,7 +65,7 @@ module _ (device : DeviceParts) (state : DeviceState) where
         form = here.form;
         written = here.written;
         fits = here.fits;
-        page = λ is. page_taken device (place_behind before) content with_pec bytes accepted all.taken (subst (λ (n : ℕ). WriteBody device n content with_pec bytes) is here);
+        page = λ is. page_taken device (leg_place before) content with_pec bytes accepted all.taken (subst (λ (n : ℕ). WriteBody device n content with_pec bytes) is here);
       }
 
   by_own : (k : Kept) (earlier : List Leg) (leg : Leg) → IsDevice device → k.own ≡ true → k.refused ≡ false → (code : ℕ) (content : List ℕ) (with_pec : Bool)

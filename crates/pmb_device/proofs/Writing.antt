@@ -15,8 +15,8 @@ use Rattle.pmb_device.specs.declared.exchange.Heard.TheVariants as heard
 use Rattle.pmb_device.specs.declared.signal.HostSignal.TheVariants.{Byte}
 use Rattle.pmb_device.specs.declared.signal.DeviceSignal.{DeviceSignal}
 use Rattle.pmb_device.specs.declared.signal.DeviceSignal.TheVariants as answered
-use Rattle.pmb_device.specs.Legs.{Leg, Legs, Outside, Inside, place_behind, sent}
-use Rattle.pmb_device.specs.Rules.{AnswersByte, HasRoom, IsWritten, Takes}
+use Rattle.pmb_device.specs.Legs.{Leg, Legs, Outside, Inside, leg_place, sent}
+use Rattle.pmb_device.specs.Rules.{AnswersByte, GoesOn, IsWritten, TakesByte}
 use Rattle.pmb_device.specs.machine.Standing.{AllTaken, BytesAre, InDeaf, InLeg, InWritten, Kept, Notes, StandsIn, answers, kept, no_answer, no_reply, under_way}
 use Rattle.pmb_device.specs.Exchange.{Hears}
 use Rattle.pmb_device.proofs.Signals.{next_byte}
@@ -36,7 +36,7 @@ module _ (device : DeviceParts) (state : DeviceState) where
   all_taken k earlier leg w = subst (λ (r : Bool). BytesAre r device state k earlier w.bytes []) w.not_refused w.own.body
 
   answers_in_leg : (k : Kept) (earlier : List Leg) (leg : Leg) (byte : ℕ) (result : DeviceSignal) → (w : InWritten device state k earlier leg)
-      → Whether (Takes device (place_behind earlier) w.bytes byte) (result ≡ answered.Ack) (result ≡ answered.Nack)
+      → Whether (TakesByte device (leg_place earlier) w.bytes byte) (result ≡ answered.Ack) (result ≡ answered.Nack)
       → AnswersByte device state earlier (sent leg) byte result
   answers_in_leg k earlier leg byte result w is =
       let written : IsWritten device earlier (write_address device.address) = record { own = refl; once = w.own.first } in
@@ -44,16 +44,16 @@ module _ (device : DeviceParts) (state : DeviceState) where
       subst (λ (bytes : List ℕ). AnswersByte device state earlier bytes byte result) (sym w.own.bytes_are) here
 
   -- it is taken
-  taken_in : (k after : Kept) (earlier : List Leg) (leg : Leg) (byte : ℕ) → (w : InWritten device state k earlier leg) → Takes device (place_behind earlier) w.bytes byte
+  taken_in : (k after : Kept) (earlier : List Leg) (leg : Leg) (byte : ℕ) → (w : InWritten device state k earlier leg) → TakesByte device (leg_place earlier) w.bytes byte
       → after.own ≡ k.own → after.refused ≡ k.refused → after.read ≡ k.read → after.noted ≡ k.noted
-      → after.leg ≡ record { device = device; place = place_behind earlier; bytes = w.bytes ++ byte ∷ [] }
+      → after.leg ≡ record { device = device; place = leg_place earlier; bytes = w.bytes ++ byte ∷ [] }
       → InWritten device state after earlier (leg ++ Byte byte ∷ [])
   taken_in k after earlier leg byte w takes own refused read noted leg_is =
       let all = all_taken k earlier leg w in
       let none : after.noted ≡ None = noted ∙ none_noted device state k.noted earlier w.bytes all.notes in
       let more : AllTaken device state after earlier (w.bytes ++ byte ∷ []) [] = record {
         leg_is = leg_is;
-        taken = one_more_taken device (place_behind earlier) [] w.bytes byte all.taken takes;
+        taken = one_more_taken device (leg_place earlier) [] w.bytes byte all.taken takes;
         notes = nothing_to_note device state after.noted earlier (w.bytes ++ byte ∷ []) none;
       } in
       let not_refused : after.refused ≡ false = refused ∙ w.not_refused in
@@ -70,18 +70,18 @@ module _ (device : DeviceParts) (state : DeviceState) where
       }
 
   note_is : (place : LegPlace) (bytes : List ℕ) (byte : ℕ) (noted : Option CmlBit)
-      → Whether (HasRoom device place bytes) (noted ≡ bit_of_sent (bytes ++ byte ∷ [])) (noted ≡ None)
-      → Whether (HasRoom device place bytes) (with_noted device noted state ≡ with_noted device (bit_of_sent (bytes ++ byte ∷ [])) state) (with_noted device noted state ≡ state)
+      → Whether (GoesOn device place bytes) (noted ≡ bit_of_sent (bytes ++ byte ∷ [])) (noted ≡ None)
+      → Whether (GoesOn device place bytes) (with_noted device noted state ≡ with_noted device (bit_of_sent (bytes ++ byte ∷ [])) state) (with_noted device noted state ≡ state)
   note_is place bytes byte noted (inl w) = inl (w.0, ap (λ (n : Option CmlBit). with_noted device n state) w.1)
   note_is place bytes byte noted (inr w) = inr (w.0, ap (λ (n : Option CmlBit). with_noted device n state) w.1)
 
   -- it is refused
   refused_in : (k after : Kept) (earlier : List Leg) (leg : Leg) (byte : ℕ) → (w : InWritten device state k earlier leg)
-      → (Takes device (place_behind earlier) w.bytes byte → ⊥) → after.own ≡ k.own → after.refused ≡ true → after.read ≡ k.read
-      → Whether (HasRoom device (place_behind earlier) w.bytes) (after.noted ≡ bit_of_sent (w.bytes ++ byte ∷ [])) (after.noted ≡ None)
+      → (TakesByte device (leg_place earlier) w.bytes byte → ⊥) → after.own ≡ k.own → after.refused ≡ true → after.read ≡ k.read
+      → Whether (GoesOn device (leg_place earlier) w.bytes) (after.noted ≡ bit_of_sent (w.bytes ++ byte ∷ [])) (after.noted ≡ None)
       → InDeaf device state after earlier (leg ++ Byte byte ∷ [])
   refused_in k after earlier leg byte w takes own refused read noted =
-      let place = place_behind earlier in
+      let place = leg_place earlier in
       let all = all_taken k earlier leg w in
       let more = next_byte leg (write_address device.address) w.bytes byte w.own.bytes_are in
       let body : BytesAre true device state after earlier (w.bytes ++ byte ∷ []) [] = record {
@@ -121,25 +121,25 @@ writing x device state earlier leg phase stands = subst (λ (p : Phase). InLeg p
 -- what the kept leg takes is what the device takes
 takes_here : (kept_device device : DeviceParts) (w : Written) (place : LegPlace) (bytes : List ℕ) (byte : ℕ) (result : Bool) → kept_device ≡ device
     → w ≡ record { device = device; place = place; bytes = bytes }
-    → (w.device ≡ kept_device → (IsTrue result ↔ Takes kept_device w.place w.bytes byte)) → (IsTrue result ↔ Takes device place bytes byte)
+    → (w.device ≡ kept_device → (IsTrue result ↔ TakesByte kept_device w.place w.bytes byte)) → (IsTrue result ↔ TakesByte device place bytes byte)
 takes_here kept_device device w place bytes byte result known is takes =
-    let P : DeviceParts → Written → Type 0 = λ d l. l.device ≡ d → (IsTrue result ↔ Takes d l.place l.bytes byte) in
+    let P : DeviceParts → Written → Type 0 = λ d l. l.device ≡ d → (IsTrue result ↔ TakesByte d l.place l.bytes byte) in
     let here : Written = record { device = device; place = place; bytes = bytes } in
     let by_leg : P kept_device here = subst (λ (l : Written). P kept_device l) is takes in
     let by_device : P device here = subst (λ (d : DeviceParts). P d here) known by_leg in
     by_device refl
 
 pub takes_data : (x : Exchange) (byte : ℕ) (leg_after : Written) → x.phase ≡ phases.Written
-    → (x.leg.device ≡ x.device.now → (IsTrue true ↔ Takes x.device.now x.leg.place x.leg.bytes byte))
+    → (x.leg.device ≡ x.device.now → (IsTrue true ↔ TakesByte x.device.now x.leg.place x.leg.bytes byte))
     → leg_after ≡ record x.leg { bytes = x.leg.bytes ++ byte ∷ [] }
     → (device : DeviceParts) (state : DeviceState) (legs : Legs) → StandsIn x device state legs → Hears device state legs byte heard.Ack (record x { leg = leg_after })
 takes_data x byte leg_after phase takes after device state Outside stands = cc (phase, stands.behind)
 takes_data x byte leg_after phase takes after device state (Inside earlier leg) stands =
     let w = writing x device state earlier leg phase stands in
     let all = all_taken device state (kept x) earlier leg w in
-    let told = takes_here x.device.now device x.leg (place_behind earlier) w.bytes byte true stands.known all.leg_is takes in
-    let here : Takes device (place_behind earlier) w.bytes byte = told.0 refl in
-    let leg_is : leg_after ≡ record { device = device; place = place_behind earlier; bytes = w.bytes ++ byte ∷ [] } =
+    let told = takes_here x.device.now device x.leg (leg_place earlier) w.bytes byte true stands.known all.leg_is takes in
+    let here : TakesByte device (leg_place earlier) w.bytes byte = told.0 refl in
+    let leg_is : leg_after ≡ record { device = device; place = leg_place earlier; bytes = w.bytes ++ byte ∷ [] } =
     after ∙ ap (λ (l : Written). let y : Written = record l { bytes = l.bytes ++ byte ∷ [] } in y) all.leg_is in
     let y : Exchange = record x { leg = leg_after } in
     let next = taken_in device state (kept x) (kept y) earlier leg byte w here refl refl refl refl leg_is in (
@@ -152,18 +152,18 @@ takes_data x byte leg_after phase takes after device state (Inside earlier leg) 
     )
 
 pub refuses_data : (x : Exchange) (byte : ℕ) (leg_after : Written) (noted : Option CmlBit) → x.phase ≡ phases.Written
-    → (x.leg.device ≡ x.device.now → (IsTrue false ↔ Takes x.device.now x.leg.place x.leg.bytes byte))
+    → (x.leg.device ≡ x.device.now → (IsTrue false ↔ TakesByte x.device.now x.leg.place x.leg.bytes byte))
     → leg_after ≡ x.leg
-    → Whether (HasRoom leg_after.device leg_after.place leg_after.bytes) (noted ≡ bit_of_sent (leg_after.bytes ++ byte ∷ [])) (noted ≡ None)
+    → Whether (GoesOn leg_after.device leg_after.place leg_after.bytes) (noted ≡ bit_of_sent (leg_after.bytes ++ byte ∷ [])) (noted ≡ None)
     → (device : DeviceParts) (state : DeviceState) (legs : Legs) → StandsIn x device state legs
     → Hears device state legs byte heard.Nack (record x { leg = leg_after; noted = noted; refused = true; phase = phases.Deaf })
 refuses_data x byte leg_after noted phase takes after noted_is device state Outside stands = cc (phase, stands.behind)
 refuses_data x byte leg_after noted phase takes after noted_is device state (Inside earlier leg) stands =
     let w = writing x device state earlier leg phase stands in
     let all = all_taken device state (kept x) earlier leg w in
-    let told = takes_here x.device.now device x.leg (place_behind earlier) w.bytes byte false stands.known all.leg_is takes in
-    let never : Takes device (place_behind earlier) w.bytes byte → ⊥ = λ t. cc (told.1 t) in
-    let P : Written → Type 0 = λ l. Whether (HasRoom l.device l.place l.bytes) (noted ≡ bit_of_sent (l.bytes ++ byte ∷ [])) (noted ≡ None) in
+    let told = takes_here x.device.now device x.leg (leg_place earlier) w.bytes byte false stands.known all.leg_is takes in
+    let never : TakesByte device (leg_place earlier) w.bytes byte → ⊥ = λ t. cc (told.1 t) in
+    let P : Written → Type 0 = λ l. Whether (GoesOn l.device l.place l.bytes) (noted ≡ bit_of_sent (l.bytes ++ byte ∷ [])) (noted ≡ None) in
     let note = subst P (after ∙ all.leg_is) noted_is in
     let y : Exchange = record x { leg = leg_after; noted = noted; refused = true; phase = phases.Deaf } in (
       answers_in_leg device state (kept x) earlier leg byte answered.Nack w (inr (never, refl)),

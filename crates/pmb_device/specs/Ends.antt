@@ -9,23 +9,19 @@ use Rattle.pmb_registers.specs.State.{DeviceState}
 use Rattle.pmb_registers.specs.Answer.{answer}
 use Rattle.pmb_registers.specs.Apply.{after_write, bit_of_answer, bit_of_sent, with_noted}
 use Rattle.pmb_leg.specs.declared.place.LegPlace.{LegPlace}
-use Rattle.pmb_device.specs.Legs.{Leg, Legs, Outside, Inside, sent, some_is_to, place_behind}
-use Rattle.pmb_device.specs.Rules.{HasRoom, Takes, TakesAll}
+use Rattle.pmb_device.specs.Legs.{Leg, Legs, Outside, Inside, sent, some_is_to, leg_place}
+use Rattle.pmb_device.specs.Rules.{GoesOn, TakesByte, TakesAll}
 
 module _ (device : DeviceParts) where
   -- The leg of a packet that is written to the device: the first that begins with its address for
   -- writing. Behind the address these bytes were sent.
   pub record OwnLeg (legs : List Leg) (bytes : List ℕ) : Type 0 where
-    pub before : List Leg
+    pub earlier : List Leg
     pub own : Leg
     pub behind : List Leg
-    pub split : legs ≡ before ++ own ∷ behind
-    pub first : some_is_to (write_address device.address) before ≡ false
+    pub split : legs ≡ earlier ++ own ∷ behind
+    pub first : some_is_to (write_address device.address) earlier ≡ false
     pub bytes_are : sent own ≡ write_address device.address ∷ bytes
-
-  -- The device's own address for reading came behind that.
-  abbrev pub IsReadLater : List Leg → Bool
-  IsReadLater behind = some_is_to (read_address device.address) behind
 
   -- A body in a leg all of whose bytes were taken, where the device is not read behind it: a write
   -- takes effect, and nothing else does.
@@ -50,8 +46,8 @@ module _ (device : DeviceParts) where
     pub rest : List ℕ
     pub split : bytes ≡ front ++ byte ∷ rest
     pub taken : TakesAll device place [] front
-    pub refused : Takes device place front byte → ⊥
-    pub noted : Whether (HasRoom device place front) (after ≡ with_noted device (bit_of_sent (front ++ byte ∷ [])) before) (after ≡ before)
+    pub refused : TakesByte device place front byte → ⊥
+    pub noted : Whether (GoesOn device place front) (after ≡ with_noted device (bit_of_sent (front ++ byte ∷ [])) before) (after ≡ before)
 
   abbrev pub ReadOrActs : Bool → List Leg → List ℕ → List Leg → DeviceState → DeviceState → Type 0
   ReadOrActs true earlier bytes behind before after = NotesAnswer earlier bytes behind before after
@@ -59,14 +55,14 @@ module _ (device : DeviceParts) where
 
   abbrev pub OwnLegEnds : List Leg → List ℕ → List Leg → DeviceState → DeviceState → Type 0
   OwnLegEnds earlier bytes behind before after =
-      Whether (TakesAll device (place_behind earlier) [] bytes)
+      Whether (TakesAll device (leg_place earlier) [] bytes)
       (ReadOrActs (some_is_to (read_address device.address) behind) earlier bytes behind before after)
-      (Refuses (place_behind earlier) bytes before after)
+      (Refuses (leg_place earlier) bytes before after)
 
   -- What STOP makes of the device's state behind the legs of a packet: its own leg acts, or it notes
   -- what it refused; without an own leg nothing changes.
   pub data LegsEnd (legs : List Leg) (before after : DeviceState) : Type 0 where
-    own_leg : (bytes : List ℕ) → (own : OwnLeg legs bytes) → OwnLegEnds own.before bytes own.behind before after → LegsEnd legs before after
+    own_leg : (bytes : List ℕ) → (own : OwnLeg legs bytes) → OwnLegEnds own.earlier bytes own.behind before after → LegsEnd legs before after
     no_leg : some_is_to (write_address device.address) legs ≡ false → after ≡ before → LegsEnd legs before after
 
   abbrev pub Ends : Legs → DeviceState → DeviceState → Type 0

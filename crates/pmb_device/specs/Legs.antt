@@ -71,6 +71,6 @@ behind_address (Nack ∷ leg) = behind_address leg
 behind_address (Stop ∷ leg) = behind_address leg
 
 -- which leg of its packet one is
-abbrev pub place_behind : List Leg → LegPlace
-place_behind [] = First
-place_behind (leg ∷ legs) = Later
+abbrev pub leg_place : List Leg → LegPlace
+leg_place [] = First
+leg_place (leg ∷ legs) = Later

@@ -20,7 +20,7 @@ use Rattle.pmb_device.specs.declared.signal.HostSignal.{HostSignal}
 use Rattle.pmb_device.specs.declared.signal.HostSignal.TheVariants.{Start, Byte, Ask, Ack, Nack, Stop}
 use Rattle.pmb_device.specs.declared.signal.DeviceSignal.{DeviceSignal}
 use Rattle.pmb_device.specs.declared.signal.DeviceSignal.TheVariants as answers
-use Rattle.pmb_device.specs.Legs.{Leg, Legs, Outside, Inside, behind_address, sent, some_is_to, place_behind}
+use Rattle.pmb_device.specs.Legs.{Leg, Legs, Outside, Inside, behind_address, sent, some_is_to, leg_place}
 
 module _ (device : DeviceParts) where
   -- ---- bytes of a leg that is written
@@ -35,8 +35,8 @@ module _ (device : DeviceParts) where
   BeginsAt place bytes = (body : List ℕ) × (rest : List ℕ) × AllowedAt place body × (body ≡ bytes ++ rest)
 
   -- Some byte has a place behind these: they are none, or begin a body that is longer.
-  abbrev pub HasRoom : LegPlace → List ℕ → Type 0
-  HasRoom place bytes = (bytes ≡ []) ⊎ ((body : List ℕ) × AllowedAt place body × IsProperPrefix bytes body)
+  abbrev pub GoesOn : LegPlace → List ℕ → Type 0
+  GoesOn place bytes = (bytes ≡ []) ⊎ ((body : List ℕ) × AllowedAt place body × IsProperPrefix bytes body)
 
   -- The value of PAGE is a page of the device, or ffh for all of them.
   abbrev pub IsPageValue : List ℕ → ℕ → Type 0
@@ -44,14 +44,14 @@ module _ (device : DeviceParts) where
 
   -- The device takes a byte behind some that it took: a body that is allowed there begins so, and a
   -- page is there.
-  pub record Takes (place : LegPlace) (bytes : List ℕ) (byte : ℕ) : Type 0 where
+  pub record TakesByte (place : LegPlace) (bytes : List ℕ) (byte : ℕ) : Type 0 where
     pub begins : BeginsAt place (bytes ++ byte ∷ [])
     pub page : IsPageValue bytes byte
 
   -- It takes each of some bytes, behind those that it took.
   abbrev pub TakesAll : LegPlace → List ℕ → List ℕ → Type 0
   TakesAll place taken [] = Unit {0}
-  TakesAll place taken (byte ∷ bytes) = Takes place taken byte × TakesAll place (taken ++ byte ∷ []) bytes
+  TakesAll place taken (byte ∷ bytes) = TakesByte place taken byte × TakesAll place (taken ++ byte ∷ []) bytes
 
   -- ---- whose leg it is
 
@@ -62,7 +62,7 @@ module _ (device : DeviceParts) where
     pub once : some_is_to (write_address device.address) earlier ≡ false
 
   -- The device is asked: the body of a read or of a call is in the packet's first leg, which is written to it.
-  pub record Asks (earlier : List Leg) (body : List ℕ) : Type 0 where
+  pub record IsAsked (earlier : List Leg) (body : List ℕ) : Type 0 where
     pub first : Leg
     pub alone : earlier ≡ first ∷ []
     pub own : sent first ≡ write_address device.address ∷ body
@@ -72,7 +72,7 @@ module _ (device : DeviceParts) where
   -- packet's first leg, in which the device is asked.
   pub record IsRead (earlier : List Leg) (address : ℕ) (body : List ℕ) : Type 0 where
     pub own : address ≡ read_address device.address
-    pub asked : Asks earlier body
+    pub asked : IsAsked earlier body
 
   -- ---- bytes of a leg that is read
 
@@ -82,6 +82,7 @@ module _ (device : DeviceParts) where
   carries_pec On = true
   carries_pec Optional = true
 
+  -- the bytes of a reply: its wire, and that code
   pub record IsReplyTo (body : List ℕ) (reply : List ℕ) (bytes : List ℕ) : Type 0 where
     pub form : Form
     pub asked : ((code : ℕ) × ReadBody device code form body) ⊎ ((code : ℕ) × (content : List ℕ) × CallBody device code form content body)
@@ -97,8 +98,8 @@ module _ (device : DeviceParts) where
   is_ended (Nack ∷ leg) = true
   is_ended (Stop ∷ leg) = is_ended leg
 
-  -- Whether the last byte asked for still waits for the host's ACK, and how many were given before
-  -- these signals and in them: one for each Ask that does not come while another one waits.
+  -- Whether the last byte asked for still waits for the host's ACK behind some signals, and how many are
+  -- given in them: one for each Ask that does not come while another one waits.
   abbrev pub waits_behind : Bool → Leg → Bool
   waits_behind waiting [] = waiting
   waits_behind waiting (Start ∷ leg) = waits_behind waiting leg
@@ -133,7 +134,7 @@ module _ (device : DeviceParts) where
   -- to a byte behind an address, where the leg is written to the device
   abbrev pub AnswersWritten : LegPlace → List ℕ → ℕ → DeviceSignal → Type 0
   AnswersWritten place bytes byte result =
-      Whether (TakesAll place [] bytes) (Whether (Takes place bytes byte) (result ≡ answers.Ack) (result ≡ answers.Nack)) (result ≡ answers.Silent)
+      Whether (TakesAll place [] bytes) (Whether (TakesByte place bytes byte) (result ≡ answers.Ack) (result ≡ answers.Nack)) (result ≡ answers.Silent)
 
   -- to its own address for reading
   abbrev pub taken_or_not : Result (List ℕ) CmlBit → DeviceSignal
@@ -151,7 +152,7 @@ module _ (device : DeviceParts) where
   abbrev pub AnswersByte : DeviceState → List Leg → List ℕ → ℕ → DeviceSignal → Type 0
   AnswersByte state earlier [] byte result = AnswersAddress state earlier byte result
   AnswersByte state earlier (address ∷ bytes) byte result =
-      Whether (IsWritten earlier address) (AnswersWritten (place_behind earlier) bytes byte result) (result ≡ answers.Silent)
+      Whether (IsWritten earlier address) (AnswersWritten (leg_place earlier) bytes byte result) (result ≡ answers.Silent)
 
   -- To an Ask: a byte of the reply where the leg reads the device and it did not refuse.
   pub data AnswersAsk (state : DeviceState) (earlier : List Leg) (leg : Leg) (result : DeviceSignal) : Type 0 where

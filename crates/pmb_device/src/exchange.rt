@@ -16,7 +16,7 @@ ghost use Rattle.pmb_registers.specs.Apply.{bit_of_sent};
 ghost use Rattle.pmb_device.specs.declared.signal.HostSignal.TheVariants.{Start, Byte, Ask, Ack, Nack};
 ghost use Rattle.pmb_device.specs.declared.signal.DeviceSignal.TheVariants as answers;
 ghost use Rattle.pmb_device.specs.Legs.{Legs, Outside, with_signal};
-ghost use Rattle.pmb_device.specs.Rules.{Answers, HasRoom, IsPageValue, Takes};
+ghost use Rattle.pmb_device.specs.Rules.{Answers, GoesOn, IsPageValue, TakesByte};
 ghost use Rattle.pmb_device.specs.Ends.{Ends};
 ghost use Rattle.pmb_device.specs.Exchange.{HasFewBytes, Hears, IsAskedIn, IsTakenOutcome, StandsIn, after_outcome};
 ghost use Rattle.pmb_device.specs.machine.Standing.{IsAskable, is_own_first};
@@ -118,9 +118,9 @@ fn refusal_bit(bytes: &[u8]) -> CmlBit
     }
 }
 
-/// Takes a byte in a leg that is written to the device, and tells whether it did. Else nothing changes.
+/// TakesByte a byte in a leg that is written to the device, and tells whether it did. Else nothing changes.
 fn take_byte(leg: &mut WrittenLeg, device: &DeviceProfile, byte: u8) -> bool
-    ensures takes { leg.old.device ≡ device.now → (IsTrue result ↔ Takes device.now leg.old.place leg.old.bytes byte) }
+    ensures takes { leg.old.device ≡ device.now → (IsTrue result ↔ TakesByte device.now leg.old.place leg.old.bytes byte) }
     ensures taken { IsTrue result → leg.new ≡ record leg.old { bytes = leg.old.bytes ++ byte ∷ [] } }
     ensures refused { result ≡ false → leg.new ≡ leg.old }
 {
@@ -132,7 +132,7 @@ fn take_byte(leg: &mut WrittenLeg, device: &DeviceProfile, byte: u8) -> bool
 
 /// What is noted where a byte is refused in a leg: something, where a byte had a place there.
 fn refusal_noted(leg: &WrittenLeg) -> Option<CmlBit>
-    ensures { (byte : ℕ) → Whether (HasRoom leg.now.device leg.now.place leg.now.bytes)
+    ensures { (byte : ℕ) → Whether (GoesOn leg.now.device leg.now.place leg.now.bytes)
         (result ≡ bit_of_sent (leg.now.bytes ++ byte ∷ [])) (result ≡ None) }
 {
     if leg.goes_on() {
@@ -209,7 +209,7 @@ impl<'p> Exchange<'p> {
         self.phase = Phase::Start;
     }
 
-    /// Takes a byte of the host.
+    /// TakesByte a byte of the host.
     #[inline]
     pub fn byte(&mut self, byte: u8) -> Heard
         ensures { (device : DeviceParts) (state : DeviceState) (legs : Legs) → StandsIn self.old device state legs
@@ -222,7 +222,7 @@ impl<'p> Exchange<'p> {
         }
     }
 
-    /// Takes the first byte of a leg.
+    /// TakesByte the first byte of a leg.
     fn address(&mut self, byte: u8) -> Heard
         requires { self.old.phase ≡ Phase.Start }
         ensures { (device : DeviceParts) (state : DeviceState) (legs : Legs) → StandsIn self.old device state legs
@@ -245,7 +245,7 @@ impl<'p> Exchange<'p> {
         }
     }
 
-    /// Takes its own address for reading, behind its own leg.
+    /// TakesByte its own address for reading, behind its own leg.
     fn be_read(&mut self) -> Heard
         requires phase { self.old.phase ≡ Phase.Start }
         requires own { self.old.own ≡ true }
@@ -281,7 +281,7 @@ impl<'p> Exchange<'p> {
         self.behind_first && !self.refused && self.leg.asked().is_some()
     }
 
-    /// Takes or refuses a byte behind the address of its own leg.
+    /// TakesByte or refuses a byte behind the address of its own leg.
     fn data_byte(&mut self, byte: u8) -> Heard
         requires { self.old.phase ≡ Phase.Written }
         ensures { (device : DeviceParts) (state : DeviceState) (legs : Legs) → StandsIn self.old device state legs
@@ -350,7 +350,7 @@ impl<'p> Exchange<'p> {
         }
     }
 
-    /// Takes an ACK.
+    /// TakesByte an ACK.
     #[inline]
     pub fn ack(&mut self)
         ensures { (device : DeviceParts) (state : DeviceState) (legs : Legs) → StandsIn self.old device state legs
@@ -359,7 +359,7 @@ impl<'p> Exchange<'p> {
         self.waits = false;
     }
 
-    /// Takes a NACK, which ends a reply.
+    /// TakesByte a NACK, which ends a reply.
     #[inline]
     pub fn nack(&mut self)
         ensures { (device : DeviceParts) (state : DeviceState) (legs : Legs) → StandsIn self.old device state legs

@@ -17,7 +17,7 @@ use Rattle.pmb_table.proofs.Accepted.{All-find}
 use Rattle.pmb_registers.specs.Answer.{answer}
 use Rattle.pmb_registers.specs.State.{InState}
 use Rattle.pmb_device.specs.Legs.{Legs, Outside}
-use Rattle.pmb_devices.specs.Bus.{AreAnswered, Exchange, events_of, legs_after}
+use Rattle.pmb_devices.specs.Bus.{AreAnswered, AnsweredSignal, recorded_events, legs_after}
 use Rattle.pmb_devices.specs.Replies.{HasAddressAlone, IsState}
 use Rattle.pmb_devices.proofs.Devices.{found_is_own}
 use Rattle.pmb_devices.proofs.Parsing.{Stands}
@@ -77,20 +77,20 @@ module _ (profile : List DeviceParts) (members : List InState) (member : InState
       replied.taken (called_taken d found.1 member.state t.code form t.bytes called sent) (subst (Stands members final Outside) spelled stands)
 
 -- The reply of a read is the device's answer.
-pub reads_are_answers : (profile : List DeviceParts) (members : List InState) (history : List Exchange) (t : ReadData) (member : InState)
+pub reads_are_answers : (profile : List DeviceParts) (members : List InState) (history : List AnsweredSignal) (t : ReadData) (member : InState)
     → IsBus profile → map (λ m. m.device) members ≡ profile → AreAnswered members Outside history
-    → Packet profile (Read t) (events_of history ++ event.Stop ∷ []) → HasAddressAlone (legs_after Outside history) → Contains members member
+    → Packet profile (Read t) (recorded_events history ++ event.Stop ∷ []) → HasAddressAlone (legs_after Outside history) → Contains members member
     → member.device.address ≡ t.addr → IsState member.device member.state → answer member.device member.state (t.code ∷ []) ≡ Ok t.reply
 reads_are_answers profile members history t member bus is answered_are packet alone in_bus here fits =
-    read_is profile members member bus is in_bus (legs_after Outside history) alone t (events_of history ++ event.Stop ∷ []) packet here fits
+    read_is profile members member bus is in_bus (legs_after Outside history) alone t (recorded_events history ++ event.Stop ∷ []) packet here fits
     (record { more = history; answered = answered_are; spelled = refl; ends = refl })
 
 -- So is the reply of a call, whatever the device's registers hold.
-pub calls_are_answers : (profile : List DeviceParts) (members : List InState) (history : List Exchange) (t : CallData) (member : InState) (form : Form)
+pub calls_are_answers : (profile : List DeviceParts) (members : List InState) (history : List AnsweredSignal) (t : CallData) (member : InState) (form : Form)
     → IsBus profile → map (λ m. m.device) members ≡ profile → AreAnswered members Outside history
-    → Packet profile (Call t) (events_of history ++ event.Stop ∷ []) → HasAddressAlone (legs_after Outside history) → Contains members member
+    → Packet profile (Call t) (recorded_events history ++ event.Stop ∷ []) → HasAddressAlone (legs_after Outside history) → Contains members member
     → member.device.address ≡ t.addr → (forms member.device t.code).call ≡ Some form
     → answer member.device member.state (t.code ∷ wire form t.bytes) ≡ Ok t.reply
 calls_are_answers profile members history t member form bus is answered_are packet alone in_bus here called =
-    call_is profile members member bus is in_bus (legs_after Outside history) alone t form (events_of history ++ event.Stop ∷ []) packet here
+    call_is profile members member bus is in_bus (legs_after Outside history) alone t form (recorded_events history ++ event.Stop ∷ []) packet here
     called (record { more = history; answered = answered_are; spelled = refl; ends = refl })

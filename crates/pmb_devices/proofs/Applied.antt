@@ -16,7 +16,7 @@ use Rattle.pmb_registers.specs.State.{DeviceState, InState}
 use Rattle.pmb_registers.specs.Apply.{after_parts, after_refusal, apply}
 use Rattle.pmb_device.specs.Legs.{Leg, Legs, Outside, Inside}
 use Rattle.pmb_device.specs.Ends.{Ends, LegsEnd, no_leg}
-use Rattle.pmb_devices.specs.Bus.{AreAnswered, Exchange, events_of, legs_after}
+use Rattle.pmb_devices.specs.Bus.{AreAnswered, AnsweredSignal, recorded_events, legs_after}
 use Rattle.pmb_devices.proofs.Devices.{found_is_own}
 use Rattle.pmb_devices.proofs.OwnLegs.{ends_without}
 use Rattle.pmb_devices.proofs.Parsing.{Stands, at_stop, closed}
@@ -136,12 +136,12 @@ module _ (profile : List DeviceParts) (members : List InState) (member : InState
       no_alert_changes_nothing members member in_bus final after (subst (Stands members final Outside) packet stands) ends
 
 -- Transactions are applied.
-pub transactions_are_applied : (profile : List DeviceParts) (members : List InState) (history : List Exchange) (t : TransactionData)
+pub transactions_are_applied : (profile : List DeviceParts) (members : List InState) (history : List AnsweredSignal) (t : TransactionData)
     (member : InState) (after : DeviceState) → IsBus profile → map (λ m. m.device) members ≡ profile → AreAnswered members Outside history
-    → Packet profile t (events_of history ++ wire.Stop ∷ []) → Contains members member
+    → Packet profile t (recorded_events history ++ wire.Stop ∷ []) → Contains members member
     → Ends member.device (legs_after Outside history) member.state after → after ≡ apply member.device t member.state
 transactions_are_applied profile members history t member after bus is answered packet in_bus ends =
     let final = legs_after Outside history in
     packet_applied profile members member in_bus (found_is_own profile members member bus is in_bus) final after
-    (closed_ends member.device final member.state after ends) t (events_of history ++ wire.Stop ∷ []) packet
+    (closed_ends member.device final member.state after ends) t (recorded_events history ++ wire.Stop ∷ []) packet
     (record { more = history; answered = answered; spelled = refl; ends = refl })

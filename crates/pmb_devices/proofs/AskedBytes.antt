@@ -16,7 +16,7 @@ use Rattle.pmb_device.specs.declared.signal.DeviceSignal.{DeviceSignal}
 use Rattle.pmb_device.specs.declared.signal.DeviceSignal.TheVariants as answers
 use Rattle.pmb_device.specs.Legs.{Leg, Legs, Inside, sent, with_signal}
 use Rattle.pmb_device.specs.Rules.{byte_or_silent, given_behind, next_of, waits_behind}
-use Rattle.pmb_devices.specs.Bus.{AreAnswered, BusAnswers, Exchange, acknowledged, events_of, given, legs_after, recorded}
+use Rattle.pmb_devices.specs.Bus.{AreAnswered, BusAnswers, AnsweredSignal, acknowledged, recorded_events, given, legs_after, recorded}
 use Rattle.pmb_devices.specs.Replies.{HasAddressAlone}
 use Rattle.pmb_devices.proofs.Parsing.{Stands, given_byte, no_start_behind, stays_in}
 use Rattle.pmb_devices.proofs.ReadLegs.{no_start_nacked}
@@ -99,19 +99,19 @@ module _ (members : List InState) (final : Legs) (alone : HasAddressAlone final)
     pub stands : Stands members final (Inside earlier ((Byte r ∷ s) ++ Ask ∷ [])) rest
 
   -- so a byte was recorded of an Ask
-  asked_of : (s : Leg) (b : ℕ) (rest : List Event) → has_start rest ≡ false → (signal : HostSignal) (result : DeviceSignal) (more : List Exchange)
+  asked_of : (s : Leg) (b : ℕ) (rest : List Event) → has_start rest ≡ false → (signal : HostSignal) (result : DeviceSignal) (more : List AnsweredSignal)
       → BusAnswers members (Inside earlier (Byte r ∷ s)) signal result
       → AreAnswered members (with_signal (Inside earlier (Byte r ∷ s)) signal) more
-      → (recorded signal result ++ events_of more) ++ wire.Stop ∷ [] ≡ wire.Byte b ∷ rest
+      → (recorded signal result ++ recorded_events more) ++ wire.Stop ∷ [] ≡ wire.Byte b ∷ rest
       → legs_after (with_signal (Inside earlier (Byte r ∷ s)) signal) more ≡ final → Asked s b rest
   asked_of s b rest none Start result more bus answered spelled ends = absurd (cc spelled)
   asked_of s b rest none (Byte c) result more bus answered spelled ends =
-      let behind : acknowledged result ∷ (events_of more ++ wire.Stop ∷ []) ≡ rest = cc spelled in
+      let behind : acknowledged result ∷ (recorded_events more ++ wire.Stop ∷ []) ≡ rest = cc spelled in
       absurd
       (
-      no_byte s c (events_of more ++ wire.Stop ∷ [])
+      no_byte s c (recorded_events more ++ wire.Stop ∷ [])
       (
-      no_start_behind (acknowledged result) (events_of more ++ wire.Stop ∷ [])
+      no_start_behind (acknowledged result) (recorded_events more ++ wire.Stop ∷ [])
       (subst (λ (es : List Event). has_start es ≡ false) (sym behind) none)
       ) (record { more = more; answered = answered; spelled = refl; ends = ends })
       )
@@ -124,17 +124,17 @@ module _ (members : List InState) (final : Legs) (alone : HasAddressAlone final)
   asked_of s b rest none Stop result more bus answered spelled ends = absurd (cc spelled)
 
   -- whatever comes first
-  asked_from : (s : Leg) (b : ℕ) (rest : List Event) → has_start rest ≡ false → (more : List Exchange)
-      → AreAnswered members (Inside earlier (Byte r ∷ s)) more → events_of more ++ wire.Stop ∷ [] ≡ wire.Byte b ∷ rest
+  asked_from : (s : Leg) (b : ℕ) (rest : List Event) → has_start rest ≡ false → (more : List AnsweredSignal)
+      → AreAnswered members (Inside earlier (Byte r ∷ s)) more → recorded_events more ++ wire.Stop ∷ [] ≡ wire.Byte b ∷ rest
       → legs_after (Inside earlier (Byte r ∷ s)) more ≡ final → Asked s b rest
   asked_from s b rest none [] answered spelled ends = absurd (cc spelled)
   asked_from s b rest none (exchange ∷ more) answered spelled ends =
       asked_of s b rest none exchange.signal exchange.result more answered.1 answered.2 spelled ends
 
   -- ACK was recorded of the host's ACK
-  acked_of : (leg : Leg) (rest : List Event) (signal : HostSignal) (result : DeviceSignal) (more : List Exchange)
+  acked_of : (leg : Leg) (rest : List Event) (signal : HostSignal) (result : DeviceSignal) (more : List AnsweredSignal)
       → AreAnswered members (with_signal (Inside earlier leg) signal) more
-      → (recorded signal result ++ events_of more) ++ wire.Stop ∷ [] ≡ wire.Ack ∷ rest
+      → (recorded signal result ++ recorded_events more) ++ wire.Stop ∷ [] ≡ wire.Ack ∷ rest
       → legs_after (with_signal (Inside earlier leg) signal) more ≡ final → Stands members final (Inside earlier (leg ++ Ack ∷ [])) rest
   acked_of leg rest Start result more answered spelled ends = absurd (cc spelled)
   acked_of leg rest (Byte c) result more answered spelled ends = absurd (cc spelled)
@@ -144,8 +144,8 @@ module _ (members : List InState) (final : Legs) (alone : HasAddressAlone final)
   acked_of leg rest Stop result more answered spelled ends = absurd (cc spelled)
 
   -- whatever comes first
-  acked_from : (leg : Leg) (rest : List Event) (more : List Exchange) → AreAnswered members (Inside earlier leg) more
-      → events_of more ++ wire.Stop ∷ [] ≡ wire.Ack ∷ rest → legs_after (Inside earlier leg) more ≡ final
+  acked_from : (leg : Leg) (rest : List Event) (more : List AnsweredSignal) → AreAnswered members (Inside earlier leg) more
+      → recorded_events more ++ wire.Stop ∷ [] ≡ wire.Ack ∷ rest → legs_after (Inside earlier leg) more ≡ final
       → Stands members final (Inside earlier (leg ++ Ack ∷ [])) rest
   acked_from leg rest [] answered spelled ends = absurd (cc spelled)
   acked_from leg rest (exchange ∷ more) answered spelled ends =

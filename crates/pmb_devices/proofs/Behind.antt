@@ -8,7 +8,7 @@ use Rattle.pmb_device.specs.declared.signal.DeviceSignal.{DeviceSignal}
 use Rattle.pmb_device.specs.declared.device.Device.{Device}
 use Rattle.pmb_device.specs.Legs.{Legs, Outside, with_signal}
 use Rattle.pmb_device.specs.Device.{DeviceStanding, DeviceStandsAt, Leads}
-use Rattle.pmb_devices.specs.Bus.{AreAnswered, BusAnswers, Exchange, legs_after}
+use Rattle.pmb_devices.specs.Bus.{AreAnswered, BusAnswers, AnsweredSignal, legs_after}
 use Rattle.pmb_devices.specs.Runs.{AllEnd, Runs}
 use Rattle.pmb_devices.specs.machine.Standing.{AllStand}
 use Rattle.pmb_devices.specs.machine.Hands.{AllMoved}
@@ -16,12 +16,12 @@ use Rattle.pmb_devices.specs.machine.Hands.{AllMoved}
 -- ---- what came since the last STOP
 
 -- the legs behind one signal more
-pub legs_behind : (legs : Legs) (history : List Exchange) (next : Exchange) → legs_after legs (history ++ next ∷ []) ≡ with_signal (legs_after legs history) next.signal
+pub legs_behind : (legs : Legs) (history : List AnsweredSignal) (next : AnsweredSignal) → legs_after legs (history ++ next ∷ []) ≡ with_signal (legs_after legs history) next.signal
 legs_behind legs [] next = refl
 legs_behind legs (exchange ∷ history) next = legs_behind (with_signal legs exchange.signal) history next
 
 -- one answer more
-pub answered_behind : (members : List InState) (legs : Legs) (history : List Exchange) (next : Exchange) → AreAnswered members legs history
+pub answered_behind : (members : List InState) (legs : Legs) (history : List AnsweredSignal) (next : AnsweredSignal) → AreAnswered members legs history
     → next.signal ≢ Stop → BusAnswers members (legs_after legs history) next.signal next.result → AreAnswered members legs (history ++ next ∷ [])
 answered_behind members legs [] next answered other answer = (other, answer, tt)
 answered_behind members legs (exchange ∷ history) next answered other answer =
@@ -87,7 +87,7 @@ stand_more legs (first ∷ devices) (m ∷ members) d member all one = (all.0, s
 
 -- ---- one stretch more
 
-pub runs_more : (members : List InState) (past : List (List Exchange)) (now : List InState) (stretch : List Exchange) (next : List InState)
+pub runs_more : (members : List InState) (past : List (List AnsweredSignal)) (now : List InState) (stretch : List AnsweredSignal) (next : List InState)
     → Runs members past now → AreAnswered now Outside stretch → AllEnd (legs_after Outside stretch) now next → Runs members (past ++ stretch ∷ []) next
 runs_more members [] now stretch next runs answered ends =
     let here : AreAnswered members Outside stretch = subst (λ (ms : List InState). AreAnswered ms Outside stretch) runs answered in

@@ -20,7 +20,7 @@ use Rattle.pmb_registers.specs.Answer.{all_pages}
 use Rattle.pmb_registers.specs.Apply.{after_write, bit_value, changed, cleared_bits, is_status, reaches, selected_by, with_bit, with_noted}
 use Rattle.pmb_registers.specs.State.{DeviceState, RegisterData, is_of_page}
 use Rattle.pmb_leg.specs.declared.place.LegPlace.{LegPlace}
-use Rattle.pmb_device.specs.Legs.{Leg, Legs, Outside, Inside, place_behind, some_is_to}
+use Rattle.pmb_device.specs.Legs.{Leg, Legs, Outside, Inside, leg_place, some_is_to}
 use Rattle.pmb_device.specs.Rules.{TakesAll}
 use Rattle.pmb_device.specs.Ends.{Acts, Ends, LegsEnd, NotesAnswer, OwnLegEnds, ReadOrActs, Refuses, asked, no_leg, no_write, not_asked, own_leg, writes}
 use Rattle.pmb_device.proofs.Requests.{page_form}
@@ -221,13 +221,13 @@ module _ (device : DeviceParts) where
       -- the device's own leg
       own_fits : (earlier : List Leg) (bytes : List ℕ) (behind : List Leg) → OwnLegEnds device earlier bytes behind before after → IsState device after
       own_fits earlier bytes behind ends = elim ends [
-        | inl w ↦ taken_fits (place_behind earlier) (some_is_to (read_address device.address) behind) earlier bytes behind w.0 w.1
-        | inr w ↦ refuses_fit (place_behind earlier) bytes w.1
+        | inl w ↦ taken_fits (leg_place earlier) (some_is_to (read_address device.address) behind) earlier bytes behind w.0 w.1
+        | inr w ↦ refuses_fit (leg_place earlier) bytes w.1
       ]
 
       -- all legs
       legs_fit : (legs : List Leg) → LegsEnd device legs before after → IsState device after
-      legs_fit legs (own_leg bytes own ends) = own_fits own.before bytes own.behind ends
+      legs_fit legs (own_leg bytes own ends) = own_fits own.earlier bytes own.behind ends
       legs_fit legs (no_leg none same) = subst (IsState device) (sym same) fits
 
 -- What STOP makes of a state that fits, fits.

@@ -16,8 +16,8 @@ use Rattle.pmb_device.specs.declared.signal.HostSignal.{HostSignal}
 use Rattle.pmb_device.specs.declared.signal.HostSignal.TheVariants.{Byte}
 use Rattle.pmb_device.specs.declared.signal.DeviceSignal.{DeviceSignal}
 use Rattle.pmb_device.specs.declared.signal.DeviceSignal.TheVariants as answers
-use Rattle.pmb_device.specs.Legs.{Leg, Legs, Inside, sent, place_behind}
-use Rattle.pmb_device.specs.Rules.{Asks, AnswersAddress, AnswersByte, IsRead, IsWritten, Takes, TakesAll, taken_or_not, written, read, others}
+use Rattle.pmb_device.specs.Legs.{Leg, Legs, Inside, sent, leg_place}
+use Rattle.pmb_device.specs.Rules.{IsAsked, AnswersAddress, AnswersByte, IsRead, IsWritten, TakesByte, TakesAll, taken_or_not, written, read, others}
 use Rattle.pmb_leg.specs.declared.place.LegPlace.{LegPlace}
 use Rattle.pmb_command.specs.Parts.{DeviceParts}
 use Rattle.pmb_devices.specs.Bus.{AnswersOrSilent, BusAnswers, acknowledged}
@@ -39,17 +39,17 @@ unread_begun n bytes is = cc is
 
 -- bytes that a device takes, and one more
 takes_more : (device : DeviceParts) (place : LegPlace) (taken bytes : List ℕ) (b : ℕ) → TakesAll device place taken bytes
-    → Takes device place (taken ++ bytes) b → TakesAll device place taken (bytes ++ b ∷ [])
-takes_more device place taken [] b all next = (subst (λ (bs : List ℕ). Takes device place bs b) (append-nil taken) next, tt)
+    → TakesByte device place (taken ++ bytes) b → TakesAll device place taken (bytes ++ b ∷ [])
+takes_more device place taken [] b all next = (subst (λ (bs : List ℕ). TakesByte device place bs b) (append-nil taken) next, tt)
 takes_more device place taken (c ∷ bytes) b all next = (
   all.0,
-  takes_more device place (taken ++ c ∷ []) bytes b all.1 (subst (λ (bs : List ℕ). Takes device place bs b) (sym (append_assoc taken (c ∷ []) bytes)) next),
+  takes_more device place (taken ++ c ∷ []) bytes b all.1 (subst (λ (bs : List ℕ). TakesByte device place bs b) (sym (append_assoc taken (c ∷ []) bytes)) next),
 )
 
 -- ---- a device that is read
 
 -- it is asked with one body
-same_asked : (device : DeviceParts) (earlier : List Leg) (body second : List ℕ) → Asks device earlier body → Asks device earlier second → body ≡ second
+same_asked : (device : DeviceParts) (earlier : List Leg) (body second : List ℕ) → IsAsked device earlier body → IsAsked device earlier second → body ≡ second
 same_asked device earlier body second a b =
     let rows : a.first ∷ [] ≡ b.first ∷ [] = sym a.alone ∙ b.alone in
     let first : a.first ≡ b.first = cc rows in
@@ -161,9 +161,9 @@ module _ (members : List InState) where
 
     -- The answer to a byte behind bytes that the member took, in a leg that is written to it.
     answer_written : (earlier : List Leg) (address : ℕ) (bytes : List ℕ) (b : ℕ) (result : DeviceSignal) → IsWritten member.device earlier address
-        → TakesAll member.device (place_behind earlier) [] bytes
+        → TakesAll member.device (leg_place earlier) [] bytes
         → AnswersByte member.device member.state earlier (sent (byte_leg (address ∷ bytes))) b result
-        → Whether (Takes member.device (place_behind earlier) bytes b) (result ≡ answers.Ack) (result ≡ answers.Nack)
+        → Whether (TakesByte member.device (leg_place earlier) bytes b) (result ≡ answers.Ack) (result ≡ answers.Nack)
     answer_written earlier address bytes b result own taken answered =
         elim (subst (λ (bs : List ℕ). AnswersByte member.device member.state earlier (address ∷ bs) b result) (sent_bytes bytes) answered) [
           | inl here ↦ elim here.1 [ inl w ↦ w.1 | inr w ↦ absurd (w.0 taken) ]
@@ -172,8 +172,8 @@ module _ (members : List InState) where
 
     -- it took a byte that had ACK
     took_byte : (earlier : List Leg) (address : ℕ) (bytes : List ℕ) (b : ℕ) → IsWritten member.device earlier address
-        → TakesAll member.device (place_behind earlier) [] bytes
-        → BusAnswers members (Inside earlier (byte_leg (address ∷ bytes))) (Byte b) answers.Ack → Takes member.device (place_behind earlier) bytes b
+        → TakesAll member.device (leg_place earlier) [] bytes
+        → BusAnswers members (Inside earlier (byte_leg (address ∷ bytes))) (Byte b) answers.Ack → TakesByte member.device (leg_place earlier) bytes b
     took_byte earlier address bytes b own taken bus =
         elim (member_answers (Inside earlier (byte_leg (address ∷ bytes))) (Byte b) answers.Ack bus) [
           | inl answered ↦ elim (answer_written earlier address bytes b answers.Ack own taken answered) [ inl w ↦ w.0 | inr w ↦ absurd (cc w.1) ]
@@ -182,20 +182,20 @@ module _ (members : List InState) where
 
     -- It took each of the bytes that had ACK.
     pub took_all : (earlier : List Leg) (address : ℕ) (done bytes : List ℕ) → IsWritten member.device earlier address
-        → TakesAll member.device (place_behind earlier) [] done → Acked earlier (address ∷ done) bytes
-        → TakesAll member.device (place_behind earlier) done bytes
+        → TakesAll member.device (leg_place earlier) [] done → Acked earlier (address ∷ done) bytes
+        → TakesAll member.device (leg_place earlier) done bytes
     took_all earlier address done [] own taken acks = tt
     took_all earlier address done (b ∷ bytes) own taken acks =
         let here = took_byte earlier address done b own taken acks.0 in (
           here,
-          took_all earlier address (done ++ b ∷ []) bytes own (takes_more member.device (place_behind earlier) [] done b taken here) acks.1,
+          took_all earlier address (done ++ b ∷ []) bytes own (takes_more member.device (leg_place earlier) [] done b taken here) acks.1,
         )
 
     -- It did not take a byte that had NACK.
     pub refused_byte : (earlier : List Leg) (address : ℕ) (bytes : List ℕ) (b : ℕ) (result : DeviceSignal) → IsWritten member.device earlier address
-        → TakesAll member.device (place_behind earlier) [] bytes
+        → TakesAll member.device (leg_place earlier) [] bytes
         → BusAnswers members (Inside earlier (byte_leg (address ∷ bytes))) (Byte b) result → acknowledged result ≡ wire.Nack
-        → Takes member.device (place_behind earlier) bytes b → ⊥
+        → TakesByte member.device (leg_place earlier) bytes b → ⊥
     refused_byte earlier address bytes b result own taken bus nack takes =
         elim (member_answers (Inside earlier (byte_leg (address ∷ bytes))) (Byte b) result bus) [
           | inl answered ↦

@@ -76,7 +76,7 @@ module _ (device : DeviceParts) (before after : DeviceState) where
       let w = write_address device.address in
       absurd
       (
-      some_passes (is_to w) o.before o.own o.behind (is_to_first w bytes o.own o.bytes_are)
+      some_passes (is_to w) o.earlier o.own o.behind (is_to_first w bytes o.own o.bytes_are)
       (subst (λ (legs : List Leg). some_is_to w legs ≡ false) o.split none)
       )
   ends_without legs none (no_leg nor same) = same
@@ -88,13 +88,13 @@ module _ (device : DeviceParts) (before after : DeviceState) where
   ends_at front leg back bytes new is (own_leg others o ends) =
       let w = write_address device.address in
       let place =
-      one_first (is_to w) front o.before leg o.own back o.behind o.split new o.first (is_to_first w bytes leg is) (is_to_first w others o.own o.bytes_are) in
+      one_first (is_to w) front o.earlier leg o.own back o.behind o.split new o.first (is_to_first w bytes leg is) (is_to_first w others o.own o.bytes_are) in
       let rows : w ∷ bytes ≡ w ∷ others = sym is ∙ ap sent place.here ∙ o.bytes_are in
       let same : bytes ≡ others = cc rows in
       subst (λ (fs : List Leg). OwnLegEnds device fs bytes back before after) (sym place.in_front)
       (
-      subst (λ (bs : List ℕ). OwnLegEnds device o.before bs back before after) (sym same)
-      (subst (λ (ls : List Leg). OwnLegEnds device o.before others ls before after) (sym place.later) ends)
+      subst (λ (bs : List ℕ). OwnLegEnds device o.earlier bs back before after) (sym same)
+      (subst (λ (ls : List Leg). OwnLegEnds device o.earlier others ls before after) (sym place.later) ends)
       )
   ends_at front leg back bytes new is (no_leg none same) =
       let w = write_address device.address in

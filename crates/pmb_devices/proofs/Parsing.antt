@@ -13,7 +13,7 @@ use Rattle.pmb_device.specs.declared.signal.DeviceSignal.{DeviceSignal}
 use Rattle.pmb_device.specs.declared.signal.DeviceSignal.TheVariants as answers
 use Rattle.pmb_device.specs.Legs.{Leg, Legs, Outside, Inside, sent, with_start, with_signal}
 use Rattle.pmb_device.specs.Rules.{AnswersAsk, replies, not_read}
-use Rattle.pmb_devices.specs.Bus.{AreAnswered, BusAnswers, Exchange, acknowledged, events_of, given, legs_after, recorded}
+use Rattle.pmb_devices.specs.Bus.{AreAnswered, BusAnswers, AnsweredSignal, acknowledged, recorded_events, given, legs_after, recorded}
 
 -- ---- what is recorded of an answer
 
@@ -64,16 +64,16 @@ IsUnread leg = (n : ℕ) (bytes : List ℕ) → sent leg ≡ read_address n ∷ 
 module _ (members : List InState) (final : Legs) where
   -- Behind some legs events and STOP were recorded, of signals that led to the final legs.
   pub record Stands (legs : Legs) (events : List Event) : Type 0 where
-    pub more : List Exchange
+    pub more : List AnsweredSignal
     pub answered : AreAnswered members legs more
-    pub spelled : events_of more ++ wire.Stop ∷ [] ≡ events
+    pub spelled : recorded_events more ++ wire.Stop ∷ [] ≡ events
     pub ends : legs_after legs more ≡ final
 
   -- ---- START
 
   -- what was recorded as START
-  start_of : (legs : Legs) (rest : List Event) (signal : HostSignal) (result : DeviceSignal) (more : List Exchange)
-      → AreAnswered members (with_signal legs signal) more → (recorded signal result ++ events_of more) ++ wire.Stop ∷ [] ≡ wire.Start ∷ rest
+  start_of : (legs : Legs) (rest : List Event) (signal : HostSignal) (result : DeviceSignal) (more : List AnsweredSignal)
+      → AreAnswered members (with_signal legs signal) more → (recorded signal result ++ recorded_events more) ++ wire.Stop ∷ [] ≡ wire.Start ∷ rest
       → legs_after (with_signal legs signal) more ≡ final → Stands (with_start legs) rest
   start_of legs rest Start result more answered spelled ends = record { more = more; answered = answered; spelled = cc spelled; ends = ends }
   start_of legs rest (Byte b) result more answered spelled ends = absurd (cc spelled)
@@ -82,8 +82,8 @@ module _ (members : List InState) (final : Legs) where
   start_of legs rest Nack result more answered spelled ends = absurd (cc spelled)
   start_of legs rest Stop result more answered spelled ends = absurd (cc spelled)
 
-  start_from : (legs : Legs) (rest : List Event) (more : List Exchange) → AreAnswered members legs more
-      → events_of more ++ wire.Stop ∷ [] ≡ wire.Start ∷ rest → legs_after legs more ≡ final → Stands (with_start legs) rest
+  start_from : (legs : Legs) (rest : List Event) (more : List AnsweredSignal) → AreAnswered members legs more
+      → recorded_events more ++ wire.Stop ∷ [] ≡ wire.Start ∷ rest → legs_after legs more ≡ final → Stands (with_start legs) rest
   start_from legs rest [] answered spelled ends = absurd (cc spelled)
   start_from legs rest (exchange ∷ more) answered spelled ends =
       start_of legs rest exchange.signal exchange.result more answered.2 spelled ends
@@ -124,9 +124,9 @@ module _ (members : List InState) (final : Legs) where
 
   -- what was recorded as a byte
   byte_of : (earlier : List Leg) (leg : Leg) (b : ℕ) (event : Event) (rest : List Event) → IsUnread leg → (signal : HostSignal)
-      (result : DeviceSignal) (more : List Exchange) → BusAnswers members (Inside earlier leg) signal result
+      (result : DeviceSignal) (more : List AnsweredSignal) → BusAnswers members (Inside earlier leg) signal result
       → AreAnswered members (with_signal (Inside earlier leg) signal) more
-      → (recorded signal result ++ events_of more) ++ wire.Stop ∷ [] ≡ wire.Byte b ∷ event ∷ rest
+      → (recorded signal result ++ recorded_events more) ++ wire.Stop ∷ [] ≡ wire.Byte b ∷ event ∷ rest
       → legs_after (with_signal (Inside earlier leg) signal) more ≡ final → Sent earlier leg b event rest
   byte_of earlier leg b event rest unread Start result more bus answered spelled ends = absurd (cc spelled)
   byte_of earlier leg b event rest unread (Byte c) result more bus answered spelled ends =
@@ -147,8 +147,8 @@ module _ (members : List InState) (final : Legs) where
   byte_of earlier leg b event rest unread Nack result more bus answered spelled ends = absurd (cc spelled)
   byte_of earlier leg b event rest unread Stop result more bus answered spelled ends = absurd (cc spelled)
 
-  byte_from : (earlier : List Leg) (leg : Leg) (b : ℕ) (event : Event) (rest : List Event) → IsUnread leg → (more : List Exchange)
-      → AreAnswered members (Inside earlier leg) more → events_of more ++ wire.Stop ∷ [] ≡ wire.Byte b ∷ event ∷ rest
+  byte_from : (earlier : List Leg) (leg : Leg) (b : ℕ) (event : Event) (rest : List Event) → IsUnread leg → (more : List AnsweredSignal)
+      → AreAnswered members (Inside earlier leg) more → recorded_events more ++ wire.Stop ∷ [] ≡ wire.Byte b ∷ event ∷ rest
       → legs_after (Inside earlier leg) more ≡ final → Sent earlier leg b event rest
   byte_from earlier leg b event rest unread [] answered spelled ends = absurd (cc spelled)
   byte_from earlier leg b event rest unread (exchange ∷ more) answered spelled ends =
@@ -163,8 +163,8 @@ module _ (members : List InState) (final : Legs) where
   -- ---- STOP
 
   -- no signal but STOP was recorded as STOP
-  stop_of : (signal : HostSignal) (result : DeviceSignal) (more : List Exchange) → signal ≢ Stop
-      → (recorded signal result ++ events_of more) ++ wire.Stop ∷ [] ≡ wire.Stop ∷ [] → ⊥
+  stop_of : (signal : HostSignal) (result : DeviceSignal) (more : List AnsweredSignal) → signal ≢ Stop
+      → (recorded signal result ++ recorded_events more) ++ wire.Stop ∷ [] ≡ wire.Stop ∷ [] → ⊥
   stop_of Start result more other spelled = cc spelled
   stop_of (Byte b) result more other spelled = cc spelled
   stop_of Ask result more other spelled = given_no_stop result (cc spelled)
@@ -172,7 +172,7 @@ module _ (members : List InState) (final : Legs) where
   stop_of Nack result more other spelled = cc spelled
   stop_of Stop result more other spelled = other refl
 
-  stop_from : (legs : Legs) (more : List Exchange) → AreAnswered members legs more → events_of more ++ wire.Stop ∷ [] ≡ wire.Stop ∷ []
+  stop_from : (legs : Legs) (more : List AnsweredSignal) → AreAnswered members legs more → recorded_events more ++ wire.Stop ∷ [] ≡ wire.Stop ∷ []
       → legs_after legs more ≡ final → legs ≡ final
   stop_from legs [] answered spelled ends = ends
   stop_from legs (exchange ∷ more) answered spelled ends = absurd (stop_of exchange.signal exchange.result more answered.0 spelled)
@@ -193,25 +193,25 @@ module _ (members : List InState) (final : Legs) where
       record { behind = signal ∷ goes.behind; is = goes.is ∙ ap (λ (l : Leg). Inside earlier l) (append_assoc leg (signal ∷ []) goes.behind) }
 
   -- by the signal that comes first
-  goes_of : (earlier : List Leg) (leg : Leg) (signal : HostSignal) (result : DeviceSignal) (more : List Exchange) → signal ≢ Stop
+  goes_of : (earlier : List Leg) (leg : Leg) (signal : HostSignal) (result : DeviceSignal) (more : List AnsweredSignal) → signal ≢ Stop
       → AreAnswered members (with_signal (Inside earlier leg) signal) more
-      → has_start ((recorded signal result ++ events_of more) ++ wire.Stop ∷ []) ≡ false
+      → has_start ((recorded signal result ++ recorded_events more) ++ wire.Stop ∷ []) ≡ false
       → legs_after (with_signal (Inside earlier leg) signal) more ≡ final
-      → ((leg : Leg) → AreAnswered members (Inside earlier leg) more → has_start (events_of more ++ wire.Stop ∷ []) ≡ false
+      → ((leg : Leg) → AreAnswered members (Inside earlier leg) more → has_start (recorded_events more ++ wire.Stop ∷ []) ≡ false
       → legs_after (Inside earlier leg) more ≡ final → Goes earlier leg) → Goes earlier leg
   goes_of earlier leg Start result more other answered none ends later = absurd (cc none)
   goes_of earlier leg (Byte b) result more other answered none ends later =
       goes_on earlier leg (Byte b)
-      (later (leg ++ Byte b ∷ []) answered (no_start_behind (acknowledged result) (events_of more ++ wire.Stop ∷ []) none) ends)
+      (later (leg ++ Byte b ∷ []) answered (no_start_behind (acknowledged result) (recorded_events more ++ wire.Stop ∷ []) none) ends)
   goes_of earlier leg Ask result more other answered none ends later =
-      goes_on earlier leg Ask (later (leg ++ Ask ∷ []) answered (no_start_behind (given result) (events_of more ++ wire.Stop ∷ []) none) ends)
+      goes_on earlier leg Ask (later (leg ++ Ask ∷ []) answered (no_start_behind (given result) (recorded_events more ++ wire.Stop ∷ []) none) ends)
   goes_of earlier leg Ack result more other answered none ends later = goes_on earlier leg Ack (later (leg ++ Ack ∷ []) answered none ends)
   goes_of earlier leg Nack result more other answered none ends later = goes_on earlier leg Nack (later (leg ++ Nack ∷ []) answered none ends)
   goes_of earlier leg Stop result more other answered none ends later = absurd (other refl)
 
   -- and by all that come
-  goes_from : (earlier : List Leg) (leg : Leg) (more : List Exchange) → AreAnswered members (Inside earlier leg) more
-      → has_start (events_of more ++ wire.Stop ∷ []) ≡ false → legs_after (Inside earlier leg) more ≡ final → Goes earlier leg
+  goes_from : (earlier : List Leg) (leg : Leg) (more : List AnsweredSignal) → AreAnswered members (Inside earlier leg) more
+      → has_start (recorded_events more ++ wire.Stop ∷ []) ≡ false → legs_after (Inside earlier leg) more ≡ final → Goes earlier leg
   goes_from earlier leg [] answered none ends =
       record { behind = []; is = sym ends ∙ ap (λ (l : Leg). Inside earlier l) (sym (append-nil leg)) }
   goes_from earlier leg (exchange ∷ more) answered none ends =

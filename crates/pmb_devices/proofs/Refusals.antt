@@ -17,8 +17,8 @@ use Rattle.pmb_registers.specs.State.{DeviceState, InState}
 use Rattle.pmb_registers.specs.Answer.{answer}
 use Rattle.pmb_registers.specs.Apply.{after_parts, after_refusal, bit_of_answer, bit_of_sent, with_noted}
 use Rattle.pmb_device.specs.declared.signal.HostSignal.TheVariants.{Byte}
-use Rattle.pmb_device.specs.Legs.{Leg, Legs, Outside, Inside, is_to, place_behind, sent, some_is_to}
-use Rattle.pmb_device.specs.Rules.{AllowedAt, HasRoom, IsWritten, Takes, TakesAll}
+use Rattle.pmb_device.specs.Legs.{Leg, Legs, Outside, Inside, is_to, leg_place, sent, some_is_to}
+use Rattle.pmb_device.specs.Rules.{AllowedAt, GoesOn, IsWritten, TakesByte, TakesAll}
 use Rattle.pmb_device.specs.Ends.{Acts, LegsEnd, OwnLegEnds, Refuses, no_write, writes}
 use Rattle.pmb_devices.specs.Bus.{BusAnswers}
 use Rattle.pmb_devices.proofs.Givers.{Acked, no_read_address, refused_byte, run_address, run_leg, run_one, took_all, unread_written}
@@ -41,10 +41,10 @@ none_in_front (y ∷ front) x back same = cc same
 
 module _ (device : DeviceParts) (place : LegPlace) where
   -- of bytes that are taken the last is
-  takes_last : (taken front : List ℕ) (last : ℕ) → TakesAll device place taken (front ++ last ∷ []) → Takes device place (taken ++ front) last
-  takes_last taken [] last all = subst (λ (bs : List ℕ). Takes device place bs last) (sym (append-nil taken)) all.0
+  takes_last : (taken front : List ℕ) (last : ℕ) → TakesAll device place taken (front ++ last ∷ []) → TakesByte device place (taken ++ front) last
+  takes_last taken [] last all = subst (λ (bs : List ℕ). TakesByte device place bs last) (sym (append-nil taken)) all.0
   takes_last taken (b ∷ front) last all =
-      subst (λ (bs : List ℕ). Takes device place bs last) (append_assoc taken (b ∷ []) front) (takes_last (taken ++ b ∷ []) front last all.1)
+      subst (λ (bs : List ℕ). TakesByte device place bs last) (append_assoc taken (b ∷ []) front) (takes_last (taken ++ b ∷ []) front last all.1)
 
   -- There is one byte that is refused behind bytes that are taken.
   pub record SameByte (front before : List ℕ) (last byte : ℕ) : Type 0 where
@@ -53,7 +53,7 @@ module _ (device : DeviceParts) (place : LegPlace) where
 
   -- by the bytes in front
   one_refused : (taken front : List ℕ) (last : ℕ) (before : List ℕ) (byte : ℕ) (rest : List ℕ) → front ++ last ∷ [] ≡ before ++ byte ∷ rest
-      → TakesAll device place taken front → (Takes device place (taken ++ before) byte → ⊥) → SameByte front before last byte
+      → TakesAll device place taken front → (TakesByte device place (taken ++ before) byte → ⊥) → SameByte front before last byte
   one_refused taken [] last [] byte rest same all refused = record { fronts = refl; bytes = cc same }
   one_refused taken [] last (b ∷ before) byte rest same all refused =
       let nothing : before ++ byte ∷ rest ≡ [] = cc same in
@@ -64,8 +64,8 @@ module _ (device : DeviceParts) (place : LegPlace) where
       (
       refused
       (
-      subst (λ (bs : List ℕ). Takes device place bs byte) (sym (append-nil taken))
-      (subst (λ (n : ℕ). Takes device place taken n) is all.0)
+      subst (λ (bs : List ℕ). TakesByte device place bs byte) (sym (append-nil taken))
+      (subst (λ (n : ℕ). TakesByte device place taken n) is all.0)
       )
       )
   one_refused taken (b ∷ front) last (c ∷ before) byte rest same all refused =
@@ -75,13 +75,13 @@ module _ (device : DeviceParts) (place : LegPlace) where
       append_assoc taken (b ∷ []) before ∙ ap (λ (n : ℕ). taken ++ n ∷ before) is in
       let later =
       one_refused (taken ++ b ∷ []) front last before byte rest more all.1
-      (λ takes. refused (subst (λ (bs : List ℕ). Takes device place bs byte) again takes)) in
+      (λ takes. refused (subst (λ (bs : List ℕ). TakesByte device place bs byte) again takes)) in
       let fronts : front ≡ before = later.fronts in
       record { fronts = cc; bytes = later.bytes }
 
 -- What is noted of a refused byte is that bit.
 noted_of : (device : DeviceParts) (place : LegPlace) (front : List ℕ) (last : ℕ) (before after : DeviceState) → TakesAll device place [] front
-    → HasRoom device place front → Refuses device place (front ++ last ∷ []) before after
+    → GoesOn device place front → Refuses device place (front ++ last ∷ []) before after
     → after ≡ with_noted device (bit_of_sent (front ++ last ∷ [])) before
 noted_of device place front last before after taken room r =
     let same = one_refused device place [] front last r.front r.byte r.rest r.split taken r.refused in
@@ -89,7 +89,7 @@ noted_of device place front last before after taken room r =
     ap (λ (bs : List ℕ). bs ++ r.byte ∷ []) (sym same.fronts) ∙ ap (λ (n : ℕ). front ++ n ∷ []) (sym same.bytes) in
     elim r.noted [
       | inl w ↦ w.1 ∙ ap (λ (bs : List ℕ). with_noted device (bit_of_sent bs) before) sent_are
-      | inr w ↦ absurd (w.0 (subst (HasRoom device place) same.fronts room))
+      | inr w ↦ absurd (w.0 (subst (GoesOn device place) same.fronts room))
     ]
 
 -- no body is empty
@@ -152,14 +152,14 @@ module _ (profile : List DeviceParts) (members : List InState) (member : InState
 
   -- behind some parts the bodies are those of a later leg
   allowed_at : (device : DeviceParts) (parts : List PartData) (legs : List Leg) (body : List ℕ) → PartLegs profile members [] parts legs
-      → Allowed device parts body → AllowedAt device (place_behind legs) body
-  allowed_at device [] legs body each allowed = subst (λ (ls : List Leg). AllowedAt device (place_behind ls) body) (sym each) allowed
+      → Allowed device parts body → AllowedAt device (leg_place legs) body
+  allowed_at device [] legs body each allowed = subst (λ (ls : List Leg). AllowedAt device (leg_place ls) body) (sym each) allowed
   allowed_at device (part ∷ parts) legs body each allowed =
-      subst (λ (ls : List Leg). AllowedAt device (place_behind ls) body) (sym each.2) allowed
+      subst (λ (ls : List Leg). AllowedAt device (leg_place ls) body) (sym each.2) allowed
 
   -- a byte has a place behind those in front of it
   room_at : (device : DeviceParts) (parts : List PartData) (legs : List Leg) (front : List ℕ) → PartLegs profile members [] parts legs
-      → (front ≡ []) ⊎ ((body : List ℕ) × Allowed device parts body × IsProperPrefix front body) → HasRoom device (place_behind legs) front
+      → (front ≡ []) ⊎ ((body : List ℕ) × Allowed device parts body × IsProperPrefix front body) → GoesOn device (leg_place legs) front
   room_at device parts legs front each (inl none) = inl none
   room_at device parts legs front each (inr w) = inr (w.0, allowed_at device parts legs w.0 each w.1, w.2)
 
@@ -224,12 +224,12 @@ module _ (profile : List DeviceParts) (members : List InState) (member : InState
       subst (λ (a : ℕ). BusAnswers members (Inside legs (byte_leg (write_address a ∷ front))) (Byte byte) one.result) addr_is
       (subst (λ (ls : List Leg). BusAnswers members (Inside ls (byte_leg (write_address addr ∷ front))) (Byte byte) one.result) closed_is one.answer) in
       let not_taken = refused_byte members member in_bus legs w front byte one.result own_written taken answered one.recorded_as in
-      let room = subst (λ (e : DeviceParts). HasRoom e (place_behind legs) front) device_is (room_at refused.device parts legs front each refused.begins) in
+      let room = subst (λ (e : DeviceParts). GoesOn e (leg_place legs) front) device_is (room_at refused.device parts legs front each refused.begins) in
       let ended = subst (λ (bs : List ℕ). OwnLegEnds d legs bs [] member.state after) refused.split own_ends in
       elim ended [
-        | inl w ↦ absurd (not_taken (takes_last d (place_behind legs) [] front byte w.0))
+        | inl w ↦ absurd (not_taken (takes_last d (leg_place legs) [] front byte w.0))
         | inr w ↦
-            noted_of d (place_behind legs) front byte member.state after taken room w.1
+            noted_of d (leg_place legs) front byte member.state after taken room w.1
             ∙ ap (λ (bs : List ℕ). with_noted d (bit_of_sent bs) member.state) (sym refused.split)
       ]
       )

@@ -5,7 +5,7 @@ use Rattle.pmb_command.specs.Bus.{IsBus, IsDevice}
 use Rattle.pmb_command.specs.Parts.{DeviceParts}
 use Rattle.pmb_registers.specs.State.{InState}
 use Rattle.pmb_device.specs.Legs.{Legs, Outside}
-use Rattle.pmb_devices.specs.Bus.{Exchange, legs_after}
+use Rattle.pmb_devices.specs.Bus.{AnsweredSignal, legs_after}
 use Rattle.pmb_devices.specs.Replies.{IsState}
 use Rattle.pmb_devices.specs.Runs.{AllEnd, Runs, first_members}
 use Rattle.pmb_devices.proofs.FirstStates.{first_fits}
@@ -43,13 +43,13 @@ end_devices legs (old ∷ olds) (new ∷ news) ends =
     ap (λ (d : DeviceParts). d ∷ map (λ (m : InState). m.device) news) ends.0
     ∙ ap (λ (ds : List DeviceParts). old.device ∷ ds) (end_devices legs olds news ends.2)
 
-run_members : (stretches : List (List Exchange)) (members now : List InState) → Runs members stretches now → AllByRecursion IsMember members
+run_members : (stretches : List (List AnsweredSignal)) (members now : List InState) → Runs members stretches now → AllByRecursion IsMember members
     → AllByRecursion IsMember now
 run_members [] members now runs all = subst (AllByRecursion IsMember) (sym runs) all
 run_members (stretch ∷ more) members now runs all =
     run_members more runs.1.0 now runs.1.2 (end_members (legs_after Outside stretch) members runs.1.0 runs.1.1 all)
 
-run_devices : (stretches : List (List Exchange)) (members now : List InState) → Runs members stretches now → map (λ m. m.device) now ≡ map (λ m. m.device) members
+run_devices : (stretches : List (List AnsweredSignal)) (members now : List InState) → Runs members stretches now → map (λ m. m.device) now ≡ map (λ m. m.device) members
 run_devices [] members now runs = ap (map (λ (m : InState). m.device)) runs
 run_devices (stretch ∷ more) members now runs =
     run_devices more runs.1.0 now runs.1.2 ∙ end_devices (legs_after Outside stretch) members runs.1.0 runs.1.1
@@ -60,12 +60,12 @@ one_of (m ∷ members) zero member all inside is = subst IsMember is all.0
 one_of (m ∷ members) (suc k) member all inside is = one_of members k member all.1 (omega (arith, inside)) is
 
 -- The devices are those of the profile.
-pub devices_stay : (profile : List DeviceParts) (stretches : List (List Exchange)) (now : List InState) → Runs (first_members profile) stretches now
+pub devices_stay : (profile : List DeviceParts) (stretches : List (List AnsweredSignal)) (now : List InState) → Runs (first_members profile) stretches now
     → map (λ m. m.device) now ≡ profile
 devices_stay profile stretches now runs = run_devices stretches (first_members profile) now runs ∙ first_devices profile
 
 -- Each state fits its device.
-pub states_fit : (profile : List DeviceParts) (stretches : List (List Exchange)) (now : List InState) (member : InState) → IsBus profile
+pub states_fit : (profile : List DeviceParts) (stretches : List (List AnsweredSignal)) (now : List InState) (member : InState) → IsBus profile
     → Runs (first_members profile) stretches now → Contains now member → IsState member.device member.state
 states_fit profile stretches now member bus runs inside =
     let is = one_of now inside.0 member (run_members stretches (first_members profile) now runs (first_members_fit profile bus.devices)) inside.1 inside.2 in

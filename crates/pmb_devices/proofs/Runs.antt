@@ -23,7 +23,7 @@ use Rattle.pmb_device.specs.declared.signal.DeviceSignal.{DeviceSignal}
 use Rattle.pmb_device.specs.declared.signal.DeviceSignal.TheVariants as answers
 use Rattle.pmb_device.specs.Ends.{Ends}
 use Rattle.pmb_device.specs.Legs.{Legs, Outside, with_signal}
-use Rattle.pmb_devices.specs.Bus.{AreAnswered, Exchange, acknowledged, events_of, legs_after, recorded}
+use Rattle.pmb_devices.specs.Bus.{AreAnswered, AnsweredSignal, acknowledged, recorded_events, legs_after, recorded}
 use Rattle.pmb_devices.specs.Runs.{AllEnd, IsTruncation, Runs, all_after, first_members, run_events}
 use Rattle.pmb_devices.proofs.Applied.{transactions_are_applied}
 use Rattle.pmb_devices.proofs.Parsing.{given_no_stop}
@@ -50,10 +50,10 @@ recorded_no_stop Nack result more other none = no_stop_behind wire.Nack more (λ
 recorded_no_stop Stop result more other none = absurd (other refl)
 
 -- So since the last STOP none is recorded.
-events_no_stop : (members : List InState) (legs : Legs) (history : List Exchange) → AreAnswered members legs history → HasNoStop (events_of history)
+events_no_stop : (members : List InState) (legs : Legs) (history : List AnsweredSignal) → AreAnswered members legs history → HasNoStop (recorded_events history)
 events_no_stop members legs [] answered = no_stop_in_none
 events_no_stop members legs (exchange ∷ more) answered =
-    recorded_no_stop exchange.signal exchange.result (events_of more) answered.0
+    recorded_no_stop exchange.signal exchange.result (recorded_events more) answered.0
     (events_no_stop members (with_signal legs exchange.signal) more answered.2)
 
 -- ---- each device goes where its transaction leads it
@@ -171,36 +171,36 @@ module _ (profile : List DeviceParts) where
     -- ---- a run
 
     -- A stretch that is a transaction's packet makes of the devices what the transaction makes of them.
-    stretch_applied : (members next : List InState) (stretch : List Exchange) (t : TransactionData) → map (λ m. m.device) members ≡ profile
-        → AreAnswered members Outside stretch → Packet profile t (events_of stretch ++ wire.Stop ∷ [])
+    stretch_applied : (members next : List InState) (stretch : List AnsweredSignal) (t : TransactionData) → map (λ m. m.device) members ≡ profile
+        → AreAnswered members Outside stretch → Packet profile t (recorded_events stretch ++ wire.Stop ∷ [])
         → AllEnd (legs_after Outside stretch) members next → next ≡ map (after_one t) members
     stretch_applied members next stretch t are answered packet ends =
         all_are_applied t (legs_after Outside stretch) members next ends
         (λ member after inside ended. transactions_are_applied profile members stretch t member after bus are answered packet inside ended)
 
     -- where a run's first stretch ends, and what comes behind it
-    first_stretch : (stretch : List Exchange) (more : List (List Exchange)) (history : List Exchange)
-        → run_events (stretch ∷ more) ++ events_of history ≡ events_of stretch ++ wire.Stop ∷ (run_events more ++ events_of history)
+    first_stretch : (stretch : List AnsweredSignal) (more : List (List AnsweredSignal)) (history : List AnsweredSignal)
+        → run_events (stretch ∷ more) ++ recorded_events history ≡ recorded_events stretch ++ wire.Stop ∷ (run_events more ++ recorded_events history)
     first_stretch stretch more history =
-        append_assoc (events_of stretch ++ wire.Stop ∷ []) (run_events more) (events_of history)
-        ∙ append_assoc (events_of stretch) (wire.Stop ∷ []) (run_events more ++ events_of history)
+        append_assoc (recorded_events stretch ++ wire.Stop ∷ []) (run_events more) (recorded_events history)
+        ∙ append_assoc (recorded_events stretch) (wire.Stop ∷ []) (run_events more ++ recorded_events history)
 
     -- Transactions are applied in turn, from whatever states.
-    run_applied : (stretches : List (List Exchange)) (n : ℕ) (members now : List InState) (history : List Exchange) (ts : List TransactionData)
+    run_applied : (stretches : List (List AnsweredSignal)) (n : ℕ) (members now : List InState) (history : List AnsweredSignal) (ts : List TransactionData)
         (end : List Outcome) → map (λ m. m.device) members ≡ profile → Runs members stretches now → AreAnswered now Outside history
-        → ReadsFrom profile n (run_events stretches ++ events_of history) (map Accepted ts ++ end) → IsTruncation end → now ≡ all_after ts members
+        → ReadsFrom profile n (run_events stretches ++ recorded_events history) (map Accepted ts ++ end) → IsTruncation end → now ≡ all_after ts members
     run_applied [] n members now history ts end are runs answered reads truncated =
-        let none = nothing_accepted n (events_of history) ts end (events_no_stop now Outside history answered) reads in
+        let none = nothing_accepted n (recorded_events history) ts end (events_no_stop now Outside history answered) reads in
         runs ∙ sym (map-id members) ∙ ap (λ (us : List TransactionData). all_after us members) (sym none)
     run_applied (stretch ∷ more) n members now history [] end are runs answered reads truncated =
-        let none = end_no_stop n (run_events (stretch ∷ more) ++ events_of history) end truncated reads in
-        absurd (none (events_of stretch) (run_events more ++ events_of history) (first_stretch stretch more history))
+        let none = end_no_stop n (run_events (stretch ∷ more) ++ recorded_events history) end truncated reads in
+        absurd (none (recorded_events stretch) (run_events more ++ recorded_events history) (first_stretch stretch more history))
     run_applied (stretch ∷ more) n members now history (t ∷ ts) end are runs answered reads truncated =
-        let events = run_events (stretch ∷ more) ++ events_of history in
-        let behind = run_events more ++ events_of history in
+        let events = run_events (stretch ∷ more) ++ recorded_events history in
+        let behind = run_events more ++ recorded_events history in
         let taken = up_to_stop profile stops t events reads.0 reads.1 reads.2 reads.3 in
         let cut =
-        same_cut taken.front (events_of stretch) reads.1 behind taken.no_stop (events_no_stop members Outside stretch runs.0)
+        same_cut taken.front (recorded_events stretch) reads.1 behind taken.no_stop (events_no_stop members Outside stretch runs.0)
         (sym taken.split ∙ first_stretch stretch more history) in
         let packet = subst (λ (es : List Event). Packet profile t (es ++ wire.Stop ∷ [])) cut.0 taken.packet in
         let next_is = stretch_applied members runs.1.0 stretch t are runs.0 packet runs.1.1 in
@@ -214,9 +214,9 @@ module _ (profile : List DeviceParts) where
         ∙ one_then_others t ts members
 
     -- Transactions are applied in turn.
-    pub applied_in_turn : (stretches : List (List Exchange)) (now : List InState) (history : List Exchange) (ts : List TransactionData)
+    pub applied_in_turn : (stretches : List (List AnsweredSignal)) (now : List InState) (history : List AnsweredSignal) (ts : List TransactionData)
         (end : List Outcome) → Runs (first_members profile) stretches now → AreAnswered now Outside history
-        → ReadsFrom profile 0 (run_events stretches ++ events_of history) (map Accepted ts ++ end) → IsTruncation end
+        → ReadsFrom profile 0 (run_events stretches ++ recorded_events history) (map Accepted ts ++ end) → IsTruncation end
         → now ≡ all_after ts (first_members profile)
     applied_in_turn stretches now history ts end runs answered reads truncated =
         run_applied stretches 0 (first_members profile) now history ts end (first_devices profile) runs answered reads truncated

@@ -14,7 +14,7 @@ use Rattle.pmb_device.specs.declared.signal.DeviceSignal.{DeviceSignal}
 use Rattle.pmb_device.specs.Legs.{Legs, Outside}
 use Rattle.pmb_device.specs.Ends.{Ends}
 use Rattle.pmb_devices.specs.declared.bus.Bus.{Bus}
-use Rattle.pmb_devices.specs.Bus.{AreAnswered, BusAnswers, Exchange, events_of, legs_after}
+use Rattle.pmb_devices.specs.Bus.{AreAnswered, BusAnswers, AnsweredSignal, recorded_events, legs_after}
 use Rattle.pmb_devices.specs.Runs.{Runs, first_members}
 use Rattle.pmb_devices.specs.Signal.{BusEnds, BusLeads, BusStandsAt, BusStanding, BusTakes, behind}
 use Rattle.pmb_devices.specs.machine.Standing.{AllStand}
@@ -25,9 +25,9 @@ use Rattle.pmb_devices.proofs.Runs.{all_are_applied}
 
 -- what a transaction's packet makes of each device
 abbrev pub AreApplied : Type 0
-AreApplied = (profile : List DeviceParts) (members : List InState) (history : List Exchange) (t : TransactionData)
+AreApplied = (profile : List DeviceParts) (members : List InState) (history : List AnsweredSignal) (t : TransactionData)
     (member : InState) (after : DeviceState) → IsBus profile → map (λ m. m.device) members ≡ profile
-    → AreAnswered members Outside history → Packet profile t (events_of history ++ wire.Stop ∷ [])
+    → AreAnswered members Outside history → Packet profile t (recorded_events history ++ wire.Stop ∷ [])
     → Contains members member → Ends member.device (legs_after Outside history) member.state after
     → after ≡ apply member.device t member.state
 
@@ -36,7 +36,7 @@ module _ (bus new : Bus) (same : new.profile.now ≡ bus.profile.now) (standing 
   own_addresses = subst (λ (ds : List DeviceParts). IsDistinct nat_eq (map (λ d. d.address) ds)) (sym at.profile) at.accepted.own_addresses
 
   -- the profile stays
-  runs_so : (past : List (List Exchange)) (members : List InState) → Runs (first_members bus.profile.now) past members → Runs (first_members new.profile.now) past members
+  runs_so : (past : List (List AnsweredSignal)) (members : List InState) → Runs (first_members bus.profile.now) past members → Runs (first_members new.profile.now) past members
   runs_so past members runs = subst (λ (ds : List DeviceParts). Runs (first_members ds) past members) (sym same) runs
 
   -- the answer on the bus
@@ -50,7 +50,7 @@ module _ (bus new : Bus) (same : new.profile.now ≡ bus.profile.now) (standing 
   goes_on : (signal : HostSignal) (result : DeviceSignal) → signal ≢ Stop
       → HandsOn (legs_after Outside standing.history) signal standing.members result new.devices.items → BusStandsAt new (behind standing signal result)
   goes_on signal result other handed =
-      let next : Exchange = record { signal = signal; result = result } in
+      let next : AnsweredSignal = record { signal = signal; result = result } in
       record {
         accepted = subst IsBus (sym same) at.accepted;
         profile = at.profile ∙ sym same;

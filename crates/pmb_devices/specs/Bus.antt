@@ -56,23 +56,23 @@ pub record BusAnswers (members : List InState) (legs : Legs) (signal : HostSigna
 -- ---- since the last STOP
 
 -- a signal, and the answer to it
-pub record Exchange : Type 0 where
+pub record AnsweredSignal : Type 0 where
   pub signal : HostSignal
   pub result : DeviceSignal
 
 -- what came since the last STOP: each signal, other than STOP, has the answer of the bus behind those before it
-abbrev pub AreAnswered : List InState → Legs → List Exchange → Type 0
+abbrev pub AreAnswered : List InState → Legs → List AnsweredSignal → Type 0
 AreAnswered members legs [] = Unit {0}
 AreAnswered members legs (exchange ∷ more) =
     (exchange.signal ≢ Stop) × BusAnswers members legs exchange.signal exchange.result
     × AreAnswered members (with_signal legs exchange.signal) more
 
 -- the legs that they make, behind others
-abbrev pub legs_after : Legs → List Exchange → Legs
+abbrev pub legs_after : Legs → List AnsweredSignal → Legs
 legs_after legs [] = legs
 legs_after legs (exchange ∷ more) = legs_after (with_signal legs exchange.signal) more
 
 -- and the events that are recorded of them
-abbrev pub events_of : List Exchange → List Event
-events_of [] = []
-events_of (exchange ∷ more) = recorded exchange.signal exchange.result ++ events_of more
+abbrev pub recorded_events : List AnsweredSignal → List Event
+recorded_events [] = []
+recorded_events (exchange ∷ more) = recorded exchange.signal exchange.result ++ recorded_events more

@@ -11,7 +11,7 @@ use Rattle.pmb_registers.specs.State.{InState, first_state}
 use Rattle.pmb_registers.specs.Apply.{apply_all}
 use Rattle.pmb_device.specs.Legs.{Legs, Outside}
 use Rattle.pmb_device.specs.Ends.{Ends}
-use Rattle.pmb_devices.specs.Bus.{AreAnswered, Exchange, events_of, legs_after}
+use Rattle.pmb_devices.specs.Bus.{AreAnswered, AnsweredSignal, recorded_events, legs_after}
 
 -- each device of a profile in its first state
 abbrev pub first_members : List DeviceParts → List InState
@@ -25,16 +25,16 @@ AllEnd legs (old ∷ olds) [] = ⊥
 AllEnd legs (old ∷ olds) (new ∷ news) = (new.device ≡ old.device) × Ends old.device legs old.state new.state × AllEnd legs olds news
 
 -- The devices go from some states to others by stretches, each of which STOP ends.
-abbrev pub Runs : List InState → List (List Exchange) → List InState → Type 0
+abbrev pub Runs : List InState → List (List AnsweredSignal) → List InState → Type 0
 Runs members [] now = now ≡ members
 Runs members (stretch ∷ more) now =
     AreAnswered members Outside stretch
     × ((next : List InState) × AllEnd (legs_after Outside stretch) members next × Runs next more now)
 
 -- the events that are recorded of them
-abbrev pub run_events : List (List Exchange) → List Event
+abbrev pub run_events : List (List AnsweredSignal) → List Event
 run_events [] = []
-run_events (stretch ∷ more) = (events_of stretch ++ Stop ∷ []) ++ run_events more
+run_events (stretch ∷ more) = (recorded_events stretch ++ Stop ∷ []) ++ run_events more
 
 -- what transactions make of each device, in their order
 abbrev pub all_after : List TransactionData → List InState → List InState

@@ -17,7 +17,7 @@ use Rattle.pmb_device.specs.declared.device.Device.{Device}
 use Rattle.pmb_device.specs.Device.{DeviceStandsAt}
 use Rattle.pmb_device.specs.Legs.{Outside}
 use Rattle.pmb_devices.specs.declared.bus.Bus.{Bus}
-use Rattle.pmb_devices.specs.Bus.{BusAnswers, events_of, legs_after}
+use Rattle.pmb_devices.specs.Bus.{BusAnswers, recorded_events, legs_after}
 use Rattle.pmb_devices.specs.Runs.{AllEnd}
 pub use Rattle.pmb_devices.specs.machine.Standing.{BusStanding, BusStandsAt}
 
@@ -32,7 +32,7 @@ pub record BusEnds (standing : BusStanding) (new : Bus) : Type 0 where
   pub ends : AllEnd (legs_after Outside standing.history) standing.members members
   pub stands : BusStandsAt new (record { past = standing.past ++ standing.history ∷ []; members = members; history = [] })
   pub applied : (t : TransactionData)
-      → Packet (map (λ member. member.device) standing.members) t (events_of standing.history ++ events.Stop ∷ [])
+      → Packet (map (λ member. member.device) standing.members) t (recorded_events standing.history ++ events.Stop ∷ [])
       → members ≡ all_applied t standing.members
 
 -- where the bus stands behind a signal and the answer to it, other than at STOP

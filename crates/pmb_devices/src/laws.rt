@@ -15,7 +15,7 @@ ghost use Rattle.pmb_registers.specs.State.{DeviceState, InState};
 ghost use Rattle.pmb_registers.specs.Apply.{apply};
 ghost use Rattle.pmb_device.specs.Legs.{Outside};
 ghost use Rattle.pmb_device.specs.Ends.{Ends};
-ghost use Rattle.pmb_devices.specs.Bus.{AreAnswered, Exchange, events_of, legs_after};
+ghost use Rattle.pmb_devices.specs.Bus.{AreAnswered, AnsweredSignal, recorded_events, legs_after};
 ghost use Rattle.pmb_devices.specs.Runs.{AreStopped, IsTruncation, Runs, all_after, first_members, run_events};
 
 use pmb_transaction::laws::{packet_ends_with_stop, packets_under_way};
@@ -23,9 +23,9 @@ use pmb_transaction::laws::{packet_ends_with_stop, packets_under_way};
 /// Where what is recorded since the last STOP is, with STOP, the packet of a transaction, STOP makes of
 /// each device what the transaction makes of it.
 pub fn transactions_are_applied()
-    ensures { (profile : List DeviceParts) (members : List InState) (history : List Exchange) (t : TransactionData)
+    ensures { (profile : List DeviceParts) (members : List InState) (history : List AnsweredSignal) (t : TransactionData)
         (member : InState) (after : DeviceState) → IsBus profile → map (λ m. m.device) members ≡ profile
-        → AreAnswered members Outside history → Packet profile t (events_of history ++ Stop ∷ [])
+        → AreAnswered members Outside history → Packet profile t (recorded_events history ++ Stop ∷ [])
         → Contains members member → Ends member.device (legs_after Outside history) member.state after
         → after ≡ apply member.device t member.state }
 {}
@@ -44,10 +44,10 @@ pub fn transactions_end_at_one_stop()
 /// Where of what was recorded since the bus was made nothing is refused but an end inside a packet, the
 /// devices are what the transactions that were read make of them, one after the other.
 pub fn transactions_are_applied_in_turn()
-    ensures { (profile : List DeviceParts) (stretches : List (List Exchange)) (now : List InState) (history : List Exchange)
+    ensures { (profile : List DeviceParts) (stretches : List (List AnsweredSignal)) (now : List InState) (history : List AnsweredSignal)
         (ts : List TransactionData) (end : List Outcome) → IsBus profile
         → Runs (first_members profile) stretches now → AreAnswered now Outside history
-        → Reading profile (run_events stretches ++ events_of history) (map Accepted ts ++ end) → IsTruncation end
+        → Reading profile (run_events stretches ++ recorded_events history) (map Accepted ts ++ end) → IsTruncation end
         → now ≡ all_after ts (first_members profile) }
 {
     packet_ends_with_stop();

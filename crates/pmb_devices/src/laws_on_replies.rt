@@ -14,13 +14,13 @@ ghost use Rattle.pmb_transaction.specs.Packet.{Packet};
 ghost use Rattle.pmb_registers.specs.State.{InState};
 ghost use Rattle.pmb_registers.specs.Answer.{answer};
 ghost use Rattle.pmb_device.specs.Legs.{Outside};
-ghost use Rattle.pmb_devices.specs.Bus.{AreAnswered, Exchange, events_of, legs_after};
+ghost use Rattle.pmb_devices.specs.Bus.{AreAnswered, AnsweredSignal, recorded_events, legs_after};
 ghost use Rattle.pmb_devices.specs.Runs.{Runs, first_members};
 ghost use Rattle.pmb_devices.specs.Replies.{HasAddressAlone, IsState};
 
 /// The state of each device fits it, whatever the bus went through since it was made.
 pub fn states_fit()
-    ensures { (profile : List DeviceParts) (stretches : List (List Exchange)) (now : List InState) (member : InState) → IsBus profile
+    ensures { (profile : List DeviceParts) (stretches : List (List AnsweredSignal)) (now : List InState) (member : InState) → IsBus profile
         → Runs (first_members profile) stretches now → Contains now member → IsState member.device member.state }
 {}
 
@@ -28,14 +28,14 @@ pub fn states_fit()
 /// the host sent no byte behind the address for reading, the reply is the device's answer in its
 /// state before.
 pub fn replies_are_answers()
-    ensures read { (profile : List DeviceParts) (stretches : List (List Exchange)) (now : List InState) (history : List Exchange)
+    ensures read { (profile : List DeviceParts) (stretches : List (List AnsweredSignal)) (now : List InState) (history : List AnsweredSignal)
         (t : ReadData) (member : InState) → IsBus profile → Runs (first_members profile) stretches now
-        → AreAnswered now Outside history → Packet profile (Read t) (events_of history ++ Stop ∷ [])
+        → AreAnswered now Outside history → Packet profile (Read t) (recorded_events history ++ Stop ∷ [])
         → HasAddressAlone (legs_after Outside history) → Contains now member → member.device.address ≡ t.addr
         → answer member.device member.state (t.code ∷ []) ≡ Ok t.reply }
-    ensures call { (profile : List DeviceParts) (stretches : List (List Exchange)) (now : List InState) (history : List Exchange)
+    ensures call { (profile : List DeviceParts) (stretches : List (List AnsweredSignal)) (now : List InState) (history : List AnsweredSignal)
         (t : CallData) (member : InState) (form : Form) → IsBus profile → Runs (first_members profile) stretches now
-        → AreAnswered now Outside history → Packet profile (Call t) (events_of history ++ Stop ∷ [])
+        → AreAnswered now Outside history → Packet profile (Call t) (recorded_events history ++ Stop ∷ [])
         → HasAddressAlone (legs_after Outside history) → Contains now member → member.device.address ≡ t.addr
         → (forms member.device t.code).call ≡ Some form
         → answer member.device member.state (t.code ∷ wire form t.bytes) ≡ Ok t.reply }

@@ -14,7 +14,7 @@ use Rattle.pmb_registers.specs.Apply.{bit_of_answer, with_noted}
 use Rattle.pmb_device.specs.declared.exchange.Phase.{Phase}
 use Rattle.pmb_device.specs.declared.exchange.Phase.TheVariants as phases
 use Rattle.pmb_device.specs.declared.exchange.Exchange.{Exchange}
-use Rattle.pmb_device.specs.Legs.{Leg, Legs, Outside, Inside, behind_address, is_to, place_behind, sent, some_is_to}
+use Rattle.pmb_device.specs.Legs.{Leg, Legs, Outside, Inside, behind_address, is_to, leg_place, sent, some_is_to}
 use Rattle.pmb_device.specs.Rules.{IsRead, IsReplyTo, IsWritten, TakesAll, given_behind, is_ended, waits_behind}
 use Rattle.pmb_device.specs.Ends.{Refuses}
 
@@ -67,13 +67,13 @@ pub data Notes (device : DeviceParts) (state : DeviceState) (noted : Option CmlB
 
 -- All bytes of the own leg were taken, or one was refused.
 pub record AllTaken (device : DeviceParts) (state : DeviceState) (k : Kept) (before : List Leg) (bytes : List ℕ) (behind : List Leg) : Type 0 where
-  pub leg_is : k.leg ≡ record { device = device; place = place_behind before; bytes = bytes }
-  pub taken : TakesAll device (place_behind before) [] bytes
+  pub leg_is : k.leg ≡ record { device = device; place = leg_place before; bytes = bytes }
+  pub taken : TakesAll device (leg_place before) [] bytes
   pub notes : Notes device state k.noted before bytes behind
 
 abbrev pub BytesAre : Bool → DeviceParts → DeviceState → Kept → List Leg → List ℕ → List Leg → Type 0
 BytesAre false device state k before bytes behind = AllTaken device state k before bytes behind
-BytesAre true device state k before bytes behind = Refuses device (place_behind before) bytes state (with_noted device k.noted state)
+BytesAre true device state k before bytes behind = Refuses device (leg_place before) bytes state (with_noted device k.noted state)
 
 -- This is the own leg, with the legs before and behind it.
 pub record IsOwn (device : DeviceParts) (state : DeviceState) (k : Kept) (before : List Leg) (own : Leg) (bytes : List ℕ) (behind : List Leg) : Type 0 where
@@ -100,7 +100,7 @@ pub record IsAddressed (device : DeviceParts) (state : DeviceState) (k : Kept) (
   pub sent_is : sent leg ≡ address ∷ bytes
   pub own : OwnIsIn device state k earlier leg
   -- The device takes no bytes in it.
-  pub no_bytes : Whether (IsWritten device earlier address) (TakesAll device (place_behind earlier) [] bytes → ⊥) (Unit {0})
+  pub no_bytes : Whether (IsWritten device earlier address) (TakesAll device (leg_place earlier) [] bytes → ⊥) (Unit {0})
 
 -- A reply was put together for it.
 pub record IsReplied (device : DeviceParts) (state : DeviceState) (reply : List ℕ) (earlier : List Leg) (leg : Leg) : Type 0 where
@@ -163,7 +163,7 @@ InLeg phases.Written x device state earlier leg = InWritten device state (kept x
 
 abbrev pub IsBehind : Exchange → DeviceParts → DeviceState → Legs → Type 0
 IsBehind x device state Outside = x.phase ≡ phases.Outside
-IsBehind x device state (Inside earlier leg) = (x.place ≡ place_behind earlier) × InLeg x.phase x device state earlier leg
+IsBehind x device state (Inside earlier leg) = (x.place ≡ leg_place earlier) × InLeg x.phase x device state earlier leg
 
 -- The exchange of this device stands behind these legs, where the device's state since the last STOP
 -- is this one.
@@ -181,7 +181,7 @@ pub record IsAskedIn (x : Exchange) (device : DeviceParts) (state : DeviceState)
   pub earlier : List Leg
   pub leg : Leg
   pub legs_are : legs ≡ Inside earlier leg
-  pub place : x.place ≡ place_behind earlier
+  pub place : x.place ≡ leg_place earlier
   pub nothing : sent leg ≡ []
   pub is_read : IsRead device earlier byte body
   pub own : x.own ≡ true
