@@ -3,3 +3,4 @@ mod Changed
 mod Held
 mod Places
 mod Beginning
+mod StatusCodes

@@ -1,5 +1,5 @@
 -- A change, and a search, in the place of a code alone.
-use Rattle.std.proofs.Common.{◌≡◌, ◌≢◌, ℕ, ◌+◌, ◌-◌, ◌<◌, ◌≤◌, Bool, true, false, ◌&&◌, cond, Option, Some, None, List, [], ◌∷◌, ◌++◌, length, map, take, drop, get_or, nat_eq, option_map, refl, sym, ap, ◌∙◌, subst, arith, eq-eqb}
+use Rattle.std.proofs.Common.{◌≡◌, ℕ, ◌+◌, ◌-◌, ◌≤◌, Bool, true, false, ◌&&◌, cond, Option, Some, None, List, [], ◌∷◌, ◌++◌, length, map, take, drop, get_or, nat_eq, option_map, refl, sym, ap, ◌∙◌, subst, arith}
 use Rattle.std.specs.List.{find}
 use Rattle.std.specs.Option.{option_or}
 use Rattle.std.proofs.lemmas.List.Folds.{find-append}
@@ -37,7 +37,7 @@ module _ (selected : ℕ) (codes : ℕ → Bool) (change : List ℕ → List ℕ
   }
 
   -- so the places stay
-  places_after : (places : List Place) (rs : List RegisterData) → ArePlaces places rs → ArePlaces places (changed selected codes change rs)
+  pub places_after : (places : List Place) (rs : List RegisterData) → ArePlaces places rs → ArePlaces places (changed selected codes change rs)
   places_after places rs are = λ code d small. place_after code (get_or places code d) rs (are code d small)
 
   -- a change through the slice of a `Vec`

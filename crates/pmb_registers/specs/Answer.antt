@@ -3,7 +3,7 @@
 --
 -- The bits are those of PMBus Part II 1.3 chapter 17; when a device sets which is this project's own
 -- rule, and so is the order of the reasons. COEFFICIENTS is of section 14.1 there.
-use Rattle.std.specs.Prelude.{ℕ, ℤ, Bool, true, false, ◌&&◌, if◌then◌else◌, Option, Some, None, Result, Ok, Err, List, [], ◌∷◌, ◌++◌, is_some, nat_eq, option_and_then}
+use Rattle.std.specs.Prelude.{ℕ, Bool, false, ◌&&◌, if◌then◌else◌, Option, Some, None, Result, Ok, Err, List, [], ◌∷◌, ◌++◌, is_some, nat_eq, option_and_then}
 use Rattle.std.specs.Int.{w8, w16, cast_unsigned, to_le_bytes}
 use Rattle.std.specs.Option.{unwrap_or}
 use Rattle.pmb_coefficients.specs.Coefficients.{Coefficients}

@@ -1,3 +1,4 @@
 -- What the code keeps of registers.
 pub mod Registers
 pub mod Places
+pub mod StatusCodes

@@ -7,9 +7,12 @@ ghost use Rattle.pmb_command.specs.declared.form.Form.{Form};
 ghost use Rattle.pmb_transaction.specs.Body.{forms};
 ghost use Rattle.pmb_registers.specs.Answer.{is_paged};
 ghost use Rattle.pmb_registers.specs.Apply.{is_status};
+ghost use Rattle.pmb_registers.specs.machine.StatusCodes.{AreStatusCodes};
 
+use arrayvec::ArrayVec;
 use pmb_command::{Form, Kind, Shape};
 use pmb_table::DeviceProfile;
+use pmb_table::laws::accepted_device;
 
 /// The form of a command's register, where it has one: it is read, or written with data.
 pub(crate) fn register_form(shape: Shape) -> Option<Form>
@@ -34,6 +37,21 @@ pub(crate) fn is_status(device: &DeviceProfile, code: u8) -> bool
         Some(entry) => matches!(entry.kind, Kind::Status),
         None => false,
     }
+}
+
+/// The codes of the commands that have status bits.
+pub(crate) fn status_codes(device: &DeviceProfile) -> ArrayVec<u8, 256>
+    ensures { AreStatusCodes device.now result.items }
+{
+    accepted_device(device);
+    let mut codes = ArrayVec::new();
+    for i in 0..256usize {
+        let code = i as u8;
+        if is_status(device, code) {
+            codes.push(code);
+        }
+    }
+    codes
 }
 
 /// Whether it has a register for each page.

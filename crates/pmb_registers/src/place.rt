@@ -4,7 +4,8 @@ ghost use Rattle.std.specs.Prelude.{◌≡◌, ◌≤◌, IfSome, length, map, n
 ghost use Rattle.pmb_registers.specs.State.{held};
 ghost use Rattle.pmb_registers.specs.Apply.{changed};
 ghost use Rattle.pmb_registers.specs.machine.Registers.{HasRoom, change_of, register_data};
-ghost use Rattle.pmb_registers.specs.machine.Places.{IsPlaceOf};
+ghost use Rattle.pmb_registers.specs.machine.Places.{ArePlaces, IsPlaceOf};
+ghost use Rattle.pmb_registers.specs.machine.StatusCodes.{is_listed};
 
 use crate::change::Change;
 use crate::register::{Register, bytes_on, change_each};
@@ -34,6 +35,23 @@ pub(crate) fn change_in(
         selected,
         change,
     );
+}
+
+/// Clears all bits of the registers of these codes that are reached under a selected page, in the
+/// place of each code.
+pub(crate) fn clear_in_each(
+    registers: &mut [Register],
+    places: &[Place; 256],
+    codes: &[u8],
+    selected: u8,
+)
+    requires { ArePlaces places.now (map register_data registers.old) }
+    ensures { map register_data registers.new ≡ changed selected (is_listed codes.now) (map (λ byte. 0)) (map register_data registers.old) }
+{
+    for code in codes {
+        let place = places[*code as usize];
+        change_in(registers, place, *code, selected, &Change::ClearEach);
+    }
 }
 
 /// The bytes that are held on a page, looked for in their place.

@@ -2,13 +2,11 @@
 
 ghost use Rattle.std.specs.Prelude.{◌≡◌, ◌≤◌, IfSome, length, map, nat_eq, option_map};
 ghost use Rattle.pmb_registers.specs.State.{held, is_of_page};
-ghost use Rattle.pmb_registers.specs.Apply.{changed, changed_one, is_status, reaches};
+ghost use Rattle.pmb_registers.specs.Apply.{changed, changed_one, reaches};
 ghost use Rattle.pmb_registers.specs.machine.Registers.{HasRoom, change_of, register_data};
 
 use crate::change::{Change, change_bytes};
-use crate::forms::is_status;
 use arrayvec::ArrayVec;
-use pmb_table::DeviceProfile;
 
 /// The page number that selects all pages (PMBus Part II 1.3 section 11.10).
 pub(crate) const ALL_PAGES: u8 = 0xff;
@@ -54,15 +52,6 @@ impl Register {
             change_bytes(&mut self.bytes, change);
         }
     }
-
-    /// Clears all bits, if these are status bits and the register is reached.
-    fn clear_faults(&mut self, device: &DeviceProfile, selected: u8)
-        ensures { register_data self.new ≡ changed_one selected (is_status device.now) (map (λ byte. 0)) (register_data self.old) }
-    {
-        if is_status(device, self.code) && reaches(selected, self.page) {
-            change_bytes(&mut self.bytes, &Change::ClearEach);
-        }
-    }
 }
 
 /// Changes the registers that have the code and are reached under a selected page.
@@ -72,15 +61,6 @@ pub(crate) fn change_each(registers: &mut [Register], code: u8, selected: u8, ch
 {
     for register in registers.iter_mut() {
         register.change(code, selected, change);
-    }
-}
-
-/// Clears all bits of the status registers that are reached under a selected page.
-pub(crate) fn clear_faults(registers: &mut [Register], device: &DeviceProfile, selected: u8)
-    ensures { map register_data registers.new ≡ changed selected (is_status device.now) (map (λ byte. 0)) (map register_data registers.old) }
-{
-    for register in registers.iter_mut() {
-        register.clear_faults(device, selected);
     }
 }
 

@@ -2,6 +2,8 @@
 //!
 //! The registers of a command lie side by side, page by page, and `places` says where: so a command is
 //! found by its code in one step, and what a write costs does not grow with the registers of others.
+//! `status_codes` lists the commands with status bits, so that CLEAR_FAULTS goes to their registers
+//! alone.
 
 ghost use Rattle.std.specs.Prelude.{◌≡◌, ◌≤◌, [], IfOk, IfSome, if◌then◌else◌, length, map, nat_eq, option_map};
 ghost use Rattle.std.specs.Option.{unwrap_or};
@@ -17,10 +19,11 @@ use crate::change::Change;
 use crate::cml_bit::CmlBit;
 use crate::coefficients::answer_coefficients;
 use crate::first::{add_command, count_registers, no_places};
-use crate::forms::{is_paged, is_read, is_sent_alone, is_status};
-use crate::place::{Place, bytes_in, change_in};
-use crate::register::{ALL_PAGES, Register, clear_faults};
+use crate::forms::{is_paged, is_read, is_sent_alone, is_status, status_codes};
+use crate::place::{Place, bytes_in, change_in, clear_in_each};
+use crate::register::{ALL_PAGES, Register};
 use crate::reply::Reply;
+use arrayvec::ArrayVec;
 use pmb_table::DeviceProfile;
 use pmb_transaction::{Part, Transaction};
 use std::alloc::{AllocError, Global};
@@ -48,6 +51,8 @@ pub struct Registers<'p> {
     registers: Vec<Register>,
     /// Where those of each code lie.
     places: [Place; 256],
+    /// The codes of the status registers.
+    status_codes: ArrayVec<u8, 256>,
 }
 
 impl<'p> Model for Registers<'p> {
@@ -55,11 +60,11 @@ impl<'p> Model for Registers<'p> {
 
     ghost Value = { InState };
 
-    ghost use Rattle.pmb_registers.specs.machine.Places.{in_state, AreInPlaces};
+    ghost use Rattle.pmb_registers.specs.machine.Places.{in_state, IsKept};
 
     ghost view = { in_state };
 
-    ghost invariant = { AreInPlaces };
+    ghost invariant = { IsKept };
 }
 
 impl<'p> Registers<'p> {
@@ -78,6 +83,7 @@ impl<'p> Registers<'p> {
             page: 0,
             registers,
             places,
+            status_codes: status_codes(device),
         })
     }
 
@@ -158,7 +164,12 @@ impl<'p> Registers<'p> {
           };
         } }
     {
-        clear_faults(self.registers.as_mut_slice(), self.device, self.page);
+        clear_in_each(
+            self.registers.as_mut_slice(),
+            &self.places,
+            self.status_codes.as_slice(),
+            self.page,
+        );
     }
 
     /// A complete write of a code and its data, up to 255 bytes.

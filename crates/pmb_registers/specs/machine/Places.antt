@@ -6,6 +6,7 @@ use Rattle.pmb_registers.specs.declared.registers.Registers.TheInside.{Inside}
 use Rattle.pmb_command.specs.Parts.{CommandParts, DeviceParts}
 use Rattle.pmb_registers.specs.State.{RegisterData, InState, registers_of}
 use Rattle.pmb_registers.specs.machine.Registers.{register_data}
+use Rattle.pmb_registers.specs.machine.StatusCodes.{AreStatusCodes}
 
 -- no register has the code
 abbrev pub NoneHas : ℕ → List RegisterData → Type 0
@@ -31,5 +32,7 @@ registers_of_some device (Some command) = registers_of device command
 abbrev pub in_state : Inside → InState
 in_state r = record { device = r.device.now; state = record { page = r.page; registers = map register_data r.registers.items } }
 
-abbrev pub AreInPlaces : Inside → Type 0
-AreInPlaces r = ArePlaces r.places (map register_data r.registers.items)
+-- What is kept beside the registers is true of them: the places, and the list of status registers.
+pub record IsKept (r : Inside) : Type 0 where
+  pub places : ArePlaces r.places (map register_data r.registers.items)
+  pub status_codes : AreStatusCodes r.device.now r.status_codes.items

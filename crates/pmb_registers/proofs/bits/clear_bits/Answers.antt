@@ -1,4 +1,4 @@
-use Rattle.std.proofs.Common.{◌≡◌, ◌≤◌, ◌<◌, ◌∙◌, length, min, arith}
+use Rattle.std.proofs.Common.{◌∙◌, arith}
 use Rattle.pmb_registers.proofs.Cleared.{cleared_none, cleared_more, cleared_all}
 use Rattle.pmb_registers.proofs.bits.clear_bits.Goals as goal
 

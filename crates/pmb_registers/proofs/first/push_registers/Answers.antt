@@ -1,11 +1,10 @@
-use Rattle.std.proofs.Common.{◌≡◌, ◌∙◌, ◌++◌, ℕ, [], ◌∷◌, List, None, map, ap, subst, sym}
+use Rattle.std.proofs.Common.{◌≡◌, ◌∙◌, ◌++◌, [], ◌∷◌, List, map, ap, subst, sym}
 use Rattle.std.specs.Prelude.{OnOk}
 use Rattle.std.proofs.lemmas.List.{map-append}
 use Rattle.pmb_command.specs.Entry.{entry_parts}
-use Rattle.pmb_registers.specs.declared.register.Register.{Register}
 use Rattle.pmb_registers.specs.State.{RegisterData}
 use Rattle.pmb_registers.specs.machine.Registers.{register_data}
-use Rattle.pmb_registers.proofs.Beginning.{one_register, register_of_all, registers_on_pages}
+use Rattle.pmb_registers.proofs.Beginning.{register_of_all, registers_on_pages}
 use Rattle.pmb_registers.proofs.first.push_registers.Goals as goal
 
 pub returns-then-entry : goal.returns-then-entry
