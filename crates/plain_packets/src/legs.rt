@@ -38,7 +38,7 @@ pub(crate) fn require(holds: bool) -> Result<(), NoPacket> {
 
 /// A sort of body: what is sent to a device behind its address.
 #[derive(Clone, Copy)]
-pub(crate) enum Body {
+pub enum Body {
     /// A command is written, with or without a packet error code.
     Write { pec: bool },
     /// It is to be read.
@@ -48,7 +48,7 @@ pub(crate) enum Body {
 }
 
 /// The sorts that a leg may have: behind other parts a command is written.
-pub(crate) fn allowed(first_leg: bool) -> &'static [Body] {
+pub fn allowed(first_leg: bool) -> &'static [Body] {
     if first_leg {
         &[
             Body::Write { pec: false },
@@ -79,7 +79,7 @@ pub(crate) fn address_byte(addr: u8, read: bool) -> Result<u8, NoPacket> {
 }
 
 /// The remainder by x^8 + x^2 + x + 1, bit by bit.
-pub(crate) fn plain_pec(bytes: &[u8]) -> u8 {
+pub fn plain_pec(bytes: &[u8]) -> u8 {
     let mut crc = 0u8;
     for byte in bytes {
         crc ^= *byte;
@@ -95,7 +95,7 @@ pub(crate) fn plain_pec(bytes: &[u8]) -> u8 {
 }
 
 /// The form in which a command is written, read or called.
-pub(crate) fn reply_form(device: &DeviceProfile, body: Body, code: u8) -> Result<Form, NoPacket> {
+pub fn reply_form(device: &DeviceProfile, body: Body, code: u8) -> Result<Form, NoPacket> {
     let Some(entry) = device.entry(code) else {
         return Err(NoPacket::AgainstTheRules);
     };
@@ -108,7 +108,7 @@ pub(crate) fn reply_form(device: &DeviceProfile, body: Body, code: u8) -> Result
 }
 
 /// The form of the data behind the code in a body of this sort: to be read takes none.
-pub(crate) fn form_of(device: &DeviceProfile, body: Body, code: u8) -> Result<Form, NoPacket> {
+pub fn form_of(device: &DeviceProfile, body: Body, code: u8) -> Result<Form, NoPacket> {
     let form = reply_form(device, body, code)?;
     match body {
         Body::Read => Ok(Form::Zero),
@@ -117,7 +117,7 @@ pub(crate) fn form_of(device: &DeviceProfile, body: Body, code: u8) -> Result<Fo
 }
 
 /// Appends data as they go over the bus in a form.
-pub(crate) fn push_wire(bytes: &mut Vec<u8>, form: Form, data: &[u8]) -> Result<(), NoPacket> {
+pub fn push_wire(bytes: &mut Vec<u8>, form: Form, data: &[u8]) -> Result<(), NoPacket> {
     let count = data.len();
     match form {
         Form::Zero => require(count == 0)?,
@@ -160,7 +160,7 @@ pub(crate) fn leg_bytes(
 
 /// A form's data out of some bytes, 0 where there are no more; a block has as many as its count
 /// says.
-pub(crate) fn data_like(alloc: Global, form: Form, like: &[u8]) -> Result<Vec<u8>, AllocError> {
+pub fn data_like(alloc: Global, form: Form, like: &[u8]) -> Result<Vec<u8>, AllocError> {
     let (count, from) = match form {
         Form::Zero => (0, 0),
         Form::One => (1, 0),
@@ -178,7 +178,7 @@ pub(crate) fn data_like(alloc: Global, form: Form, like: &[u8]) -> Result<Vec<u8
 }
 
 /// The bytes of a leg like the one given: with its code, and its data as far as they go.
-pub(crate) fn leg_like(
+pub fn leg_like(
     alloc: Global,
     device: &DeviceProfile,
     body: Body,
@@ -191,7 +191,7 @@ pub(crate) fn leg_like(
 }
 
 /// A leg of one of these sorts begins with the bytes given, and goes on.
-pub(crate) fn goes_on(
+pub fn goes_on(
     alloc: Global,
     device: &DeviceProfile,
     bodies: &[Body],
@@ -212,7 +212,7 @@ pub(crate) fn goes_on(
 }
 
 /// The bytes given are those of a leg of one of these sorts.
-pub(crate) fn is_leg(
+pub fn is_leg(
     alloc: Global,
     device: &DeviceProfile,
     bodies: &[Body],

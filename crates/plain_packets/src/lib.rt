@@ -11,7 +11,10 @@ mod texts;
 mod viability;
 
 pub use captures::{CapturedRow, LONG, PACKETS, REFUSALS};
-pub use legs::NoPacket;
+pub use legs::{
+    Body, NoPacket, allowed, data_like, form_of, goes_on, is_leg, leg_like, plain_pec, push_wire,
+    reply_form,
+};
 pub use packets::packet;
 pub use texts::{LONG_FORMS, SEVENTEEN_DEVICES, events};
 pub use viability::{is_viable, kinds_after};

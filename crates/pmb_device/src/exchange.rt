@@ -118,7 +118,7 @@ fn refusal_bit(bytes: &[u8]) -> CmlBit
     }
 }
 
-/// TakesByte a byte in a leg that is written to the device, and tells whether it did. Else nothing changes.
+/// Takes a byte in a leg that is written to the device, and tells whether it did. Else nothing changes.
 fn take_byte(leg: &mut WrittenLeg, device: &DeviceProfile, byte: u8) -> bool
     ensures takes { leg.old.device ≡ device.now → (IsTrue result ↔ TakesByte device.now leg.old.place leg.old.bytes byte) }
     ensures taken { IsTrue result → leg.new ≡ record leg.old { bytes = leg.old.bytes ++ byte ∷ [] } }
@@ -209,7 +209,7 @@ impl<'p> Exchange<'p> {
         self.phase = Phase::Start;
     }
 
-    /// TakesByte a byte of the host.
+    /// Takes a byte of the host.
     #[inline]
     pub fn byte(&mut self, byte: u8) -> Heard
         ensures { (device : DeviceParts) (state : DeviceState) (legs : Legs) → StandsIn self.old device state legs
@@ -222,7 +222,7 @@ impl<'p> Exchange<'p> {
         }
     }
 
-    /// TakesByte the first byte of a leg.
+    /// Takes the first byte of a leg.
     fn address(&mut self, byte: u8) -> Heard
         requires { self.old.phase ≡ Phase.Start }
         ensures { (device : DeviceParts) (state : DeviceState) (legs : Legs) → StandsIn self.old device state legs
@@ -245,7 +245,7 @@ impl<'p> Exchange<'p> {
         }
     }
 
-    /// TakesByte its own address for reading, behind its own leg.
+    /// Takes its own address for reading, behind its own leg.
     fn be_read(&mut self) -> Heard
         requires phase { self.old.phase ≡ Phase.Start }
         requires own { self.old.own ≡ true }
@@ -281,7 +281,7 @@ impl<'p> Exchange<'p> {
         self.behind_first && !self.refused && self.leg.asked().is_some()
     }
 
-    /// TakesByte or refuses a byte behind the address of its own leg.
+    /// Takes or refuses a byte behind the address of its own leg.
     fn data_byte(&mut self, byte: u8) -> Heard
         requires { self.old.phase ≡ Phase.Written }
         ensures { (device : DeviceParts) (state : DeviceState) (legs : Legs) → StandsIn self.old device state legs
@@ -350,7 +350,7 @@ impl<'p> Exchange<'p> {
         }
     }
 
-    /// TakesByte an ACK.
+    /// Takes an ACK.
     #[inline]
     pub fn ack(&mut self)
         ensures { (device : DeviceParts) (state : DeviceState) (legs : Legs) → StandsIn self.old device state legs
@@ -359,7 +359,7 @@ impl<'p> Exchange<'p> {
         self.waits = false;
     }
 
-    /// TakesByte a NACK, which ends a reply.
+    /// Takes a NACK, which ends a reply.
     #[inline]
     pub fn nack(&mut self)
         ensures { (device : DeviceParts) (state : DeviceState) (legs : Legs) → StandsIn self.old device state legs

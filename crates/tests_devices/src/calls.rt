@@ -1,0 +1,121 @@
+//! Each call of a bus, of a device, and of a device without its registers.
+
+use pmb_bus::Event;
+use pmb_device::{Device, DeviceSignal, Exchange, Heard, HostSignal, Outcome};
+use pmb_devices::Bus;
+use pmb_registers::CmlBit;
+use pmb_table::{Profile, SAMPLE};
+use std::test::Fail;
+
+// The program at the head of `pmb_devices`.
+#[test]
+fn records_an_address(rt: HostRuntime) -> Result<(), Fail> {
+    let profile = Profile::from_toml(rt.alloc(), SAMPLE.as_bytes())?;
+    let mut bus = Bus::new(rt.alloc(), &profile)?;
+    bus.signal(HostSignal::Start);
+    let address = bus.signal(HostSignal::Byte(0xb0));
+    assert_eq!(rt;
+        address.events(),
+        [Event::Byte(0xb0), Event::Ack].as_slice()
+    );
+    assert_eq!(rt; address.answer(), DeviceSignal::Ack);
+    Ok(())
+}
+
+#[test]
+fn devices_are_found_by_address(rt: HostRuntime) -> Result<(), Fail> {
+    let profile = Profile::from_toml(rt.alloc(), SAMPLE.as_bytes())?;
+    let mut bus = Bus::new(rt.alloc(), &profile)?;
+    assert!(rt; bus.device(0x20).is_none());
+    assert!(rt; bus.device(0x5a).is_some());
+    let start = bus.signal(HostSignal::Start);
+    assert_eq!(rt; start.events(), [Event::Start].as_slice());
+    assert_eq!(rt; start.answer(), DeviceSignal::Silent);
+    Ok(())
+}
+
+#[test]
+fn the_bus_tells_the_byte_of_an_answer(rt: HostRuntime) -> Result<(), Fail> {
+    let profile = Profile::from_toml(rt.alloc(), SAMPLE.as_bytes())?;
+    let mut bus = Bus::new(rt.alloc(), &profile)?;
+    bus.signal(HostSignal::Start);
+    bus.signal(HostSignal::Byte(0xb0));
+    bus.signal(HostSignal::Byte(0x88));
+    bus.signal(HostSignal::Start);
+    bus.signal(HostSignal::Byte(0xb1));
+    let first = bus.signal(HostSignal::Ask);
+    assert_eq!(rt; first.answer(), DeviceSignal::Byte(0x00));
+    assert_eq!(rt; first.events(), [Event::Byte(0x00)].as_slice());
+    bus.signal(HostSignal::Ack);
+    let second = bus.signal(HostSignal::Ask);
+    assert_eq!(rt; second.answer(), DeviceSignal::Byte(0xd3));
+    Ok(())
+}
+
+#[test]
+fn a_device_knows_its_address(rt: HostRuntime) -> Result<(), Fail> {
+    let profile = Profile::from_toml(rt.alloc(), SAMPLE.as_bytes())?;
+    let first = profile.device_at(0).ok_or("no device")?;
+    let mut device = Device::new(rt.alloc(), first)?;
+    assert_eq!(rt; device.address(), 0x58);
+    assert_eq!(rt; device.page(), 0);
+    assert_eq!(rt; device.on(HostSignal::Start), DeviceSignal::Silent);
+    assert_eq!(rt; device.on(HostSignal::Byte(0xb0)), DeviceSignal::Ack);
+    let mut other = Device::new(rt.alloc(), first)?;
+    assert_eq!(rt; other.on(HostSignal::Start), DeviceSignal::Silent);
+    assert_eq!(rt; other.on(HostSignal::Byte(0xb2)), DeviceSignal::Silent);
+    assert!(rt; other.register(0, 0x20) == Some(b"\x17"));
+    Ok(())
+}
+
+#[test]
+fn an_exchange_without_registers_gives_what_it_is_handed(rt: HostRuntime) -> Result<(), Fail> {
+    let profile = Profile::from_toml(rt.alloc(), SAMPLE.as_bytes())?;
+    let device = profile.device_at(0).ok_or("no device")?;
+    let mut exchange = Exchange::new(device);
+    exchange.start();
+    assert_eq!(rt; exchange.byte(0xb0), Heard::Ack);
+    assert_eq!(rt; exchange.byte(0x88), Heard::Ack);
+    exchange.start();
+    assert_eq!(rt; exchange.byte(0xb1), Heard::Read);
+    assert_eq!(rt; exchange.body(), [0x88].as_slice());
+    exchange.reply(&[0x00, 0xd3]);
+    assert_eq!(rt; exchange.ask(), DeviceSignal::Byte(0x00));
+    exchange.ack();
+    assert_eq!(rt; exchange.ask(), DeviceSignal::Byte(0xd3));
+    exchange.nack();
+    assert_eq!(rt; exchange.ask(), DeviceSignal::Silent);
+    assert!(rt; matches!(exchange.outcome(), Outcome::Nothing));
+    exchange.end();
+    assert_eq!(rt; exchange.byte(0xb0), Heard::Silent);
+    Ok(())
+}
+
+#[test]
+fn an_exchange_tells_what_its_leg_does(rt: HostRuntime) -> Result<(), Fail> {
+    let profile = Profile::from_toml(rt.alloc(), SAMPLE.as_bytes())?;
+    let device = profile.device_at(0).ok_or("no device")?;
+    let mut exchange = Exchange::new(device);
+    exchange.start();
+    assert_eq!(rt; exchange.byte(0xb0), Heard::Ack);
+    assert_eq!(rt; exchange.byte(0x88), Heard::Ack);
+    exchange.start();
+    assert_eq!(rt; exchange.byte(0xb1), Heard::Read);
+    exchange.refuse(CmlBit::BadValue);
+    assert!(rt; matches!(exchange.outcome(), Outcome::Note(CmlBit::BadValue)));
+    exchange.end();
+    exchange.start();
+    assert_eq!(rt; exchange.byte(0xb0), Heard::Ack);
+    assert_eq!(rt; exchange.byte(0x00), Heard::Ack);
+    assert_eq!(rt; exchange.byte(0x01), Heard::Ack);
+    assert!(rt;
+        matches!(
+            exchange.outcome(),
+            Outcome::Write {
+                code: 0x00,
+                bytes: [0x01]
+            }
+        )
+    );
+    Ok(())
+}
