@@ -21,9 +21,12 @@ pub data BuildAnswer : Type 0 where
 
 -- ---- how it is written
 
--- a fault, behind the number of its line
+-- the text of a fault, behind the number of its line
+abbrev pub numbered_text : ℕ → List ℕ → List ℕ
+numbered_text number why = codes "# line " ++ (decimal number ++ (codes ": " ++ (why ++ codes "\n")))
+
 abbrev pub numbered_fault : ℕ → LineFault → List ℕ
-numbered_fault number why = codes "# line " ++ (decimal number ++ (codes ": " ++ (names.fault_text why ++ codes "\n")))
+numbered_fault number why = numbered_text number (names.fault_text why)
 
 -- the answer to the line with a number
 abbrev pub answer_text : ℕ → BuildAnswer → List ℕ

@@ -3,6 +3,7 @@ use Rattle.std.specs.Prelude.{◌≡◌, ℕ, ◌+◌, List, [], ◌∷◌, ◌+
 use Rattle.pmb_command.specs.Parts.{DeviceParts}
 use Rattle.pmb_io.specs.Count.{capped}
 use Rattle.pmb_io.specs.Lines.{TextLine, ended_lines, lines_of}
+use Rattle.pmb_io.specs.Runs.{Job}
 use Rattle.pmb_io.specs.Tally.{IsTallyOf}
 use Rattle.pmb_io.specs.declared.tally.Tally.{Tally}
 use Rattle.pmb_build.specs.Answer.{BuildAnswer, BuildsLine, answer_text, is_built, is_refused, most_build_line}
@@ -39,3 +40,12 @@ module _ (profile : List DeviceParts) where
   -- the answers to the lines that have ended in it
   abbrev pub BuildsEnded : List ℕ → List ℕ → Type 0
   BuildsEnded bytes text = BuildsLines (ended_lines most_build_line bytes) text
+
+-- What `build` is to write: the answers to the lines of its input. More is always wanted.
+abbrev pub building : List DeviceParts → Job Tally
+building profile = record {
+  Whole = BuildsInput profile;
+  Stops = λ tally bytes text. ⊥;
+  Front = BuildsEnded profile;
+  IsOpen = λ bytes. Unit {0};
+}

@@ -10,9 +10,9 @@ ghost use Rattle.pmb_line.specs.LineFault.{IsLineFault};
 ghost use Rattle.pmb_build.specs.Answer.{numbered_fault};
 ghost use Rattle.pmb_build.specs.machine.Building.{BuilderStands, BuilderTakes};
 
-use crate::fault_line::fault_line;
+use crate::fault_line::numbered_line;
 use crate::packet::put_packet;
-use pmb_io::{Line, LineTask, Sink, Tally, ToolFault, Waiting, put};
+use pmb_io::{Line, LineTask, RunFault, Sink, Tally, Waiting, put};
 use pmb_line::{LineFault, LineReader};
 use pmb_table::Profile;
 
@@ -57,9 +57,9 @@ impl<'a> Builder<'a> {
         line: &[u8],
         waiting: &mut Waiting,
         writer: &mut W,
-    ) -> Result<(), ToolFault>
-        ensures takes { OnOk result (BuilderTakes self.old self.new line.now (W.contents writer.old) waiting.old.items (W.contents writer.new) waiting.new.items) }
-        ensures failed { WriterTells (W.failures writer.old) (W.failures writer.new) result }
+    ) -> Result<(), RunFault>
+        ensures takes { OnOk result (BuilderTakes self.old self.new line.now (W.told writer.old).held waiting.old.items (W.told writer.new).held waiting.new.items) }
+        ensures failed { WriterTells (W.told writer.old) (W.told writer.new) result }
     {
         match self.reader.read(self.profile, line) {
             Ok(transaction) => {
@@ -82,15 +82,15 @@ impl<'a> Builder<'a> {
         fault: LineFault,
         waiting: &mut Waiting,
         writer: &mut W,
-    ) -> Result<(), ToolFault>
+    ) -> Result<(), RunFault>
         ensures profile { self.new.profile ≡ self.old.profile }
         ensures lines { self.new.lines ≡ self.old.lines }
         ensures counted { self.new.tally ≡ with_refusal self.old.tally }
-        ensures writes { OnOk result (PutsText (W.contents writer.old) waiting.old.items (W.contents writer.new) waiting.new.items (numbered_fault self.old.lines fault)) }
-        ensures failed { WriterTells (W.failures writer.old) (W.failures writer.new) result }
+        ensures writes { OnOk result (PutsText (W.told writer.old).held waiting.old.items (W.told writer.new).held waiting.new.items (numbered_fault self.old.lines fault)) }
+        ensures failed { WriterTells (W.told writer.old) (W.told writer.new) result }
     {
         self.tally.count_refusal();
-        let line = fault_line(self.lines, fault);
+        let line = numbered_line(self.lines, fault.text().as_slice());
         put(waiting, line.as_slice(), writer)
     }
 }
@@ -103,7 +103,7 @@ impl<'a> LineTask for Builder<'a> {
         line: Line<'_>,
         waiting: &mut Waiting,
         writer: &mut W,
-    ) -> Result<(), ToolFault> {
+    ) -> Result<(), RunFault> {
         self.lines = self.lines.saturating_add(1);
         match line {
             Line::Ended(text) => self.take_text(text, waiting, writer),

@@ -1,24 +1,24 @@
 //! The line that tells a line's fault.
 
 ghost use Rattle.std.specs.Prelude.{◌≡◌, ◌+◌, ◌≤◌, ◌++◌, length};
-ghost use Rattle.pmb_build.specs.Answer.{numbered_fault};
+ghost use Rattle.pmb_build.specs.Answer.{numbered_text};
 
 use arrayvec::ArrayVec;
 use itoa::Buffer;
-use pmb_line::LineFault;
 
 /// The line of a fault, with its LF.
-pub(crate) type FaultLine = ArrayVec<u8, 64>;
+pub type FaultLine = ArrayVec<u8, 64>;
 
-/// The line that tells the fault of the line with a number.
-pub(crate) fn fault_line(number: u64, fault: LineFault) -> FaultLine
-    ensures { result.items ≡ numbered_fault number fault }
+/// The line that tells the fault of the line with a number, by a text of at most 32 bytes.
+pub fn numbered_line(number: u64, fault: &[u8]) -> FaultLine
+    requires { length fault.now ≤ 32 }
+    ensures { result.items ≡ numbered_text number fault.now }
 {
     let mut line = FaultLine::new();
     append(&mut line, b"# line ");
     append(&mut line, Buffer::new().format(number).as_bytes());
     append(&mut line, b": ");
-    append(&mut line, fault.text().as_slice());
+    append(&mut line, fault);
     append(&mut line, b"\n");
     line
 }

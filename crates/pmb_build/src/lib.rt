@@ -1,7 +1,8 @@
 //! Transaction lines in, exact bus events out.
 //!
 //! [`build`] writes the canonical text of the packet that each line of an input spells, and for a bad
-//! line its number and why there is none.
+//! line its number and why there is none. What other commands put out in the same way, an event's text
+//! and the line of a fault, is had here too: [`put_event`], [`numbered_line`].
 //!
 //! ```rust
 //! let profile = Profile::from_toml(rt.alloc(), SAMPLE.as_bytes())?;
@@ -19,4 +20,6 @@ pub mod laws;
 mod lines;
 mod packet;
 
+pub use fault_line::{FaultLine, numbered_line};
 pub use lines::build;
+pub use packet::put_event;

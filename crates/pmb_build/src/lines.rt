@@ -1,9 +1,7 @@
 //! Lines in, packets out.
 
-ghost use Rattle.std.specs.Prelude.{◌≡◌, ◌≢◌, ◌≤◌, ◌⊎◌, IfOk, Err, length};
-ghost use Rattle.pmb_io.specs.Count.{raised};
-ghost use Rattle.pmb_io.specs.Runs.{Ended, MadeReads, Through, most_reads};
-ghost use Rattle.pmb_build.specs.Lines.{BuildsEnded, BuildsInput};
+ghost use Rattle.pmb_io.specs.Runs.{AsTool, Ran};
+ghost use Rattle.pmb_build.specs.Lines.{building};
 
 use crate::builder::Builder;
 use pmb_io::laws::lines_are_handed_on;
@@ -33,41 +31,8 @@ pub fn build<R: Source, W: Sink>(
     reader: &mut R,
     writer: &mut W,
 ) -> Result<Tally, ToolFault>
-    // What was written is the answers to the lines of `first` and the bytes read, however the
-    // reader cut them.
-    ensures ok { IfOk result (λ tally. Ended (BuildsInput profile.now tally) first.now
-        (record { left = R.remaining reader.old; given = R.given reader.old; held = W.contents writer.old })
-        (record { left = R.remaining reader.new; given = R.given reader.new; held = W.contents writer.new })
-        (R.has_ended reader.new)) }
-
-    // The reader failed in this call exactly where it answers `Read`, the writer where it answers
-    // `Write`.
-    ensures read { result ≡ Err ToolFault.Read → R.failures reader.new ≡ raised (R.failures reader.old) 1 }
-    ensures no_read { result ≢ Err ToolFault.Read → R.failures reader.new ≡ R.failures reader.old }
-    ensures write { result ≡ Err ToolFault.Write → W.failures writer.new ≡ raised (W.failures writer.old) 1 }
-    ensures no_write { result ≢ Err ToolFault.Write → W.failures writer.new ≡ W.failures writer.old }
-    ensures memory { result ≢ Err ToolFault.Memory }
-    ensures profile { result ≢ Err ToolFault.ProfileTooLong }
-
-    // It makes no more reads than these, and so many before it answers `TooManyReads`.
-    ensures reads { MadeReads (R.reads reader.old) (R.reads reader.new) }
-    ensures too_many { result ≡ Err ToolFault.TooManyReads → R.reads reader.new ≡ raised (R.reads reader.old) most_reads }
-    ensures not_ended { result ≡ Err ToolFault.TooManyReads → R.has_ended reader.new ≡ R.has_ended reader.old }
-
-    // A reader that ended in this call is not read again, so that no failed read is behind its end.
-    ensures read_not_ended { result ≡ Err ToolFault.Read → R.has_ended reader.new ≡ R.has_ended reader.old }
-
-    // What was written before reading failed, or before too many reads, is the answers to the lines
-    // that had ended.
-    ensures before { (result ≡ Err ToolFault.Read) ⊎ (result ≡ Err ToolFault.TooManyReads)
-        → Through (BuildsEnded profile.now) first.now
-        (record { left = R.remaining reader.old; given = R.given reader.old; held = W.contents writer.old })
-        (record { left = R.remaining reader.new; given = R.given reader.new; held = W.contents writer.new }) }
-    ensures many { result ≡ Err ToolFault.TooManyReads
-        → (through : Through (BuildsEnded profile.now) first.now
-        (record { left = R.remaining reader.old; given = R.given reader.old; held = W.contents writer.old })
-        (record { left = R.remaining reader.new; given = R.given reader.new; held = W.contents writer.new }))
-        × (most_reads ≤ length through.read) }
+    // It is a run over the reader and the writer, and what it writes is the job of `build`.
+    ensures { AsTool (Ran R.told W.told (building profile.now) first.now (reader.old, writer.old) (reader.new, writer.new)) result }
 {
     lines_are_handed_on::<Builder, 32768>();
     let mut lines = Lines::<Builder, 32768>::new(Builder::new(profile));

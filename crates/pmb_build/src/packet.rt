@@ -11,7 +11,7 @@ ghost use Rattle.pmb_writer.specs.Invalid.{HasPacket};
 ghost use Rattle.pmb_build.specs.Answer.{IsPacketText};
 
 use pmb_bus::Event;
-use pmb_io::{ROOM, Sink, ToolFault, Waiting, make_room};
+use pmb_io::{ROOM, RunFault, Sink, Waiting, make_room};
 use pmb_table::Profile;
 use pmb_transaction::Transaction;
 use pmb_writer::events_of;
@@ -25,11 +25,11 @@ pub(crate) fn put_packet<W: Sink>(
     transaction: &Transaction,
     waiting: &mut Waiting,
     writer: &mut W,
-) -> Result<(), ToolFault>
+) -> Result<(), RunFault>
     requires { HasPacket profile.now (transaction_data transaction.now) }
     ensures puts { OnOk result (PutsOut (IsPacketText profile.now (transaction_data transaction.now))
-        (W.contents writer.old) waiting.old.items (W.contents writer.new) waiting.new.items) }
-    ensures failed { WriterTells (W.failures writer.old) (W.failures writer.new) result }
+        (W.told writer.old).held waiting.old.items (W.told writer.new).held waiting.new.items) }
+    ensures failed { WriterTells (W.told writer.old) (W.told writer.new) result }
 {
     for event in events_of(profile, transaction) {
         put_event(event, waiting, writer)?;
@@ -37,11 +37,19 @@ pub(crate) fn put_packet<W: Sink>(
     Ok(())
 }
 
-/// Puts out an event. What waits is sent first where the event's text doesn't fit behind it.
+/// Puts out the canonical text of an event. What waits is sent first where that doesn't fit behind it.
+///
+/// # Errors
+///
+/// `Write` where the writer failed.
 #[inline]
-fn put_event<W: Sink>(event: Event, waiting: &mut Waiting, writer: &mut W) -> Result<(), ToolFault>
-    ensures writes { OnOk result (PutsText (W.contents writer.old) waiting.old.items (W.contents writer.new) waiting.new.items (text_of event)) }
-    ensures failed { WriterTells (W.failures writer.old) (W.failures writer.new) result }
+pub fn put_event<W: Sink>(
+    event: Event,
+    waiting: &mut Waiting,
+    writer: &mut W,
+) -> Result<(), RunFault>
+    ensures writes { OnOk result (PutsText (W.told writer.old).held waiting.old.items (W.told writer.new).held waiting.new.items (text_of event)) }
+    ensures failed { WriterTells (W.told writer.old) (W.told writer.new) result }
 {
     make_room(waiting, MOST, writer)?;
     append_event(event, waiting);

@@ -1,5 +1,5 @@
 -- What is written where a text ends, or a word of it is no token.
-use Rattle.std.proofs.Common.{◌≡◌, ℕ, ◌+◌, Option, Result, Ok, Err, OnOk, List, [], ◌++◌, length, inl, sym, ◌∙◌, ap, subst, refl, append_assoc, arith}
+use Rattle.std.proofs.Common.{◌≡◌, ℕ, ◌+◌, Option, None, Result, Ok, Err, OnOk, List, [], ◌++◌, length, inl, sym, ◌∙◌, ap, subst, refl, append_assoc, arith}
 use Rattle.std.proofs.lemmas.Result.{on_ok_weaker}
 use Rattle.pmb_bus.specs.declared.event.Event.{Event}
 use Rattle.pmb_bus.specs.declared.lexer.LexFault.{LexFault}
@@ -8,7 +8,7 @@ use Rattle.pmb_bus.specs.Lexer.{IsFaultOf, OpenWordIsBad}
 use Rattle.pmb_bus.specs.Text.{Spells}
 use Rattle.pmb_command.specs.Parts.{DeviceParts}
 use Rattle.pmb_io.specs.declared.tally.Tally.{Tally}
-use Rattle.pmb_io.specs.declared.fault.ToolFault.{ToolFault}
+use Rattle.pmb_io.specs.declared.fault.RunFault.{RunFault}
 use Rattle.pmb_io.specs.Calls.{WriterTells}
 use Rattle.pmb_io.specs.Count.{capped}
 use Rattle.pmb_io.specs.Outgoing.{PutsText}
@@ -43,7 +43,7 @@ puts_then r h0 h1 h2 w0 w1 w2 a b e first same second =
     on_ok_weaker r (λ last. writes_then h0 h1 h2 w0 w1 w2 a e first (subst (λ (t : List ℕ). PutsText h1 w1 h2 w2 t) same last)) second
 
 -- a call over a writer that never fails is done
-pub never_fails : {P : Type 0} (r : Result Unit ToolFault) → WriterTells 0 0 r → OnOk r P → P
+pub never_fails : {P : Type 0} (r : Result Unit RunFault) → WriterTells (record { held = None; failures = 0 }) (record { held = None; failures = 0 }) r → OnOk r P → P
 never_fails (Ok done) tells holds = holds
 never_fails (Err fault) tells holds = absurd (omega (arith, tells.1))
 

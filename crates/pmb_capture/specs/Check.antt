@@ -1,7 +1,9 @@
 -- What `check` writes for the bytes of a capture: a line for each refusal, one for a word that is no
 -- token, and last the tally's.
 use Rattle.std.specs.Prelude.{ℕ, List, []}
+use Rattle.pmb_bus.specs.Text.{BeginsText}
 use Rattle.pmb_command.specs.Parts.{DeviceParts}
+use Rattle.pmb_io.specs.Runs.{Job}
 use Rattle.pmb_io.specs.declared.tally.Tally.{Tally}
 use Rattle.pmb_capture.specs.Lines.{tally_line}
 use Rattle.pmb_capture.specs.Output.{OutputText}
@@ -25,3 +27,12 @@ ChecksUpToBadWord profile bytes text tally = WritesUpToStop checked_output profi
 -- for bytes that more may follow
 abbrev pub ChecksFront : List DeviceParts → List ℕ → List ℕ → Type 0
 ChecksFront profile bytes text = WritesFront checked_output profile bytes text
+
+-- what `check` is to write
+abbrev pub checking : List DeviceParts → Job Tally
+checking profile = record {
+  Whole = λ tally bytes text. ChecksAtEnd profile bytes text tally;
+  Stops = λ tally bytes text. ChecksUpToBadWord profile bytes text tally;
+  Front = ChecksFront profile;
+  IsOpen = BeginsText;
+}

@@ -1,7 +1,9 @@
 -- What `show` writes for the bytes of a capture: a line with a note for each packet, a line for each
 -- refusal, and one for a word that is no token.
 use Rattle.std.specs.Prelude.{ℕ, List, [], ◌∷◌, ◌++◌, codes}
+use Rattle.pmb_bus.specs.Text.{BeginsText}
 use Rattle.pmb_command.specs.Parts.{DeviceParts}
+use Rattle.pmb_io.specs.Runs.{Job}
 use Rattle.pmb_io.specs.declared.tally.Tally.{Tally}
 use Rattle.pmb_line.specs.Spelling.{line}
 use Rattle.pmb_note.specs.Note.{note}
@@ -41,3 +43,12 @@ StopsAtBadWord profile bytes text tally = WritesUpToStop (shown_output profile) 
 -- of bytes that more may follow
 abbrev pub ShowsFront : List DeviceParts → List ℕ → List ℕ → Type 0
 ShowsFront profile bytes text = WritesFront (shown_output profile) profile bytes text
+
+-- what `show` is to write
+abbrev pub showing : List DeviceParts → Job Tally
+showing profile = record {
+  Whole = λ tally bytes text. ShowsAtEnd profile bytes text tally;
+  Stops = λ tally bytes text. StopsAtBadWord profile bytes text tally;
+  Front = ShowsFront profile;
+  IsOpen = BeginsText;
+}

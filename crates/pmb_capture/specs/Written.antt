@@ -5,6 +5,7 @@ use Rattle.pmb_bus.specs.Text.{Spells, EndedWordsSpell, BeginsText, FirstBadWord
 use Rattle.pmb_command.specs.Parts.{DeviceParts}
 use Rattle.pmb_io.specs.declared.tally.Tally.{Tally}
 use Rattle.pmb_io.specs.Count.{capped}
+use Rattle.pmb_io.specs.Runs.{Job}
 use Rattle.pmb_io.specs.Tally.{IsTallyOf}
 use Rattle.pmb_transaction.specs.Reading.{Outcome, Reading}
 use Rattle.pmb_capture.specs.Lines.{bad_token_line}
@@ -61,3 +62,13 @@ module _ (output : OutputText) (profile : List DeviceParts) where
     pub tally : Tally
     pub so_far : WritesSoFar bytes text
     pub writes : Writes bytes (text ++ rest) tally
+
+  -- What a command is to write of a capture. More is wanted of bytes that begin some text that spells
+  -- events.
+  abbrev pub writing : Job Tally
+  writing = record {
+    Whole = λ tally bytes text. WritesAtEnd bytes text tally;
+    Stops = λ tally bytes text. WritesUpToStop bytes text tally;
+    Front = WritesFront;
+    IsOpen = BeginsText;
+  }

@@ -37,7 +37,7 @@ use crate::nowhere::Nowhere;
 use crate::output::Output;
 use crate::reported::{report, report_end};
 use pmb_bus::{Event, LexFault, Lexer, Step};
-use pmb_io::{Engine, Flow, Sink, Tally, ToolFault, Waiting, put};
+use pmb_io::{Engine, Flow, RunFault, Sink, Tally, Waiting, put};
 use pmb_reader::{Reader, Refusal, Took};
 use pmb_table::Profile;
 
@@ -80,10 +80,10 @@ impl<'p, O: Output> Capture<'p, O> {
         piece: &[u8],
         waiting: &mut Waiting,
         writer: &mut W,
-    ) -> Result<Flow, ToolFault>
+    ) -> Result<Flow, RunFault>
         ensures takes { (output : OutputText) (profile : List DeviceParts) (bytes : List ℕ) (outcomes : List Outcome) → CaptureStands O.text O.Stands output profile self.old bytes outcomes
-            → IfOk result (CaptureTakes O.text O.Stands output profile bytes outcomes piece.now (W.contents writer.old) waiting.old.items (W.contents writer.new) waiting.new.items self.new) }
-        ensures failed { WriterTells (W.failures writer.old) (W.failures writer.new) result }
+            → IfOk result (CaptureTakes O.text O.Stands output profile bytes outcomes piece.now (W.told writer.old).held waiting.old.items (W.told writer.new).held waiting.new.items self.new) }
+        ensures failed { WriterTells (W.told writer.old) (W.told writer.new) result }
     {
         let mut rest = piece;
         'words: loop {
@@ -116,11 +116,11 @@ impl<'p, O: Output> Capture<'p, O> {
         event: Event,
         waiting: &mut Waiting,
         writer: &mut W,
-    ) -> Result<(), ToolFault>
+    ) -> Result<(), RunFault>
         ensures lexer { self.new.lexer ≡ self.old.lexer }
         ensures takes { (output : OutputText) (profile : List DeviceParts) (events : List BusEvent) (outcomes : List Outcome) → CaptureReads O.text O.Stands output profile self.old events outcomes
-            → OnOk result (TakesEvent O.text O.Stands output profile events outcomes event (W.contents writer.old) waiting.old.items (W.contents writer.new) waiting.new.items self.new) }
-        ensures failed { WriterTells (W.failures writer.old) (W.failures writer.new) result }
+            → OnOk result (TakesEvent O.text O.Stands output profile events outcomes event (W.told writer.old).held waiting.old.items (W.told writer.new).held waiting.new.items self.new) }
+        ensures failed { WriterTells (W.told writer.old) (W.told writer.new) result }
     {
         match report(&mut self.reader, event) {
             Took::More => Ok(()),
@@ -135,7 +135,7 @@ impl<'p, O: Output> Capture<'p, O> {
         &mut self,
         waiting: &mut Waiting,
         writer: &mut W,
-    ) -> Result<(), ToolFault>
+    ) -> Result<(), RunFault>
         ensures lexer { self.new.lexer ≡ self.old.lexer }
         ensures reader { self.new.reader ≡ self.old.reader }
         ensures counted { self.new.tally ≡ with_packet self.old.tally }
@@ -143,8 +143,8 @@ impl<'p, O: Output> Capture<'p, O> {
         ensures stands { (before : List TransactionData) → O.Stands self.old.output before
             → OnOk result (O.Stands self.new.output (before ++ last_read self.old.reader ∷ [])) }
         ensures puts { (before : List TransactionData) → O.Stands self.old.output before
-            → OnOk result (PutsText (W.contents writer.old) waiting.old.items (W.contents writer.new) waiting.new.items ((O.text self.old.output).of_packet before (last_read self.old.reader))) }
-        ensures failed { WriterTells (W.failures writer.old) (W.failures writer.new) result }
+            → OnOk result (PutsText (W.told writer.old).held waiting.old.items (W.told writer.new).held waiting.new.items ((O.text self.old.output).of_packet before (last_read self.old.reader))) }
+        ensures failed { WriterTells (W.told writer.old) (W.told writer.new) result }
     {
         self.tally.count_packet();
         self.output
@@ -158,13 +158,13 @@ impl<'p, O: Output> Capture<'p, O> {
         refusal: Refusal,
         waiting: &mut Waiting,
         writer: &mut W,
-    ) -> Result<(), ToolFault>
+    ) -> Result<(), RunFault>
         ensures lexer { self.new.lexer ≡ self.old.lexer }
         ensures reader { self.new.reader ≡ self.old.reader }
         ensures output { self.new.output ≡ self.old.output }
         ensures counted { self.new.tally ≡ with_refusal self.old.tally }
-        ensures puts { OnOk result (PutsText (W.contents writer.old) waiting.old.items (W.contents writer.new) waiting.new.items (refusal_text (refusal_data refusal))) }
-        ensures failed { WriterTells (W.failures writer.old) (W.failures writer.new) result }
+        ensures puts { OnOk result (PutsText (W.told writer.old).held waiting.old.items (W.told writer.new).held waiting.new.items (refusal_text (refusal_data refusal))) }
+        ensures failed { WriterTells (W.told writer.old) (W.told writer.new) result }
     {
         self.tally.count_refusal();
         let line = refusal_line(refusal);
@@ -179,12 +179,12 @@ impl<'p, O: Output> Capture<'p, O> {
         fault: LexFault,
         waiting: &mut Waiting,
         writer: &mut W,
-    ) -> Result<(), ToolFault>
+    ) -> Result<(), RunFault>
         ensures counted { self.new.tally ≡ with_refusal self.old.tally }
         ensures puts { (at : ℕ) → fault ≡ BadToken at
-            → OnOk result (PutsText (W.contents writer.old) waiting.old.items (W.contents writer.new) waiting.new.items (bad_token_text at ++ (O.text self.old.output).at_end self.new.tally)) }
+            → OnOk result (PutsText (W.told writer.old).held waiting.old.items (W.told writer.new).held waiting.new.items (bad_token_text at ++ (O.text self.old.output).at_end self.new.tally)) }
         ensures can_end { CanEnd self.old.reader }
-        ensures failed { WriterTells (W.failures writer.old) (W.failures writer.new) result }
+        ensures failed { WriterTells (W.told writer.old) (W.told writer.new) result }
     {
         let _ = report_end(&self.reader);
         self.take_fault(fault, waiting, writer)?;
@@ -197,12 +197,12 @@ impl<'p, O: Output> Capture<'p, O> {
         fault: LexFault,
         waiting: &mut Waiting,
         writer: &mut W,
-    ) -> Result<(), ToolFault>
+    ) -> Result<(), RunFault>
         ensures output { self.new.output ≡ self.old.output }
         ensures counted { self.new.tally ≡ with_refusal self.old.tally }
         ensures puts { (at : ℕ) → fault ≡ BadToken at
-            → OnOk result (PutsText (W.contents writer.old) waiting.old.items (W.contents writer.new) waiting.new.items (bad_token_text at)) }
-        ensures failed { WriterTells (W.failures writer.old) (W.failures writer.new) result }
+            → OnOk result (PutsText (W.told writer.old).held waiting.old.items (W.told writer.new).held waiting.new.items (bad_token_text at)) }
+        ensures failed { WriterTells (W.told writer.old) (W.told writer.new) result }
     {
         let LexFault::BadToken { at } = fault;
         self.tally.count_refusal();
@@ -211,10 +211,10 @@ impl<'p, O: Output> Capture<'p, O> {
     }
 
     /// Takes the end of the text, and puts out the text of what it completes.
-    fn take_end<W: Sink>(&mut self, waiting: &mut Waiting, writer: &mut W) -> Result<(), ToolFault>
+    fn take_end<W: Sink>(&mut self, waiting: &mut Waiting, writer: &mut W) -> Result<(), RunFault>
         ensures ends { (output : OutputText) (profile : List DeviceParts) (bytes : List ℕ) (outcomes : List Outcome) → CaptureStands O.text O.Stands output profile self.old bytes outcomes
-            → OnOk result (EndsText O.text O.Stands output profile bytes outcomes (W.contents writer.old) waiting.old.items (W.contents writer.new) waiting.new.items self.new) }
-        ensures failed { WriterTells (W.failures writer.old) (W.failures writer.new) result }
+            → OnOk result (EndsText O.text O.Stands output profile bytes outcomes (W.told writer.old).held waiting.old.items (W.told writer.new).held waiting.new.items self.new) }
+        ensures failed { WriterTells (W.told writer.old) (W.told writer.new) result }
     {
         match self.lexer.finish() {
             Err(fault) => self.stop_at(fault, waiting, writer),
@@ -238,14 +238,10 @@ impl<'p, O: Output> Capture<'p, O> {
     }
 
     /// The end of the events: inside a packet it is a refusal.
-    fn end_events<W: Sink>(
-        &mut self,
-        waiting: &mut Waiting,
-        writer: &mut W,
-    ) -> Result<(), ToolFault>
+    fn end_events<W: Sink>(&mut self, waiting: &mut Waiting, writer: &mut W) -> Result<(), RunFault>
         ensures ends { (output : OutputText) (profile : List DeviceParts) (events : List BusEvent) (outcomes : List Outcome) → CaptureReads O.text O.Stands output profile self.old events outcomes
-            → OnOk result (EndsEvents O.text O.Stands output profile events outcomes (W.contents writer.old) waiting.old.items (W.contents writer.new) waiting.new.items self.new) }
-        ensures failed { WriterTells (W.failures writer.old) (W.failures writer.new) result }
+            → OnOk result (EndsEvents O.text O.Stands output profile events outcomes (W.told writer.old).held waiting.old.items (W.told writer.new).held waiting.new.items self.new) }
+        ensures failed { WriterTells (W.told writer.old) (W.told writer.new) result }
     {
         match report_end(&self.reader) {
             None => self.output.put_end(self.tally, waiting, writer),
@@ -269,11 +265,11 @@ impl<'p, O: Output> Engine for Capture<'p, O> {
         piece: &[u8],
         waiting: &mut Waiting,
         writer: &mut W,
-    ) -> Result<Flow, ToolFault> {
+    ) -> Result<Flow, RunFault> {
         self.take_piece(piece, waiting, writer)
     }
 
-    fn end<W: Sink>(&mut self, waiting: &mut Waiting, writer: &mut W) -> Result<(), ToolFault> {
+    fn end<W: Sink>(&mut self, waiting: &mut Waiting, writer: &mut W) -> Result<(), RunFault> {
         self.take_end(waiting, writer)
     }
 

@@ -9,9 +9,7 @@ pub(crate) struct Nowhere;
 impl Sink for Nowhere {
     ghost use Rattle.std.specs.Prelude.{None};
 
-    ghost contents = { λ _. None };
-
-    ghost failures = { λ _. 0 };
+    ghost told = { λ _. record { held = None; failures = 0 } };
 
     fn write_all(&mut self, _bytes: &[u8]) -> Result<(), IoFault> {
         Ok(())

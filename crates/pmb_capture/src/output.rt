@@ -6,7 +6,7 @@ ghost use Rattle.pmb_io.specs.Outgoing.{PutsText};
 ghost use Rattle.pmb_transaction.specs.Transaction.{TransactionData, transaction_data};
 ghost use Rattle.pmb_capture.specs.Output.{OutputText};
 
-use pmb_io::{Sink, Tally, ToolFault, Waiting};
+use pmb_io::{RunFault, Sink, Tally, Waiting};
 use pmb_transaction::Transaction;
 
 /// What a command writes of the packets of a capture, which come in their order, and at its end.
@@ -24,13 +24,13 @@ pub(crate) trait Output {
         transaction: &Transaction,
         waiting: &mut Waiting,
         writer: &mut W,
-    ) -> Result<(), ToolFault>
+    ) -> Result<(), RunFault>
         ensures same { text self.new ≡ text self.old }
         ensures stands { (before : List TransactionData) → Stands self.old before
             → OnOk result (Stands self.new (before ++ transaction_data transaction.now ∷ [])) }
         ensures puts { (before : List TransactionData) → Stands self.old before
-            → OnOk result (PutsText (W.contents writer.old) waiting.old.items (W.contents writer.new) waiting.new.items ((text self.old).of_packet before (transaction_data transaction.now))) }
-        ensures failed { WriterTells (W.failures writer.old) (W.failures writer.new) result };
+            → OnOk result (PutsText (W.told writer.old).held waiting.old.items (W.told writer.new).held waiting.new.items ((text self.old).of_packet before (transaction_data transaction.now))) }
+        ensures failed { WriterTells (W.told writer.old) (W.told writer.new) result };
 
     /// Puts out the text of the end.
     fn put_end<W: Sink>(
@@ -38,7 +38,7 @@ pub(crate) trait Output {
         tally: Tally,
         waiting: &mut Waiting,
         writer: &mut W,
-    ) -> Result<(), ToolFault>
-        ensures puts { OnOk result (PutsText (W.contents writer.old) waiting.old.items (W.contents writer.new) waiting.new.items ((text self.now).at_end tally)) }
-        ensures failed { WriterTells (W.failures writer.old) (W.failures writer.new) result };
+    ) -> Result<(), RunFault>
+        ensures puts { OnOk result (PutsText (W.told writer.old).held waiting.old.items (W.told writer.new).held waiting.new.items ((text self.now).at_end tally)) }
+        ensures failed { WriterTells (W.told writer.old) (W.told writer.new) result };
 }

@@ -9,7 +9,7 @@ ghost use Rattle.pmb_capture.specs.Show.{noted_line, shown_output};
 
 use crate::lines::append;
 use crate::output::Output;
-use pmb_io::{ROOM, Sink, Tally, ToolFault, Waiting, make_room};
+use pmb_io::{ROOM, RunFault, Sink, Tally, Waiting, make_room};
 use pmb_line::append_line;
 use pmb_note::Context;
 use pmb_table::Profile;
@@ -66,7 +66,7 @@ impl<'p> Output for PacketLines<'p> {
         transaction: &Transaction,
         waiting: &mut Waiting,
         writer: &mut W,
-    ) -> Result<(), ToolFault> {
+    ) -> Result<(), RunFault> {
         make_room(waiting, MOST, writer)?;
         self.append_transaction(transaction, waiting);
         Ok(())
@@ -77,7 +77,7 @@ impl<'p> Output for PacketLines<'p> {
         _tally: Tally,
         _waiting: &mut Waiting,
         _writer: &mut W,
-    ) -> Result<(), ToolFault> {
+    ) -> Result<(), RunFault> {
         Ok(())
     }
 }

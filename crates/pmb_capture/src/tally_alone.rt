@@ -4,7 +4,7 @@ ghost use Rattle.pmb_capture.specs.Check.{checked_output};
 
 use crate::lines::tally_line;
 use crate::output::Output;
-use pmb_io::{Sink, Tally, ToolFault, Waiting, put};
+use pmb_io::{RunFault, Sink, Tally, Waiting, put};
 use pmb_transaction::Transaction;
 
 /// Writes nothing of a packet, and the tally's line at the end.
@@ -22,7 +22,7 @@ impl Output for TallyAlone {
         _transaction: &Transaction,
         _waiting: &mut Waiting,
         _writer: &mut W,
-    ) -> Result<(), ToolFault> {
+    ) -> Result<(), RunFault> {
         Ok(())
     }
 
@@ -31,7 +31,7 @@ impl Output for TallyAlone {
         tally: Tally,
         waiting: &mut Waiting,
         writer: &mut W,
-    ) -> Result<(), ToolFault> {
+    ) -> Result<(), RunFault> {
         let line = tally_line(tally);
         put(waiting, line.as_slice(), writer)
     }

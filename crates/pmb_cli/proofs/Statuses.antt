@@ -1,94 +1,28 @@
 -- What the status of a run says of its outcome.
-use Rattle.std.proofs.Common.{◌≡◌, ◌≢◌, ◌∙◌, ap, ℕ, ◌+◌, ◌≤◌, ◌⊎◌, ◌==◌, if◌then◌else◌, Bool, true, false, Result, Ok, Err, IfOk, subst, inl, inr, refl, sym, arith, Option, List, ◌++◌, length, length-append}
+use Rattle.std.proofs.Common.{◌≡◌, ◌≢◌, ◌∙◌, ap, ℕ, ◌+◌, ◌≤◌, ◌⊎◌, ◌==◌, if◌then◌else◌, Bool, true, false, Result, Ok, Err, Some, List, [], ◌++◌, length-append, subst, inl, inr, refl, sym, arith}
+use Rattle.std.specs.Io.KnownBytes.{Consumes}
+use Rattle.pmb_io.specs.Count.{raised}
+use Rattle.pmb_io.specs.Runs.{AsTool, Done, Job, PartDone, Ran, most_reads}
+use Rattle.pmb_io.specs.Told.{ReaderTold, WriterTold}
+use Rattle.pmb_io.specs.declared.empty.Empty.{Empty}
 use Rattle.pmb_io.specs.declared.fault.ToolFault.{ToolFault}
 use Rattle.pmb_io.specs.declared.fault.ToolFault.TheVariants.{Read, Write, TooManyReads, ProfileTooLong, Memory}
 use Rattle.pmb_io.specs.declared.tally.Tally.{Tally}
-use Rattle.pmb_status.specs.Status.{ReadOften, run_status, status_of}
-use Rattle.pmb_io.specs.Count.{raised}
-use Rattle.pmb_io.specs.Runs.{most_reads}
-use Rattle.std.specs.Io.KnownBytes.{Consumes}
-use Rattle.pmb_io.proofs.Running.{raised_twice}
-use Rattle.pmb_io.proofs.Writing.{consumes_then}
-use Rattle.pmb_front.specs.Front.{most_profile}
+use Rattle.pmb_io.proofs.Running.{raised_by_none, raised_twice}
+use Rattle.pmb_io.proofs.Writing.{consumes_nothing, consumes_then}
+use Rattle.pmb_front.specs.Front.{MadeFrontReads}
+use Rattle.pmb_status.specs.Status.{run_status, status_of}
+use Rattle.pmb_cli.specs.Often.{MadeReadsInAll}
+use Rattle.pmb_cli.specs.Statuses.{Does, StatusTells}
+use Rattle.pmb_cli.proofs.Often.{reads_behind, reads_of_front}
 
--- with status 3 a read or a write failed, or there were too many reads
-pub io_fault : (outcome : Result Tally ToolFault) → run_status outcome ≡ 3 →
-    (outcome ≡ Err Read) ⊎ ((outcome ≡ Err Write) ⊎ (outcome ≡ Err TooManyReads))
-io_fault (Ok tally) three = absurd (by (tally.refusals == 0) three)
+-- a run that ended well has status 0 or 1
+well_within : (tally : Tally) → run_status (Ok tally) ≤ 1
+well_within tally = by (tally.refusals == 0)
   where
-    status : Bool → ℕ
-    status b = if b then 0 else 1
-
-    by : (b : Bool) → status b ≡ 3 → ⊥
-    by true is = cc
-    by false is = cc
-io_fault (Err Read) three = inl refl
-io_fault (Err Write) three = inr (inl refl)
-io_fault (Err TooManyReads) three = inr (inr refl)
-io_fault (Err ProfileTooLong) three = absurd cc
-io_fault (Err Memory) three = absurd cc
-
--- who made so many reads behind others read often
-pub read_often_behind : (old mid new : ℕ) (l0 l1 l2 : Option (List ℕ)) (before read : List ℕ) → ((count : ℕ) × (count ≤ most_profile + 4) × (mid ≡ raised old count)) → new ≡ raised mid most_reads
-    → Consumes l0 l1 before → Consumes l1 l2 read → most_reads ≤ length read → ReadOften old new l0 l2
-read_often_behind old mid new l0 l1 l2 before read reads often first next many = record {
-  count = reads.0 + most_reads;
-  often = omega arith;
-  counted = often ∙ (ap (λ n. raised n most_reads) reads.2 ∙ raised_twice old reads.0 most_reads);
-  read = before ++ read;
-  consumed = consumes_then l0 l1 l2 before read first next;
-  many = omega (arith, length-append before read);
-}
-
--- and so did who made them alone
-pub read_often : (old new : ℕ) (l0 l1 : Option (List ℕ)) (read : List ℕ) → new ≡ raised old most_reads → Consumes l0 l1 read → most_reads ≤ length read → ReadOften old new l0 l1
-read_often old new l0 l1 read often consumed many = record { count = most_reads; often = omega arith; counted = often; read = read; consumed = consumed; many = many }
-
--- with status 0 or 1 a run ended well
-pub ended_well : (outcome : Result Tally ToolFault) → run_status outcome ≤ 1 → (tally : Tally) × (outcome ≡ Ok tally)
-ended_well (Ok tally) within = (tally, refl)
-ended_well (Err Read) within = absurd (omega arith)
-ended_well (Err Write) within = absurd (omega arith)
-ended_well (Err TooManyReads) within = absurd (omega arith)
-ended_well (Err ProfileTooLong) within = absurd (omega arith)
-ended_well (Err Memory) within = absurd (omega arith)
-
--- what holds of it
-pub at_ok : (Holds : Tally → Type 0) (outcome : Result Tally ToolFault) (tally : Tally) → outcome ≡ Ok tally → IfOk outcome Holds → Holds tally
-at_ok Holds outcome tally is holds = subst (λ (r : Result Tally ToolFault). IfOk r Holds) is holds
-
--- a write failed, or else it was the reader
-pub write_or_read : (outcome : Result Tally ToolFault) → run_status outcome ≡ 3 → (outcome ≡ Err Write) ⊎ ((outcome ≡ Err Read) ⊎ (outcome ≡ Err TooManyReads))
-write_or_read outcome three = elim (io_fault outcome three) [
-  | inl read ↦ inr (inl read)
-  | inr (inl write) ↦ inl write
-  | inr (inr many) ↦ inr (inr many)
-]
-
--- with a status other than 3 there was no fault that has it
-pub no_failure : (outcome : Result Tally ToolFault) (fault : ToolFault) → run_status outcome ≢ 3 → status_of fault ≡ 3 → outcome ≡ Err fault → ⊥
-no_failure outcome fault other three is = other (ap run_status is ∙ three)
-
--- without a fault of memory or of the profile the status is neither 2 nor 4
-pub not_refused : (outcome : Result Tally ToolFault) → (outcome ≡ Err Memory → ⊥) → (outcome ≡ Err ProfileTooLong → ⊥) → (run_status outcome ≡ 2) ⊎ (run_status outcome ≡ 4) → ⊥
-not_refused (Ok tally) no_memory not_long refused = by (tally.refusals == 0) refused
-  where
-    status : Bool → ℕ
-    status b = if b then 0 else 1
-
-    by : (b : Bool) → (status b ≡ 2) ⊎ (status b ≡ 4) → ⊥
-    by true (inl two) = absurd (omega (arith, two))
-    by true (inr four) = absurd (omega (arith, four))
-    by false (inl two) = absurd (omega (arith, two))
-    by false (inr four) = absurd (omega (arith, four))
-not_refused (Err Read) no_memory not_long (inl two) = absurd (omega (arith, two))
-not_refused (Err Read) no_memory not_long (inr four) = absurd (omega (arith, four))
-not_refused (Err Write) no_memory not_long (inl two) = absurd (omega (arith, two))
-not_refused (Err Write) no_memory not_long (inr four) = absurd (omega (arith, four))
-not_refused (Err TooManyReads) no_memory not_long (inl two) = absurd (omega (arith, two))
-not_refused (Err TooManyReads) no_memory not_long (inr four) = absurd (omega (arith, four))
-not_refused (Err ProfileTooLong) no_memory not_long refused = not_long refl
-not_refused (Err Memory) no_memory not_long refused = no_memory refl
+    by : (b : Bool) → (if b then 0 else 1) ≤ 1
+    by true = omega arith
+    by false = omega arith
 
 -- each fault has status 2 or more
 pub two_or_more : (fault : ToolFault) → 2 ≤ status_of fault
@@ -97,6 +31,14 @@ two_or_more Write = omega arith
 two_or_more TooManyReads = omega arith
 two_or_more ProfileTooLong = omega arith
 two_or_more Memory = omega arith
+
+-- and 4 at most
+pub four_at_most : (fault : ToolFault) → status_of fault ≤ 4
+four_at_most Read = omega arith
+four_at_most Write = omega arith
+four_at_most TooManyReads = omega arith
+four_at_most ProfileTooLong = omega arith
+four_at_most Memory = omega arith
 
 -- and 2 where the profile is too long
 pub is_too_long : (fault : ToolFault) → status_of fault ≡ 2 → fault ≡ ProfileTooLong
@@ -122,15 +64,201 @@ no_failed_read answer TooManyReads other is also = other refl
 no_failed_read answer ProfileTooLong other is also = let clash : Err ProfileTooLong ≡ Err Read = sym is ∙ also in cc
 no_failed_read answer Memory other is also = let clash : Err Memory ≡ Err Read = sym is ∙ also in cc
 
--- no status is above 4
-pub four_at_most : (outcome : Result Tally ToolFault) → run_status outcome ≤ 4
-four_at_most (Ok tally) = by (tally.refusals == 0)
-  where
-    by : (b : Bool) → (if b then 0 else 1) ≤ 4
-    by true = omega arith
-    by false = omega arith
-four_at_most (Err Read) = omega arith
-four_at_most (Err Write) = omega arith
-four_at_most (Err TooManyReads) = omega arith
-four_at_most (Err ProfileTooLong) = omega arith
-four_at_most (Err Memory) = omega arith
+-- ---- a run
+
+-- what was read of a reader before
+pub record IsBefore (start mid : ReaderTold) : Type 0 where
+  pub none_failed : mid.failures ≡ start.failures
+  pub not_ended : mid.ended ≡ start.ended
+  pub few : MadeFrontReads start.reads mid.reads
+  pub read : List ℕ
+  pub consumed : Consumes start.left mid.left read
+
+-- nothing
+pub at_start : (told : ReaderTold) → IsBefore told told
+at_start told = record {
+  none_failed = refl;
+  not_ended = refl;
+  few = (0, omega arith, sym (raised_by_none told.reads));
+  read = [];
+  consumed = consumes_nothing told.left;
+}
+
+module _ {R W : Type 0} (reader_told : R → ReaderTold) (writer_told : W → WriterTold) (job : Job Tally) (first : List ℕ) (old new : R × W) where
+  -- what it wrote, by its own status
+  did : (outcome : Result Tally ToolFault) → AsTool (Ran reader_told writer_told job first old new) outcome
+      → Does (λ tally. Done reader_told writer_told job tally first old new) (PartDone reader_told writer_told job first old new) (writer_told old.1) (writer_told new.1) (run_status outcome)
+  did (Ok tally) ran = record { wrote = λ _. (tally, refl, ran.ok); part = λ three. absurd (omega (arith, three, well_within tally)) }
+  did (Err Read) ran = record { wrote = λ done. absurd (omega (arith, done)); part = λ _. inr (ran.before (inl refl)) }
+  did (Err Write) ran = record { wrote = λ done. absurd (omega (arith, done)); part = λ _. inl (ran.write refl) }
+  did (Err TooManyReads) ran = record { wrote = λ done. absurd (omega (arith, done)); part = λ _. inr (ran.before (inr refl)) }
+  did (Err ProfileTooLong) ran = absurd ran
+  did (Err Memory) ran = absurd ran
+
+  -- by the status that was answered for it
+  pub run_did : (outcome : Result Tally ToolFault) (status : ℕ) → status ≡ run_status outcome → AsTool (Ran reader_told writer_told job first old new) outcome
+      → Does (λ tally. Done reader_told writer_told job tally first old new) (PartDone reader_told writer_told job first old new) (writer_told old.1) (writer_told new.1) status
+  run_did outcome status is ran = subst (Does (λ tally. Done reader_told writer_told job tally first old new) (PartDone reader_told writer_told job first old new) (writer_told old.1) (writer_told new.1)) (sym is) (did outcome ran)
+
+  -- it is not refused
+  pub run_unrefused : (outcome : Result Tally ToolFault) → AsTool (Ran reader_told writer_told job first old new) outcome → (run_status outcome ≡ 2) ⊎ (run_status outcome ≡ 4) → ⊥
+  run_unrefused (Ok tally) ran (inl two) = omega (arith, two, well_within tally)
+  run_unrefused (Ok tally) ran (inr four) = omega (arith, four, well_within tally)
+  run_unrefused (Err Read) ran (inl two) = omega (arith, two)
+  run_unrefused (Err Read) ran (inr four) = omega (arith, four)
+  run_unrefused (Err Write) ran (inl two) = omega (arith, two)
+  run_unrefused (Err Write) ran (inr four) = omega (arith, four)
+  run_unrefused (Err TooManyReads) ran (inl two) = omega (arith, two)
+  run_unrefused (Err TooManyReads) ran (inr four) = omega (arith, four)
+  run_unrefused (Err ProfileTooLong) ran refused = ran
+  run_unrefused (Err Memory) ran refused = ran
+
+  -- ---- its status, where the reader was read before
+
+  -- by its own status
+  tells : (start : R) → IsBefore (reader_told start) (reader_told old.0) → (outcome : Result Tally ToolFault) → AsTool (Ran reader_told writer_told job first old new) outcome
+      → StatusTells reader_told writer_told (start, old.1) new (run_status outcome)
+  tells start before (Ok tally) ran = record {
+    within = omega (arith, well_within tally);
+    unwritten = λ refused. absurd (run_unrefused (Ok tally) ran refused);
+    none_failed = λ _. (ran.no_read (λ is. cc) ∙ before.none_failed, ran.no_write (λ is. cc));
+    io_failed = λ three. absurd (omega (arith, three, well_within tally));
+    reads = reads_behind _ _ _ before.few ran.reads;
+  }
+  tells start before (Err Read) ran = record {
+    within = omega arith;
+    unwritten = λ refused. absurd (run_unrefused (Err Read) ran refused);
+    none_failed = λ other. absurd (other refl);
+    io_failed = λ _. inl (ran.read refl ∙ ap (λ n. raised n 1) before.none_failed, ran.read_not_ended refl ∙ before.not_ended);
+    reads = reads_behind _ _ _ before.few ran.reads;
+  }
+  tells start before (Err Write) ran = record {
+    within = omega arith;
+    unwritten = λ refused. absurd (run_unrefused (Err Write) ran refused);
+    none_failed = λ other. absurd (other refl);
+    io_failed = λ _. inr (inl (ran.write refl));
+    reads = reads_behind _ _ _ before.few ran.reads;
+  }
+  tells start before (Err TooManyReads) ran = record {
+    within = omega arith;
+    unwritten = λ refused. absurd (run_unrefused (Err TooManyReads) ran refused);
+    none_failed = λ other. absurd (other refl);
+    io_failed = λ _.
+        let many = ran.many refl in
+        inr (inr (
+          record {
+            count = before.few.0 + most_reads;
+            often = omega arith;
+            counted = ran.too_many refl ∙ (ap (λ n. raised n most_reads) before.few.2 ∙ raised_twice (reader_told start).reads before.few.0 most_reads);
+            read = before.read ++ many.0.read;
+            consumed = consumes_then (reader_told start).left (reader_told old.0).left (reader_told new.0).left before.read many.0.read before.consumed many.0.consumed;
+            many = omega (arith, length-append before.read many.0.read, many.1);
+          },
+          ran.not_ended refl ∙ before.not_ended,
+        ));
+    reads = reads_behind _ _ _ before.few ran.reads;
+  }
+  tells start before (Err ProfileTooLong) ran = absurd ran
+  tells start before (Err Memory) ran = absurd ran
+
+  -- by the status that was answered for it
+  pub status_tells : (start : R) → IsBefore (reader_told start) (reader_told old.0) → (outcome : Result Tally ToolFault) (status : ℕ) → status ≡ run_status outcome → AsTool (Ran reader_told writer_told job first old new) outcome
+      → StatusTells reader_told writer_told (start, old.1) new status
+  status_tells start before outcome status is ran = subst (StatusTells reader_told writer_told (start, old.1) new) (sym is) (tells start before outcome ran)
+
+-- ---- a run over a reader that has nothing, behind the front of another
+
+-- what such a reader tells
+abbrev pub nothing_told : Empty → ReaderTold
+nothing_told empty = record { left = Some []; given = 0; reads = 0; failures = 0; ended = true }
+
+module _ {R W : Type 0} (reader_told : R → ReaderTold) (writer_told : W → WriterTold) (job : Job Tally) (empty empty_new : Empty) (out out_new : W) where
+  -- a run over it
+  abbrev NothingRan : Result Tally ToolFault → Type 0
+  NothingRan = AsTool (Ran nothing_told writer_told job [] (empty, out) (empty_new, out_new))
+
+  -- it fails in no read
+  no_read_of_nothing : NothingRan (Err Read) → ⊥
+  no_read_of_nothing ran = let never : 0 ≡ raised 0 1 = ran.read refl in omega (arith, never)
+
+  -- and gives nothing
+  nothing_is_few : NothingRan (Err TooManyReads) → ⊥
+  nothing_is_few ran = let never : 0 ≡ raised 0 most_reads = ran.too_many refl in omega (arith, never)
+
+  -- what its own status tells of the reader whose front was read
+  all_tells : (start mid : R) → (reader_told mid).failures ≡ (reader_told start).failures → MadeFrontReads (reader_told start).reads (reader_told mid).reads
+      → (outcome : Result Tally ToolFault) → NothingRan outcome → StatusTells reader_told writer_told (start, out) (mid, out_new) (run_status outcome)
+  all_tells start mid none_failed few (Ok tally) ran = record {
+    within = omega (arith, well_within tally);
+    unwritten = λ refused. absurd (run_unrefused nothing_told writer_told job [] (empty, out) (empty_new, out_new) (Ok tally) ran refused);
+    none_failed = λ _. (none_failed, ran.no_write (λ is. cc));
+    io_failed = λ three. absurd (omega (arith, three, well_within tally));
+    reads = reads_of_front _ _ few;
+  }
+  all_tells start mid none_failed few (Err Read) ran = absurd (no_read_of_nothing ran)
+  all_tells start mid none_failed few (Err Write) ran = record {
+    within = omega arith;
+    unwritten = λ refused. absurd (run_unrefused nothing_told writer_told job [] (empty, out) (empty_new, out_new) (Err Write) ran refused);
+    none_failed = λ other. absurd (other refl);
+    io_failed = λ _. inr (inl (ran.write refl));
+    reads = reads_of_front _ _ few;
+  }
+  all_tells start mid none_failed few (Err TooManyReads) ran = absurd (nothing_is_few ran)
+  all_tells start mid none_failed few (Err ProfileTooLong) ran = absurd ran
+  all_tells start mid none_failed few (Err Memory) ran = absurd ran
+
+  -- what the status tells that was answered for it
+  pub nothing_tells : (start mid : R) → (reader_told mid).failures ≡ (reader_told start).failures → MadeFrontReads (reader_told start).reads (reader_told mid).reads
+      → (outcome : Result Tally ToolFault) (status : ℕ) → status ≡ run_status outcome → AsTool (Ran nothing_told writer_told job [] (empty, out) (empty_new, out_new)) outcome
+      → StatusTells reader_told writer_told (start, out) (mid, out_new) status
+  nothing_tells start mid none_failed few outcome status is ran = subst (StatusTells reader_told writer_told (start, out) (mid, out_new)) (sym is) (all_tells start mid none_failed few outcome ran)
+
+  module _ (Wrote : Tally → Type 0) (WrotePart : Type 0) (wrote : (tally : Tally) → Done nothing_told writer_told job tally [] (empty, out) (empty_new, out_new) → Wrote tally) where
+    -- what was written for all profile, by its own status
+    all_did : (outcome : Result Tally ToolFault) → NothingRan outcome → Does Wrote WrotePart (writer_told out) (writer_told out_new) (run_status outcome)
+    all_did (Ok tally) ran = record { wrote = λ _. (tally, refl, wrote tally ran.ok); part = λ three. absurd (omega (arith, three, well_within tally)) }
+    all_did (Err Read) ran = absurd (no_read_of_nothing ran)
+    all_did (Err Write) ran = record { wrote = λ done. absurd (omega (arith, done)); part = λ _. inl (ran.write refl) }
+    all_did (Err TooManyReads) ran = absurd (nothing_is_few ran)
+    all_did (Err ProfileTooLong) ran = absurd ran
+    all_did (Err Memory) ran = absurd ran
+
+    -- by the status that was answered for it
+    pub nothing_did : (outcome : Result Tally ToolFault) (status : ℕ) → status ≡ run_status outcome → AsTool (Ran nothing_told writer_told job [] (empty, out) (empty_new, out_new)) outcome
+        → Does Wrote WrotePart (writer_told out) (writer_told out_new) status
+    nothing_did outcome status is ran = subst (Does Wrote WrotePart (writer_told out) (writer_told out_new)) (sym is) (all_did outcome ran)
+
+-- ---- of what was asked for
+
+-- who does one does another that follows from it
+pub does_as : (P Q : Tally → Type 0) (PPart QPart : Type 0) (old new : WriterTold) (status : ℕ) → ((tally : Tally) → P tally → Q tally) → (PPart → QPart) → Does P PPart old new status → Does Q QPart old new status
+does_as P Q PPart QPart old new status wrote part does = record {
+  wrote = λ done. let all = does.wrote done in (all.0, all.1, wrote all.0 all.2);
+  part = λ three. elim (does.part three) [
+    | inl write ↦ inl write
+    | inr some ↦ inr (part some)
+  ];
+}
+
+-- with status 2 or 4 nothing is done
+pub does_none : (P : Tally → Type 0) (PPart : Type 0) (old new : WriterTold) (status : ℕ) → (status ≡ 2) ⊎ (status ≡ 4) → Does P PPart old new status
+does_none P PPart old new status (inl two) = record { wrote = λ done. absurd (omega (arith, done, two)); part = λ three. absurd (omega (arith, three, two)) }
+does_none P PPart old new status (inr four) = record { wrote = λ done. absurd (omega (arith, done, four)); part = λ three. absurd (omega (arith, three, four)) }
+
+-- and nothing failed, where nothing did
+pub refused_tells : {R W : Type 0} (reader_told : R → ReaderTold) (writer_told : W → WriterTold) (old new : R) (out : W) (status : ℕ) → (status ≡ 2) ⊎ (status ≡ 4)
+    → (reader_told new).failures ≡ (reader_told old).failures → MadeReadsInAll (reader_told old).reads (reader_told new).reads → StatusTells reader_told writer_told (old, out) (new, out) status
+refused_tells reader_told writer_told old new out status (inl two) none_failed reads = record {
+  within = omega (arith, two);
+  unwritten = λ _. refl;
+  none_failed = λ _. (none_failed, refl);
+  io_failed = λ three. absurd (omega (arith, three, two));
+  reads = reads;
+}
+refused_tells reader_told writer_told old new out status (inr four) none_failed reads = record {
+  within = omega (arith, four);
+  unwritten = λ _. refl;
+  none_failed = λ _. (none_failed, refl);
+  io_failed = λ three. absurd (omega (arith, three, four));
+  reads = reads;
+}

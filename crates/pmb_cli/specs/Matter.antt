@@ -1,9 +1,9 @@
 -- What is done with what stands behind a profile, a capture or lines: under the sample profile, or under the one in front.
-use Rattle.std.specs.Prelude.{◌≡◌, ◌≤◌, ◌⊎◌, ℕ, Bool, Ok, Err, List, length}
+use Rattle.std.specs.Prelude.{◌≡◌, ◌≤◌, ◌⊎◌, ℕ, Ok, Err, List, length}
 use Rattle.std.specs.Io.KnownBytes.{Appends, Consumes}
 use Rattle.pmb_command.specs.Parts.{DeviceParts}
 use Rattle.pmb_io.specs.Count.{raised}
-use Rattle.pmb_io.specs.Runs.{ReaderTold, Told}
+use Rattle.pmb_io.specs.Told.{ReaderTold, Told}
 use Rattle.pmb_table.specs.Profile.{Says}
 use Rattle.pmb_table.specs.declared.fault.ProfileFault.{ProfileFault}
 use Rattle.pmb_front.specs.Front.{FirstMark, IsFront, Parts, ReadFront, ReadTooMuch, Undecided, most_profile}
@@ -22,33 +22,33 @@ pub record Behind (Holds : List DeviceParts → List ℕ → List ℕ → List �
   pub profile : List ℕ
   pub matter : List ℕ
   pub devices : List DeviceParts
-  pub consumed : Consumes old.left new.left read
-  pub given : new.given ≡ raised old.given (length read)
-  pub appended : Appends old.held new.held text
+  pub consumed : Consumes old.reader.left new.reader.left read
+  pub given : new.reader.given ≡ raised old.reader.given (length read)
+  pub appended : Appends old.writer.held new.writer.held text
   pub front : IsFront read profile matter
   pub within : length profile ≤ most_profile
   pub says : Says profile (Ok devices)
   pub holds : Holds devices matter text read
 
 -- What was read is the front of an input, and what stands there as a profile has this fault.
-pub record HasFault {R : Type 0} (told : R → ReaderTold) (old new : R) (has_ended : Bool) : Type 0 where
+pub record HasFault {R : Type 0} (told : R → ReaderTold) (old new : R) : Type 0 where
   pub parts : Parts
   pub fault : ProfileFault
-  pub reads : ReadFront told old new has_ended parts
+  pub reads : ReadFront told old new parts
   pub says : Says parts.profile (Err fault)
 
 -- the profile is too long, or has a fault
-abbrev pub HasBadProfile : {R : Type 0} → (R → ReaderTold) → R → R → Bool → Type 0
-HasBadProfile told old new has_ended = ReadTooMuch told old new has_ended ⊎ HasFault told old new has_ended
+abbrev pub HasBadProfile : {R : Type 0} → (R → ReaderTold) → R → R → Type 0
+HasBadProfile told old new = ReadTooMuch told old new ⊎ HasFault told old new
 
 -- ---- where a read failed, or there were too many
 
 -- What was read decided nothing of the profile, and nothing was written.
 pub record ReadPart (old new : Told) : Type 0 where
   pub read : List ℕ
-  pub consumed : Consumes old.left new.left read
-  pub given : new.given ≡ raised old.given (length read)
-  pub unwritten : new.held ≡ old.held
+  pub consumed : Consumes old.reader.left new.reader.left read
+  pub given : new.reader.given ≡ raised old.reader.given (length read)
+  pub unwritten : new.writer.held ≡ old.writer.held
   pub undecided : Undecided read
 
 -- What was read is a profile within the limit and its line `%%`, and a part of what stands behind it; this holds of the
@@ -59,9 +59,9 @@ pub record ReadPartBehind (Holds : List DeviceParts → List ℕ → List ℕ �
   pub profile : List ℕ
   pub matter : List ℕ
   pub devices : List DeviceParts
-  pub consumed : Consumes old.left new.left read
-  pub given : new.given ≡ raised old.given (length read)
-  pub appended : Appends old.held new.held text
+  pub consumed : Consumes old.reader.left new.reader.left read
+  pub given : new.reader.given ≡ raised old.reader.given (length read)
+  pub appended : Appends old.writer.held new.writer.held text
   pub first : FirstMark read profile matter
   pub within : length profile ≤ most_profile
   pub says : Says profile (Ok devices)

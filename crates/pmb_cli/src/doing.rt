@@ -1,12 +1,10 @@
 //! What the words ask for, done.
 
-ghost use Rattle.std.specs.Prelude.{◌≡◌, ◌≢◌, ◌≤◌, ◌⊎◌, Ok, false};
+ghost use Rattle.std.specs.Prelude.{◌≡◌, ◌≤◌, ◌⊎◌, false};
 ghost use Rattle.pmb_cli.specs.Matter.{HasBadProfile};
-ghost use Rattle.pmb_cli.specs.Often.{MadeReadsInAll};
-ghost use Rattle.pmb_cli.specs.Tasks.{WroteTask, WroteTaskPart};
-ghost use Rattle.pmb_io.specs.Count.{raised};
-ghost use Rattle.pmb_io.specs.declared.tally.Tally.{Tally as TallyOf};
-ghost use Rattle.pmb_status.specs.Status.{IsTold, ReadOften, run_status};
+ghost use Rattle.pmb_cli.specs.Statuses.{StatusTells};
+ghost use Rattle.pmb_cli.specs.Tasks.{DoesTask};
+ghost use Rattle.pmb_status.specs.Status.{IsTold};
 ghost use Rattle.pmb_words.specs.Asked.{NamesNone, Traffic, asking_of};
 ghost use Rattle.pmb_words.specs.declared.work.Work.{Work as WorkOf};
 
@@ -28,25 +26,13 @@ pub(crate) fn run_task<R: Source, W: Sink, E: Sink>(
     out: &mut W,
     err: &mut E,
 ) -> u8
-    ensures within { result ≤ 4 }
-    ensures told { result ≡ 2 → NamesNone (asking_of task.entry) ⊎ ((work : WorkOf) × (asking_of task.entry ≡ Traffic work false) × HasBadProfile
-        (λ reader. record { left = R.remaining reader; given = R.given reader; reads = R.reads reader })
-        reader.old reader.new (R.has_ended reader.new)) }
-    ensures err_told { 2 ≤ result → IsTold (E.contents err.old) (E.contents err.new) (E.failures err.old) (E.failures err.new) }
+    ensures status { StatusTells R.told W.told (reader.old, out.old) (reader.new, out.new) result }
+    ensures did { DoesTask R.told W.told SAMPLE.now (asking_of task.entry) (reader.old, out.old) (reader.new, out.new) result }
+    ensures told { result ≡ 2 → NamesNone (asking_of task.entry) ⊎ ((work : WorkOf) × (asking_of task.entry ≡ Traffic work false) × HasBadProfile R.told reader.old reader.new) }
+    ensures err_told { 2 ≤ result → IsTold (E.told err.old) (E.told err.new) }
     ensures quiet { result ≤ 1 → err.new ≡ err.old }
-    ensures unwritten { (result ≡ 2) ⊎ (result ≡ 4) → out.new ≡ out.old }
     ensures bad_format { NamesNone (asking_of task.entry) → result ≡ 2 }
     ensures bad_format_unread { NamesNone (asking_of task.entry) → reader.new ≡ reader.old }
-    ensures wrote { result ≤ 1 → (tally : TallyOf) × (result ≡ run_status (Ok tally)) × WroteTask
-        (λ reader. record { left = R.remaining reader; given = R.given reader; reads = R.reads reader })
-        SAMPLE.now (asking_of task.entry) reader.old reader.new (W.contents out.old) (W.contents out.new) (R.has_ended reader.new) tally }
-    ensures part { result ≡ 3 → (W.failures out.new ≡ raised (W.failures out.old) 1) ⊎ WroteTaskPart SAMPLE.now (asking_of task.entry)
-        (record { left = R.remaining reader.old; given = R.given reader.old; held = W.contents out.old })
-        (record { left = R.remaining reader.new; given = R.given reader.new; held = W.contents out.new }) }
-    ensures none_failed { result ≢ 3 → (R.failures reader.new ≡ R.failures reader.old) × (W.failures out.new ≡ W.failures out.old) }
-    ensures io_failed { result ≡ 3 → ((R.failures reader.new ≡ raised (R.failures reader.old) 1) × (R.has_ended reader.new ≡ R.has_ended reader.old))
-        ⊎ ((W.failures out.new ≡ raised (W.failures out.old) 1) ⊎ (ReadOften (R.reads reader.old) (R.reads reader.new) (R.remaining reader.old) (R.remaining reader.new) × (R.has_ended reader.new ≡ R.has_ended reader.old))) }
-    ensures reads { MadeReadsInAll (R.reads reader.old) (R.reads reader.new) }
 {
     // A text names one format at most.
     one_format();
@@ -73,23 +59,11 @@ fn run_traffic<R: Source, W: Sink, E: Sink>(
     out: &mut W,
     err: &mut E,
 ) -> u8
-    ensures within { result ≤ 4 }
-    ensures told { result ≡ 2 → (sample ≡ false) × HasBadProfile
-        (λ reader. record { left = R.remaining reader; given = R.given reader; reads = R.reads reader })
-        reader.old reader.new (R.has_ended reader.new) }
-    ensures err_told { 2 ≤ result → IsTold (E.contents err.old) (E.contents err.new) (E.failures err.old) (E.failures err.new) }
+    ensures status { StatusTells R.told W.told (reader.old, out.old) (reader.new, out.new) result }
+    ensures did { DoesTask R.told W.told SAMPLE.now (Traffic work sample) (reader.old, out.old) (reader.new, out.new) result }
+    ensures told { result ≡ 2 → (sample ≡ false) × HasBadProfile R.told reader.old reader.new }
+    ensures err_told { 2 ≤ result → IsTold (E.told err.old) (E.told err.new) }
     ensures quiet { result ≤ 1 → err.new ≡ err.old }
-    ensures unwritten { (result ≡ 2) ⊎ (result ≡ 4) → out.new ≡ out.old }
-    ensures wrote { result ≤ 1 → (tally : TallyOf) × (result ≡ run_status (Ok tally)) × WroteTask
-        (λ reader. record { left = R.remaining reader; given = R.given reader; reads = R.reads reader })
-        SAMPLE.now (Traffic work sample) reader.old reader.new (W.contents out.old) (W.contents out.new) (R.has_ended reader.new) tally }
-    ensures part { result ≡ 3 → (W.failures out.new ≡ raised (W.failures out.old) 1) ⊎ WroteTaskPart SAMPLE.now (Traffic work sample)
-        (record { left = R.remaining reader.old; given = R.given reader.old; held = W.contents out.old })
-        (record { left = R.remaining reader.new; given = R.given reader.new; held = W.contents out.new }) }
-    ensures none_failed { result ≢ 3 → (R.failures reader.new ≡ R.failures reader.old) × (W.failures out.new ≡ W.failures out.old) }
-    ensures io_failed { result ≡ 3 → ((R.failures reader.new ≡ raised (R.failures reader.old) 1) × (R.has_ended reader.new ≡ R.has_ended reader.old))
-        ⊎ ((W.failures out.new ≡ raised (W.failures out.old) 1) ⊎ (ReadOften (R.reads reader.old) (R.reads reader.new) (R.remaining reader.old) (R.remaining reader.new) × (R.has_ended reader.new ≡ R.has_ended reader.old))) }
-    ensures reads { MadeReadsInAll (R.reads reader.old) (R.reads reader.new) }
 {
     if sample {
         run_sample(work, alloc, reader, out, err)

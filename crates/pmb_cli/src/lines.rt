@@ -1,11 +1,10 @@
 //! `pmb encode` and `pmb decode`: lines answered in a format.
 
-ghost use Rattle.std.specs.Prelude.{◌≡◌, ◌≢◌, ◌≤◌, ◌⊎◌, [], Ok};
-ghost use Rattle.pmb_convert.specs.Lines.{AnswersEnded, AnswersInput};
-ghost use Rattle.pmb_io.specs.Count.{raised};
-ghost use Rattle.pmb_io.specs.Runs.{Ended, MadeReads, Through};
-ghost use Rattle.pmb_io.specs.declared.tally.Tally.{Tally as TallyOf};
-ghost use Rattle.pmb_status.specs.Status.{IsTold, ReadOften, run_status};
+ghost use Rattle.std.specs.Prelude.{◌≡◌, ◌≢◌, ◌≤◌, []};
+ghost use Rattle.pmb_convert.specs.Lines.{converting};
+ghost use Rattle.pmb_io.specs.Runs.{Done, PartDone};
+ghost use Rattle.pmb_cli.specs.Statuses.{Does, StatusTells};
+ghost use Rattle.pmb_status.specs.Status.{IsTold};
 
 use pmb_convert::{Conversion, convert_lines};
 use pmb_io::{Sink, Source};
@@ -18,21 +17,12 @@ pub(crate) fn run_lines<R: Source, W: Sink, E: Sink>(
     out: &mut W,
     err: &mut E,
 ) -> u8
-    ensures within { result ≤ 4 }
+    ensures status { StatusTells R.told W.told (reader.old, out.old) (reader.new, out.new) result }
+    ensures did { Does (λ tally. Done R.told W.told (converting conversion) tally [] (reader.old, out.old) (reader.new, out.new))
+        (PartDone R.told W.told (converting conversion) [] (reader.old, out.old) (reader.new, out.new)) (W.told out.old) (W.told out.new) result }
     ensures no_fault { (result ≢ 2) × (result ≢ 4) }
-    ensures err_told { 2 ≤ result → IsTold (E.contents err.old) (E.contents err.new) (E.failures err.old) (E.failures err.new) }
+    ensures err_told { 2 ≤ result → IsTold (E.told err.old) (E.told err.new) }
     ensures quiet { result ≤ 1 → err.new ≡ err.old }
-    ensures wrote { result ≤ 1 → (tally : TallyOf) × (result ≡ run_status (Ok tally)) × Ended (AnswersInput conversion tally) []
-        (record { left = R.remaining reader.old; given = R.given reader.old; held = W.contents out.old })
-        (record { left = R.remaining reader.new; given = R.given reader.new; held = W.contents out.new })
-        (R.has_ended reader.new) }
-    ensures part { result ≡ 3 → (W.failures out.new ≡ raised (W.failures out.old) 1) ⊎ Through (AnswersEnded conversion) []
-        (record { left = R.remaining reader.old; given = R.given reader.old; held = W.contents out.old })
-        (record { left = R.remaining reader.new; given = R.given reader.new; held = W.contents out.new }) }
-    ensures none_failed { result ≢ 3 → (R.failures reader.new ≡ R.failures reader.old) × (W.failures out.new ≡ W.failures out.old) }
-    ensures io_failed { result ≡ 3 → ((R.failures reader.new ≡ raised (R.failures reader.old) 1) × (R.has_ended reader.new ≡ R.has_ended reader.old))
-        ⊎ ((W.failures out.new ≡ raised (W.failures out.old) 1) ⊎ (ReadOften (R.reads reader.old) (R.reads reader.new) (R.remaining reader.old) (R.remaining reader.new) × (R.has_ended reader.new ≡ R.has_ended reader.old))) }
-    ensures reads { MadeReads (R.reads reader.old) (R.reads reader.new) }
 {
     ended(convert_lines(conversion, &[], reader, out), err)
 }

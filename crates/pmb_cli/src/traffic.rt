@@ -1,14 +1,14 @@
 //! `pmb show`, `pmb check` and `pmb build`: what stands behind a profile, a capture or lines, under the
 //! sample profile or under the one in front of it.
 
-ghost use Rattle.std.specs.Prelude.{◌≡◌, ◌≢◌, ◌≤◌, ◌⊎◌, IfOk, Ok, Err, length};
-ghost use Rattle.pmb_io.specs.Count.{raised};
-ghost use Rattle.pmb_io.specs.Runs.{MadeReads, Through, most_reads};
-ghost use Rattle.pmb_io.specs.declared.tally.Tally.{Tally as TallyOf};
+ghost use Rattle.std.specs.Prelude.{◌≡◌, ◌≢◌, ◌≤◌, true, false};
+ghost use Rattle.pmb_io.specs.Runs.{AsTool, Ran};
 ghost use Rattle.pmb_cli.specs.Matter.{HasBadProfile};
-ghost use Rattle.pmb_cli.specs.Often.{MadeReadsInAll};
-ghost use Rattle.pmb_status.specs.Status.{IsTold, ReadOften, run_status};
-ghost use Rattle.pmb_cli.specs.Traffic.{WorkWritesFront, Wrote, WroteBehind, WrotePart, WroteSample, WroteSamplePart};
+ghost use Rattle.pmb_cli.specs.Statuses.{StatusTells};
+ghost use Rattle.pmb_cli.specs.Tasks.{DoesTask};
+ghost use Rattle.pmb_cli.specs.Traffic.{working};
+ghost use Rattle.pmb_status.specs.Status.{IsTold};
+ghost use Rattle.pmb_words.specs.Asked.{Traffic};
 
 use pmb_build::build;
 use pmb_capture::{check_capture, show};
@@ -32,28 +32,7 @@ fn run<R: Source, W: Sink>(
     reader: &mut R,
     out: &mut W,
 ) -> Result<Tally, ToolFault>
-    ensures ok { IfOk result (λ tally. Wrote
-        (λ reader. record { left = R.remaining reader; given = R.given reader; reads = R.reads reader })
-        work profile.now tally first.now reader.old reader.new (W.contents out.old) (W.contents out.new) (R.has_ended reader.new)) }
-    ensures read { result ≡ Err ToolFault.Read → R.failures reader.new ≡ raised (R.failures reader.old) 1 }
-    ensures no_read { result ≢ Err ToolFault.Read → R.failures reader.new ≡ R.failures reader.old }
-    ensures write { result ≡ Err ToolFault.Write → W.failures out.new ≡ raised (W.failures out.old) 1 }
-    ensures no_write { result ≢ Err ToolFault.Write → W.failures out.new ≡ W.failures out.old }
-    ensures memory { result ≢ Err ToolFault.Memory }
-    ensures profile { result ≢ Err ToolFault.ProfileTooLong }
-    ensures reads { MadeReads (R.reads reader.old) (R.reads reader.new) }
-    ensures too_many { result ≡ Err ToolFault.TooManyReads → R.reads reader.new ≡ raised (R.reads reader.old) most_reads }
-    ensures not_ended { result ≡ Err ToolFault.TooManyReads → R.has_ended reader.new ≡ R.has_ended reader.old }
-    ensures read_not_ended { result ≡ Err ToolFault.Read → R.has_ended reader.new ≡ R.has_ended reader.old }
-    ensures before { (result ≡ Err ToolFault.Read) ⊎ (result ≡ Err ToolFault.TooManyReads)
-        → Through (WorkWritesFront work profile.now) first.now
-        (record { left = R.remaining reader.old; given = R.given reader.old; held = W.contents out.old })
-        (record { left = R.remaining reader.new; given = R.given reader.new; held = W.contents out.new }) }
-    ensures many { result ≡ Err ToolFault.TooManyReads
-        → (through : Through (WorkWritesFront work profile.now) first.now
-        (record { left = R.remaining reader.old; given = R.given reader.old; held = W.contents out.old })
-        (record { left = R.remaining reader.new; given = R.given reader.new; held = W.contents out.new }))
-        × (most_reads ≤ length through.read) }
+    ensures { AsTool (Ran R.told W.told (working work profile.now) first.now (reader.old, out.old) (reader.new, out.new)) result }
 {
     match work {
         Work::Show => show(profile, first, reader, out),
@@ -70,21 +49,11 @@ pub(crate) fn run_sample<R: Source, W: Sink, E: Sink>(
     out: &mut W,
     err: &mut E,
 ) -> u8
-    ensures within { result ≤ 4 }
+    ensures status { StatusTells R.told W.told (reader.old, out.old) (reader.new, out.new) result }
+    ensures did { DoesTask R.told W.told SAMPLE.now (Traffic work true) (reader.old, out.old) (reader.new, out.new) result }
     ensures no_fault { result ≢ 2 }
-    ensures wrote { result ≤ 1 → (tally : TallyOf) × (result ≡ run_status (Ok tally)) × WroteSample
-        (λ reader. record { left = R.remaining reader; given = R.given reader; reads = R.reads reader })
-        SAMPLE.now work reader.old reader.new (W.contents out.old) (W.contents out.new) (R.has_ended reader.new) tally }
-    ensures part { result ≡ 3 → (W.failures out.new ≡ raised (W.failures out.old) 1) ⊎ WroteSamplePart SAMPLE.now work
-        (record { left = R.remaining reader.old; given = R.given reader.old; held = W.contents out.old })
-        (record { left = R.remaining reader.new; given = R.given reader.new; held = W.contents out.new }) }
     ensures quiet { result ≤ 1 → err.new ≡ err.old }
-    ensures err_told { 2 ≤ result → IsTold (E.contents err.old) (E.contents err.new) (E.failures err.old) (E.failures err.new) }
-    ensures unwritten { (result ≡ 2) ⊎ (result ≡ 4) → out.new ≡ out.old }
-    ensures none_failed { result ≢ 3 → (R.failures reader.new ≡ R.failures reader.old) × (W.failures out.new ≡ W.failures out.old) }
-    ensures io_failed { result ≡ 3 → ((R.failures reader.new ≡ raised (R.failures reader.old) 1) × (R.has_ended reader.new ≡ R.has_ended reader.old))
-        ⊎ ((W.failures out.new ≡ raised (W.failures out.old) 1) ⊎ (ReadOften (R.reads reader.old) (R.reads reader.new) (R.remaining reader.old) (R.remaining reader.new) × (R.has_ended reader.new ≡ R.has_ended reader.old))) }
-    ensures reads { MadeReads (R.reads reader.old) (R.reads reader.new) }
+    ensures err_told { 2 ≤ result → IsTold (E.told err.old) (E.told err.new) }
 {
     match sample_profile(alloc) {
         Ok(profile) => ended(run(work, &profile, &[], reader, out), err),
@@ -101,23 +70,11 @@ pub(crate) fn run_behind<R: Source, W: Sink, E: Sink>(
     out: &mut W,
     err: &mut E,
 ) -> u8
-    ensures within { result ≤ 4 }
-    ensures told { result ≡ 2 → HasBadProfile
-        (λ reader. record { left = R.remaining reader; given = R.given reader; reads = R.reads reader })
-        reader.old reader.new (R.has_ended reader.new) }
-    ensures wrote { result ≤ 1 → (tally : TallyOf) × (result ≡ run_status (Ok tally)) × WroteBehind
-        (λ reader. record { left = R.remaining reader; given = R.given reader; reads = R.reads reader })
-        work reader.old reader.new (W.contents out.old) (W.contents out.new) (R.has_ended reader.new) tally }
-    ensures part { result ≡ 3 → (W.failures out.new ≡ raised (W.failures out.old) 1) ⊎ WrotePart work
-        (record { left = R.remaining reader.old; given = R.given reader.old; held = W.contents out.old })
-        (record { left = R.remaining reader.new; given = R.given reader.new; held = W.contents out.new }) }
+    ensures status { StatusTells R.told W.told (reader.old, out.old) (reader.new, out.new) result }
+    ensures did { DoesTask R.told W.told SAMPLE.now (Traffic work false) (reader.old, out.old) (reader.new, out.new) result }
+    ensures told { result ≡ 2 → HasBadProfile R.told reader.old reader.new }
     ensures quiet { result ≤ 1 → err.new ≡ err.old }
-    ensures err_told { 2 ≤ result → IsTold (E.contents err.old) (E.contents err.new) (E.failures err.old) (E.failures err.new) }
-    ensures unwritten { (result ≡ 2) ⊎ (result ≡ 4) → out.new ≡ out.old }
-    ensures none_failed { result ≢ 3 → (R.failures reader.new ≡ R.failures reader.old) × (W.failures out.new ≡ W.failures out.old) }
-    ensures io_failed { result ≡ 3 → ((R.failures reader.new ≡ raised (R.failures reader.old) 1) × (R.has_ended reader.new ≡ R.has_ended reader.old))
-        ⊎ ((W.failures out.new ≡ raised (W.failures out.old) 1) ⊎ (ReadOften (R.reads reader.old) (R.reads reader.new) (R.remaining reader.old) (R.remaining reader.new) × (R.has_ended reader.new ≡ R.has_ended reader.old))) }
-    ensures reads { MadeReadsInAll (R.reads reader.old) (R.reads reader.new) }
+    ensures err_told { 2 ≤ result → IsTold (E.told err.old) (E.told err.new) }
 {
     let front = match front(alloc, reader) {
         Ok(front) => front,

@@ -2,6 +2,7 @@
 use Rattle.std.specs.Prelude.{◌≡◌, ℕ, List, count_by, is_ok, is_err}
 use Rattle.std.specs.List.{flat_map}
 use Rattle.pmb_io.specs.Lines.{TextLine, ended_lines, lines_of}
+use Rattle.pmb_io.specs.Runs.{Job}
 use Rattle.pmb_io.specs.Tally.{IsTallyOf}
 use Rattle.pmb_io.specs.declared.tally.Tally.{Tally}
 use Rattle.pmb_convert.specs.declared.conversion.Conversion.{Conversion}
@@ -29,3 +30,12 @@ AnswersInput conversion tally bytes text = AnswersCounted conversion tally (line
 -- the answers to the lines that have ended in it
 abbrev pub AnswersEnded : Conversion → List ℕ → List ℕ → Type 0
 AnswersEnded conversion bytes text = AnswersLines conversion (ended_lines most_conversion_line bytes) text
+
+-- What a conversion is to write: the answers to the lines of its input. More is always wanted.
+abbrev pub converting : Conversion → Job Tally
+converting conversion = record {
+  Whole = AnswersInput conversion;
+  Stops = λ tally bytes text. ⊥;
+  Front = AnswersEnded conversion;
+  IsOpen = λ bytes. Unit {0};
+}

@@ -8,7 +8,7 @@ ghost use Rattle.pmb_convert.specs.Answer.{answer_line, code_text, fault_name};
 ghost use Rattle.pmb_convert.specs.machine.Converting.{answer_of, converted_text};
 
 use crate::line_fault::LineFault;
-use pmb_io::{Sink, ToolFault, Waiting, put};
+use pmb_io::{RunFault, Sink, Waiting, put};
 use pmb_value::{Quantity, QuantityText};
 
 /// What the number on a line is converted to.
@@ -25,9 +25,9 @@ pub(crate) fn put_answer<W: Sink>(
     answer: &Result<Converted, LineFault>,
     waiting: &mut Waiting,
     writer: &mut W,
-) -> Result<(), ToolFault>
-    ensures ok { OnOk result (PutsText (W.contents writer.old) waiting.old.items (W.contents writer.new) waiting.new.items (answer_line (answer_of answer.now))) }
-    ensures failed { WriterTells (W.failures writer.old) (W.failures writer.new) result }
+) -> Result<(), RunFault>
+    ensures ok { OnOk result (PutsText (W.told writer.old).held waiting.old.items (W.told writer.new).held waiting.new.items (answer_line (answer_of answer.now))) }
+    ensures failed { WriterTells (W.told writer.old) (W.told writer.new) result }
 {
     match answer {
         Ok(converted) => put_converted(converted, waiting, writer)?,
@@ -41,9 +41,9 @@ fn put_converted<W: Sink>(
     converted: &Converted,
     waiting: &mut Waiting,
     writer: &mut W,
-) -> Result<(), ToolFault>
-    ensures ok { OnOk result (PutsText (W.contents writer.old) waiting.old.items (W.contents writer.new) waiting.new.items (converted_text converted.now)) }
-    ensures failed { WriterTells (W.failures writer.old) (W.failures writer.new) result }
+) -> Result<(), RunFault>
+    ensures ok { OnOk result (PutsText (W.told writer.old).held waiting.old.items (W.told writer.new).held waiting.new.items (converted_text converted.now)) }
+    ensures failed { WriterTells (W.told writer.old) (W.told writer.new) result }
 {
     match converted {
         Converted::Code(code) => put_code(*code, waiting, writer),
@@ -52,9 +52,9 @@ fn put_converted<W: Sink>(
 }
 
 /// Puts out a code in four digits.
-fn put_code<W: Sink>(code: u16, waiting: &mut Waiting, writer: &mut W) -> Result<(), ToolFault>
-    ensures ok { OnOk result (PutsText (W.contents writer.old) waiting.old.items (W.contents writer.new) waiting.new.items (code_text code)) }
-    ensures failed { WriterTells (W.failures writer.old) (W.failures writer.new) result }
+fn put_code<W: Sink>(code: u16, waiting: &mut Waiting, writer: &mut W) -> Result<(), RunFault>
+    ensures ok { OnOk result (PutsText (W.told writer.old).held waiting.old.items (W.told writer.new).held waiting.new.items (code_text code)) }
+    ensures failed { WriterTells (W.told writer.old) (W.told writer.new) result }
 {
     let mut digits = [0; 4];
     let _ = hex::encode_to_slice(code.to_be_bytes(), &mut digits);
@@ -66,9 +66,9 @@ fn put_quantity<W: Sink>(
     quantity: &Quantity,
     waiting: &mut Waiting,
     writer: &mut W,
-) -> Result<(), ToolFault>
-    ensures ok { OnOk result (PutsText (W.contents writer.old) waiting.old.items (W.contents writer.new) waiting.new.items (spelling quantity.now)) }
-    ensures failed { WriterTells (W.failures writer.old) (W.failures writer.new) result }
+) -> Result<(), RunFault>
+    ensures ok { OnOk result (PutsText (W.told writer.old).held waiting.old.items (W.told writer.new).held waiting.new.items (spelling quantity.now)) }
+    ensures failed { WriterTells (W.told writer.old) (W.told writer.new) result }
 {
     let mut text = QuantityText::new();
     quantity.write_text(&mut text);
@@ -80,9 +80,9 @@ fn put_fault<W: Sink>(
     fault: LineFault,
     waiting: &mut Waiting,
     writer: &mut W,
-) -> Result<(), ToolFault>
-    ensures ok { OnOk result (PutsText (W.contents writer.old) waiting.old.items (W.contents writer.new) waiting.new.items (codes "! " ++ fault_name fault)) }
-    ensures failed { WriterTells (W.failures writer.old) (W.failures writer.new) result }
+) -> Result<(), RunFault>
+    ensures ok { OnOk result (PutsText (W.told writer.old).held waiting.old.items (W.told writer.new).held waiting.new.items (codes "! " ++ fault_name fault)) }
+    ensures failed { WriterTells (W.told writer.old) (W.told writer.new) result }
 {
     put(waiting, b"! ", writer)?;
     put(waiting, fault.name(), writer)

@@ -7,7 +7,7 @@ ghost use Rattle.pmb_convert.specs.machine.Converting.{ConverterStands, answer_o
 use crate::answer::{Converted, put_answer};
 use crate::conversion::Conversion;
 use crate::line_fault::LineFault;
-use pmb_io::{Line, LineTask, Sink, Tally, ToolFault, Waiting};
+use pmb_io::{Line, LineTask, RunFault, Sink, Tally, Waiting};
 
 /// What is done with each line, and what was counted so far.
 #[derive(Clone, Copy, Debug)]
@@ -53,7 +53,7 @@ impl LineTask for Converter {
         line: Line<'_>,
         waiting: &mut Waiting,
         writer: &mut W,
-    ) -> Result<(), ToolFault> {
+    ) -> Result<(), RunFault> {
         let answer = self.conversion.answer(line);
         self.count(&answer);
         put_answer(&answer, waiting, writer)

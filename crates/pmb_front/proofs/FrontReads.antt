@@ -6,7 +6,8 @@ use Rattle.std.specs.declared.alloc.AllocError.{AllocError}
 use Rattle.std.specs.Io.KnownBytes.{Consumes, IsAtEnd, Keeps}
 use Rattle.std.proofs.lemmas.List.{length-take-le}
 use Rattle.pmb_io.specs.Count.{raised}
-use Rattle.pmb_io.specs.Runs.{Gave, OpenBefore, ReaderTold, most_piece}
+use Rattle.pmb_io.specs.Runs.{Gave, OpenBefore, most_piece}
+use Rattle.pmb_io.specs.Told.{ReaderTold}
 use Rattle.pmb_io.specs.declared.fault.ToolFault.{ToolFault}
 use Rattle.pmb_io.specs.declared.fault.ToolFault.TheVariants.{ProfileTooLong}
 use Rattle.pmb_io.proofs.Running.{bytes_more, gave_no_more, gave_nothing, gave_then, one_read_more, raised_by_none}
@@ -106,45 +107,45 @@ same_reads most more old mid new few is room = (few.0, omega (arith, few.1), is 
 -- ---- what it comes to
 
 -- the reader ended, and all is profile
-pub all_within : {R : Type 0} (result : Result Parts ToolFault) (told : R → ReaderTold) (old new : R) (ended : Bool) (read : List ℕ) → Reads told old new read → NoMark read → ended ≡ true → IsAtEnd (told new).left
+pub all_within : {R : Type 0} (result : Result Parts ToolFault) (told : R → ReaderTold) (old new : R) (read : List ℕ) → Reads told old new read → NoMark read → (told new).ended ≡ true → IsAtEnd (told new).left
     → IfOk result (λ front. front.profile ≡ read) → IfOk result (λ front. front.rest ≡ []) → IfOk result (λ front. front.marked ≡ false) → IfOk result (λ _. length read ≤ most_profile)
-    → IfOk result (ReadFront told old new ended)
-all_within (Ok front) told old new ended read reads none is_ended at_end profile rest unmarked within = record {
+    → IfOk result (ReadFront told old new)
+all_within (Ok front) told old new read reads none is_ended at_end profile rest unmarked within = record {
   read = read;
   reads = reads;
   ends = inr (record { unmarked = unmarked; all = record { none = none; all = profile; nothing = rest }; ended = is_ended; at_end = at_end });
   within = omega (arith, ap length profile, within);
 }
-all_within (Err fault) told old new ended read reads none is_ended at_end profile rest unmarked within = tt
+all_within (Err fault) told old new read reads none is_ended at_end profile rest unmarked within = tt
 
 -- or is too long
-pub all_past_limit : {R : Type 0} (result : Result Parts ToolFault) (told : R → ReaderTold) (old new : R) (ended : Bool) (read : List ℕ) → Reads told old new read → NoMark read → ended ≡ true → IsAtEnd (told new).left
-    → OnErr result (most_profile < length read) → result ≡ Err ProfileTooLong → ReadTooMuch told old new ended
-all_past_limit (Ok front) told old new ended read reads none is_ended at_end long is = absurd (cc)
-all_past_limit (Err fault) told old new ended read reads none is_ended at_end long is = record {
+pub all_past_limit : {R : Type 0} (result : Result Parts ToolFault) (told : R → ReaderTold) (old new : R) (read : List ℕ) → Reads told old new read → NoMark read → (told new).ended ≡ true → IsAtEnd (told new).left
+    → OnErr result (most_profile < length read) → result ≡ Err ProfileTooLong → ReadTooMuch told old new
+all_past_limit (Ok front) told old new read reads none is_ended at_end long is = absurd (cc)
+all_past_limit (Err fault) told old new read reads none is_ended at_end long is = record {
   read = read;
   reads = reads;
   too_long = inr (record { none = none; long = long; ended = is_ended; at_end = at_end });
 }
 
 -- what `cut` leaves at `Ok`
-pub cut_within : {R : Type 0} (result : Result Parts ToolFault) (told : R → ReaderTold) (old new : R) (ended : Bool) (read : List ℕ) (start end : ℕ) → Reads told old new read
+pub cut_within : {R : Type 0} (result : Result Parts ToolFault) (told : R → ReaderTold) (old new : R) (read : List ℕ) (start end : ℕ) → Reads told old new read
     → FirstMark read (take start read) (drop end read) → start ≤ length read
     → IfOk result (λ front. front.profile ≡ take start read) → IfOk result (λ front. front.rest ≡ drop end read) → IfOk result (λ front. front.marked ≡ true) → IfOk result (λ _. start ≤ most_profile)
-    → IfOk result (ReadFront told old new ended)
-cut_within (Ok front) told old new ended read start end reads first inside profile rest marked within = record {
+    → IfOk result (ReadFront told old new)
+cut_within (Ok front) told old new read start end reads first inside profile rest marked within = record {
   read = read;
   reads = reads;
   ends = inl (record { marked = marked; first = subst (λ (p : List ℕ). FirstMark read p front.rest) (sym profile) (subst (λ (r : List ℕ). FirstMark read (take start read) r) (sym rest) first) });
   within = omega (arith, ap length profile, length-take-le start read inside, within);
 }
-cut_within (Err fault) told old new ended read start end reads first inside profile rest marked within = tt
+cut_within (Err fault) told old new read start end reads first inside profile rest marked within = tt
 
 -- what `cut` refuses
-pub cut_past_limit : {R : Type 0} (result : Result Parts ToolFault) (told : R → ReaderTold) (old new : R) (ended : Bool) (read : List ℕ) (start end : ℕ) → Reads told old new read
-    → FirstMark read (take start read) (drop end read) → start ≤ length read → OnErr result (most_profile < start) → result ≡ Err ProfileTooLong → ReadTooMuch told old new ended
-cut_past_limit (Ok front) told old new ended read start end reads first inside long is = absurd (cc)
-cut_past_limit (Err fault) told old new ended read start end reads first inside long is = record {
+pub cut_past_limit : {R : Type 0} (result : Result Parts ToolFault) (told : R → ReaderTold) (old new : R) (read : List ℕ) (start end : ℕ) → Reads told old new read
+    → FirstMark read (take start read) (drop end read) → start ≤ length read → OnErr result (most_profile < start) → result ≡ Err ProfileTooLong → ReadTooMuch told old new
+cut_past_limit (Ok front) told old new read start end reads first inside long is = absurd (cc)
+cut_past_limit (Err fault) told old new read start end reads first inside long is = record {
   read = read;
   reads = reads;
   too_long = inl (late_cannot_fit read (take start read) (drop end read) first (omega (arith, length-take-le start read inside, long)));

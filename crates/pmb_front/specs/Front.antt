@@ -1,8 +1,9 @@
 -- Where the profile at the front of a capture ends: at the first line `%%`.
-use Rattle.std.specs.Prelude.{◌≡◌, ℕ, ◌+◌, ◌<◌, ◌≤◌, ◌⊎◌, Bool, true, false, Option, List, [], ◌++◌, length, codes}
+use Rattle.std.specs.Prelude.{◌≡◌, ℕ, ◌+◌, ◌<◌, ◌≤◌, ◌⊎◌, Bool, true, false, List, [], ◌++◌, length, codes}
 use Rattle.std.specs.Io.KnownBytes.{IsAtEnd}
 use Rattle.pmb_io.specs.Count.{raised}
-use Rattle.pmb_io.specs.Runs.{Gave, OpenBefore, ReaderTold}
+use Rattle.pmb_io.specs.Runs.{Gave, OpenBefore}
+use Rattle.pmb_io.specs.Told.{ReaderTold}
 
 -- how many bytes a profile may have
 abbrev pub most_profile : ℕ
@@ -88,31 +89,31 @@ pub record EndsAtMark (read : List ℕ) (front : Parts) : Type 0 where
   pub first : FirstMark read front.profile front.rest
 
 -- it has ended with the reader
-pub record EndsWithReader (read : List ℕ) (front : Parts) (left : Option (List ℕ)) (has_ended : Bool) : Type 0 where
+pub record EndsWithReader (read : List ℕ) (front : Parts) (new : ReaderTold) : Type 0 where
   pub unmarked : front.marked ≡ false
   pub all : AllProfile read front.profile front.rest
-  pub ended : has_ended ≡ true
-  pub at_end : IsAtEnd left
+  pub ended : new.ended ≡ true
+  pub at_end : IsAtEnd new.left
 
 -- `Ok`
-pub record ReadFront {R : Type 0} (told : R → ReaderTold) (old new : R) (has_ended : Bool) (front : Parts) : Type 0 where
+pub record ReadFront {R : Type 0} (told : R → ReaderTold) (old new : R) (front : Parts) : Type 0 where
   pub read : List ℕ
   pub reads : Reads told old new read
-  pub ends : EndsAtMark read front ⊎ EndsWithReader read front (told new).left has_ended
+  pub ends : EndsAtMark read front ⊎ EndsWithReader read front (told new)
   pub within : length front.profile ≤ most_profile
 
 -- the reader has ended, and all is profile, past the limit
-pub record EndsPastLimit (read : List ℕ) (left : Option (List ℕ)) (has_ended : Bool) : Type 0 where
+pub record EndsPastLimit (read : List ℕ) (new : ReaderTold) : Type 0 where
   pub none : NoMark read
   pub long : most_profile < length read
-  pub ended : has_ended ≡ true
-  pub at_end : IsAtEnd left
+  pub ended : new.ended ≡ true
+  pub at_end : IsAtEnd new.left
 
 -- `ProfileTooLong`
-pub record ReadTooMuch {R : Type 0} (told : R → ReaderTold) (old new : R) (has_ended : Bool) : Type 0 where
+pub record ReadTooMuch {R : Type 0} (told : R → ReaderTold) (old new : R) : Type 0 where
   pub read : List ℕ
   pub reads : Reads told old new read
-  pub too_long : (MayFit read → ⊥) ⊎ EndsPastLimit read (told new).left has_ended
+  pub too_long : (MayFit read → ⊥) ⊎ EndsPastLimit read (told new)
 
 -- `Memory`: nothing was decided before the last piece
 pub record ReadSome {R : Type 0} (told : R → ReaderTold) (old new : R) : Type 0 where

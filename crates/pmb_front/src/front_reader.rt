@@ -39,27 +39,23 @@ struct Mark {
 /// the reader ended. `Memory` where there is no memory for what was read.
 pub fn front<R: Source>(alloc: Global, reader: &mut R) -> Result<Front, ToolFault>
     // The first line `%%` was read, or the reader ended.
-    ensures ok { IfOk result (ReadFront
-        (λ reader. record { left = R.remaining reader; given = R.given reader; reads = R.reads reader }) reader.old reader.new (R.has_ended reader.new)) }
+    ensures ok { IfOk result (ReadFront R.told reader.old reader.new) }
 
     // The profile passes the limit, whatever follows, or the reader ended.
-    ensures too_long { result ≡ Err ToolFault.ProfileTooLong → ReadTooMuch
-        (λ reader. record { left = R.remaining reader; given = R.given reader; reads = R.reads reader }) reader.old reader.new (R.has_ended reader.new) }
+    ensures too_long { result ≡ Err ToolFault.ProfileTooLong → ReadTooMuch R.told reader.old reader.new }
 
     // The reader failed in this call exactly where it answers `Read`, and before that nothing was decided.
-    ensures read { result ≡ Err ToolFault.Read → R.failures reader.new ≡ raised (R.failures reader.old) 1 }
-    ensures no_read { result ≢ Err ToolFault.Read → R.failures reader.new ≡ R.failures reader.old }
-    ensures before_read { result ≡ Err ToolFault.Read → ReadUndecided
-        (λ reader. record { left = R.remaining reader; given = R.given reader; reads = R.reads reader }) reader.old reader.new }
-    ensures before_memory { result ≡ Err ToolFault.Memory → ReadSome
-        (λ reader. record { left = R.remaining reader; given = R.given reader; reads = R.reads reader }) reader.old reader.new }
+    ensures read { result ≡ Err ToolFault.Read → (R.told reader.new).failures ≡ raised (R.told reader.old).failures 1 }
+    ensures no_read { result ≢ Err ToolFault.Read → (R.told reader.new).failures ≡ (R.told reader.old).failures }
+    ensures before_read { result ≡ Err ToolFault.Read → ReadUndecided R.told reader.old reader.new }
+    ensures before_memory { result ≡ Err ToolFault.Memory → ReadSome R.told reader.old reader.new }
 
     // A reader that ended in this call is not read again: no failed read is behind its end, and neither is a line `%%`.
-    ensures read_not_ended { result ≡ Err ToolFault.Read → R.has_ended reader.new ≡ R.has_ended reader.old }
-    ensures mark_not_ended { IfOk result (λ front. front.marked ≡ true → R.has_ended reader.new ≡ R.has_ended reader.old) }
+    ensures read_not_ended { result ≡ Err ToolFault.Read → (R.told reader.new).ended ≡ (R.told reader.old).ended }
+    ensures mark_not_ended { IfOk result (λ front. front.marked ≡ true → (R.told reader.new).ended ≡ (R.told reader.old).ended) }
 
     // The reads that gave bytes are few, and it writes nothing.
-    ensures reads { MadeFrontReads (R.reads reader.old) (R.reads reader.new) }
+    ensures reads { MadeFrontReads (R.told reader.old).reads (R.told reader.new).reads }
     ensures few_reads { result ≢ Err ToolFault.TooManyReads }
     ensures no_write { result ≢ Err ToolFault.Write }
 {

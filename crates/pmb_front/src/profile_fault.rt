@@ -15,7 +15,7 @@ pub fn tell_profile<E: Sink>(fault: ProfileFault, err: &mut E) -> u8
     ensures memory { fault.what ≡ OutOfMemory → result ≡ 4 }
     ensures other { fault.what ≢ OutOfMemory → result ≡ 2 }
     ensures refused { (result ≡ 2) ⊎ (result ≡ 4) }
-    ensures err_told { IsTold (E.contents err.old) (E.contents err.new) (E.failures err.old) (E.failures err.new) }
+    ensures err_told { IsTold (E.told err.old) (E.told err.new) }
 {
     if fault.what == FaultKind::OutOfMemory {
         return tell(ToolFault::Memory, err);

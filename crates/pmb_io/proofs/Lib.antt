@@ -2,3 +2,4 @@ pub mod Writing
 pub mod Running
 pub mod LineLemmas
 pub mod LineRuns
+pub mod RunLemmas

@@ -4,7 +4,8 @@ use Rattle.std.specs.Io.KnownBytes.{Consumes}
 use Rattle.pmb_io.specs.Count.{raised}
 use Rattle.pmb_io.specs.Engines.{PutsOut, WritesOut}
 use Rattle.pmb_io.specs.Outgoing.{PutsText}
-use Rattle.pmb_io.specs.Runs.{Gave, OpenBefore, ReaderTold, Stopped, Through, Told, most_piece, with_held}
+use Rattle.pmb_io.specs.Runs.{Gave, OpenBefore, Stopped, Through, most_piece}
+use Rattle.pmb_io.specs.Told.{ReaderTold, Told, WriterTold, told_by}
 use Rattle.pmb_io.proofs.Writing.{appends_then, consumes_then, consumes_nothing, writes_then, writes_as, writes_all}
 
 -- a count raised twice
@@ -38,66 +39,95 @@ puts_then Mid Holds bytes text piece next h0 h1 h2 w0 w1 w2 first second = recor
 }
 
 -- `first` is taken
-pub takes_first : (Holds : List ℕ → List ℕ → Type 0) (first : List ℕ) (left : Option (List ℕ)) (given : ℕ) (h0 h1 : Option (List ℕ))
-    → WritesOut (λ more. Holds first more) h0 h1
-    → Through Holds first (record { left = left; given = given; held = h0 }) (record { left = left; given = given; held = h1 })
-takes_first Holds first left given h0 h1 written = record {
+pub takes_first : (Holds : List ℕ → List ℕ → Type 0) (first : List ℕ) (reader : ReaderTold) (before after : WriterTold)
+    → WritesOut (λ more. Holds first more) before.held after.held
+    → Through Holds first (record { reader = reader; writer = before }) (record { reader = reader; writer = after })
+takes_first Holds first reader before after written = record {
   read = [];
   text = written.text;
-  consumed = consumes_nothing left;
-  given = sym (raised_by_none given);
+  consumed = consumes_nothing reader.left;
+  given = sym (raised_by_none reader.given);
   appended = written.appended;
   holds = subst (λ (t : List ℕ). Holds t written.text) (sym (append-nil first)) written.holds;
 }
 
 -- a piece more is taken, or the end
-unfoldable pub takes_more : (Held Holds : List ℕ → List ℕ → Type 0) (first piece : List ℕ) (l0 l1 l2 : Option (List ℕ)) (g0 g1 g2 : ℕ) (h0 h1 h2 : Option (List ℕ))
-    → (so_far : Through Held first (record { left = l0; given = g0; held = h0 }) (record { left = l1; given = g1; held = h1 }))
-    → Consumes l1 l2 piece → g2 ≡ raised g1 (length piece)
-    → WritesOut (λ more. Holds ((first ++ so_far.read) ++ piece) (so_far.text ++ more)) h1 h2
-    → Through Holds first (record { left = l0; given = g0; held = h0 }) (record { left = l2; given = g2; held = h2 })
-takes_more Held Holds first piece l0 l1 l2 g0 g1 g2 h0 h1 h2 so_far consumed given written = record {
+unfoldable pub takes_more : (Held Holds : List ℕ → List ℕ → Type 0) (first piece : List ℕ) (old mid new : Told)
+    → (so_far : Through Held first old mid)
+    → Consumes mid.reader.left new.reader.left piece → new.reader.given ≡ raised mid.reader.given (length piece)
+    → WritesOut (λ more. Holds ((first ++ so_far.read) ++ piece) (so_far.text ++ more)) mid.writer.held new.writer.held
+    → Through Holds first old new
+takes_more Held Holds first piece old mid new so_far consumed given written = record {
   read = so_far.read ++ piece;
   text = so_far.text ++ written.text;
-  consumed = consumes_then l0 l1 l2 so_far.read piece so_far.consumed consumed;
-  given = given ∙ (ap (λ n. raised n (length piece)) so_far.given ∙ (raised_twice g0 (length so_far.read) (length piece) ∙ ap (raised g0) (sym (length-append so_far.read piece))));
-  appended = appends_then h0 h1 h2 so_far.text written.text so_far.appended written.appended;
+  consumed = consumes_then old.reader.left mid.reader.left new.reader.left so_far.read piece so_far.consumed consumed;
+  given = given ∙ (ap (λ n. raised n (length piece)) so_far.given ∙ (raised_twice old.reader.given (length so_far.read) (length piece) ∙ ap (raised old.reader.given) (sym (length-append so_far.read piece))));
+  appended = appends_then old.writer.held mid.writer.held new.writer.held so_far.text written.text so_far.appended written.appended;
   holds = subst (λ (t : List ℕ). Holds t (so_far.text ++ written.text)) (append_assoc first so_far.read piece) written.holds;
+}
+
+-- no byte more is
+pub reads_no_more : (Holds : List ℕ → List ℕ → Type 0) (first : List ℕ) (old : Told) (mid new : ReaderTold) (writer : WriterTold) → Through Holds first old (record { reader = mid; writer = writer })
+    → Consumes mid.left new.left [] → new.given ≡ mid.given → Through Holds first old (record { reader = new; writer = writer })
+reads_no_more Holds first old mid new writer so_far consumed given = record {
+  read = so_far.read;
+  text = so_far.text;
+  consumed = subst (λ (t : List ℕ). Consumes old.reader.left new.left t) (append-nil so_far.read) (consumes_then old.reader.left mid.left new.left so_far.read [] so_far.consumed consumed);
+  given = given ∙ so_far.given;
+  appended = so_far.appended;
+  holds = so_far.holds;
+}
+
+-- the end is taken
+pub takes_end : (Held Holds : List ℕ → List ℕ → Type 0) (first : List ℕ) (old mid new : Told)
+    → (so_far : Through Held first old mid)
+    → Consumes mid.reader.left new.reader.left [] → new.reader.given ≡ mid.reader.given
+    → WritesOut (λ more. Holds (first ++ so_far.read) (so_far.text ++ more)) mid.writer.held new.writer.held
+    → Through Holds first old new
+takes_end Held Holds first old mid new so_far consumed given written = record {
+  read = so_far.read;
+  text = so_far.text ++ written.text;
+  consumed = subst (λ (t : List ℕ). Consumes old.reader.left new.reader.left t) (append-nil so_far.read) (consumes_then old.reader.left mid.reader.left new.reader.left so_far.read [] so_far.consumed consumed);
+  given = given ∙ so_far.given;
+  appended = appends_then old.writer.held mid.writer.held new.writer.held so_far.text written.text so_far.appended written.appended;
+  holds = written.holds;
 }
 
 -- ---- what the loop has
 
--- nothing more is wanted of `first`
-pub stops_in_first : {E R : Type 0} (told : R → ReaderTold) (Stands Stops : E → List ℕ → List ℕ → Type 0) (after : E) (first : List ℕ) (reader : R) (h0 h1 : Option (List ℕ))
-    → WritesOut (λ more. Stops after first more) h0 h1
-    → Stopped told (Stops after) (λ bytes. (middle : E) × (text : List ℕ) × Stands middle bytes text) first reader reader h0 h1
-unfolding takes_first
-stops_in_first told Stands Stops after first reader h0 h1 written = record {
-  through = takes_first (Stops after) first (told reader).left (told reader).given h0 h1 written;
-  in_time = inl (refl, refl);
-}
+module _ {R W : Type 0} (reader_told : R → ReaderTold) (writer_told : W → WriterTold) where
+  -- nothing more is wanted of `first`
+  pub stops_in_first : (Holds : List ℕ → List ℕ → Type 0) (IsOpen : List ℕ → Type 0) (first : List ℕ) (reader : R) (before after : W)
+      → WritesOut (λ more. Holds first more) (writer_told before).held (writer_told after).held
+      → Stopped reader_told writer_told Holds IsOpen first (reader, before) (reader, after)
+  unfolding takes_first
+  stops_in_first Holds IsOpen first reader before after written = record {
+    through = takes_first Holds first (reader_told reader) (writer_told before) (writer_told after) written;
+    in_time = inl (refl, refl);
+  }
 
--- nothing more is wanted behind a piece
-pub stops_behind : {E R : Type 0} (told : R → ReaderTold) (Stands Stops : E → List ℕ → List ℕ → Type 0) (before after : E) (first piece : List ℕ) (old mid new : R) (h0 h1 h2 : Option (List ℕ))
-    → (so_far : Through (Stands before) first (with_held (told old) h0) (with_held (told mid) h1))
-    → Consumes (told mid).left (told new).left piece → (told new).given ≡ raised (told mid).given (length piece) → (told new).reads ≡ raised (told mid).reads 1 → length piece ≤ most_piece
-    → WritesOut (λ more. Stops after ((first ++ so_far.read) ++ piece) (so_far.text ++ more)) h1 h2
-    → Stopped told (Stops after) (λ bytes. (middle : E) × (text : List ℕ) × Stands middle bytes text) first old new h0 h2
-unfolding takes_more
-stops_behind told Stands Stops before after first piece old mid new h0 h1 h2 so_far consumed given one_read small written = record {
-  through = takes_more (Stands before) (Stops after) first piece (told old).left (told mid).left (told new).left (told old).given (told mid).given (told new).given h0 h1 h2 so_far consumed given written;
-  in_time = inr (record {
-    before = so_far.read;
-    piece = piece;
-    whole = refl;
-    is_open = (before, so_far.text, so_far.holds);
-    middle = mid;
-    gave_before = record { consumed = so_far.consumed; given = so_far.given };
-    gave_piece = record { consumed = consumed; given = given };
-    one_read = one_read;
-    small = small;
-  });
-}
+  -- nothing more is wanted behind a piece
+  pub stops_behind : (Held Holds : List ℕ → List ℕ → Type 0) (IsOpen : List ℕ → Type 0) (first piece : List ℕ) (old mid new : R × W)
+      → (so_far : Through Held first (told_by reader_told writer_told old) (told_by reader_told writer_told mid)) → IsOpen (first ++ so_far.read)
+      → Consumes (reader_told mid.0).left (reader_told new.0).left piece → (reader_told new.0).given ≡ raised (reader_told mid.0).given (length piece)
+      → (reader_told new.0).reads ≡ raised (reader_told mid.0).reads 1 → length piece ≤ most_piece
+      → WritesOut (λ more. Holds ((first ++ so_far.read) ++ piece) (so_far.text ++ more)) (writer_told mid.1).held (writer_told new.1).held
+      → Stopped reader_told writer_told Holds IsOpen first old new
+  unfolding takes_more
+  stops_behind Held Holds IsOpen first piece old mid new so_far is_open consumed given one_read small written = record {
+    through = takes_more Held Holds first piece (told_by reader_told writer_told old) (told_by reader_told writer_told mid) (told_by reader_told writer_told new) so_far consumed given written;
+    in_time = inr (record {
+      before = so_far.read;
+      piece = piece;
+      whole = refl;
+      is_open = is_open;
+      middle = mid.0;
+      gave_before = record { consumed = so_far.consumed; given = so_far.given };
+      gave_piece = record { consumed = consumed; given = given };
+      one_read = one_read;
+      small = small;
+    });
+  }
 
 -- what was open under one name is so under another
 pub open_weaker : {R : Type 0} (told : R → ReaderTold) (P Q : List ℕ → Type 0) (first : List ℕ) (old new : R) (read : List ℕ) → ((bytes : List ℕ) → P bytes → Q bytes)

@@ -4,7 +4,7 @@ use Rattle.std.specs.Io.KnownBytes.{Appends, Consumes, Keeps}
 use Rattle.std.proofs.lemmas.Bool.Decides.{nat_tests}
 use Rattle.pmb_io.specs.Calls.{TellsEnd, AppendsFront}
 use Rattle.pmb_io.specs.Outgoing.{PutsText}
-use Rattle.pmb_io.specs.declared.fault.ToolFault.{ToolFault}
+use Rattle.pmb_io.specs.declared.fault.RunFault.{RunFault}
 
 -- appended twice
 pub appends_then : (a b c : Option (List ℕ)) (x y : List ℕ) → Appends a b x → Appends b c y → Appends a c (x ++ y)
@@ -69,11 +69,11 @@ keeps_appends (Some a) None h = absurd h
 keeps_appends (Some a) (Some b) h = h ∙ sym (append-nil a)
 
 -- a read of nothing into a buffer with room tells the end
-pub told_end : (old new : Bool) (count : ℕ) (buffer : List ℕ) → TellsEnd {F = ToolFault} old new (Ok count) buffer → count ≡ 0 → 0 < length buffer → new ≡ true
+pub told_end : (old new : Bool) (count : ℕ) (buffer : List ℕ) → TellsEnd {F = RunFault} old new (Ok count) buffer → count ≡ 0 → 0 < length buffer → new ≡ true
 told_end old new count buffer told none room = grind (arith, nat_tests)
 
 -- and a read of something tells no more of it
-pub told_no_end : (old new : Bool) (count : ℕ) (buffer : List ℕ) → TellsEnd {F = ToolFault} old new (Ok count) buffer → count ≢ 0 → new ≡ old
+pub told_no_end : (old new : Bool) (count : ℕ) (buffer : List ℕ) → TellsEnd {F = RunFault} old new (Ok count) buffer → count ≢ 0 → new ≡ old
 told_no_end true new count buffer told some = told
 told_no_end false new count buffer told some = grind (arith, nat_tests)
 

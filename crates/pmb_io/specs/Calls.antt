@@ -3,8 +3,9 @@ use Rattle.std.specs.Prelude.{◌≡◌, ℕ, ◌==◌, ◌||◌, ◌&&◌, min,
 use Rattle.std.specs.Io.KnownBytes.{Appends}
 use Rattle.pmb_io.specs.Count.{raised}
 use Rattle.pmb_io.specs.declared.fault.IoFault.{IoFault}
-use Rattle.pmb_io.specs.declared.fault.ToolFault.{ToolFault}
-use Rattle.pmb_io.specs.declared.fault.ToolFault.TheVariants.{Read, Write}
+use Rattle.pmb_io.specs.Told.{ReaderTold, WriterTold}
+use Rattle.pmb_io.specs.declared.fault.RunFault.{RunFault}
+use Rattle.pmb_io.specs.declared.fault.RunFault.TheVariants.{Read, Write}
 use Rattle.pmb_io.specs.declared.io.Io.{Io}
 
 -- a call that fails is counted, and no other
@@ -35,14 +36,14 @@ pub record AppendsFront (held_old held_new : Option (List ℕ)) (bytes : List �
   pub appended : Appends held_old held_new sent
 
 -- A call of ours that writes: the writer failed exactly where it answers `Write`, its only fault.
-abbrev pub WriterTells : {A : Type 0} → ℕ → ℕ → Result A ToolFault → Type 0
-WriterTells old new (Ok x) = new ≡ old
-WriterTells old new (Err fault) = (fault ≡ Write) × (new ≡ raised old 1)
+abbrev pub WriterTells : {A : Type 0} → WriterTold → WriterTold → Result A RunFault → Type 0
+WriterTells old new (Ok x) = new.failures ≡ old.failures
+WriterTells old new (Err fault) = (fault ≡ Write) × (new.failures ≡ raised old.failures 1)
 
 -- A call of ours that reads: the reader failed exactly where it answers `Read`, its only fault.
-abbrev pub ReaderTells : {A : Type 0} → ℕ → ℕ → Result A ToolFault → Type 0
-ReaderTells old new (Ok x) = new ≡ old
-ReaderTells old new (Err fault) = (fault ≡ Read) × (new ≡ raised old 1)
+abbrev pub ReaderTells : {A : Type 0} → ReaderTold → ReaderTold → Result A RunFault → Type 0
+ReaderTells old new (Ok x) = new.failures ≡ old.failures
+ReaderTells old new (Err fault) = (fault ≡ Read) × (new.failures ≡ raised old.failures 1)
 
 -- what an `Io` has inside, and what it has counted so far
 abbrev pub io_inner : {T : Type 0} → Io T → T

@@ -2,6 +2,7 @@
 use Rattle.std.specs.Prelude.{ℕ, Option, List}
 use Rattle.std.specs.Io.KnownBytes.{Appends}
 use Rattle.pmb_io.specs.Outgoing.{PutsText}
+use Rattle.pmb_io.specs.Runs.{Job}
 use Rattle.pmb_io.specs.declared.engine.Flow.{Flow}
 use Rattle.pmb_io.specs.declared.engine.Flow.TheVariants.{More, Stop}
 
@@ -21,3 +22,12 @@ pub record WritesOut (Holds : List ℕ → Type 0) (held_old held_new : Option (
   pub text : List ℕ
   pub appended : Appends held_old held_new text
   pub holds : Holds text
+
+-- What an engine is to write, by its own words, where it was `start` before the run and is `now` behind it.
+abbrev pub engine_job : {E : Type 0} → (E → E → List ℕ → List ℕ → Type 0) → (E → E → List ℕ → List ℕ → Type 0) → (E → E → List ℕ → List ℕ → Type 0) → E → E → Job (Unit {0})
+engine_job {E} Stands Stops Ends start now = record {
+  Whole = λ done. Ends start now;
+  Stops = λ done. Stops start now;
+  Front = Stands start now;
+  IsOpen = λ bytes. (middle : E) × (text : List ℕ) × Stands start middle bytes text;
+}

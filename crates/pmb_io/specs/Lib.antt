@@ -6,4 +6,5 @@ pub mod Lines
 pub mod Outgoing
 pub mod Runs
 pub mod Tally
+pub mod Told
 pub mod machine

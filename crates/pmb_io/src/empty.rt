@@ -10,15 +10,7 @@ pub struct Empty;
 impl Source for Empty {
     ghost use Rattle.std.specs.Prelude.{Some, [], true};
 
-    ghost remaining = { λ _. Some [] };
-
-    ghost failures = { λ _. 0 };
-
-    ghost reads = { λ _. 0 };
-
-    ghost given = { λ _. 0 };
-
-    ghost has_ended = { λ _. true };
+    ghost told = { λ _. record { left = Some []; given = 0; reads = 0; failures = 0; ended = true } };
 
     fn read(&mut self, _buffer: &mut [u8]) -> Result<usize, IoFault> {
         Ok(0)

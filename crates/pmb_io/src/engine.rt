@@ -4,7 +4,7 @@ ghost use Rattle.std.specs.Prelude.{ℕ, List, ◌++◌, IfOk, OnOk};
 ghost use Rattle.pmb_io.specs.Calls.{WriterTells};
 ghost use Rattle.pmb_io.specs.Engines.{Either, PutsOut};
 
-use crate::fault::ToolFault;
+use crate::fault::RunFault;
 use crate::outgoing::Waiting;
 use crate::sink::Sink;
 
@@ -38,18 +38,18 @@ pub trait Engine {
         piece: &[u8],
         waiting: &mut Waiting,
         writer: &mut W,
-    ) -> Result<Flow, ToolFault>
+    ) -> Result<Flow, RunFault>
         ensures takes { (start : Self) (bytes text : List ℕ) → Stands start self.old bytes text
             → IfOk result (λ flow. PutsOut (λ more. Either (Stands start self.new (bytes ++ piece.now) (text ++ more)) (Stops start self.new (bytes ++ piece.now) (text ++ more)) flow)
-            (W.contents writer.old) waiting.old.items (W.contents writer.new) waiting.new.items) }
-        ensures failed { WriterTells (W.failures writer.old) (W.failures writer.new) result };
+            (W.told writer.old).held waiting.old.items (W.told writer.new).held waiting.new.items) }
+        ensures failed { WriterTells (W.told writer.old) (W.told writer.new) result };
 
     /// Takes the end of the input, and puts out the text of what it completes.
-    fn end<W: Sink>(&mut self, waiting: &mut Waiting, writer: &mut W) -> Result<(), ToolFault>
+    fn end<W: Sink>(&mut self, waiting: &mut Waiting, writer: &mut W) -> Result<(), RunFault>
         ensures ends { (start : Self) (bytes text : List ℕ) → Stands start self.old bytes text
             → OnOk result (PutsOut (λ more. Ends start self.new bytes (text ++ more))
-            (W.contents writer.old) waiting.old.items (W.contents writer.new) waiting.new.items) }
-        ensures failed { WriterTells (W.failures writer.old) (W.failures writer.new) result };
+            (W.told writer.old).held waiting.old.items (W.told writer.new).held waiting.new.items) }
+        ensures failed { WriterTells (W.told writer.old) (W.told writer.new) result };
 
     /// What made it want no more holds whatever follows.
     ghost stops_for_good: { (start now : Self) (bytes text more : List ℕ) → Stops start now bytes text → Stops start now (bytes ++ more) text };

@@ -97,29 +97,21 @@ impl<T: Source> Source for Failing<T> {
     ghost use Rattle.pmb_io.specs.Calls.{CountsBytes, CountsFailure, CountsRead, TellsEnd};
     ghost use Rattle.pmb_io.specs.Failing.{failing_inner, failing_left, failing_most, failing_failures, one_call_fewer};
 
-    ghost remaining = { λ it. T.remaining it.inner };
-
-    ghost failures = { λ it. it.failures };
-
-    ghost reads = { λ it. T.reads it.inner };
-
-    ghost given = { λ it. T.given it.inner };
-
-    ghost has_ended = { λ it. T.has_ended it.inner };
+    ghost told = { λ it. record (T.told it.inner) { failures = it.failures } };
 
     fn read(&mut self, buffer: &mut [u8]) -> Result<usize, IoFault>
         ensures within { IfOk result (λ n. n ≤ length buffer.new) }
-        ensures bytes { ReadConsumes (T.remaining (failing_inner self.old)) (T.remaining (failing_inner self.new)) result buffer.new }
+        ensures bytes { ReadConsumes (T.told (failing_inner self.old)).left (T.told (failing_inner self.new)).left result buffer.new }
         ensures failed { CountsFailure (failing_failures self.old) (failing_failures self.new) result }
-        ensures read { CountsRead (T.reads (failing_inner self.old)) (T.reads (failing_inner self.new)) result }
-        ensures given { CountsBytes (T.given (failing_inner self.old)) (T.given (failing_inner self.new)) result }
-        ensures ended { TellsEnd (T.has_ended (failing_inner self.old)) (T.has_ended (failing_inner self.new)) result buffer.new }
+        ensures read { CountsRead (T.told (failing_inner self.old)).reads (T.told (failing_inner self.new)).reads result }
+        ensures given { CountsBytes (T.told (failing_inner self.old)).given (T.told (failing_inner self.new)).given result }
+        ensures ended { TellsEnd (T.told (failing_inner self.old)).ended (T.told (failing_inner self.new)).ended result buffer.new }
         ensures at_most { IfOk result (λ n. n ≤ failing_most self.old) }
 
         // The call whose turn it is fails and reaches nothing; another fails only where the reader inside does.
         ensures turn { failing_left self.old ≡ Some 0 → IsErr result × (failing_inner self.new ≡ failing_inner self.old) }
         ensures inside { failing_left self.old ≢ Some 0
-            → CountsFailure (T.failures (failing_inner self.old)) (T.failures (failing_inner self.new)) result }
+            → CountsFailure (T.told (failing_inner self.old)).failures (T.told (failing_inner self.new)).failures result }
         ensures left { failing_left self.new ≡ one_call_fewer (failing_left self.old) }
         ensures most { failing_most self.new ≡ failing_most self.old }
     {
@@ -144,19 +136,17 @@ impl<T: Sink> Sink for Failing<T> {
     ghost use Rattle.pmb_io.specs.Calls.{CountsFailure, AppendsFront};
     ghost use Rattle.pmb_io.specs.Failing.{failing_inner, failing_left, failing_most, failing_failures, one_call_fewer};
 
-    ghost contents = { λ it. T.contents it.inner };
-
-    ghost failures = { λ it. it.failures };
+    ghost told = { λ it. record (T.told it.inner) { failures = it.failures } };
 
     fn write_all(&mut self, bytes: &[u8]) -> Result<(), IoFault>
-        ensures written { OnOk result (Appends (T.contents (failing_inner self.old)) (T.contents (failing_inner self.new)) bytes.now) }
-        ensures front { OnErr result (AppendsFront (T.contents (failing_inner self.old)) (T.contents (failing_inner self.new)) bytes.now) }
+        ensures written { OnOk result (Appends (T.told (failing_inner self.old)).held (T.told (failing_inner self.new)).held bytes.now) }
+        ensures front { OnErr result (AppendsFront (T.told (failing_inner self.old)).held (T.told (failing_inner self.new)).held bytes.now) }
         ensures failed { CountsFailure (failing_failures self.old) (failing_failures self.new) result }
 
         // The call whose turn it is fails and reaches nothing; another fails only where the writer inside does.
         ensures turn { failing_left self.old ≡ Some 0 → IsErr result × (failing_inner self.new ≡ failing_inner self.old) }
         ensures inside { failing_left self.old ≢ Some 0
-            → CountsFailure (T.failures (failing_inner self.old)) (T.failures (failing_inner self.new)) result }
+            → CountsFailure (T.told (failing_inner self.old)).failures (T.told (failing_inner self.new)).failures result }
         ensures left { failing_left self.new ≡ one_call_fewer (failing_left self.old) }
         ensures most { failing_most self.new ≡ failing_most self.old }
     {

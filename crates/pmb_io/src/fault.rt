@@ -6,7 +6,18 @@ use thiserror::Error;
 #[derive(Clone, Copy, Debug, PartialEq, Eq)]
 pub struct IoFault;
 
-/// Why a run ended early. The text is what goes to standard error, behind `pmb: `.
+/// Why a run over a reader and a writer ended early.
+#[derive(Clone, Copy, Debug, PartialEq, Eq)]
+pub enum RunFault {
+    /// The reader failed. What was written before it stays.
+    Read,
+    /// The writer failed. It is not said how much of the text went out.
+    Write,
+    /// The reader gave bytes in 2^32 reads and had not ended.
+    TooManyReads,
+}
+
+/// Why the tool ended early. The text is what goes to standard error, behind `pmb: `.
 #[derive(Clone, Copy, Debug, PartialEq, Eq, Error)]
 pub enum ToolFault {
     /// The reader failed. What was written before it stays.
@@ -24,4 +35,19 @@ pub enum ToolFault {
     /// There was no memory.
     #[error("no memory")]
     Memory,
+}
+
+impl From<RunFault> for ToolFault {
+    ghost use Rattle.std.specs.Prelude.{◌≡◌};
+    ghost use Rattle.pmb_io.specs.Runs.{as_tool_fault};
+
+    ghost from_gives = { λ fault tool. tool ≡ as_tool_fault fault };
+
+    fn from(fault: RunFault) -> ToolFault {
+        match fault {
+            RunFault::Read => ToolFault::Read,
+            RunFault::Write => ToolFault::Write,
+            RunFault::TooManyReads => ToolFault::TooManyReads,
+        }
+    }
 }

@@ -64,15 +64,7 @@ impl<T> Io<T> {
 }
 
 impl<T: Read> Source for Io<T> {
-    ghost remaining = { λ io. T.remaining io.inner };
-
-    ghost failures = { λ io. io.failures };
-
-    ghost reads = { λ io. io.reads };
-
-    ghost given = { λ io. io.given };
-
-    ghost has_ended = { λ io. io.ended };
+    ghost told = { λ io. record { left = T.remaining io.inner; given = io.given; reads = io.reads; failures = io.failures; ended = io.ended } };
 
     fn read(&mut self, buffer: &mut [u8]) -> Result<usize, IoFault> {
         match self.inner.read(buffer) {
@@ -91,9 +83,7 @@ impl<T: Read> Source for Io<T> {
 }
 
 impl<T: Write> Sink for Io<T> {
-    ghost contents = { λ io. T.contents io.inner };
-
-    ghost failures = { λ io. io.failures };
+    ghost told = { λ io. record { held = T.contents io.inner; failures = io.failures } };
 
     fn write_all(&mut self, bytes: &[u8]) -> Result<(), IoFault> {
         let mut rest = bytes;

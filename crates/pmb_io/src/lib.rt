@@ -21,7 +21,7 @@ mod tally;
 pub use empty::Empty;
 pub use engine::{Engine, Flow};
 pub use failing::Failing;
-pub use fault::{IoFault, ToolFault};
+pub use fault::{IoFault, RunFault, ToolFault};
 pub use io::Io;
 pub use line::{Line, without_return};
 pub use line_task::LineTask;

@@ -5,7 +5,7 @@ ghost use Rattle.pmb_io.specs.Calls.{WriterTells};
 ghost use Rattle.pmb_io.specs.Engines.{PutsOut};
 ghost use Rattle.pmb_io.specs.Lines.{TextLine, line_text};
 
-use crate::fault::ToolFault;
+use crate::fault::RunFault;
 use crate::line::Line;
 use crate::outgoing::Waiting;
 use crate::sink::Sink;
@@ -22,9 +22,9 @@ pub trait LineTask {
         line: Line<'_>,
         waiting: &mut Waiting,
         writer: &mut W,
-    ) -> Result<(), ToolFault>
+    ) -> Result<(), RunFault>
         ensures takes { (start : Self) (lines : List TextLine) (text : List ℕ) → Stands start self.old lines text
             → OnOk result (PutsOut (λ more. Stands start self.new (lines ++ line_text line.entry ∷ []) (text ++ more))
-            (W.contents writer.old) waiting.old.items (W.contents writer.new) waiting.new.items) }
-        ensures failed { WriterTells (W.failures writer.old) (W.failures writer.new) result };
+            (W.told writer.old).held waiting.old.items (W.told writer.new).held waiting.new.items) }
+        ensures failed { WriterTells (W.told writer.old) (W.told writer.new) result };
 }

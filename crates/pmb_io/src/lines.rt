@@ -10,7 +10,7 @@ ghost use Rattle.pmb_io.specs.Lines.{TextLine, lines_of, lines_task};
 ghost use Rattle.pmb_io.specs.machine.Lines.{StandsInLine, ended_kept};
 
 use crate::engine::{Engine, Flow};
-use crate::fault::ToolFault;
+use crate::fault::RunFault;
 use crate::line::Line;
 use crate::line_task::LineTask;
 use crate::outgoing::Waiting;
@@ -55,11 +55,11 @@ impl<T: LineTask, const MOST: usize> Lines<T, MOST> {
         byte: u8,
         waiting: &mut Waiting,
         writer: &mut W,
-    ) -> Result<(), ToolFault>
+    ) -> Result<(), RunFault>
         ensures takes { (start : T) (bytes text : List ℕ) → StandsInLine (T.Stands start self.old.task) MOST self.old.line.items self.old.is_longer bytes text
             → OnOk result (PutsOut (λ more. StandsInLine (T.Stands start self.new.task) MOST self.new.line.items self.new.is_longer (bytes ++ byte ∷ []) (text ++ more))
-            (W.contents writer.old) waiting.old.items (W.contents writer.new) waiting.new.items) }
-        ensures failed { WriterTells (W.failures writer.old) (W.failures writer.new) result }
+            (W.told writer.old).held waiting.old.items (W.told writer.new).held waiting.new.items) }
+        ensures failed { WriterTells (W.told writer.old) (W.told writer.new) result }
     {
         if byte != b'\n' {
             self.keep(byte);
@@ -88,15 +88,11 @@ impl<T: LineTask, const MOST: usize> Lines<T, MOST> {
 
     /// Hands on the line under way, which an LF ended.
     #[inline(never)]
-    fn take_ended<W: Sink>(
-        &mut self,
-        waiting: &mut Waiting,
-        writer: &mut W,
-    ) -> Result<(), ToolFault>
+    fn take_ended<W: Sink>(&mut self, waiting: &mut Waiting, writer: &mut W) -> Result<(), RunFault>
         ensures takes { (start : T) (lines : List TextLine) (text : List ℕ) → T.Stands start self.old.task lines text
             → OnOk result (PutsOut (λ more. T.Stands start self.new.task (lines ++ ended_kept self.old.line.items self.old.is_longer ∷ []) (text ++ more))
-            (W.contents writer.old) waiting.old.items (W.contents writer.new) waiting.new.items) }
-        ensures failed { WriterTells (W.failures writer.old) (W.failures writer.new) result }
+            (W.told writer.old).held waiting.old.items (W.told writer.new).held waiting.new.items) }
+        ensures failed { WriterTells (W.told writer.old) (W.told writer.new) result }
     {
         if self.is_longer {
             return self.task.take_line(Line::TooLong, waiting, writer);
@@ -118,14 +114,14 @@ impl<T: LineTask, const MOST: usize> Engine for Lines<T, MOST> {
         piece: &[u8],
         waiting: &mut Waiting,
         writer: &mut W,
-    ) -> Result<Flow, ToolFault> {
+    ) -> Result<Flow, RunFault> {
         for byte in piece {
             self.take_byte(*byte, waiting, writer)?;
         }
         Ok(Flow::More)
     }
 
-    fn end<W: Sink>(&mut self, waiting: &mut Waiting, writer: &mut W) -> Result<(), ToolFault> {
+    fn end<W: Sink>(&mut self, waiting: &mut Waiting, writer: &mut W) -> Result<(), RunFault> {
         if self.is_longer {
             return self.task.take_line(Line::TooLong, waiting, writer);
         }

@@ -1,8 +1,9 @@
 -- The exit statuses.
-use Rattle.std.specs.Prelude.{◌≡◌, ◌≢◌, ◌≤◌, ◌⊎◌, ℕ, ◌==◌, if◌then◌else◌, length, List, [], Option, Result, Ok, Err}
+use Rattle.std.specs.Prelude.{◌≡◌, ◌≢◌, ◌≤◌, ◌⊎◌, ℕ, ◌==◌, if◌then◌else◌, length, List, [], Result, Ok, Err}
 use Rattle.std.specs.Io.KnownBytes.{Appends, Consumes}
 use Rattle.pmb_io.specs.Count.{raised}
 use Rattle.pmb_io.specs.Runs.{most_reads}
+use Rattle.pmb_io.specs.Told.{ReaderTold, WriterTold}
 use Rattle.pmb_io.specs.declared.fault.ToolFault.{ToolFault}
 use Rattle.pmb_io.specs.declared.fault.ToolFault.TheVariants.{Read, Write, TooManyReads, ProfileTooLong, Memory}
 use Rattle.pmb_io.specs.declared.tally.Tally.{Tally}
@@ -21,20 +22,20 @@ run_status (Ok tally) = if tally.refusals == 0 then 0 else 1
 run_status (Err fault) = status_of fault
 
 -- a reader gave bytes in 2^32 reads or more, and so as many bytes
-pub record ReadOften (reads_old reads_new : ℕ) (left_old left_new : Option (List ℕ)) : Type 0 where
+pub record ReadOften (old new : ReaderTold) : Type 0 where
   pub count : ℕ
   pub often : most_reads ≤ count
-  pub counted : reads_new ≡ raised reads_old count
+  pub counted : new.reads ≡ raised old.reads count
   pub read : List ℕ
-  pub consumed : Consumes left_old left_new read
+  pub consumed : Consumes old.left new.left read
   pub many : most_reads ≤ length read
 
 -- some text was written
-pub record Tells (held_old held_new : Option (List ℕ)) : Type 0 where
+pub record Tells (old new : WriterTold) : Type 0 where
   pub text : List ℕ
   pub some : text ≢ []
-  pub appended : Appends held_old held_new text
+  pub appended : Appends old.held new.held text
 
 -- some text was written, or the writer failed
-abbrev pub IsTold : Option (List ℕ) → Option (List ℕ) → ℕ → ℕ → Type 0
-IsTold held_old held_new failures_old failures_new = (Tells held_old held_new × (failures_new ≡ failures_old)) ⊎ (failures_new ≡ raised failures_old 1)
+abbrev pub IsTold : WriterTold → WriterTold → Type 0
+IsTold old new = (Tells old new × (new.failures ≡ old.failures)) ⊎ (new.failures ≡ raised old.failures 1)

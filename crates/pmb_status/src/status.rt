@@ -27,7 +27,7 @@ pub const NO_MEMORY: u8 = 4;
 pub fn ended<E: Sink>(outcome: Result<Tally, ToolFault>, err: &mut E) -> u8
     ensures status { result ≡ run_status outcome }
     ensures quiet { result ≤ 1 → err.new ≡ err.old }
-    ensures err_told { 2 ≤ result → IsTold (E.contents err.old) (E.contents err.new) (E.failures err.old) (E.failures err.new) }
+    ensures err_told { 2 ≤ result → IsTold (E.told err.old) (E.told err.new) }
 {
     match outcome {
         Ok(tally) if tally.refusals == 0 => DONE,
@@ -38,7 +38,7 @@ pub fn ended<E: Sink>(outcome: Result<Tally, ToolFault>, err: &mut E) -> u8
 
 /// Tells a text behind `pmb: ` on `err`. That `err` fails changes nothing.
 pub fn tell_text<E: Sink>(text: &str, err: &mut E)
-    ensures { IsTold (E.contents err.old) (E.contents err.new) (E.failures err.old) (E.failures err.new) }
+    ensures { IsTold (E.told err.old) (E.told err.new) }
 {
     let mut line = ArrayString::<128>::new();
     let _ = line.try_push_str("pmb: ");
@@ -49,7 +49,7 @@ pub fn tell_text<E: Sink>(text: &str, err: &mut E)
 /// Tells a fault on `err` and answers its status.
 pub fn tell<E: Sink>(fault: ToolFault, err: &mut E) -> u8
     ensures status { result ≡ status_of fault }
-    ensures err_told { IsTold (E.contents err.old) (E.contents err.new) (E.failures err.old) (E.failures err.new) }
+    ensures err_told { IsTold (E.told err.old) (E.told err.new) }
 {
     let mut text = ArrayString::<32>::new();
     let _ = write!(text, "{fault}\n");
@@ -64,7 +64,7 @@ pub fn tell<E: Sink>(fault: ToolFault, err: &mut E) -> u8
 /// Tells why a FORMAT names no format on `err`.
 pub fn tell_format<E: Sink>(fault: FormatFault, err: &mut E) -> u8
     ensures status { result ≡ 2 }
-    ensures err_told { IsTold (E.contents err.old) (E.contents err.new) (E.failures err.old) (E.failures err.new) }
+    ensures err_told { IsTold (E.told err.old) (E.told err.new) }
 {
     let mut text = ArrayString::<32>::new();
     let _ = write!(text, "format: {fault}\n");
@@ -75,7 +75,7 @@ pub fn tell_format<E: Sink>(fault: FormatFault, err: &mut E) -> u8
 /// Tells on `err` that the words ask for nothing.
 pub fn tell_nothing<E: Sink>(err: &mut E) -> u8
     ensures status { result ≡ 2 }
-    ensures err_told { IsTold (E.contents err.old) (E.contents err.new) (E.failures err.old) (E.failures err.new) }
+    ensures err_told { IsTold (E.told err.old) (E.told err.new) }
 {
     tell_text("no command\n", err);
     BAD_WORDS

@@ -56,13 +56,13 @@ pub fn asked<'a, S: AsStr, W: Sink, E: Sink>(
     ensures helped { IfErr result (λ status. AskToTell (map S.text words.entry.now) → (status ≡ 0) ⊎ (status ≡ 3) ⊎ (status ≡ 4)) }
 
     // Help and the version go to `out` alone, and a fault to `err`.
-    ensures out_told { IfErr result (λ status. status ≡ 0 → Tells (W.contents out.old) (W.contents out.new)) }
-    ensures err_told { IfErr result (λ status. 2 ≤ status → IsTold (E.contents err.old) (E.contents err.new) (E.failures err.old) (E.failures err.new)) }
+    ensures out_told { IfErr result (λ status. status ≡ 0 → Tells (W.told out.old) (W.told out.new)) }
+    ensures err_told { IfErr result (λ status. 2 ≤ status → IsTold (E.told err.old) (E.told err.new)) }
     ensures quiet { IfErr result (λ status. status ≤ 1 → err.new ≡ err.old) }
     ensures unwritten { IfErr result (λ status. AreRefused (map S.text words.entry.now) → out.new ≡ out.old) }
     ensures refused_unwritten { IfErr result (λ status. (status ≡ 2) ⊎ (status ≡ 4) → out.new ≡ out.old) }
-    ensures none_failed { IfErr result (λ status. status ≢ 3 → W.failures out.new ≡ W.failures out.old) }
-    ensures io_failed { IfErr result (λ status. status ≡ 3 → W.failures out.new ≡ raised (W.failures out.old) 1) }
+    ensures none_failed { IfErr result (λ status. status ≢ 3 → (W.told out.new).failures ≡ (W.told out.old).failures) }
+    ensures io_failed { IfErr result (λ status. status ≡ 3 → (W.told out.new).failures ≡ raised (W.told out.old).failures 1) }
 {
     let matches = match parse(alloc, words) {
         Ok(matches) => matches,

@@ -13,7 +13,7 @@ use std::io;
 pub fn no_words<E: Sink>(kind: io::ErrorKind, err: &mut E) -> u8
     ensures memory { kind ≡ OutOfMemory → result ≡ 4 }
     ensures others { kind ≢ OutOfMemory → result ≡ 2 }
-    ensures err_told { IsTold (E.contents err.old) (E.contents err.new) (E.failures err.old) (E.failures err.new) }
+    ensures err_told { IsTold (E.told err.old) (E.told err.new) }
 {
     if kind == io::ErrorKind::OutOfMemory {
         return tell(ToolFault::Memory, err);

@@ -187,8 +187,8 @@ pub(crate) fn tell_words<S: AsStr, W: Sink, E: Sink>(
 ) -> u8
     ensures within { result ≤ 4 }
     ensures not_one { result ≢ 1 }
-    ensures none_failed { result ≢ 3 → W.failures out.new ≡ W.failures out.old }
-    ensures io_failed { result ≡ 3 → W.failures out.new ≡ raised (W.failures out.old) 1 }
+    ensures none_failed { result ≢ 3 → (W.told out.new).failures ≡ (W.told out.old).failures }
+    ensures io_failed { result ≡ 3 → (W.told out.new).failures ≡ raised (W.told out.old).failures 1 }
     ensures refused { (¬ IsTelling (kind_of error.now)) → (result ≡ 2) ⊎ (result ≡ 4) }
     ensures told { IsTelling (kind_of error.now) → (result ≡ 0) ⊎ (result ≡ 3) ⊎ (result ≡ 4) }
     ensures memory { kind_of error.now ≡ ErrorKind.OutOfMemory → result ≡ 4 }
@@ -197,8 +197,8 @@ pub(crate) fn tell_words<S: AsStr, W: Sink, E: Sink>(
 
     // Help and the version go to `out` alone, and a fault to `err`.
     ensures quiet { result ≡ 0 → err.new ≡ err.old }
-    ensures out_told { result ≡ 0 → Tells (W.contents out.old) (W.contents out.new) }
-    ensures err_told { 2 ≤ result → IsTold (E.contents err.old) (E.contents err.new) (E.failures err.old) (E.failures err.new) }
+    ensures out_told { result ≡ 0 → Tells (W.told out.old) (W.told out.new) }
+    ensures err_told { 2 ≤ result → IsTold (E.told err.old) (E.told err.new) }
 {
     let kind = error.kind();
     if kind == ErrorKind::OutOfMemory {
@@ -222,11 +222,11 @@ pub(crate) fn tell_words<S: AsStr, W: Sink, E: Sink>(
 fn tell_about<W: Sink, E: Sink>(text: &str, out: &mut W, err: &mut E) -> u8
     requires some { text.now ≢ [] }
     ensures told { (result ≡ 0) ⊎ (result ≡ 3) }
-    ensures done { result ≡ 0 → W.failures out.new ≡ W.failures out.old }
-    ensures io_failed { result ≡ 3 → W.failures out.new ≡ raised (W.failures out.old) 1 }
+    ensures done { result ≡ 0 → (W.told out.new).failures ≡ (W.told out.old).failures }
+    ensures io_failed { result ≡ 3 → (W.told out.new).failures ≡ raised (W.told out.old).failures 1 }
     ensures quiet { result ≡ 0 → err.new ≡ err.old }
-    ensures out_told { result ≡ 0 → Tells (W.contents out.old) (W.contents out.new) }
-    ensures err_told { result ≡ 3 → IsTold (E.contents err.old) (E.contents err.new) (E.failures err.old) (E.failures err.new) }
+    ensures out_told { result ≡ 0 → Tells (W.told out.old) (W.told out.new) }
+    ensures err_told { result ≡ 3 → IsTold (E.told err.old) (E.told err.new) }
 {
     match out.write_all(text.as_bytes()) {
         Ok(()) => DONE,
@@ -238,7 +238,7 @@ fn tell_about<W: Sink, E: Sink>(text: &str, out: &mut W, err: &mut E) -> u8
 fn tell_fault<E: Sink>(text: &str, err: &mut E) -> u8
     requires some { text.now ≢ [] }
     ensures status { result ≡ 2 }
-    ensures err_told { IsTold (E.contents err.old) (E.contents err.new) (E.failures err.old) (E.failures err.new) }
+    ensures err_told { IsTold (E.told err.old) (E.told err.new) }
 {
     let _ = err.write_all(text.as_bytes());
     BAD_WORDS

@@ -1,10 +1,7 @@
 //! What is shown of a capture.
 
-ghost use Rattle.std.specs.Prelude.{◌≡◌, ◌≢◌, ◌≤◌, ◌⊎◌, length, IfOk, Err};
-ghost use Rattle.pmb_bus.specs.Text.{BeginsText};
-ghost use Rattle.pmb_io.specs.Count.{raised};
-ghost use Rattle.pmb_io.specs.Runs.{Ended, MadeReads, Stopped, Through, most_reads};
-ghost use Rattle.pmb_capture.specs.Show.{ShowsAtEnd, ShowsFront, StopsAtBadWord};
+ghost use Rattle.pmb_io.specs.Runs.{AsTool, Ran};
+ghost use Rattle.pmb_capture.specs.Show.{showing};
 
 use crate::commands::written::write_capture;
 use crate::packet_lines::PacketLines;
@@ -28,48 +25,8 @@ pub fn show<R: Source, W: Sink>(
     reader: &mut R,
     writer: &mut W,
 ) -> Result<Tally, ToolFault>
-    // What was written is what is shown of `first` and the bytes read, however the reader cut them:
-    // they ended, or a word is no token; then nothing was read, or before the last read that gave
-    // bytes the text might have gone on.
-    ensures ok { IfOk result (λ tally.
-        Ended (λ bytes text. ShowsAtEnd profile.now bytes text tally) first.now
-        (record { left = R.remaining reader.old; given = R.given reader.old; held = W.contents writer.old })
-        (record { left = R.remaining reader.new; given = R.given reader.new; held = W.contents writer.new })
-        (R.has_ended reader.new)
-        ⊎ Stopped (λ reader. record { left = R.remaining reader; given = R.given reader; reads = R.reads reader })
-        (λ bytes text. StopsAtBadWord profile.now bytes text tally) BeginsText first.now
-        reader.old reader.new (W.contents writer.old) (W.contents writer.new)) }
-
-    // The reader failed in this call exactly where it answers `Read`, the writer where it answers
-    // `Write`.
-    ensures read { result ≡ Err ToolFault.Read → R.failures reader.new ≡ raised (R.failures reader.old) 1 }
-    ensures no_read { result ≢ Err ToolFault.Read → R.failures reader.new ≡ R.failures reader.old }
-    ensures write { result ≡ Err ToolFault.Write → W.failures writer.new ≡ raised (W.failures writer.old) 1 }
-    ensures no_write { result ≢ Err ToolFault.Write → W.failures writer.new ≡ W.failures writer.old }
-    ensures memory { result ≢ Err ToolFault.Memory }
-    ensures profile { result ≢ Err ToolFault.ProfileTooLong }
-
-    // It makes no more reads than these, and so many before it answers `TooManyReads`.
-    ensures reads { MadeReads (R.reads reader.old) (R.reads reader.new) }
-    ensures too_many { result ≡ Err ToolFault.TooManyReads → R.reads reader.new ≡ raised (R.reads reader.old) most_reads }
-    ensures not_ended { result ≡ Err ToolFault.TooManyReads → R.has_ended reader.new ≡ R.has_ended reader.old }
-
-    // A reader that ended in this call is not read again, so that no failed read is behind its end.
-    ensures read_not_ended { result ≡ Err ToolFault.Read → R.has_ended reader.new ≡ R.has_ended reader.old }
-
-    // What was written before reading failed, or before too many reads, is the lines of what was
-    // read, a front of its text.
-    ensures before { (result ≡ Err ToolFault.Read) ⊎ (result ≡ Err ToolFault.TooManyReads)
-        → Through (ShowsFront profile.now) first.now
-        (record { left = R.remaining reader.old; given = R.given reader.old; held = W.contents writer.old })
-        (record { left = R.remaining reader.new; given = R.given reader.new; held = W.contents writer.new }) }
-
-    // Too many reads gave as many bytes at least.
-    ensures many { result ≡ Err ToolFault.TooManyReads
-        → (through : Through (ShowsFront profile.now) first.now
-        (record { left = R.remaining reader.old; given = R.given reader.old; held = W.contents writer.old })
-        (record { left = R.remaining reader.new; given = R.given reader.new; held = W.contents writer.new }))
-        × (most_reads ≤ length through.read) }
+    // It is a run over the reader and the writer, and what it writes is the job of `show`.
+    ensures { AsTool (Ran R.told W.told (showing profile.now) first.now (reader.old, writer.old) (reader.new, writer.new)) result }
 {
     write_capture(profile, PacketLines::new(profile), first, reader, writer)
 }

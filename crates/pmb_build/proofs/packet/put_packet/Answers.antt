@@ -11,7 +11,7 @@ loop-event-preserved g c =
     let left : c.loop-event.event-iterator ≡ c.in-Some.event ∷ c.next.new.self = c.in-Some.ensures.steps in record {
       put = (
         before.0 ++ text_of c.in-Some.event,
-        writes_then (g.W.Sink.contents c.args.writer.now) _ (g.W.Sink.contents c.put_event.new.writer) c.args.waiting.now.items _ c.put_event.new.waiting.items before.0 (text_of c.in-Some.event)
+        writes_then (g.W.Sink.told c.args.writer.now).held _ (g.W.Sink.told c.put_event.new.writer).held c.args.waiting.now.items _ c.put_event.new.waiting.items before.0 (text_of c.in-Some.event)
             before.1 c.in_ok-put_event.ensures.writes,
         append_assoc before.0 (text_of c.in-Some.event) (canonical_text c.next.new.self)
             ∙ (ap (λ (events : List Event). before.0 ++ canonical_text events) (sym left) ∙ before.2),

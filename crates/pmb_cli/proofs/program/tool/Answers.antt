@@ -1,32 +1,23 @@
-use Rattle.std.proofs.Common.{◌≡◌, ◌∙◌, inl, inr, ap, map, subst}
-use Rattle.pmb_io.specs.Count.{raised}
+use Rattle.std.proofs.Common.{◌≡◌, ◌∙◌, inl, inr, map, refl, subst}
 use Rattle.pmb_status.specs.Status.{IsTold}
 use Rattle.pmb_table.specs.declared.sample.TheConstants.{SAMPLE}
 use Rattle.pmb_words.specs.Asked.{AskFor, Asking, Decode, Encode, asking_of}
-use Rattle.pmb_cli.specs.Tasks.{WroteTask, WroteTaskPart}
+use Rattle.pmb_cli.specs.Statuses.{StatusTells}
+use Rattle.pmb_cli.specs.Tasks.{DoesTask}
 use Rattle.pmb_cli.proofs.Often.{none_in_all}
 use Rattle.pmb_cli.proofs.program.tool.Goals as goal
 
 -- ---- words that ask for something: nothing was told yet, and it was done
 
-pub returns-in-Ok-clause-wrote : goal.returns-in-Ok-clause-wrote
-returns-in-Ok-clause-wrote g c asking ask done =
-    let wrote = c.run_task.ensures.wrote done in
-    let same : asking_of c.in-Ok.task ≡ asking = c.one_asking.ensures.one _ (asking_of c.in-Ok.task) asking c.in-Ok.ensures.ok ask in (
-      wrote.0,
-      wrote.1,
-      subst (λ (out : g.row.W.Denot). WroteTask (λ reader. record { left = g.R.Source.remaining reader; given = g.R.Source.given reader; reads = g.R.Source.reads reader }) SAMPLE.now asking c.args.reader.now c.run_task.new.reader (g.W.Sink.contents out) (g.W.Sink.contents c.run_task.new.out) (g.R.Source.has_ended c.run_task.new.reader) wrote.0) c.in-Ok.ensures.ok_quiet.0
-          (subst (λ (a : Asking). WroteTask (λ reader. record { left = g.R.Source.remaining reader; given = g.R.Source.given reader; reads = g.R.Source.reads reader }) SAMPLE.now a c.args.reader.now c.run_task.new.reader (g.W.Sink.contents c.asked.new.out) (g.W.Sink.contents c.run_task.new.out) (g.R.Source.has_ended c.run_task.new.reader) wrote.0) same wrote.2),
-    )
-
-pub returns-in-Ok-clause-part : goal.returns-in-Ok-clause-part
-returns-in-Ok-clause-part g c asking ask three =
+pub returns-in-Ok-clause-did : goal.returns-in-Ok-clause-did
+returns-in-Ok-clause-did g c asking ask =
     let same : asking_of c.in-Ok.task ≡ asking = c.one_asking.ensures.one _ (asking_of c.in-Ok.task) asking c.in-Ok.ensures.ok ask in
-    elim (c.run_task.ensures.part three) [
-      | inl write ↦ inl (write ∙ ap (λ (out : g.row.W.Denot). raised (g.W.Sink.failures out) 1) c.in-Ok.ensures.ok_quiet.0)
-      | inr part ↦ inr (subst (λ (out : g.row.W.Denot). WroteTaskPart SAMPLE.now asking (record { left = g.R.Source.remaining c.args.reader.now; given = g.R.Source.given c.args.reader.now; held = g.W.Sink.contents out }) (record { left = g.R.Source.remaining c.run_task.new.reader; given = g.R.Source.given c.run_task.new.reader; held = g.W.Sink.contents c.run_task.new.out })) c.in-Ok.ensures.ok_quiet.0
-          (subst (λ (a : Asking). WroteTaskPart SAMPLE.now a (record { left = g.R.Source.remaining c.args.reader.now; given = g.R.Source.given c.args.reader.now; held = g.W.Sink.contents c.asked.new.out }) (record { left = g.R.Source.remaining c.run_task.new.reader; given = g.R.Source.given c.run_task.new.reader; held = g.W.Sink.contents c.run_task.new.out })) same part))
-    ]
+    subst (λ (out : g.row.W.Denot). DoesTask g.R.Source.told g.W.Sink.told SAMPLE.now asking (c.args.reader.now, out) (c.run_task.new.reader, c.run_task.new.out) c.run_task.result) c.in-Ok.ensures.ok_quiet.0
+    (subst (λ (a : Asking). DoesTask g.R.Source.told g.W.Sink.told SAMPLE.now a (c.args.reader.now, c.asked.new.out) (c.run_task.new.reader, c.run_task.new.out) c.run_task.result) same c.run_task.ensures.did)
+
+pub returns-in-Ok-clause-status : goal.returns-in-Ok-clause-status
+returns-in-Ok-clause-status g c =
+    subst (λ (out : g.row.W.Denot). StatusTells g.R.Source.told g.W.Sink.told (c.args.reader.now, out) (c.run_task.new.reader, c.run_task.new.out) c.run_task.result) c.in-Ok.ensures.ok_quiet.0 c.run_task.ensures.status
 
 pub returns-in-Ok-clause-told : goal.returns-in-Ok-clause-told
 returns-in-Ok-clause-told g c two = elim (c.run_task.ensures.told two) [
@@ -35,25 +26,10 @@ returns-in-Ok-clause-told g c two = elim (c.run_task.ensures.told two) [
 ]
 
 pub returns-in-Ok-clause-err_told : goal.returns-in-Ok-clause-err_told
-returns-in-Ok-clause-err_told g c two = subst (λ (err : g.row.E.Denot). IsTold (g.E.Sink.contents err) (g.E.Sink.contents c.run_task.new.err) (g.E.Sink.failures err) (g.E.Sink.failures c.run_task.new.err)) c.in-Ok.ensures.ok_quiet.1 (c.run_task.ensures.err_told two)
+returns-in-Ok-clause-err_told g c two = subst (λ (err : g.row.E.Denot). IsTold (g.E.Sink.told err) (g.E.Sink.told c.run_task.new.err)) c.in-Ok.ensures.ok_quiet.1 (c.run_task.ensures.err_told two)
 
 pub returns-in-Ok-clause-quiet : goal.returns-in-Ok-clause-quiet
 returns-in-Ok-clause-quiet g c done = c.run_task.ensures.quiet done ∙ c.in-Ok.ensures.ok_quiet.1
-
-pub returns-in-Ok-clause-refused_unwritten : goal.returns-in-Ok-clause-refused_unwritten
-returns-in-Ok-clause-refused_unwritten g c refused = c.run_task.ensures.unwritten refused ∙ c.in-Ok.ensures.ok_quiet.0
-
-pub returns-in-Ok-clause-none_failed : goal.returns-in-Ok-clause-none_failed
-returns-in-Ok-clause-none_failed g c other =
-    let same = c.run_task.ensures.none_failed other in
-    (same.0, same.1 ∙ ap (λ (out : g.row.W.Denot). g.W.Sink.failures out) c.in-Ok.ensures.ok_quiet.0)
-
-pub returns-in-Ok-clause-io_failed : goal.returns-in-Ok-clause-io_failed
-returns-in-Ok-clause-io_failed g c three = elim (c.run_task.ensures.io_failed three) [
-  | inl read ↦ inl read
-  | inr (inl write) ↦ inr (inl (write ∙ ap (λ (out : g.row.W.Denot). raised (g.W.Sink.failures out) 1) c.in-Ok.ensures.ok_quiet.0))
-  | inr (inr often) ↦ inr (inr often)
-]
 
 -- A bad format is that of what they ask for.
 pub returns-in-Ok-clause-bad_format : goal.returns-in-Ok-clause-bad_format
@@ -63,7 +39,7 @@ pub returns-in-Ok-clause-bad_format_unread : goal.returns-in-Ok-clause-bad_forma
 returns-in-Ok-clause-bad_format_unread g c bad = c.run_task.ensures.bad_format_unread (c.one_asking.ensures.bad_format _ (asking_of c.in-Ok.task) c.in-Ok.ensures.ok bad)
 
 pub returns-in-Ok-clause-bad_format_unwritten : goal.returns-in-Ok-clause-bad_format_unwritten
-returns-in-Ok-clause-bad_format_unwritten g c bad = c.run_task.ensures.unwritten (inl (c.run_task.ensures.bad_format (c.one_asking.ensures.bad_format _ (asking_of c.in-Ok.task) c.in-Ok.ensures.ok bad))) ∙ c.in-Ok.ensures.ok_quiet.0
+returns-in-Ok-clause-bad_format_unwritten g c bad = c.run_task.ensures.status.unwritten (inl (c.run_task.ensures.bad_format (c.one_asking.ensures.bad_format _ (asking_of c.in-Ok.task) c.in-Ok.ensures.ok bad))) ∙ c.in-Ok.ensures.ok_quiet.0
 
 -- They ask for nothing else.
 pub returns-in-Ok-clause-refused : goal.returns-in-Ok-clause-refused
@@ -92,6 +68,15 @@ returns-in-Ok-clause-nothing_unread g c none = absurd (c.one_asking.ensures.some
 
 -- ---- words that ask for nothing to be done
 
+pub returns-in-Err-clause-status : goal.returns-in-Err-clause-status
+returns-in-Err-clause-status g c = record {
+  within = c.in-Err.ensures.within;
+  unwritten = c.in-Err.ensures.refused_unwritten;
+  none_failed = λ other. (refl, c.in-Err.ensures.none_failed other);
+  io_failed = λ three. inr (inl (c.in-Err.ensures.io_failed three));
+  reads = none_in_all _;
+}
+
 pub returns-in-Err-clause-told : goal.returns-in-Err-clause-told
 returns-in-Err-clause-told g c two = inl (c.in-Err.ensures.told two)
 
@@ -106,6 +91,3 @@ returns-in-Err-clause-bad_format_unwritten g c bad = elim bad.asks [
   | inl ask ↦ c.in-Err.ensures.refused_unwritten (inr (c.in-Err.ensures.memory (Encode bad.format) ask))
   | inr ask ↦ c.in-Err.ensures.refused_unwritten (inr (c.in-Err.ensures.memory (Decode bad.format) ask))
 ]
-
-pub returns-in-Err-clause-reads : goal.returns-in-Err-clause-reads
-returns-in-Err-clause-reads g c = none_in_all _

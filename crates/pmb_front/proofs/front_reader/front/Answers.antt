@@ -16,7 +16,7 @@ loop-piece-init g c =
       not_ended = refl;
       counted = omega (arith, ap length empty, c.new-bytes.ensures.len);
       few = no_reads _ _;
-      reads = subst (λ (t : List ℕ). Reads (λ reader. record { left = g.R.Source.remaining reader; given = g.R.Source.given reader; reads = g.R.Source.reads reader }) c.args.reader.now c.args.reader.now t) (sym empty) (reads_nothing (λ reader. record { left = g.R.Source.remaining reader; given = g.R.Source.given reader; reads = g.R.Source.reads reader }) c.args.reader.now);
+      reads = subst (λ (t : List ℕ). Reads g.R.Source.told c.args.reader.now c.args.reader.now t) (sym empty) (reads_nothing g.R.Source.told c.args.reader.now);
       none = subst NoMark (sym empty) none_in_nothing;
     }
 
@@ -35,7 +35,7 @@ returns-in-Err-clause-before_read g c is =
     let read = c.loop-piece.bytes.items in
     let none : NoMark read = c.loop-piece.invariant.none in
     let fit : MayFit read = subst MayFit c.as_slice.ensures.value (c.may_fit.ensures.0 c.loop-piece-test.true) in
-    let gave = gave_no_bytes (record { left = g.R.Source.remaining c.args.reader.now; given = g.R.Source.given c.args.reader.now; reads = g.R.Source.reads c.args.reader.now }) (record { left = g.R.Source.remaining c.loop-piece.reader; given = g.R.Source.given c.loop-piece.reader; reads = g.R.Source.reads c.loop-piece.reader }) (record { left = g.R.Source.remaining c.read.new.self; given = g.R.Source.given c.read.new.self; reads = g.R.Source.reads c.read.new.self }) read c.loop-piece.invariant.reads.gave c.in-Err.ensures.bytes c.in-Err.ensures.given in
+    let gave = gave_no_bytes (g.R.Source.told c.args.reader.now) (g.R.Source.told c.loop-piece.reader) (g.R.Source.told c.read.new.self) read c.loop-piece.invariant.reads.gave c.in-Err.ensures.bytes c.in-Err.ensures.given in
     record { read = read; gave = gave; undecided = record { none = none; may_fit = fit } }
 
 pub returns-in-Err-clause-reads : goal.returns-in-Err-clause-reads
@@ -48,11 +48,11 @@ returns-then-count-eq0-clause-ok g c =
     let read = c.loop-piece.bytes.items in
     let none : NoMark read = c.loop-piece.invariant.none in
     let fit : MayFit read = subst MayFit c.as_slice.ensures.value (c.may_fit.ensures.0 c.loop-piece-test.true) in
-    let no_more = reads_no_more (λ reader. record { left = g.R.Source.remaining reader; given = g.R.Source.given reader; reads = g.R.Source.reads reader }) c.args.reader.now c.loop-piece.reader c.read.new.self read c.in-Ok.count c.loop-piece.invariant.reads
-    (gave_none (record { left = g.R.Source.remaining c.loop-piece.reader; given = g.R.Source.given c.loop-piece.reader; reads = g.R.Source.reads c.loop-piece.reader }) (record { left = g.R.Source.remaining c.read.new.self; given = g.R.Source.given c.read.new.self; reads = g.R.Source.reads c.read.new.self }) c.in-Ok.count c.read.new.buffer c.if-count-eq0.true c.in-Ok.ensures.bytes.0 c.in-Ok.ensures.given) c.in-Ok.ensures.read c.if-count-eq0.true in
+    let no_more = reads_no_more g.R.Source.told c.args.reader.now c.loop-piece.reader c.read.new.self read c.in-Ok.count c.loop-piece.invariant.reads
+    (gave_none (g.R.Source.told c.loop-piece.reader) (g.R.Source.told c.read.new.self) c.in-Ok.count c.read.new.buffer c.if-count-eq0.true c.in-Ok.ensures.bytes.0 c.in-Ok.ensures.given) c.in-Ok.ensures.read c.if-count-eq0.true in
     let is_ended = told_end _ _ c.in-Ok.count c.read.new.buffer c.in-Ok.ensures.ended c.if-count-eq0.true (omega arith) in
     let at_end = c.in-Ok.ensures.bytes.1 c.if-count-eq0.true (omega arith) in
-    all_within c.all.result (λ reader. record { left = g.R.Source.remaining reader; given = g.R.Source.given reader; reads = g.R.Source.reads reader }) c.args.reader.now c.read.new.self _ read no_more none is_ended at_end c.all.ensures.profile c.all.ensures.rest c.all.ensures.unmarked c.all.ensures.within
+    all_within c.all.result g.R.Source.told c.args.reader.now c.read.new.self read no_more none is_ended at_end c.all.ensures.profile c.all.ensures.rest c.all.ensures.unmarked c.all.ensures.within
 
 pub returns-then-count-eq0-clause-mark_not_ended : goal.returns-then-count-eq0-clause-mark_not_ended
 returns-then-count-eq0-clause-mark_not_ended g c = unmarked_not c.all.result _ c.all.ensures.unmarked
@@ -62,11 +62,11 @@ returns-then-count-eq0-clause-too_long g c is =
     let read = c.loop-piece.bytes.items in
     let none : NoMark read = c.loop-piece.invariant.none in
     let fit : MayFit read = subst MayFit c.as_slice.ensures.value (c.may_fit.ensures.0 c.loop-piece-test.true) in
-    let no_more = reads_no_more (λ reader. record { left = g.R.Source.remaining reader; given = g.R.Source.given reader; reads = g.R.Source.reads reader }) c.args.reader.now c.loop-piece.reader c.read.new.self read c.in-Ok.count c.loop-piece.invariant.reads
-    (gave_none (record { left = g.R.Source.remaining c.loop-piece.reader; given = g.R.Source.given c.loop-piece.reader; reads = g.R.Source.reads c.loop-piece.reader }) (record { left = g.R.Source.remaining c.read.new.self; given = g.R.Source.given c.read.new.self; reads = g.R.Source.reads c.read.new.self }) c.in-Ok.count c.read.new.buffer c.if-count-eq0.true c.in-Ok.ensures.bytes.0 c.in-Ok.ensures.given) c.in-Ok.ensures.read c.if-count-eq0.true in
+    let no_more = reads_no_more g.R.Source.told c.args.reader.now c.loop-piece.reader c.read.new.self read c.in-Ok.count c.loop-piece.invariant.reads
+    (gave_none (g.R.Source.told c.loop-piece.reader) (g.R.Source.told c.read.new.self) c.in-Ok.count c.read.new.buffer c.if-count-eq0.true c.in-Ok.ensures.bytes.0 c.in-Ok.ensures.given) c.in-Ok.ensures.read c.if-count-eq0.true in
     let is_ended = told_end _ _ c.in-Ok.count c.read.new.buffer c.in-Ok.ensures.ended c.if-count-eq0.true (omega arith) in
     let at_end = c.in-Ok.ensures.bytes.1 c.if-count-eq0.true (omega arith) in
-    all_past_limit c.all.result (λ reader. record { left = g.R.Source.remaining reader; given = g.R.Source.given reader; reads = g.R.Source.reads reader }) c.args.reader.now c.read.new.self _ read no_more none is_ended at_end c.all.ensures.long is
+    all_past_limit c.all.result g.R.Source.told c.args.reader.now c.read.new.self read no_more none is_ended at_end c.all.ensures.long is
 
 pub returns-then-count-eq0-clause-reads : goal.returns-then-count-eq0-clause-reads
 returns-then-count-eq0-clause-reads g c =
@@ -81,7 +81,7 @@ returns-then-is_err-clause-before_memory g c is =
     let some : c.in-Ok.count ≢ 0 = grind (arith, nat_tests, c.if-count-eq0.false) in
     let piece = take c.in-Ok.count c.read.new.buffer in
     let room : length c.read.new.buffer ≤ most_piece = omega arith in
-    let reads = reads_piece (λ reader. record { left = g.R.Source.remaining reader; given = g.R.Source.given reader; reads = g.R.Source.reads reader }) c.args.reader.now c.loop-piece.reader c.read.new.self
+    let reads = reads_piece g.R.Source.told c.args.reader.now c.loop-piece.reader c.read.new.self
     read c.in-Ok.count c.read.new.buffer c.loop-piece.invariant.reads none fit c.in-Ok.ensures.within room some c.in-Ok.ensures.bytes.0 c.in-Ok.ensures.given c.in-Ok.ensures.read in
     record { read = read ++ piece; reads = reads }
 
@@ -112,17 +112,17 @@ returns-in-Some-clause-ok g c =
     let some : c.in-Ok.count ≢ 0 = grind (arith, nat_tests, c.if-count-eq0.false) in
     let piece = take c.in-Ok.count c.read.new.buffer in
     let room : length c.read.new.buffer ≤ most_piece = omega arith in
-    let reads = reads_piece (λ reader. record { left = g.R.Source.remaining reader; given = g.R.Source.given reader; reads = g.R.Source.reads reader }) c.args.reader.now c.loop-piece.reader c.read.new.self
+    let reads = reads_piece g.R.Source.told c.args.reader.now c.loop-piece.reader c.read.new.self
     read c.in-Ok.count c.read.new.buffer c.loop-piece.invariant.reads none fit c.in-Ok.ensures.within room some c.in-Ok.ensures.bytes.0 c.in-Ok.ensures.given c.in-Ok.ensures.read in
     let items = c.extend_from_slice.new.self.items in
     let items_are : items ≡ read ++ piece = grown c.extend_from_slice.result c.is_err.result items read piece c.is_err.ensures.value c.if-is_err.false c.extend_from_slice.ensures.items in
-    let all_reads = subst (λ (t : List ℕ). Reads (λ reader. record { left = g.R.Source.remaining reader; given = g.R.Source.given reader; reads = g.R.Source.reads reader }) c.args.reader.now c.read.new.self t) (sym items_are) reads in
+    let all_reads = subst (λ (t : List ℕ). Reads g.R.Source.told c.args.reader.now c.read.new.self t) (sym items_are) reads in
     let seen : c.as_slice-in-loop-piece.result.now ≡ items = c.as_slice-in-loop-piece.ensures.value in
     let mark = c.in-Some.mark in
     let first : FirstMark items (take mark.start items) (drop mark.end items) =
     subst (λ (t : List ℕ). FirstMark t (take mark.start t) (drop mark.end t)) seen c.in-Some.ensures.first in
     let inside : mark.start ≤ length items = subst (λ (t : List ℕ). mark.start ≤ length t) seen c.in-Some.ensures.start in
-    cut_within c.cut.result (λ reader. record { left = g.R.Source.remaining reader; given = g.R.Source.given reader; reads = g.R.Source.reads reader }) c.args.reader.now c.read.new.self _ items mark.start mark.end all_reads first inside c.cut.ensures.profile c.cut.ensures.rest c.cut.ensures.marked c.cut.ensures.within
+    cut_within c.cut.result g.R.Source.told c.args.reader.now c.read.new.self items mark.start mark.end all_reads first inside c.cut.ensures.profile c.cut.ensures.rest c.cut.ensures.marked c.cut.ensures.within
 
 pub returns-in-Some-clause-mark_not_ended : goal.returns-in-Some-clause-mark_not_ended
 returns-in-Some-clause-mark_not_ended g c =
@@ -137,17 +137,17 @@ returns-in-Some-clause-too_long g c is =
     let some : c.in-Ok.count ≢ 0 = grind (arith, nat_tests, c.if-count-eq0.false) in
     let piece = take c.in-Ok.count c.read.new.buffer in
     let room : length c.read.new.buffer ≤ most_piece = omega arith in
-    let reads = reads_piece (λ reader. record { left = g.R.Source.remaining reader; given = g.R.Source.given reader; reads = g.R.Source.reads reader }) c.args.reader.now c.loop-piece.reader c.read.new.self
+    let reads = reads_piece g.R.Source.told c.args.reader.now c.loop-piece.reader c.read.new.self
     read c.in-Ok.count c.read.new.buffer c.loop-piece.invariant.reads none fit c.in-Ok.ensures.within room some c.in-Ok.ensures.bytes.0 c.in-Ok.ensures.given c.in-Ok.ensures.read in
     let items = c.extend_from_slice.new.self.items in
     let items_are : items ≡ read ++ piece = grown c.extend_from_slice.result c.is_err.result items read piece c.is_err.ensures.value c.if-is_err.false c.extend_from_slice.ensures.items in
-    let all_reads = subst (λ (t : List ℕ). Reads (λ reader. record { left = g.R.Source.remaining reader; given = g.R.Source.given reader; reads = g.R.Source.reads reader }) c.args.reader.now c.read.new.self t) (sym items_are) reads in
+    let all_reads = subst (λ (t : List ℕ). Reads g.R.Source.told c.args.reader.now c.read.new.self t) (sym items_are) reads in
     let seen : c.as_slice-in-loop-piece.result.now ≡ items = c.as_slice-in-loop-piece.ensures.value in
     let mark = c.in-Some.mark in
     let first : FirstMark items (take mark.start items) (drop mark.end items) =
     subst (λ (t : List ℕ). FirstMark t (take mark.start t) (drop mark.end t)) seen c.in-Some.ensures.first in
     let inside : mark.start ≤ length items = subst (λ (t : List ℕ). mark.start ≤ length t) seen c.in-Some.ensures.start in
-    cut_past_limit c.cut.result (λ reader. record { left = g.R.Source.remaining reader; given = g.R.Source.given reader; reads = g.R.Source.reads reader }) c.args.reader.now c.read.new.self _ items mark.start mark.end all_reads first inside c.cut.ensures.long is
+    cut_past_limit c.cut.result g.R.Source.told c.args.reader.now c.read.new.self items mark.start mark.end all_reads first inside c.cut.ensures.long is
 
 pub returns-in-Some-clause-reads : goal.returns-in-Some-clause-reads
 returns-in-Some-clause-reads g c =
@@ -181,13 +181,13 @@ loop-piece-preserved g c =
     let some : c.in-Ok.count ≢ 0 = grind (arith, nat_tests, c.if-count-eq0.false) in
     let piece = take c.in-Ok.count c.read.new.buffer in
     let room : length c.read.new.buffer ≤ most_piece = omega arith in
-    let reads = reads_piece (λ reader. record { left = g.R.Source.remaining reader; given = g.R.Source.given reader; reads = g.R.Source.reads reader }) c.args.reader.now c.loop-piece.reader c.read.new.self
+    let reads = reads_piece g.R.Source.told c.args.reader.now c.loop-piece.reader c.read.new.self
     read c.in-Ok.count c.read.new.buffer c.loop-piece.invariant.reads none fit c.in-Ok.ensures.within room some c.in-Ok.ensures.bytes.0 c.in-Ok.ensures.given c.in-Ok.ensures.read in
     let items = c.extend_from_slice.new.self.items in
     let items_are : items ≡ read ++ piece = grown c.extend_from_slice.result c.is_err.result items read piece c.is_err.ensures.value c.if-is_err.false c.extend_from_slice.ensures.items in
     let longer : length items ≡ length read + c.in-Ok.count =
     ap length items_are ∙ (length-append read piece ∙ ap (λ n. length read + n) (length-take-le c.in-Ok.count c.read.new.buffer c.in-Ok.ensures.within)) in
-    let all_reads = subst (λ (t : List ℕ). Reads (λ reader. record { left = g.R.Source.remaining reader; given = g.R.Source.given reader; reads = g.R.Source.reads reader }) c.args.reader.now c.read.new.self t) (sym items_are) reads in
+    let all_reads = subst (λ (t : List ℕ). Reads g.R.Source.told c.args.reader.now c.read.new.self t) (sym items_are) reads in
     record {
       failures = c.in-Ok.ensures.failed ∙ c.loop-piece.invariant.failures;
       not_ended = told_no_end _ _ c.in-Ok.count c.read.new.buffer c.in-Ok.ensures.ended some ∙ c.loop-piece.invariant.not_ended;

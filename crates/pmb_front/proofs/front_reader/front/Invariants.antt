@@ -7,11 +7,11 @@ use Rattle.pmb_front.proofs.front_reader.front.Given as goal
 -- what was read has no line `%%`, each read gave a byte or more, and none failed or ended
 abbrev pub invariant-loop-piece : goal.invariant-loop-piece
 invariant-loop-piece g l = record {
-  failures : g.R.Source.failures l.reader ≡ g.R.Source.failures l.fn.reader;
-  not_ended : g.R.Source.has_ended l.reader ≡ g.R.Source.has_ended l.fn.reader;
+  failures : (g.R.Source.told l.reader).failures ≡ (g.R.Source.told l.fn.reader).failures;
+  not_ended : (g.R.Source.told l.reader).ended ≡ (g.R.Source.told l.fn.reader).ended;
   counted : vec_len l.bytes ≡ length l.bytes.items;
-  few : FewReads (min (length l.bytes.items) (most_profile + 4)) (g.R.Source.reads l.fn.reader) (g.R.Source.reads l.reader);
-  reads : Reads (λ reader. record { left = g.R.Source.remaining reader; given = g.R.Source.given reader; reads = g.R.Source.reads reader }) l.fn.reader l.reader l.bytes.items;
+  few : FewReads (min (length l.bytes.items) (most_profile + 4)) (g.R.Source.told l.fn.reader).reads (g.R.Source.told l.reader).reads;
+  reads : Reads g.R.Source.told l.fn.reader l.reader l.bytes.items;
   none : NoMark l.bytes.items;
 }
 

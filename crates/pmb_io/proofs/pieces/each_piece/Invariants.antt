@@ -1,18 +1,17 @@
 use Rattle.std.proofs.Common.{◌≡◌, ◌≤◌, [], length}
 use Rattle.pmb_io.specs.Count.{raised}
 use Rattle.pmb_io.specs.Runs.{Through}
+use Rattle.pmb_io.specs.Told.{told_by}
 use Rattle.pmb_io.proofs.pieces.each_piece.Given as goal
 
 -- what was put out for what was read so far is written, and no call has failed
 abbrev pub invariant-reads : goal.invariant-reads
 invariant-reads g l = record {
-  reader_failures : g.R.Source.failures l.reader ≡ g.R.Source.failures l.fn.reader;
-  writer_failures : g.W.Sink.failures l.writer ≡ g.W.Sink.failures l.fn.writer;
-  not_ended : g.R.Source.has_ended l.reader ≡ g.R.Source.has_ended l.fn.reader;
-  reads : g.R.Source.reads l.reader ≡ raised (g.R.Source.reads l.fn.reader) l.counter;
+  reader_failures : (g.R.Source.told l.reader).failures ≡ (g.R.Source.told l.fn.reader).failures;
+  writer_failures : (g.W.Sink.told l.writer).failures ≡ (g.W.Sink.told l.fn.writer).failures;
+  not_ended : (g.R.Source.told l.reader).ended ≡ (g.R.Source.told l.fn.reader).ended;
+  reads : (g.R.Source.told l.reader).reads ≡ raised (g.R.Source.told l.fn.reader).reads l.counter;
   sent : l.waiting.items ≡ [];
-  so_far : Through (g.E.Engine.Stands l.fn.engine l.engine) l.fn.first
-      (record { left = g.R.Source.remaining l.fn.reader; given = g.R.Source.given l.fn.reader; held = g.W.Sink.contents l.fn.writer })
-      (record { left = g.R.Source.remaining l.reader; given = g.R.Source.given l.reader; held = g.W.Sink.contents l.writer });
+  so_far : Through (g.E.Engine.Stands l.fn.engine l.engine) l.fn.first (told_by g.R.Source.told g.W.Sink.told (l.fn.reader, l.fn.writer)) (told_by g.R.Source.told g.W.Sink.told (l.reader, l.writer));
   many : l.counter ≤ length so_far.read;
 }

@@ -11,7 +11,7 @@ returns-in_ok-put_packet-in-Ok-clause-takes g c =
     let parsed = c.in-Ok.ensures.ok in record {
       answer = Built put.holds.events;
       answers = record { t = _; spells = parsed.spells; packet = put.holds.packet };
-      writes = subst (λ t. PutsText (g.W.Sink.contents c.args.writer.now) c.args.waiting.now.items (g.W.Sink.contents c.put_packet.new.writer) c.put_packet.new.waiting.items t) put.holds.whole put.writes;
+      writes = subst (λ t. PutsText (g.W.Sink.told c.args.writer.now).held c.args.waiting.now.items (g.W.Sink.told c.put_packet.new.writer).held c.put_packet.new.waiting.items t) put.holds.whole put.writes;
       same = refl;
       lines = refl;
       tally = c.count_packet.ensures;

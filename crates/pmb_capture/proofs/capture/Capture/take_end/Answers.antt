@@ -28,7 +28,7 @@ returns-in-Ok-None-clause-ends g c output profile bytes outcomes stands =
     (c.in-Ok-None.ensures.stands (length bytes) bytes stands.events stands.lexer) in
     let reads = reads_same text behind output profile c.args.self.now (record c.args.self.now { lexer = c.finish.new.self }) stands.events outcomes refl refl refl stands.reads in
     on_ok_weaker c.end_events-in-Ok-None.result (λ ends. ends_text text behind output profile c.end_events-in-Ok-None.new.self bytes stands.events outcomes [] _ _ _ _ _ _ finish.spells (writes_nothing _ _)
-    (subst (λ l. EndsEvents text behind output profile stands.events l (g.W.Sink.contents c.args.writer.now) c.args.waiting.now.items (g.W.Sink.contents c.end_events-in-Ok-None.new.writer) c.end_events-in-Ok-None.new.waiting.items c.end_events-in-Ok-None.new.self) (sym (append-nil outcomes)) ends))
+    (subst (λ l. EndsEvents text behind output profile stands.events l (g.W.Sink.told c.args.writer.now).held c.args.waiting.now.items (g.W.Sink.told c.end_events-in-Ok-None.new.writer).held c.end_events-in-Ok-None.new.waiting.items c.end_events-in-Ok-None.new.self) (sym (append-nil outcomes)) ends))
     (c.end_events-in-Ok-None.ensures.ends output profile stands.events outcomes reads)
 
 -- the word under way is the last event's

@@ -13,7 +13,7 @@ decreases-words g l = length l.rest
 -- the text of what was used of the piece are on their way, and no write has failed
 abbrev pub invariant-words : goal.invariant-words
 invariant-words g l = record {
-  failures : g.W.Sink.failures l.writer ≡ g.W.Sink.failures l.fn.writer;
+  failures : (g.W.Sink.told l.writer).failures ≡ (g.W.Sink.told l.fn.writer).failures;
   took : (output : OutputText) (profile : List DeviceParts) (bytes : List ℕ) (outcomes : List Outcome) → CaptureStands g.O.Output.text g.O.Output.Stands output profile l.fn.self bytes outcomes
-      → TookUpTo g.O.Output.text g.O.Output.Stands output profile bytes outcomes l.fn.piece l.rest (g.W.Sink.contents l.fn.writer) l.fn.waiting.items (g.W.Sink.contents l.writer) l.waiting.items l.self;
+      → TookUpTo g.O.Output.text g.O.Output.Stands output profile bytes outcomes l.fn.piece l.rest (g.W.Sink.told l.fn.writer).held l.fn.waiting.items (g.W.Sink.told l.writer).held l.waiting.items l.self;
 }

@@ -1,11 +1,11 @@
 -- What is shown is what is written of the output that it began with.
-use Rattle.std.proofs.Common.{ap}
+use Rattle.std.proofs.Common.{ap, subst}
+use Rattle.pmb_io.specs.Runs.{AsTool, Ran}
 use Rattle.pmb_capture.specs.Show.{shown_output}
-use Rattle.pmb_capture.proofs.Running.{done_by, many_by}
+use Rattle.pmb_capture.specs.Written.{writing}
 use Rattle.pmb_capture.proofs.commands.show.show.Goals as goal
 
-pub returns-clause-ok : goal.returns-clause-ok
-returns-clause-ok g c = done_by (λ reader. record { left = g.R.Source.remaining reader; given = g.R.Source.given reader; reads = g.R.Source.reads reader }) c.write_capture.result _ _ c.args.profile.now c.args.first.now c.args.reader.now c.write_capture.new.reader _ _ _ (ap shown_output c.new.ensures.text) c.write_capture.ensures.ok
-
-pub returns-clause-many : goal.returns-clause-many
-returns-clause-many g c is = many_by _ _ c.args.profile.now c.args.first.now _ _ (ap shown_output c.new.ensures.text) (c.write_capture.ensures.many is)
+pub returns : goal.returns
+returns g c =
+    subst (λ output. AsTool (Ran g.R.Source.told g.W.Sink.told (writing output c.args.profile.now) c.args.first.now (c.args.reader.now, c.args.writer.now) (c.write_capture.new.reader, c.write_capture.new.writer)) c.write_capture.result)
+    (ap shown_output c.new.ensures.text) c.write_capture.ensures
