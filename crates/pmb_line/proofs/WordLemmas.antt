@@ -1,14 +1,12 @@
 -- The first word of a text.
-use Rattle.std.proofs.Common.{◌≡◌, ℕ, ◌<◌, ◌≤◌, ◌+◌, zero, suc, true, false, ◌==◌, List, [], ◌∷◌, ◌++◌, length, take, drop, slice_index, map, ◌-◌, Option, Some, length-drop, refl, sym, ap, subst, inl, inr, ◌∙◌, arith}
+use Rattle.std.proofs.Common.{◌≡◌, ℕ, ◌<◌, ◌≤◌, ◌+◌, zero, suc, true, false, ◌==◌, List, [], ◌∷◌, ◌++◌, length, take, drop, slice_index, ◌-◌, Some, length-drop, refl, sym, ap, subst, inl, inr, ◌∙◌, arith}
 use Rattle.std.specs.Prelude.{if◌then◌else◌, nat_lt, option_map}
 use Rattle.std.proofs.lemmas.List.{drop-drop}
 use Rattle.std.proofs.lemmas.Bool.{or_cases, or_parts, eqb-true}
 use Rattle.std.proofs.lemmas.Bool.Decides.{nat_tests}
 use Rattle.pmb_line.specs.Words.{Word, bounds, is_blank, is_comment, lengthened, word_behind, words_from, without_cr}
 use Rattle.std.proofs.Math.Seq.{take-length}
-use Rattle.pmb_line.specs.declared.token.Token.{Token}
-use Rattle.pmb_line.specs.Token.{token_of}
-use Rattle.pmb_line.specs.machine.Reading.{ends_line_word, located}
+use Rattle.pmb_line.specs.machine.Reading.{ends_line_word}
 
 -- a blank is passed over
 pub pass_blank : (at b : ℕ) (rest : List ℕ) → is_blank b ≡ true → words_from at (b ∷ rest) ≡ words_from (at + 1) rest
@@ -127,15 +125,13 @@ pub take_all : (n : ℕ) (text : List ℕ) → take (length text - n) (drop n te
 take_all n text = ap (λ m. take m (drop n text)) (sym (length-drop n text)) ∙ take-length (drop n text)
 
 -- the first word of a text behind some blanks, as a reader takes it
-pub first_word : (at start len : ℕ) (rest text : List ℕ) (token : Option Token) → words_from at rest ≡ words_from (at + start) (drop start rest) → text ≡ drop start rest
-    → 0 < len → len ≤ length text → AreOfWord len text → EndsAt len text → token ≡ token_of (take len text)
-    → map located (words_from at rest) ≡ record { at = at + start; token = token } ∷ map located (words_from (at + start + len) (take (length text - len) (drop len text)))
-first_word at start zero rest text token passed whole some within each ends is = absurd (omega arith)
-first_word at start (suc n) rest text token passed whole some within each ends is =
-    let first = front_word n (at + start) text within each ends in
-    ap (map located) (passed ∙ ap (words_from (at + start)) (sym whole) ∙ first)
-    ∙ ap (λ (t : Option Token). record { at = at + start; token = t } ∷ map located (words_from (at + start + suc n) (drop (suc n) text))) (sym is)
-    ∙ ap (λ (xs : List ℕ). record { at = at + start; token = token } ∷ map located (words_from (at + start + suc n) xs)) (sym (take_all (suc n) text))
+pub first_word : (at start len : ℕ) (rest text : List ℕ) → words_from at rest ≡ words_from (at + start) (drop start rest) → text ≡ drop start rest
+    → 0 < len → len ≤ length text → AreOfWord len text → EndsAt len text
+    → words_from at rest ≡ record { at = at + start; text = take len text } ∷ words_from (at + start + len) (take (length text - len) (drop len text))
+first_word at start zero rest text passed whole some within each ends = absurd (omega arith)
+first_word at start (suc n) rest text passed whole some within each ends =
+    passed ∙ ap (words_from (at + start)) (sym whole) ∙ front_word n (at + start) text within each ends
+    ∙ ap (λ (xs : List ℕ). record { at = at + start; text = take (suc n) text } ∷ words_from (at + start + suc n) xs) (sym (take_all (suc n) text))
 
 pub no_line : (line : List ℕ) → length line ≡ 0 → line ≡ without_cr line
 no_line [] none = refl

@@ -1,4 +1,5 @@
 pub mod Words
+pub mod Left
 pub mod Token
 pub mod Spelling
 pub mod Fault

@@ -29,6 +29,7 @@ mod writing;
 pub use kept_lines::LineReader;
 pub use line_fault::{FaultText, LineFault};
 pub use line_reader::{parse_line, read_line, read_words};
+pub use token::{Token, token_of};
 pub use word_fault::WordFault;
-pub use words::word_at;
+pub use words::{TextWord, Words, word_at};
 pub use writing::{Line, append_line, line_of};

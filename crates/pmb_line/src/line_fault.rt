@@ -45,7 +45,7 @@ impl LineFault {
     }
 
     /// The fault of a line's words.
-    pub(crate) fn of_words(fault: WordFault) -> LineFault
+    pub fn of_words(fault: WordFault) -> LineFault
         ensures { result ≡ word_fault fault }
     {
         match fault {

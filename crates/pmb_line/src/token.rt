@@ -101,7 +101,7 @@ fn keyword(word: &[u8]) -> Option<Token>
 
 /// What a word says, if anything.
 #[inline]
-pub(crate) fn token_of(word: &[u8]) -> Option<Token>
+pub fn token_of(word: &[u8]) -> Option<Token>
     ensures { result ≡ token_of_word word.now }
 {
     match byte(word) {

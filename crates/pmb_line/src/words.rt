@@ -1,10 +1,19 @@
 //! The words of a line, one after the other.
 
-ghost use Rattle.std.specs.Prelude.{◌≡◌, ℕ, ◌+◌, ◌^◌, ◌<◌, ◌≤◌, false, true, length, drop, map, slice_index, [], option_map};
+ghost use Rattle.std.specs.Prelude.{◌≡◌, ℕ, ◌+◌, ◌^◌, ◌<◌, ◌≤◌, false, true, length, drop, slice_index, [], option_map};
 ghost use Rattle.pmb_line.specs.Words.{bounds, is_blank as is_blank_byte, word_behind, line_words, words_from, without_cr};
-ghost use Rattle.pmb_line.specs.machine.Reading.{ends_line_word, located};
+ghost use Rattle.pmb_line.specs.machine.Reading.{ends_line_word};
 
 use crate::token::{Token, token_of};
+
+/// A word of a line: the offset of its first byte, and its bytes.
+#[derive(Clone, Copy, Debug, PartialEq, Eq)]
+pub struct TextWord<'a> {
+    /// The offset of its first byte in the line.
+    pub at: usize,
+    /// Its bytes: one or more, none of them a space, a tab or a `#`.
+    pub text: &'a [u8],
+}
 
 /// A word of a line: the offset of its first byte, and what it says, if anything.
 #[derive(Clone, Copy, Debug, PartialEq, Eq)]
@@ -13,9 +22,12 @@ pub(crate) struct Located {
     pub(crate) token: Option<Token>,
 }
 
-/// What is left of a line.
+/// The words that are left of a line.
+///
+/// Spaces and tabs separate words, a `#` begins a comment that goes on to the line's end, and one CR
+/// at the end is no part of the line.
 #[derive(Clone, Copy, Drop)]
-pub(crate) struct Words<'a> {
+pub struct Words<'a> {
     /// The offset of the first byte that is left.
     at: usize,
     /// The bytes that are left, up to the line's end.
@@ -25,11 +37,12 @@ pub(crate) struct Words<'a> {
 
 impl<'a> Words<'a> {
     ghost use Rattle.std.specs.Prelude.{◌≡◌, None, Some, IfSome, ◌∷◌};
-    ghost use Rattle.pmb_line.specs.machine.Left.{left, end};
+    ghost use Rattle.pmb_line.specs.Left.{end, text_word, words_left};
+    ghost use Rattle.pmb_line.specs.machine.Left.{left};
 
     /// The words of a line. A CR at its end is no part of it.
-    pub(crate) fn of(line: &'a [u8]) -> Words<'a>
-        ensures left { left result ≡ map located (line_words line.now) }
+    pub fn of(line: &'a [u8]) -> Words<'a>
+        ensures left { words_left result ≡ line_words line.now }
         ensures end { end result ≡ length (without_cr line.now) }
     {
         let rest = before_cr(line);
@@ -37,18 +50,18 @@ impl<'a> Words<'a> {
     }
 
     /// Where the line ends: behind its last byte, that of a comment too.
-    pub(crate) fn end(&self) -> usize
+    pub fn end(&self) -> usize
         ensures { result ≡ end self.now }
     {
         self.at + self.rest.len()
     }
 
-    /// The next word.
+    /// Takes the next word; `None` where no word is left.
     #[inline]
-    pub(crate) fn next(&mut self) -> Option<Located>
-        ensures some { IfSome result (λ word. left self.old ≡ word ∷ left self.new) }
-        ensures none { result ≡ None → left self.old ≡ [] }
-        ensures stays { result ≡ None → left self.new ≡ [] }
+    pub fn next_word(&mut self) -> Option<TextWord<'a>>
+        ensures some { IfSome result (λ word. words_left self.old ≡ text_word word ∷ words_left self.new) }
+        ensures none { result ≡ None → words_left self.old ≡ [] }
+        ensures stays { result ≡ None → words_left self.new ≡ [] }
         ensures end { end self.new ≡ end self.old }
     {
         let start = blanks(self.rest);
@@ -58,12 +71,31 @@ impl<'a> Words<'a> {
             return None;
         }
         let at = self.at + start;
-        let token = token_of(&text[..len]);
         *self = Words {
             at: at + len,
             rest: &text[len..],
         };
-        Some(Located { at, token })
+        Some(TextWord {
+            at,
+            text: &text[..len],
+        })
+    }
+
+    /// Takes the next word, and tells what it says.
+    #[inline]
+    pub(crate) fn next(&mut self) -> Option<Located>
+        ensures some { IfSome result (λ word. left self.old ≡ word ∷ left self.new) }
+        ensures none { result ≡ None → left self.old ≡ [] }
+        ensures stays { result ≡ None → left self.new ≡ [] }
+        ensures end { end self.new ≡ end self.old }
+    {
+        let Some(word) = self.next_word() else {
+            return None;
+        };
+        Some(Located {
+            at: word.at,
+            token: token_of(word.text),
+        })
     }
 }
 

@@ -1,6 +1,6 @@
 //! Text that waits for a writer, and is sent where there is no room behind it.
 
-use pmb_io::{Failing, Io, ROOM, ToolFault, Waiting, make_room, put, send};
+use pmb_io::{Failing, Io, ROOM, RunFault, Waiting, make_room, put, send};
 use std::io;
 
 #[test]
@@ -34,13 +34,13 @@ fn what_can_not_be_sent_waits(rt: HostRuntime) -> io::Result<()> {
     assert_eq!(rt; put(&mut waiting, b"abc", &mut writer), Ok(()));
     assert_eq!(rt;
         make_room(&mut waiting, ROOM, &mut writer),
-        Err(ToolFault::Write)
+        Err(RunFault::Write)
     );
     assert_eq!(rt;
         put(&mut waiting, full.as_slice(), &mut writer),
-        Err(ToolFault::Write)
+        Err(RunFault::Write)
     );
-    assert_eq!(rt; send(&mut waiting, &mut writer), Err(ToolFault::Write));
+    assert_eq!(rt; send(&mut waiting, &mut writer), Err(RunFault::Write));
     assert_eq!(rt; waiting.as_slice(), b"abc".as_slice());
     Ok(())
 }

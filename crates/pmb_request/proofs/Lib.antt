@@ -1,0 +1,9 @@
+pub mod Runs
+pub mod Steps
+pub mod Completeness
+pub mod Completions
+pub mod Faults
+pub mod Standing
+pub mod WholeLines
+pub mod Writes
+pub mod OneFault

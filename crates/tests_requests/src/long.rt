@@ -1,0 +1,71 @@
+//! Long lines: a piece repeated, and where a list has no room for what comes.
+
+use crate::says::answer;
+use arrayvec::ArrayVec;
+use pmb_note::Context;
+use pmb_table::{Profile, SAMPLE};
+use std::test::Fail;
+
+/// The front of a line, a piece that comes so many times behind it, its end, and what is answered.
+type Long = (
+    &'static str,
+    &'static str,
+    usize,
+    &'static str,
+    &'static str,
+);
+
+/// The rows of the table. A call keeps the proof of a loop over them from carrying the table.
+fn rows() -> &'static [Long] {
+    &LONGS
+}
+
+fn line(row: &Long) -> ArrayVec<u8, 2048> {
+    let mut line = ArrayVec::new();
+    let _ = line.try_extend_from_slice(row.0.as_bytes());
+    for _ in 0..row.2 {
+        let _ = line.try_extend_from_slice(row.1.as_bytes());
+    }
+    let _ = line.try_extend_from_slice(row.3.as_bytes());
+    line
+}
+
+/// Lines under the sample profile. A `*` stands for the line itself.
+static LONGS: [Long; 17] = [
+    // The 17th part of a write shows at its address.
+    ("write", " 58 03 +", 15, " 58 03", "*"),
+    ("write", " 58 03 +", 16, "", "BadWord at 133"),
+    ("write", " 58 03 +", 16, " 58 03", "TooLong at 134"),
+    ("write", " 58 03 +", 16, " 58 zz", "TooLong at 134"),
+    ("write", " 58 03 +", 16, " zz", "BadWord at 134"),
+    // The 256th byte of data shows itself.
+    ("write 58 99", " 41", 255, " pec", "*"),
+    ("write 58 99", " 41", 256, "", "TooLong at 777"),
+    ("write 58 99", " 41", 256, " zz", "TooLong at 777"),
+    ("write 58 99", " 41", 255, " zz", "BadWord at 777"),
+    ("call 58 06", " 41", 255, "", "*"),
+    ("call 58 06", " 41", 255, " pec", "*"),
+    ("call 58 06", " 41", 255, " +", "BadWord at 776"),
+    ("call 58 06", " 41", 255, " pec pec", "BadWord at 780"),
+    ("call 58 06", " 41", 256, "", "TooLong at 776"),
+    ("call 58 06", " 41", 256, " zz", "TooLong at 776"),
+    // A quantity of many digits.
+    ("set 58 21 1.", "0", 2000, "", "set 58 21 1 mode 17"),
+    ("set 58 21 1", "0", 2000, "", "TooLarge"),
+];
+
+#[test]
+fn long_lines(rt: HostRuntime) -> Result<(), Fail> {
+    let profile = Profile::from_toml(rt.alloc(), SAMPLE.as_bytes())?;
+    let context = Context::new(&profile);
+    for row in rows() {
+        let line = line(row);
+        let given = answer(&context, line.as_slice());
+        let told = match row.4 {
+            "*" => line.as_slice(),
+            told => told.as_bytes(),
+        };
+        assert!(rt; given.as_slice() == told, "at {}", row.4);
+    }
+    Ok(())
+}
