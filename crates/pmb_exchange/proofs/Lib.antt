@@ -1,0 +1,16 @@
+pub mod Places
+pub mod Signals
+pub mod Members
+pub mod Pages
+pub mod Parts
+pub mod Writing
+pub mod Stops
+pub mod Failures
+pub mod Writes
+pub mod Reading
+pub mod Asking
+pub mod Asked
+pub mod Setting
+pub mod Runs
+pub mod Steps
+pub mod OneExchange

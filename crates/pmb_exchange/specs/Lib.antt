@@ -1,0 +1,4 @@
+pub mod Exchange
+pub mod Run
+pub mod machine
+pub mod Steps

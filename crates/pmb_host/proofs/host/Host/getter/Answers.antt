@@ -1,0 +1,12 @@
+use Rattle.pmb_request.specs.Request.{Command, Get}
+use Rattle.pmb_writer.specs.Invalid.{forms_at}
+use Rattle.pmb_host.proofs.Making.{empty_reply}
+use Rattle.pmb_host.proofs.host.Host.getter.Goals as goal
+
+pub returns-in-Ok : goal.returns-in-Ok
+returns-in-Ok c =
+    let command : Command = record { addr = c.args.addr; code = c.args.code; pec = c.args.pec } in
+    let reply = c.in-Ok.ensures.reply in
+    let empty = c.new-reply.ensures in
+    c.of.ensures (Get command c.args.mode) 0 (reply.kept, c.in-Ok.ensures.has, (λ none. cc none)) c.read_of.ensures
+    (empty_reply c.new-reply.result (forms_at c.args.profile.now c.args.addr c.args.code).read c.in-Ok.form c.args.pec reply.form_is empty.form empty.pec empty.empty)

@@ -1,0 +1,28 @@
+use Rattle.pmb_host.proofs.number.NumberFormatFormat.encode.Goals as goal
+
+pub returns-in-Linear11-clause-in_range : goal.returns-in-Linear11-clause-in_range
+returns-in-Linear11-clause-in_range c = rw c.in-Linear11.is c.encode.ensures.in_range
+
+pub returns-in-Linear11-clause-below : goal.returns-in-Linear11-clause-below
+returns-in-Linear11-clause-below c = rw c.in-Linear11.is c.encode.ensures.below
+
+pub returns-in-Linear11-clause-above : goal.returns-in-Linear11-clause-above
+returns-in-Linear11-clause-above c = rw c.in-Linear11.is c.encode.ensures.above
+
+pub returns-in-Linear11Fixed-clause-in_range : goal.returns-in-Linear11Fixed-clause-in_range
+returns-in-Linear11Fixed-clause-in_range c = rw c.in-Linear11Fixed.is c.encode-in-Linear11Fixed.ensures.in_range
+
+pub returns-in-Linear11Fixed-clause-below : goal.returns-in-Linear11Fixed-clause-below
+returns-in-Linear11Fixed-clause-below c = rw c.in-Linear11Fixed.is c.encode-in-Linear11Fixed.ensures.below
+
+pub returns-in-Linear11Fixed-clause-above : goal.returns-in-Linear11Fixed-clause-above
+returns-in-Linear11Fixed-clause-above c = rw c.in-Linear11Fixed.is c.encode-in-Linear11Fixed.ensures.above
+
+pub returns-in-Word-clause-in_range : goal.returns-in-Word-clause-in_range
+returns-in-Word-clause-in_range c = rw c.in-Word.is c.encode-in-Word.ensures.in_range
+
+pub returns-in-Word-clause-below : goal.returns-in-Word-clause-below
+returns-in-Word-clause-below c = rw c.in-Word.is c.encode-in-Word.ensures.below
+
+pub returns-in-Word-clause-above : goal.returns-in-Word-clause-above
+returns-in-Word-clause-above c = rw c.in-Word.is c.encode-in-Word.ensures.above

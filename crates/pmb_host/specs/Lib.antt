@@ -1,0 +1,9 @@
+pub mod Number
+pub mod Rules
+pub mod Signals
+pub mod Standing
+pub mod Steps
+pub mod Task
+pub mod Host
+pub mod Run
+pub mod machine

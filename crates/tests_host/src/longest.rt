@@ -1,0 +1,91 @@
+//! The longest run of a host: a group of 16 blocks of 255 bytes, each with a packet error code.
+
+use arrayvec::ArrayVec;
+use pmb_device::{DeviceSignal, HostSignal};
+use pmb_host::{Host, HostStep, Reply, Request, Wire, drive};
+use pmb_table::Profile;
+use pmb_transaction::Part;
+use std::alloc::{AllocError, Global};
+use std::test::Fail;
+
+/// A profile of 16 devices, at 10h to 1fh.
+fn profile_text(alloc: Global) -> Result<String, AllocError> {
+    let mut text = String::new(alloc);
+    for address in 0x10..0x20_u8 {
+        text.push_str("[[device]]\npec = \"on\"\naddress = ")?;
+        text.push_str(format!(in alloc; "{address}\n\n")?.as_str())?;
+    }
+    Ok(text)
+}
+
+/// MFR_ID of each of them.
+fn parts() -> ArrayVec<Part, 16> {
+    let mut parts = ArrayVec::new();
+    for addr in 0x10..0x20 {
+        let mut bytes = ArrayVec::new();
+        let _ = bytes.try_extend_from_slice(&[0x41; 255]);
+        let _ = parts.try_push(Part {
+            addr,
+            code: 0x99,
+            bytes,
+            pec: true,
+        });
+    }
+    parts
+}
+
+#[test]
+fn it_has_4161_signals(rt: HostRuntime) -> Result<(), Fail> {
+    let text = profile_text(rt.alloc())?;
+    let profile = Profile::from_toml(rt.alloc(), text.as_bytes()).map_err(|_| "profile")?;
+    let request = Request::Write { parts: parts() };
+    let mut host = Host::new(&profile, request).map_err(|_| "host")?;
+    let mut sent: usize = 0;
+    let mut last = HostSignal::Start;
+    for _ in 0..5000 {
+        match host.next(DeviceSignal::Ack) {
+            HostStep::Send(signal) => {
+                sent = sent.saturating_add(1);
+                last = signal;
+            }
+            end => {
+                assert_eq!(rt; end, HostStep::Done(Reply::Written));
+                assert_eq!(rt; last, HostSignal::Stop);
+                break;
+            }
+        }
+    }
+    assert_eq!(rt; sent, 4161);
+    Ok(())
+}
+
+/// A wire that answers ACK to each signal, and counts them.
+#[derive(Drop)]
+struct Acking {
+    put: usize,
+}
+
+impl Wire for Acking {
+    ghost StandsAt = { λ wire told. Unit {0} };
+
+    fn put(&mut self, _signal: HostSignal) -> DeviceSignal {
+        self.put = self.put.saturating_add(1);
+        DeviceSignal::Ack
+    }
+}
+
+#[test]
+fn it_is_made_on_a_wire(rt: HostRuntime) -> Result<(), Fail> {
+    let text = profile_text(rt.alloc())?;
+    let profile = Profile::from_toml(rt.alloc(), text.as_bytes()).map_err(|_| "profile")?;
+    let request = Request::Write { parts: parts() };
+    let mut host = Host::new(&profile, request).map_err(|_| "host")?;
+    let mut wire = Acking { put: 0 };
+    assert_eq!(rt; drive(&mut host, &mut wire), Ok(Reply::Written));
+    assert_eq!(rt; wire.put, 4161);
+    assert_eq!(rt;
+        host.next(DeviceSignal::Silent),
+        HostStep::Done(Reply::Written)
+    );
+    Ok(())
+}
