@@ -4,24 +4,12 @@
 //! its devices in turn of a random draw, some of them in groups of two, and each is ended by STOP.
 #![tactic(auto)]
 
+use plain_packets::Random;
 use pmb_device::HostSignal;
 use pmb_devices::Bus;
 use pmb_table::Profile;
 use std::io::{self, Read};
 use std::process::ExitCode;
-
-/// Numbers that follow no pattern (Marsaglia's xorshift of 32 bits).
-#[derive(Clone, Copy)]
-struct Random(u32);
-
-impl Random {
-    fn next(&mut self) -> u32 {
-        self.0 ^= self.0 << 13;
-        self.0 ^= self.0 >> 17;
-        self.0 ^= self.0 << 5;
-        self.0
-    }
-}
 
 /// A host that counts its signals.
 #[derive(Drop)]
@@ -71,7 +59,7 @@ fn drawn(profile: &Profile, number: u32) -> u8 {
 }
 
 fn run(bus: &mut Bus<'_>, profile: &Profile, packets: u32) -> u64 {
-    let mut random = Random(0x2545_f491);
+    let mut random = Random::new(0x2545_f491);
     let mut host = Counting { bus, signals: 0 };
     for _ in 0..packets {
         let number = random.next();

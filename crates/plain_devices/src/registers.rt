@@ -49,8 +49,9 @@ impl Held {
 
 /// The selected page and the registers of a device.
 #[derive(Drop)]
-pub(crate) struct PlainRegisters<'p> {
+pub struct PlainRegisters<'p> {
     device: &'p DeviceProfile,
+    /// The selected page, or ffh for all.
     pub page: u8,
     held: Vec<Held>,
 }

@@ -7,6 +7,7 @@
 mod captures;
 mod legs;
 mod packets;
+mod random;
 mod texts;
 mod viability;
 
@@ -16,5 +17,6 @@ pub use legs::{
     reply_form,
 };
 pub use packets::packet;
+pub use random::Random;
 pub use texts::{LONG_FORMS, SEVENTEEN_DEVICES, events};
 pub use viability::{is_viable, kinds_after};

@@ -11,8 +11,6 @@ mod compared;
 #[cfg(test)]
 mod memory;
 #[cfg(test)]
-mod profiles;
-#[cfg(test)]
 mod random;
 #[cfg(test)]
 mod sessions;

@@ -1,40 +1,14 @@
 //! Random lists of signals, from a fixed seed: packets, and packets that were broken.
 
 use crate::compared::Compared;
-use crate::profiles::{EVERY_KIND, MANY_END, MANY_FRONT, MANY_ITEM};
+use plain_devices::{EVERY_KIND, many_devices};
+use plain_packets::Random;
 use pmb_bus::pec_of;
 use pmb_device::HostSignal;
 use pmb_table::{DeviceProfile, Entry, Form, PecMode, Profile, SAMPLE};
 use std::alloc::{AllocError, Global};
 use std::process::Abort;
 use std::test::Fail;
-
-/// Numbers that follow no pattern (Marsaglia's xorshift of 32 bits).
-#[derive(Clone, Copy)]
-struct Random(u32);
-
-impl Random {
-    fn next(&mut self) -> u32 {
-        self.0 ^= self.0 << 13;
-        self.0 ^= self.0 >> 17;
-        self.0 ^= self.0 << 5;
-        self.0
-    }
-
-    /// A number below `most`, or 0.
-    fn below(&mut self, most: usize) -> usize {
-        (self.next() >> 8) as usize % most.max(1)
-    }
-
-    /// Whether a chance of one in so many comes.
-    fn once_in(&mut self, most: usize) -> bool {
-        self.below(most) == 0
-    }
-
-    fn byte(&mut self) -> u8 {
-        (self.next() >> 24) as u8
-    }
-}
 
 /// Signals that are put together.
 #[derive(Drop)]
@@ -300,7 +274,7 @@ fn first_difference(
     seed: u32,
     lists: usize,
 ) -> Result<(Option<usize>, usize), AllocError> {
-    let mut random = Random(seed);
+    let mut random = Random::new(seed);
     let mut alike: usize = 0;
     for list in 0..lists {
         let mut script = Script {
@@ -322,25 +296,6 @@ fn first_difference(
         alike = alike.saturating_add(compared.alike);
     }
     Ok((None, alike))
-}
-
-fn push_text(text: &mut Vec<u8>, more: &str) -> Result<(), AllocError> {
-    text.extend_from_slice(more.as_bytes())?;
-    Ok(())
-}
-
-/// A profile of 64 devices, at 10h to 4fh.
-fn many_devices(alloc: Global) -> Result<Vec<u8>, AllocError> {
-    let mut text = Vec::new(alloc);
-    push_text(&mut text, MANY_FRONT)?;
-    for address in 0x10u8..0x50 {
-        push_text(&mut text, "    { address = ")?;
-        text.push(b'0' + address / 10)?;
-        text.push(b'0' + address % 10)?;
-        push_text(&mut text, MANY_ITEM)?;
-    }
-    push_text(&mut text, MANY_END)?;
-    Ok(text)
 }
 
 /// Compares lists of signals under a profile: none differs, and in most of them transactions are read.

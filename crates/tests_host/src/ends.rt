@@ -1,10 +1,11 @@
 //! What a host sends, and how it ends.
 
-use crate::requests::{Asked, request_of};
+use crate::requests::{Asked, OTHER_FORMS, request_of};
 use pmb_device::{DeviceSignal, HostSignal};
 use pmb_host::{Host, HostStep};
 use pmb_table::{Profile, SAMPLE};
 use std::alloc::{AllocError, Global};
+use std::process::Abort;
 use std::test::Fail;
 
 /// What is answered.
@@ -34,7 +35,8 @@ fn told_of(asked: Asked, answers: Answers, told: &'static str) -> Row {
     }
 }
 
-fn rows() -> [Row; 15] {
+/// Under the sample profile.
+fn sample_rows() -> [Row; 15] {
     let read = Asked::Read(0x58, 0x88, true);
     [
         told_of(
@@ -111,6 +113,42 @@ fn rows() -> [Row; 15] {
     ]
 }
 
+/// Under the profile of other forms: zero, too, is written with the one exponent.
+fn other_rows() -> [Row; 6] {
+    [
+        told_of(
+            Asked::Set(0x10, 0x35, b"12", None, false),
+            Answers::Well(&[]),
+            "S 20 35 60 e8 P Done(Written)",
+        ),
+        told_of(
+            Asked::Set(0x10, 0x35, b"0", None, false),
+            Answers::Well(&[]),
+            "S 20 35 00 e8 P Done(Written)",
+        ),
+        told_of(
+            Asked::Set(0x10, 0x35, b"3/16", None, false),
+            Answers::Well(&[]),
+            "S 20 35 02 e8 P Done(Written)",
+        ),
+        told_of(
+            Asked::Set(0x10, 0x35, b"-128", None, false),
+            Answers::Well(&[]),
+            "S 20 35 00 ec P Done(Written)",
+        ),
+        told_of(
+            Asked::Write(&[(0x10, 0xe0, &[], false)]),
+            Answers::Well(&[]),
+            "S 20 e0 P Done(Written)",
+        ),
+        told_of(
+            Asked::Call(0x10, 0xe1, &[1, 2], false),
+            Answers::Well(&[3, 4]),
+            "S 20 e1 01 02 S 21 ? A ? N P Done(Bytes([3, 4]))",
+        ),
+    ]
+}
+
 /// The text of a signal.
 fn push_signal(alloc: Global, text: &mut String, signal: HostSignal) -> Result<(), AllocError> {
     match signal {
@@ -170,19 +208,30 @@ fn told(alloc: Global, host: &mut Host, answers: Answers) -> Result<String, Allo
     Ok(text)
 }
 
-#[test]
-fn rows_are_as_told(rt: HostRuntime) -> Result<(), Fail> {
-    let profile = Profile::from_toml(rt.alloc(), SAMPLE.as_bytes()).map_err(|_| "profile")?;
-    for told_row in &rows() {
+/// Whether the hosts of rows send and end as told.
+fn check_rows(rt: &impl Abort, alloc: Global, profile: &Profile, rows: &[Row]) -> Result<(), Fail> {
+    for told_row in rows {
         let request = request_of(told_row.asked).ok_or("request")?;
         let expected = told_row.told;
-        match Host::new(&profile, request) {
+        match Host::new(profile, request) {
             Ok(mut host) => {
-                let text = told(rt.alloc(), &mut host, told_row.answers)?;
+                let text = told(alloc, &mut host, told_row.answers)?;
                 assert_eq!(rt; text.as_str(), expected);
             }
             Err(_) => assert_eq!(rt; "no host", expected),
         }
     }
     Ok(())
+}
+
+#[test]
+fn rows_are_as_told(rt: HostRuntime) -> Result<(), Fail> {
+    let profile = Profile::from_toml(rt.alloc(), SAMPLE.as_bytes()).map_err(|_| "profile")?;
+    check_rows(&rt, rt.alloc(), &profile, &sample_rows())
+}
+
+#[test]
+fn other_forms_are_as_told(rt: HostRuntime) -> Result<(), Fail> {
+    let profile = Profile::from_toml(rt.alloc(), OTHER_FORMS.as_bytes()).map_err(|_| "profile")?;
+    check_rows(&rt, rt.alloc(), &profile, &other_rows())
 }

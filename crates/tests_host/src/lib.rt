@@ -3,10 +3,16 @@
 #![tactic(auto)]
 
 #[cfg(test)]
+mod answers;
+#[cfg(test)]
 mod ends;
 #[cfg(test)]
 mod faults;
 #[cfg(test)]
 mod longest;
+#[cfg(test)]
+mod plain;
+#[cfg(test)]
+mod random;
 #[cfg(test)]
 mod requests;

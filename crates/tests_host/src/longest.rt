@@ -2,7 +2,7 @@
 
 use arrayvec::ArrayVec;
 use pmb_device::{DeviceSignal, HostSignal};
-use pmb_host::{Host, HostStep, Reply, Request, Wire, drive};
+use pmb_host::{Host, HostFault, HostStep, Reply, Request, Wire, drive};
 use pmb_table::Profile;
 use pmb_transaction::Part;
 use std::alloc::{AllocError, Global};
@@ -56,6 +56,53 @@ fn it_has_4161_signals(rt: HostRuntime) -> Result<(), Fail> {
         }
     }
     assert_eq!(rt; sent, 4161);
+    Ok(())
+}
+
+/// How many signals a host sends where the one behind so many others gets NACK and each other one ACK, and how
+/// it ends.
+fn refused_at(host: &mut Host<'_>, place: u16) -> (u16, Option<HostStep>) {
+    let mut answer = DeviceSignal::Ack;
+    for sent in 0..4162 {
+        match host.next(answer) {
+            HostStep::Send(_) if sent == place => answer = DeviceSignal::Nack,
+            HostStep::Send(_) => answer = DeviceSignal::Ack,
+            end => return (sent, Some(end)),
+        }
+    }
+    (4162, None)
+}
+
+/// The signals of a leg: START, the address, the code, the count, the data and the packet error code.
+const LEG: u16 = 260;
+
+/// How many signals there have to be, and the end. The answer to a START counts for nothing.
+fn expected_at(place: u16) -> (u16, Option<HostStep>) {
+    let leg = u8::try_from(place / LEG).unwrap_or(0).saturating_add(1);
+    match (place % LEG).checked_sub(1) {
+        None => (4161, Some(HostStep::Done(Reply::Written))),
+        Some(byte) => {
+            let at_read = false;
+            let fault = HostFault::Refused { leg, byte, at_read };
+            (place.saturating_add(2), Some(HostStep::Failed(fault)))
+        }
+    }
+}
+
+#[test]
+fn it_stops_where_a_byte_is_refused(rt: HostRuntime) -> Result<(), Fail> {
+    let text = profile_text(rt.alloc())?;
+    let profile = Profile::from_toml(rt.alloc(), text.as_bytes()).map_err(|_| "profile")?;
+    for step in 0..69_u16 {
+        let place = step * 61;
+        let request = Request::Write { parts: parts() };
+        let mut host = Host::new(&profile, request).map_err(|_| "host")?;
+        assert_eq!(rt;
+            refused_at(&mut host, place),
+            expected_at(place),
+            "at {place}"
+        );
+    }
     Ok(())
 }
 

@@ -5,6 +5,13 @@ use pmb_host::Request;
 use pmb_transaction::Part;
 use pmb_value::Quantity;
 
+/// A command that is written without data and read as a number, one that is called with two bytes, and one
+/// in LINEAR11 with one exponent.
+pub(crate) const OTHER_FORMS: &str = "[[device]]\naddress = 0x10\npec = \"off\"\n\
+                                      [[device.command]]\ncode = 0xe0\nwrite = \"zero\"\nread = \"two\"\nkind = \"linear11\"\n\
+                                      [[device.command]]\ncode = 0xe1\ncall = \"two\"\n\
+                                      [[device.command]]\nname = \"VIN_ON\"\nexponent = -3\n";
+
 /// A request of a row.
 #[derive(Clone, Copy, Debug)]
 pub(crate) enum Asked {
@@ -16,13 +23,13 @@ pub(crate) enum Asked {
     Get(u8, u8, Option<u8>, bool),
 }
 
-fn bytes_of(items: &[u8]) -> ArrayVec<u8, 255> {
+pub(crate) fn bytes_of(items: &[u8]) -> ArrayVec<u8, 255> {
     let mut bytes = ArrayVec::new();
     let _ = bytes.try_extend_from_slice(items);
     bytes
 }
 
-fn parts_of(items: &[(u8, u8, &'static [u8], bool)]) -> ArrayVec<Part, 16> {
+pub(crate) fn parts_of(items: &[(u8, u8, &'static [u8], bool)]) -> ArrayVec<Part, 16> {
     let mut parts = ArrayVec::new();
     for &(addr, code, bytes, pec) in items {
         let bytes = bytes_of(bytes);

@@ -1,7 +1,7 @@
 //! Captures that were damaged at random, from a fixed seed, against a reader by the rules in words.
 
 use crate::compared::first_difference;
-use plain_packets::{CapturedRow, LONG, LONG_FORMS, PACKETS, REFUSALS, events};
+use plain_packets::{CapturedRow, LONG, LONG_FORMS, PACKETS, REFUSALS, Random, events};
 use pmb_bus::Event;
 use pmb_table::{Profile, SAMPLE};
 use std::alloc::{AllocError, Global};
@@ -11,35 +11,17 @@ use std::test::Fail;
 /// How often each row is damaged.
 const TIMES: u32 = 50;
 
-/// Numbers that follow no pattern (Marsaglia's xorshift of 32 bits).
-#[derive(Clone, Copy)]
-struct Random(u32);
-
-impl Random {
-    fn next(&mut self) -> u32 {
-        self.0 ^= self.0 << 13;
-        self.0 ^= self.0 >> 17;
-        self.0 ^= self.0 << 5;
-        self.0
-    }
-
-    /// A number below `most`, or 0.
-    fn below(&mut self, most: usize) -> usize {
-        (self.next() >> 8) as usize % most.max(1)
-    }
-
-    /// An event, a byte of which is often one of those that captures have.
-    fn event(&mut self) -> Event {
-        match self.below(12) {
-            0 | 1 => Event::Start,
-            2 | 3 => Event::Ack,
-            4 | 5 => Event::Nack,
-            6 | 7 => Event::Stop,
-            8 => Event::Byte(0xb0),
-            9 => Event::Byte(0xb1),
-            10 => Event::Byte(0x03),
-            _ => Event::Byte((self.next() >> 24) as u8),
-        }
+/// An event, a byte of which is often one of those that captures have.
+fn any_event(random: &mut Random) -> Event {
+    match random.below(12) {
+        0 | 1 => Event::Start,
+        2 | 3 => Event::Ack,
+        4 | 5 => Event::Nack,
+        6 | 7 => Event::Stop,
+        8 => Event::Byte(0xb0),
+        9 => Event::Byte(0xb1),
+        10 => Event::Byte(0x03),
+        _ => Event::Byte(random.byte()),
     }
 }
 
@@ -65,7 +47,7 @@ fn damaged_once(
     events: &[Event],
 ) -> Result<Vec<Event>, AllocError> {
     let place = random.below(events.len());
-    let event = random.event();
+    let event = any_event(random);
     let how = random.below(3);
     let (front, rest) = events.split_at(place.min(events.len()));
     let behind = rest.get(1..).unwrap_or(&[]);
@@ -130,7 +112,7 @@ fn compare<R: Abort>(
 #[test]
 fn damaged_captures_read_by_the_rules(rt: HostRuntime) -> Result<(), Fail> {
     let alloc = rt.alloc();
-    let mut random = Random(0x2545_f491);
+    let mut random = Random::new(0x2545_f491);
     compare(&rt, alloc, SAMPLE, &mut random, PACKETS.as_slice())?;
     compare(&rt, alloc, SAMPLE, &mut random, REFUSALS.as_slice())?;
     compare(&rt, alloc, LONG_FORMS, &mut random, LONG.as_slice())

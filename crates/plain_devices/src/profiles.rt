@@ -1,9 +1,11 @@
-//! Profiles with registers of each kind.
+//! Profiles with registers of each kind, for tests.
+
+use std::alloc::{AllocError, Global};
 
 /// Three devices with the same commands, one for each way to treat packet error codes: every form,
 /// paged and not, status registers of one byte and of two, commands that are written alone, read
 /// alone, or called as well, and coefficients.
-pub(crate) const EVERY_KIND: &str = r#"[[device]]
+pub const EVERY_KIND: &str = r#"[[device]]
 address = 0x20
 pec = "off"
 pages = 3
@@ -66,9 +68,55 @@ command = [
 "#;
 
 /// What the text of 64 devices begins with; one item of it, but for its address; and its end.
-pub(crate) const MANY_FRONT: &str = "device = [\n";
+const MANY_FRONT: &str = "device = [\n";
 
-pub(crate) const MANY_ITEM: &str =
+const MANY_ITEM: &str =
     ", pec = 'optional', pages = 2, standard = false, command = [{ name = 'PAGE' }, { name = 'CLEAR_FAULTS' }, { name = 'VOUT_COMMAND' }, { name = 'STATUS_CML' }] },\n";
 
-pub(crate) const MANY_END: &str = "]\n";
+const MANY_END: &str = "]\n";
+
+fn push_text(text: &mut Vec<u8>, more: &str) -> Result<(), AllocError> {
+    text.extend_from_slice(more.as_bytes())?;
+    Ok(())
+}
+
+/// A profile of 64 devices, at 10h to 4fh.
+pub fn many_devices(alloc: Global) -> Result<Vec<u8>, AllocError> {
+    let mut text = Vec::new(alloc);
+    push_text(&mut text, MANY_FRONT)?;
+    for address in 0x10u8..0x50 {
+        push_text(&mut text, "    { address = ")?;
+        text.push(b'0' + address / 10)?;
+        text.push(b'0' + address % 10)?;
+        push_text(&mut text, MANY_ITEM)?;
+    }
+    push_text(&mut text, MANY_END)?;
+    Ok(text)
+}
+
+/// A converter whose output voltages are linear, one where they are in DIRECT, and a hot-swap
+/// controller with a few commands alone.
+pub const BOARD: &str = r#"[[device]]
+address = 0x40
+pec = "optional"
+pages = 2
+vout_mode = 0x13
+command = [{ name = "TON_DELAY", exponent = -2 }]
+
+[[device]]
+address = 0x41
+pec = "on"
+pages = 4
+vout_mode = 0x40
+vout_direct = { m = 200, b = -15, r = 1 }
+
+[[device]]
+address = 0x10
+pec = "off"
+standard = false
+command = [
+    { name = "CLEAR_FAULTS" },
+    { name = "READ_VIN", kind = "direct", m = 6720, b = 0, r = -1, initial = "801f" },
+    { name = "COEFFICIENTS" },
+]
+"#;
