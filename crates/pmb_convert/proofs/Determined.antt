@@ -20,10 +20,10 @@ use Rattle.pmb_io.specs.Lines as lines
 use Rattle.pmb_io.specs.declared.tally.Tally.{Tally}
 use Rattle.pmb_convert.specs.declared.conversion.Conversion.{Conversion}
 use Rattle.pmb_convert.specs.declared.conversion.Conversion.TheVariants.{Encode, Decode}
-use Rattle.pmb_convert.specs.declared.named_format.NamedFormat.{NamedFormat}
-use Rattle.pmb_convert.specs.declared.named_format.NamedFormat.TheVariants.{Linear11, Linear11Fixed, Word}
+use Rattle.pmb_value.specs.declared.number_format.NumberFormat.{NumberFormat}
+use Rattle.pmb_value.specs.declared.number_format.NumberFormat.TheVariants.{Linear11, Linear11Fixed, Word}
 use Rattle.pmb_convert.specs.Answer.{Answer, AnswersEach, AnswersLine, AnswersText, EncodesQuantity, EncodesRead, nearest, below, above, answer_line, code_text}
-use Rattle.pmb_convert.specs.Format.{coding_of}
+use Rattle.pmb_value.specs.NumberFormat.{number_coding}
 use Rattle.pmb_convert.proofs.Choices.{picks}
 use Rattle.pmb_convert.specs.Laws.{IsDetermined, IsFormat}
 use Rattle.pmb_convert.specs.Lines.{AnswersCounted, AnswersLines}
@@ -125,14 +125,14 @@ one_quantity f q code one is_code positive a b (above over a_is) (above over' b_
 abbrev HasOneAnswer : Conversion → Type 0
 HasOneAnswer conversion = (text : List ℕ) (a b : Answer) → AnswersText conversion text a → AnswersText conversion text b → a ≡ b
 
-decode_one : (format : NamedFormat) → HasOneAnswer (Decode format)
+decode_one : (format : NumberFormat) → HasOneAnswer (Decode format)
 decode_one format text a b a_is b_is = a_is ∙ sym b_is
 
-encode_one : (format : NamedFormat) (code : ℕ) → StaysPositive → HasOneNearest (coding_of format) → (coding_of format).IsCode code → HasOneAnswer (Encode format)
+encode_one : (format : NumberFormat) (code : ℕ) → StaysPositive → HasOneNearest (number_coding format) → (number_coding format).IsCode code → HasOneAnswer (Encode format)
 encode_one format code stays one is_code text a b = by (reading text) (reading-positive stays text)
   where
-    by : (read : Result Fraction QuantityFault) → HasPositive read → EncodesRead (coding_of format) read a → EncodesRead (coding_of format) read b → a ≡ b
-    by (Ok q) positive left right = one_quantity (coding_of format) q code one is_code positive a b left right
+    by : (read : Result Fraction QuantityFault) → HasPositive read → EncodesRead (number_coding format) read a → EncodesRead (number_coding format) read b → a ≡ b
+    by (Ok q) positive left right = one_quantity (number_coding format) q code one is_code positive a b left right
     by (Err fault) positive left right = left ∙ sym right
 
 -- ---- and so have lines
@@ -172,14 +172,14 @@ determined conversion one = record {
   ended = λ bytes text other left right. one_text conversion one _ text other left right;
 }
 
-pub decodes_one : (format : NamedFormat) → IsDetermined (Decode format)
+pub decodes_one : (format : NumberFormat) → IsDetermined (Decode format)
 decodes_one format = determined (Decode format) (decode_one format)
 
-encodes_one : (format : NamedFormat) (code : ℕ) → StaysPositive → HasOneNearest (coding_of format) → (coding_of format).IsCode code → IsDetermined (Encode format)
+encodes_one : (format : NumberFormat) (code : ℕ) → StaysPositive → HasOneNearest (number_coding format) → (number_coding format).IsCode code → IsDetermined (Encode format)
 encodes_one format code stays one is_code = determined (Encode format) (encode_one format code stays one is_code)
 
 pub encodes : StaysPositive → HasOneNearest linear11 → ((e : ℤ) → IsExponent e → HasOneNearest (linear11_fixed e)) → ((e : ℤ) → IsExponent e → (code : ℕ) × (linear11_fixed e).IsCode code) → ((e : ℤ) → IsExponent e → HasOneNearest (ulinear16 e)) → ((e : ℤ) → IsExponent e → HasOneNearest (slinear16 e)) → ((d : Coefficients) → d.m ≢ pos 0 → HasOneNearest (direct d))
-    → (format : NamedFormat) → IsFormat format → IsDetermined (Encode format)
+    → (format : NumberFormat) → IsFormat format → IsDetermined (Encode format)
 encodes stays a fixed some_code b c d Linear11 is = encodes_one Linear11 0 stays a (omega arith)
 encodes stays a fixed some_code b c d (Linear11Fixed e) is = let code = some_code e is in encodes_one (Linear11Fixed e) code.0 stays (fixed e is) code.1
 encodes stays a fixed some_code b c d (Word (Unsigned e)) is = encodes_one (Word (Unsigned e)) 0 stays (b e is) (omega arith)

@@ -8,14 +8,14 @@ use Rattle.pmb_value.specs.declared.vout.ModeFault.TheVariants.{Relative, Vid, I
 use Rattle.pmb_value.specs.declared.vout.VoutFormat.TheVariants.{Unsigned, Signed, Direct}
 use Rattle.pmb_convert.specs.declared.format_fault.FormatFault.{FormatFault}
 use Rattle.pmb_convert.specs.declared.format_fault.FormatFault.TheVariants.{BadExponent, BadScale, ZeroSlope}
-use Rattle.pmb_convert.specs.declared.named_format.NamedFormat.{NamedFormat}
-use Rattle.pmb_convert.specs.declared.named_format.NamedFormat.TheVariants.{Linear11Fixed, Word}
+use Rattle.pmb_value.specs.declared.number_format.NumberFormat.{NumberFormat}
+use Rattle.pmb_value.specs.declared.number_format.NumberFormat.TheVariants.{Linear11Fixed, Word}
 use Rattle.pmb_convert.specs.Laws.{IsFormat}
 use Rattle.pmb_convert.proofs.Choices.{picks}
 use Rattle.pmb_convert.specs.Spelling.{Names, Saying, named_direct, is_from_to, is_zero, linear11, linear11_fixed, ulinear16, slinear16, vout, direct, named_linear, other, mode_format, said, spelled, vout_of}
 
 -- a format, where there is one
-abbrev IsFormatIn : Result NamedFormat FormatFault → Type 0
+abbrev IsFormatIn : Result NumberFormat FormatFault → Type 0
 IsFormatIn (Ok format) = IsFormat format
 IsFormatIn (Err fault) = Unit {0}
 
@@ -42,7 +42,7 @@ not_zero (negsuc n) test is = cc
 
 coefficients : (m b r : ℤ) → IsFormatIn (named_direct m b r)
 coefficients m b r =
-    let made : NamedFormat = Word (Direct (record { m = m; b = b; r = r })) in
+    let made : NumberFormat = Word (Direct (record { m = m; b = b; r = r })) in
     picks IsFormatIn (is_zero m) (Err ZeroSlope) (cond (is_from_to 9 9 r) (Ok made) (Err BadScale)) (λ _. tt)
     (λ slope. picks IsFormatIn (is_from_to 9 9 r) (Ok made) (Err BadScale) (λ inside. (not_zero m slope, (scale r inside).0, (scale r inside).1)) (λ _. tt))
 
@@ -75,6 +75,6 @@ said_in (slinear16 e) = signed e
 said_in (vout m) = mode m
 said_in (direct m b r) = coefficients m b r
 
-pub named_in : (text : List ℕ) (format : NamedFormat) → Names text (Ok format) → IsFormat format
+pub named_in : (text : List ℕ) (format : NumberFormat) → Names text (Ok format) → IsFormat format
 named_in text format (spelled saying says is) = subst IsFormatIn (sym is) (said_in saying)
 named_in text format (other none is) = cc

@@ -7,14 +7,14 @@ use Rattle.std.proofs.lemmas.Int.{to_z-of_z}
 use mir.Val.{to_z, of_z}
 use Rattle.pmb_convert.specs.declared.format_fault.FormatFault.{FormatFault}
 use Rattle.pmb_convert.specs.declared.format_fault.FormatFault.TheVariants.{BadFormat}
-use Rattle.pmb_convert.specs.declared.named_format.NamedFormat.{NamedFormat}
+use Rattle.pmb_value.specs.declared.number_format.NumberFormat.{NumberFormat}
 use Rattle.pmb_convert.specs.Spelling.{Answers, Names, Saying, SpellsFormat, WritesInteger, WritesByte, WritesMode, named_direct, said, spelled, other, linear11, linear11_fixed, ulinear16, slinear16, vout, direct}
 use Rattle.pmb_convert.specs.machine.Parts.{HasNoComma, comma, IsDirect, IsFixed, IsSigned, IsUnsigned, IsVout}
 use Rattle.pmb_convert.proofs.Integers.{number_has_no_comma, one_comma, one_number}
 use Rattle.pmb_convert.proofs.Modes.{one_mode}
 
 -- an answer to what says the same
-pub answers_too : (P Q : Saying → Type 0) (answer : Result NamedFormat FormatFault) → ((s : Saying) → P s → Q s) → ((s : Saying) → Q s → P s) → Answers P answer → Answers Q answer
+pub answers_too : (P Q : Saying → Type 0) (answer : Result NumberFormat FormatFault) → ((s : Saying) → P s → Q s) → ((s : Saying) → Q s → P s) → Answers P answer → Answers Q answer
 answers_too P Q answer to back (spelled saying says is) = spelled saying (to saying says) is
 answers_too P Q answer to back (other none is) = other (λ s q. none s (back s q)) is
 
@@ -103,23 +103,23 @@ spelled_direct numbers (direct m b r) is = record {
 
 -- ---- the answers to a text of a kind
 
-pub names_fixed : (text E : List ℕ) (answer : Result NamedFormat FormatFault) → text ≡ codes "linear11:" ++ E → Answers (IsFixed E) answer → Names text answer
+pub names_fixed : (text E : List ℕ) (answer : Result NumberFormat FormatFault) → text ≡ codes "linear11:" ++ E → Answers (IsFixed E) answer → Names text answer
 names_fixed text E answer is answers =
     subst (λ t. Names t answer) (sym is) (answers_too (IsFixed E) (SpellsFormat (codes "linear11:" ++ E)) answer (fixed_spells E) (spelled_fixed E) answers)
 
-pub names_unsigned : (text E : List ℕ) (answer : Result NamedFormat FormatFault) → text ≡ codes "ulinear16:" ++ E → Answers (IsUnsigned E) answer → Names text answer
+pub names_unsigned : (text E : List ℕ) (answer : Result NumberFormat FormatFault) → text ≡ codes "ulinear16:" ++ E → Answers (IsUnsigned E) answer → Names text answer
 names_unsigned text E answer is answers =
     subst (λ t. Names t answer) (sym is) (answers_too (IsUnsigned E) (SpellsFormat (codes "ulinear16:" ++ E)) answer (unsigned_spells E) (spelled_unsigned E) answers)
 
-pub names_signed : (text E : List ℕ) (answer : Result NamedFormat FormatFault) → text ≡ codes "slinear16:" ++ E → Answers (IsSigned E) answer → Names text answer
+pub names_signed : (text E : List ℕ) (answer : Result NumberFormat FormatFault) → text ≡ codes "slinear16:" ++ E → Answers (IsSigned E) answer → Names text answer
 names_signed text E answer is answers =
     subst (λ t. Names t answer) (sym is) (answers_too (IsSigned E) (SpellsFormat (codes "slinear16:" ++ E)) answer (signed_spells E) (spelled_signed E) answers)
 
-pub names_vout : (text HH : List ℕ) (answer : Result NamedFormat FormatFault) → text ≡ codes "vout:" ++ HH → Answers (IsVout HH) answer → Names text answer
+pub names_vout : (text HH : List ℕ) (answer : Result NumberFormat FormatFault) → text ≡ codes "vout:" ++ HH → Answers (IsVout HH) answer → Names text answer
 names_vout text HH answer is answers =
     subst (λ t. Names t answer) (sym is) (answers_too (IsVout HH) (SpellsFormat (codes "vout:" ++ HH)) answer (vout_spells HH) (spelled_vout HH) answers)
 
-pub names_direct : (text numbers : List ℕ) (answer : Result NamedFormat FormatFault) → text ≡ codes "direct:" ++ numbers → Answers (IsDirect numbers) answer → Names text answer
+pub names_direct : (text numbers : List ℕ) (answer : Result NumberFormat FormatFault) → text ≡ codes "direct:" ++ numbers → Answers (IsDirect numbers) answer → Names text answer
 names_direct text numbers answer is answers =
     subst (λ t. Names t answer) (sym is) (answers_too (IsDirect numbers) (SpellsFormat (codes "direct:" ++ numbers)) answer (direct_spells numbers) (spelled_direct numbers) answers)
 
@@ -167,7 +167,7 @@ bad_r numbers M B R parts none =
     other (λ s d. none d.r (subst (λ t. WritesInteger t d.r) (parts_are numbers M B R s parts d).2 d.r_is.writes) d.r_is.fits) refl
 
 -- three numbers
-pub three_numbers : (numbers M B R : List ℕ) (m b r : ℤ) (answer : Result NamedFormat FormatFault) → AreParts numbers M B R → WritesInteger M m → FitsSigned w16 m → WritesInteger B b → FitsSigned w16 b → WritesInteger R r → FitsSigned w8 r
+pub three_numbers : (numbers M B R : List ℕ) (m b r : ℤ) (answer : Result NumberFormat FormatFault) → AreParts numbers M B R → WritesInteger M m → FitsSigned w16 m → WritesInteger B b → FitsSigned w16 b → WritesInteger R r → FitsSigned w8 r
     → answer ≡ named_direct (to_z w16 (of_z w16 m)) (to_z w16 (of_z w16 b)) (to_z w8 (of_z w8 r)) → Answers (IsDirect numbers) answer
 three_numbers numbers M B R m b r answer parts m_is m_fits b_is b_fits r_is r_fits is =
     spelled (direct m b r)
@@ -229,7 +229,7 @@ one_saying text (direct m k r) b is too =
     one_direct numbers (direct m k r) b left (spelled_direct numbers b (subst (λ t. SpellsFormat t b) (is.3 ∙ direct_text is.0 is.1 is.2) too))
 
 -- and has one answer
-pub one_answer : (text : List ℕ) (a b : Result NamedFormat FormatFault) → Names text a → Names text b → a ≡ b
+pub one_answer : (text : List ℕ) (a b : Result NumberFormat FormatFault) → Names text a → Names text b → a ≡ b
 one_answer text a b (spelled s says a_is) (spelled t says' b_is) = a_is ∙ ap said (one_saying text s t says says') ∙ sym b_is
 one_answer text a b (spelled s says a_is) (other none b_is) = absurd (none s says)
 one_answer text a b (other none a_is) (spelled t says' b_is) = absurd (none t says')

@@ -14,7 +14,7 @@ use Rattle.pmb_convert.specs.declared.conversion.Conversion.{Conversion}
 use Rattle.pmb_convert.specs.declared.conversion.Conversion.TheVariants.{Encode, Decode}
 use Rattle.pmb_convert.specs.declared.line_fault.LineFault.{LineFault}
 use Rattle.pmb_convert.specs.declared.line_fault.LineFault.TheVariants.{TooLong, Empty, BadDigit, ZeroDenominator, TooLarge, Below, Above, BadCode}
-use Rattle.pmb_convert.specs.Format.{coding_of}
+use Rattle.pmb_value.specs.NumberFormat.{number_coding}
 
 -- a text, or why there is none
 abbrev pub Answer : Type 0
@@ -81,8 +81,8 @@ decoded_answer f (Some code) = Ok (spelling (value_of f code))
 
 -- what is answered to what a line says
 abbrev pub AnswersText : Conversion → List ℕ → Answer → Type 0
-AnswersText (Encode format) text answer = EncodesRead (coding_of format) (reading text) answer
-AnswersText (Decode format) text answer = answer ≡ decoded_answer (coding_of format) (code_of text)
+AnswersText (Encode format) text answer = EncodesRead (number_coding format) (reading text) answer
+AnswersText (Decode format) text answer = answer ≡ decoded_answer (number_coding format) (code_of text)
 
 -- what is answered to a line: a CR before its LF is no part of what it says
 abbrev pub AnswersLine : Conversion → lines.TextLine → Answer → Type 0

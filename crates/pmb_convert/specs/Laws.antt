@@ -4,12 +4,12 @@ use Rattle.pmb_io.specs.declared.tally.Tally.{Tally}
 use Rattle.pmb_value.specs.Linear.{IsExponent}
 use Rattle.pmb_value.specs.declared.vout.VoutFormat.TheVariants.{Unsigned, Signed, Direct}
 use Rattle.pmb_convert.specs.declared.conversion.Conversion.{Conversion}
-use Rattle.pmb_convert.specs.declared.named_format.NamedFormat.{NamedFormat}
-use Rattle.pmb_convert.specs.declared.named_format.NamedFormat.TheVariants.{Linear11, Linear11Fixed, Word}
+use Rattle.pmb_value.specs.declared.number_format.NumberFormat.{NumberFormat}
+use Rattle.pmb_value.specs.declared.number_format.NumberFormat.TheVariants.{Linear11, Linear11Fixed, Word}
 use Rattle.pmb_convert.specs.Lines.{AnswersEnded, AnswersInput}
 
 -- the numbers that a format's type allows
-abbrev pub IsFormat : NamedFormat → Type 0
+abbrev pub IsFormat : NumberFormat → Type 0
 IsFormat Linear11 = Unit {0}
 IsFormat (Linear11Fixed exponent) = IsExponent exponent
 IsFormat (Word (Unsigned exponent)) = IsExponent exponent

@@ -1,5 +1,4 @@
 pub mod Answer
-pub mod Format
 pub mod Laws
 pub mod Lines
 pub mod Spelling

@@ -10,8 +10,8 @@ use Rattle.pmb_value.specs.declared.vout.VoutFormat.{VoutFormat}
 use Rattle.pmb_value.specs.declared.vout.VoutFormat.TheVariants.{Unsigned, Signed, Direct}
 use Rattle.pmb_convert.specs.declared.format_fault.FormatFault.{FormatFault}
 use Rattle.pmb_convert.specs.declared.format_fault.FormatFault.TheVariants.{BadFormat, BadExponent, ZeroSlope, BadScale, Relative, Vid, Ieee, NoCoefficients}
-use Rattle.pmb_convert.specs.declared.named_format.NamedFormat.{NamedFormat}
-use Rattle.pmb_convert.specs.declared.named_format.NamedFormat.TheVariants.{Linear11, Linear11Fixed, Word}
+use Rattle.pmb_value.specs.declared.number_format.NumberFormat.{NumberFormat}
+use Rattle.pmb_value.specs.declared.number_format.NumberFormat.TheVariants.{Linear11, Linear11Fixed, Word}
 
 -- ---- what a FORMAT says: a kind, and its numbers
 
@@ -70,7 +70,7 @@ is_from_to least most (pos n) = nat_lt n (most + 1)
 is_from_to least most (negsuc n) = nat_lt n least
 
 -- a linear format of an exponent, which is from -16 to 15
-abbrev pub named_linear : (ℤ → NamedFormat) → ℤ → Result NamedFormat FormatFault
+abbrev pub named_linear : (ℤ → NumberFormat) → ℤ → Result NumberFormat FormatFault
 named_linear made exponent = if is_from_to 16 15 exponent then Ok (made exponent) else Err BadExponent
 
 -- what is wrong with a VOUT_MODE
@@ -81,12 +81,12 @@ mode_fault mode.Ieee = Ieee
 mode_fault mode.NoCoefficients = NoCoefficients
 
 -- the format that a VOUT_MODE names
-abbrev pub mode_format : Result VoutFormat ModeFault → Result NamedFormat FormatFault
+abbrev pub mode_format : Result VoutFormat ModeFault → Result NumberFormat FormatFault
 mode_format (Ok format) = Ok (Word format)
 mode_format (Err fault) = Err (mode_fault fault)
 
 -- VOUT_MODE is that of a command whose linear words are unsigned, without coefficients
-abbrev pub vout_of : ℕ → Result NamedFormat FormatFault
+abbrev pub vout_of : ℕ → Result NumberFormat FormatFault
 vout_of mode = mode_format (format_of mode false None)
 
 abbrev pub is_zero : ℤ → Bool
@@ -94,12 +94,12 @@ is_zero (pos n) = n == 0
 is_zero (negsuc n) = false
 
 -- a DIRECT format: its slope m is not 0, and its power of ten r is from -9 to 9
-abbrev pub named_direct : ℤ → ℤ → ℤ → Result NamedFormat FormatFault
+abbrev pub named_direct : ℤ → ℤ → ℤ → Result NumberFormat FormatFault
 named_direct m b r =
     if is_zero m then Err ZeroSlope else (
     if is_from_to 9 9 r then Ok (Word (Direct (record { m = m; b = b; r = r }))) else Err BadScale)
 
-abbrev pub said : Saying → Result NamedFormat FormatFault
+abbrev pub said : Saying → Result NumberFormat FormatFault
 said linear11 = Ok Linear11
 said (linear11_fixed exponent) = named_linear Linear11Fixed exponent
 said (ulinear16 exponent) = named_linear (λ e. Word (Unsigned e)) exponent
@@ -111,10 +111,10 @@ said (direct m b r) = named_direct m b r
 
 -- What a text says decides: its format, or the first fault of its numbers. `BadFormat` where it says
 -- nothing.
-pub data Answers (Says : Saying → Type 0) (answer : Result NamedFormat FormatFault) : Type 0 where
+pub data Answers (Says : Saying → Type 0) (answer : Result NumberFormat FormatFault) : Type 0 where
   spelled : (saying : Saying) → Says saying → answer ≡ said saying → Answers Says answer
   other : ((saying : Saying) → ¬ (Says saying)) → answer ≡ Err BadFormat → Answers Says answer
 
 -- the format that a text names, or its first fault
-abbrev pub Names : List ℕ → Result NamedFormat FormatFault → Type 0
+abbrev pub Names : List ℕ → Result NumberFormat FormatFault → Type 0
 Names text answer = Answers (SpellsFormat text) answer

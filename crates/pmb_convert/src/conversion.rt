@@ -4,22 +4,21 @@ ghost use Rattle.std.specs.Prelude.{◌≡◌};
 ghost use Rattle.pmb_io.specs.Lines.{line_text};
 ghost use Rattle.pmb_value.specs.Reading.{reading};
 ghost use Rattle.pmb_convert.specs.Answer.{EncodesQuantity, EncodesRead, code_of, decoded_answer};
-ghost use Rattle.pmb_convert.specs.Format.{coding_of};
+ghost use Rattle.pmb_value.specs.NumberFormat.{number_coding};
 ghost use Rattle.pmb_convert.specs.machine.Converting.{answer_of};
 
 use crate::answer::Converted;
 use crate::line_fault::LineFault;
-use crate::named_format::NamedFormat;
 use pmb_io::{Line, without_return};
-use pmb_value::{Format, Quantity, QuantityFault, RangeFault, Steps};
+use pmb_value::{Format, NumberFormat, Quantity, QuantityFault, RangeFault, Steps};
 
 /// What is done with each line.
 #[derive(Clone, Copy, Debug, PartialEq, Eq)]
 pub enum Conversion {
     /// A quantity is answered by its code.
-    Encode(NamedFormat),
+    Encode(NumberFormat),
     /// A code is answered by its quantity.
-    Decode(NamedFormat),
+    Decode(NumberFormat),
 }
 
 impl Conversion {
@@ -48,8 +47,8 @@ impl Conversion {
 }
 
 /// The code nearest to the quantity that a text spells.
-fn encoded(format: &NamedFormat, text: &[u8]) -> Result<Converted, LineFault>
-    ensures { EncodesRead (coding_of format.now) (reading text.now) (answer_of result) }
+fn encoded(format: &NumberFormat, text: &[u8]) -> Result<Converted, LineFault>
+    ensures { EncodesRead (number_coding format.now) (reading text.now) (answer_of result) }
 {
     match Quantity::parse(text) {
         Ok(quantity) => encoded_quantity(format, &quantity),
@@ -61,8 +60,8 @@ fn encoded(format: &NamedFormat, text: &[u8]) -> Result<Converted, LineFault>
 }
 
 /// The code nearest to a quantity.
-fn encoded_quantity(format: &NamedFormat, quantity: &Quantity) -> Result<Converted, LineFault>
-    ensures { EncodesQuantity (coding_of format.now) quantity.now (answer_of result) }
+fn encoded_quantity(format: &NumberFormat, quantity: &Quantity) -> Result<Converted, LineFault>
+    ensures { EncodesQuantity (number_coding format.now) quantity.now (answer_of result) }
 {
     match format.encode(quantity, &mut Steps::new()) {
         Ok(code) => Ok(Converted::Code(code)),
@@ -72,8 +71,8 @@ fn encoded_quantity(format: &NamedFormat, quantity: &Quantity) -> Result<Convert
 }
 
 /// The value of the code that a text writes.
-fn decoded(format: &NamedFormat, text: &[u8]) -> Result<Converted, LineFault>
-    ensures { answer_of result ≡ decoded_answer (coding_of format.now) (code_of text.now) }
+fn decoded(format: &NumberFormat, text: &[u8]) -> Result<Converted, LineFault>
+    ensures { answer_of result ≡ decoded_answer (number_coding format.now) (code_of text.now) }
 {
     match code(text) {
         Some(code) => Ok(Converted::Value(format.decode(code))),

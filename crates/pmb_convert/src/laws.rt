@@ -3,7 +3,7 @@
 ghost use Rattle.std.specs.Prelude.{◌≡◌, ℕ, List, Result, Ok};
 ghost use Rattle.pmb_convert.specs.declared.conversion.Conversion.TheVariants.{Encode, Decode};
 ghost use Rattle.pmb_convert.specs.declared.format_fault.FormatFault.{FormatFault};
-ghost use Rattle.pmb_convert.specs.declared.named_format.NamedFormat.{NamedFormat};
+ghost use Rattle.pmb_value.specs.declared.number_format.NumberFormat.{NumberFormat};
 ghost use Rattle.pmb_convert.specs.Laws.{IsDetermined, IsFormat};
 ghost use Rattle.pmb_convert.specs.Spelling.{Names, Saying, SpellsFormat};
 
@@ -17,14 +17,14 @@ use pmb_value::laws::{
 /// numbers are in the range of its type.
 pub fn one_format()
     ensures spelled { (text : List ℕ) (a b : Saying) → SpellsFormat text a → SpellsFormat text b → a ≡ b }
-    ensures named { (text : List ℕ) (a b : Result NamedFormat FormatFault) → Names text a → Names text b → a ≡ b }
-    ensures in_range { (text : List ℕ) (format : NamedFormat) → Names text (Ok format) → IsFormat format }
+    ensures named { (text : List ℕ) (a b : Result NumberFormat FormatFault) → Names text a → Names text b → a ≡ b }
+    ensures in_range { (text : List ℕ) (format : NumberFormat) → Names text (Ok format) → IsFormat format }
 {}
 
 /// What `encode_lines` and `decode_lines` write is a function of the bytes of their input.
 pub fn one_text()
-    ensures encode { (format : NamedFormat) → IsFormat format → IsDetermined (Encode format) }
-    ensures decode { (format : NamedFormat) → IsDetermined (Decode format) }
+    ensures encode { (format : NumberFormat) → IsFormat format → IsDetermined (Encode format) }
+    ensures decode { (format : NumberFormat) → IsDetermined (Decode format) }
 {
     lowest_terms();
     linear11_has_one_nearest();

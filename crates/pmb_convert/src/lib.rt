@@ -1,11 +1,11 @@
 //! Quantities to codes and codes to quantities, line by line.
 //!
-//! A FORMAT, such as `linear11` or `direct:3,2,1`, names a [`NamedFormat`]. [`encode_lines`] answers
+//! A FORMAT, such as `linear11` or `direct:3,2,1`, names a [`NumberFormat`]. [`encode_lines`] answers
 //! each line of an input by the code nearest to its quantity, and [`decode_lines`] by the exact value
 //! of its code; a line that has none is answered by `! ` and a [`LineFault`].
 //!
 //! ```rust
-//! let format = NamedFormat::parse("linear11")?;
+//! let format = parse_format("linear11")?;
 //! let mut reader = Io::new(b"12\nx\n".as_slice());
 //! let mut writer = Io::new(Vec::new(rt.alloc()));
 //! let tally = encode_lines(format, b"", &mut reader, &mut writer)?;
@@ -21,7 +21,6 @@ mod format_fault;
 pub mod laws;
 mod line_fault;
 mod lines;
-mod named_format;
 mod numbers;
 mod spelling;
 
@@ -29,4 +28,5 @@ pub use conversion::Conversion;
 pub use format_fault::FormatFault;
 pub use line_fault::LineFault;
 pub use lines::{convert_lines, decode_lines, encode_lines};
-pub use named_format::NamedFormat;
+pub use pmb_value::NumberFormat;
+pub use spelling::parse_format;

@@ -6,9 +6,9 @@ ghost use Rattle.pmb_convert.specs.Lines.{converting};
 
 use crate::conversion::Conversion;
 use crate::converter::Converter;
-use crate::named_format::NamedFormat;
 use pmb_io::laws::lines_are_handed_on;
 use pmb_io::{Lines, Sink, Source, Tally, ToolFault, each_piece};
+use pmb_value::NumberFormat;
 
 /// Writes the code of each quantity that stands on a line of the text that is `first` and what the
 /// reader gives.
@@ -27,7 +27,7 @@ use pmb_io::{Lines, Sink, Source, Tally, ToolFault, each_piece};
 /// `Read` where the reader failed: the answers to the lines that had ended are written. `Write` where
 /// the writer failed. `TooManyReads` where 2^32 reads gave bytes and the reader had not ended.
 pub fn encode_lines<R: Source, W: Sink>(
-    format: NamedFormat,
+    format: NumberFormat,
     first: &[u8],
     reader: &mut R,
     writer: &mut W,
@@ -52,7 +52,7 @@ pub fn encode_lines<R: Source, W: Sink>(
 /// `Read` where the reader failed: the answers to the lines that had ended are written. `Write` where
 /// the writer failed. `TooManyReads` where 2^32 reads gave bytes and the reader had not ended.
 pub fn decode_lines<R: Source, W: Sink>(
-    format: NamedFormat,
+    format: NumberFormat,
     first: &[u8],
     reader: &mut R,
     writer: &mut W,

@@ -2,51 +2,51 @@
 
 ghost use Rattle.std.specs.Prelude.{◌≡◌};
 ghost use Rattle.pmb_value.specs.declared.vout.VoutFormat.TheVariants.{Unsigned, Signed};
-ghost use Rattle.pmb_convert.specs.declared.named_format.NamedFormat.TheVariants.{Word};
+ghost use Rattle.pmb_value.specs.declared.number_format.NumberFormat.TheVariants.{Word};
 ghost use Rattle.pmb_convert.specs.Spelling.{named_direct, named_linear, vout_of};
 
 use crate::format_fault::FormatFault;
-use crate::named_format::NamedFormat;
 use pmb_value::{
-    Direct, DirectFault, Linear11Fixed, ModeFault, Slinear16, Ulinear16, VoutFormat, vout_format,
+    Direct, DirectFault, Linear11Fixed, ModeFault, NumberFormat, Slinear16, Ulinear16, VoutFormat,
+    vout_format,
 };
 
 /// LINEAR11 with one exponent.
-pub(crate) fn fixed(exponent: i8) -> Result<NamedFormat, FormatFault>
-    ensures { result ≡ named_linear (λ e. NamedFormat.Linear11Fixed e) exponent }
+pub(crate) fn fixed(exponent: i8) -> Result<NumberFormat, FormatFault>
+    ensures { result ≡ named_linear (λ e. NumberFormat.Linear11Fixed e) exponent }
 {
     match Linear11Fixed::new(exponent) {
-        Ok(format) => Ok(NamedFormat::Linear11Fixed(format)),
+        Ok(format) => Ok(NumberFormat::Linear11Fixed(format)),
         Err(_) => Err(FormatFault::BadExponent),
     }
 }
 
 /// ULINEAR16 with an exponent.
-pub(crate) fn unsigned(exponent: i8) -> Result<NamedFormat, FormatFault>
+pub(crate) fn unsigned(exponent: i8) -> Result<NumberFormat, FormatFault>
     ensures { result ≡ named_linear (λ e. Word (Unsigned e)) exponent }
 {
     match Ulinear16::new(exponent) {
-        Ok(format) => Ok(NamedFormat::Word(VoutFormat::Unsigned(format))),
+        Ok(format) => Ok(NumberFormat::Word(VoutFormat::Unsigned(format))),
         Err(_) => Err(FormatFault::BadExponent),
     }
 }
 
 /// SLINEAR16 with an exponent.
-pub(crate) fn signed(exponent: i8) -> Result<NamedFormat, FormatFault>
+pub(crate) fn signed(exponent: i8) -> Result<NumberFormat, FormatFault>
     ensures { result ≡ named_linear (λ e. Word (Signed e)) exponent }
 {
     match Slinear16::new(exponent) {
-        Ok(format) => Ok(NamedFormat::Word(VoutFormat::Signed(format))),
+        Ok(format) => Ok(NumberFormat::Word(VoutFormat::Signed(format))),
         Err(_) => Err(FormatFault::BadExponent),
     }
 }
 
 /// The format that a VOUT_MODE names for unsigned words, without coefficients.
-pub(crate) fn of_mode(mode: u8) -> Result<NamedFormat, FormatFault>
+pub(crate) fn of_mode(mode: u8) -> Result<NumberFormat, FormatFault>
     ensures { result ≡ vout_of mode }
 {
     match vout_format(mode, false, None) {
-        Ok(format) => Ok(NamedFormat::Word(format)),
+        Ok(format) => Ok(NumberFormat::Word(format)),
         Err(ModeFault::Relative) => Err(FormatFault::Relative),
         Err(ModeFault::Vid) => Err(FormatFault::Vid),
         Err(ModeFault::Ieee) => Err(FormatFault::Ieee),
@@ -55,11 +55,11 @@ pub(crate) fn of_mode(mode: u8) -> Result<NamedFormat, FormatFault>
 }
 
 /// The DIRECT format of three coefficients.
-pub(crate) fn of_coefficients(m: i16, b: i16, r: i8) -> Result<NamedFormat, FormatFault>
+pub(crate) fn of_coefficients(m: i16, b: i16, r: i8) -> Result<NumberFormat, FormatFault>
     ensures { result ≡ named_direct m b r }
 {
     match Direct::new(m, b, r) {
-        Ok(direct) => Ok(NamedFormat::Word(VoutFormat::Direct(direct))),
+        Ok(direct) => Ok(NumberFormat::Word(VoutFormat::Direct(direct))),
         Err(DirectFault::ZeroSlope) => Err(FormatFault::ZeroSlope),
         Err(DirectFault::BadScale) => Err(FormatFault::BadScale),
     }

@@ -1,22 +1,55 @@
-//! What the parts of a FORMAT spell.
+//! What a FORMAT and its parts spell.
 
 ghost use Rattle.std.specs.Int.{w8, w16};
-ghost use Rattle.pmb_convert.specs.Spelling.{Answers};
+ghost use Rattle.pmb_convert.specs.Spelling.{Answers, Names};
 ghost use Rattle.pmb_convert.specs.machine.Parts.{IsDirect, IsFixed, IsSigned, IsUnsigned, IsVout, ReadsInteger, ReadsMode, SplitsAtComma, StripsPrefix};
 
 use crate::format_fault::FormatFault;
-use crate::named_format::NamedFormat;
 use crate::numbers::{fixed, of_coefficients, of_mode, signed, unsigned};
+use pmb_value::NumberFormat;
+
+/// Reads a FORMAT: `linear11`, `linear11:E`, `ulinear16:E`, `slinear16:E`, `vout:HH` or
+/// `direct:M,B,R`. E, M, B and R are decimal numbers, with or without a `-`; E and R are from -128 to
+/// 127, M and B from -32768 to 32767. HH is a VOUT_MODE in two hexadecimal digits, for a command
+/// whose linear words are unsigned, without coefficients.
+///
+/// # Errors
+///
+/// `BadFormat` for every other text, also where only a number is out of its range; then what is
+/// wrong with the numbers, in the order of [`FormatFault`].
+pub fn parse_format(text: &str) -> Result<NumberFormat, FormatFault>
+    ensures { Names text.now result }
+{
+    if text == "linear11" {
+        return Ok(NumberFormat::Linear11);
+    }
+    if let Some(exponent) = without_prefix(text, "linear11:") {
+        return linear11_fixed(exponent);
+    }
+    if let Some(exponent) = without_prefix(text, "ulinear16:") {
+        return ulinear16(exponent);
+    }
+    if let Some(exponent) = without_prefix(text, "slinear16:") {
+        return slinear16(exponent);
+    }
+    if let Some(mode) = without_prefix(text, "vout:") {
+        return vout(mode);
+    }
+    if let Some(numbers) = without_prefix(text, "direct:") {
+        return direct(numbers);
+    }
+    Err(FormatFault::BadFormat)
+}
 
 /// What follows a prefix.
-pub(crate) fn without_prefix<'a>(text: &'a str, prefix: &str) -> Option<&'a str>
+fn without_prefix<'a>(text: &'a str, prefix: &str) -> Option<&'a str>
     ensures { StripsPrefix prefix.now text.now result }
 {
     text.strip_prefix(prefix)
 }
 
 /// LINEAR11 with the one exponent that a text writes.
-pub(crate) fn linear11_fixed(exponent: &str) -> Result<NamedFormat, FormatFault>
+fn linear11_fixed(exponent: &str) -> Result<NumberFormat, FormatFault>
     ensures { Answers (IsFixed exponent.now) result }
 {
     match small_integer(exponent) {
@@ -26,7 +59,7 @@ pub(crate) fn linear11_fixed(exponent: &str) -> Result<NamedFormat, FormatFault>
 }
 
 /// ULINEAR16 with the exponent that a text writes.
-pub(crate) fn ulinear16(exponent: &str) -> Result<NamedFormat, FormatFault>
+fn ulinear16(exponent: &str) -> Result<NumberFormat, FormatFault>
     ensures { Answers (IsUnsigned exponent.now) result }
 {
     match small_integer(exponent) {
@@ -36,7 +69,7 @@ pub(crate) fn ulinear16(exponent: &str) -> Result<NamedFormat, FormatFault>
 }
 
 /// SLINEAR16 with the exponent that a text writes.
-pub(crate) fn slinear16(exponent: &str) -> Result<NamedFormat, FormatFault>
+fn slinear16(exponent: &str) -> Result<NumberFormat, FormatFault>
     ensures { Answers (IsSigned exponent.now) result }
 {
     match small_integer(exponent) {
@@ -46,7 +79,7 @@ pub(crate) fn slinear16(exponent: &str) -> Result<NamedFormat, FormatFault>
 }
 
 /// The format that the VOUT_MODE of a text names for unsigned words, without coefficients.
-pub(crate) fn vout(mode: &str) -> Result<NamedFormat, FormatFault>
+fn vout(mode: &str) -> Result<NumberFormat, FormatFault>
     ensures { Answers (IsVout mode.now) result }
 {
     match byte(mode) {
@@ -56,7 +89,7 @@ pub(crate) fn vout(mode: &str) -> Result<NamedFormat, FormatFault>
 }
 
 /// The DIRECT format of three numbers between two commas.
-pub(crate) fn direct(numbers: &str) -> Result<NamedFormat, FormatFault>
+fn direct(numbers: &str) -> Result<NumberFormat, FormatFault>
     ensures { Answers (IsDirect numbers.now) result }
 {
     let Some((m, rest)) = around_comma(numbers) else {

@@ -20,7 +20,7 @@ use Rattle.pmb_devices.specs.Bus.{AnsweredSignal}
 use Rattle.pmb_devices.proofs.ReplyForms.{call_form, called_taken, read_form, read_taken}
 use Rattle.pmb_devices.proofs.ReplyGivers.{one_member}
 use Rattle.pmb_request.specs.Request.{Command}
-use Rattle.pmb_host.specs.declared.number.NumberFormat.{NumberFormat}
+use Rattle.pmb_value.specs.declared.number_format.NumberFormat.{NumberFormat}
 use Rattle.pmb_host.specs.declared.step.HostFault.{HostFault}
 use Rattle.pmb_host.specs.declared.step.HostFault.TheVariants as faults
 use Rattle.pmb_host.specs.declared.step.HostStep.{HostStep}

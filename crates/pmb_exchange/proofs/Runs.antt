@@ -6,7 +6,7 @@ use Rattle.pmb_writer.specs.Invalid.{HasPacket}
 use Rattle.pmb_registers.specs.State.{InState}
 use Rattle.pmb_devices.specs.Bus.{AnsweredSignal}
 use Rattle.pmb_request.specs.Request.{RequestData, WriteParts, ReadBytes, CallBytes, Set, Get}
-use Rattle.pmb_host.specs.declared.number.NumberFormat.{NumberFormat}
+use Rattle.pmb_value.specs.declared.number_format.NumberFormat.{NumberFormat}
 use Rattle.pmb_host.specs.declared.step.HostStep.{HostStep}
 use Rattle.pmb_host.specs.declared.step.HostStep.TheVariants.{Send, Done, Failed}
 use Rattle.pmb_host.specs.Host.{Job}

@@ -23,9 +23,10 @@ use Rattle.pmb_value.specs.declared.vout.VoutFormat.TheVariants.{Unsigned, Signe
 use Rattle.pmb_writer.specs.Invalid.{HasPacket}
 use Rattle.pmb_writer.proofs.Packets.{forms_are}
 use Rattle.pmb_request.specs.Request.{Command}
-use Rattle.pmb_host.specs.declared.number.NumberFormat.{NumberFormat}
-use Rattle.pmb_host.specs.declared.number.NumberFormat.TheVariants.{Linear11, Linear11Fixed, Word}
-use Rattle.pmb_host.specs.Number.{number_coding, number_of}
+use Rattle.pmb_value.specs.declared.number_format.NumberFormat.{NumberFormat}
+use Rattle.pmb_value.specs.declared.number_format.NumberFormat.TheVariants.{Linear11, Linear11Fixed, Word}
+use Rattle.pmb_value.specs.NumberFormat.{number_coding}
+use Rattle.pmb_host.specs.Number.{number_of}
 use Rattle.pmb_host.specs.Rules.{CanSet, HasData}
 use Rattle.pmb_host.specs.Task.{word_bytes}
 

@@ -21,7 +21,7 @@ use Rattle.pmb_devices.specs.Replies.{IsState}
 use Rattle.pmb_devices.specs.Runs.{Runs, first_members}
 use Rattle.pmb_request.specs.Request.{RequestData}
 use Rattle.pmb_host.specs.declared.host.Host.{Host}
-use Rattle.pmb_host.specs.declared.number.NumberFormat.{NumberFormat}
+use Rattle.pmb_value.specs.declared.number_format.NumberFormat.{NumberFormat}
 use Rattle.pmb_host.specs.declared.step.HostStep.{HostStep}
 use Rattle.pmb_host.specs.declared.step.HostStep.TheVariants.{Send}
 use Rattle.pmb_host.specs.Host.{Ends, FirstSteps, HostStanding, HostStandsAt, IsNext, Job, Steps, answered}

@@ -15,7 +15,7 @@ use Rattle.pmb_device.specs.declared.signal.HostSignal.TheVariants.{Start, Byte,
 use Rattle.pmb_device.specs.Legs.{Inside}
 use Rattle.pmb_devices.specs.Bus.{AnsweredSignal, BusAnswers, recorded_events}
 use Rattle.pmb_devices.proofs.OwnLegs.{byte_leg}
-use Rattle.pmb_host.specs.declared.number.NumberFormat.{NumberFormat}
+use Rattle.pmb_value.specs.declared.number_format.NumberFormat.{NumberFormat}
 use Rattle.pmb_host.specs.declared.step.HostFault.{HostFault}
 use Rattle.pmb_host.specs.declared.step.HostFault.TheVariants as faults
 use Rattle.pmb_host.specs.declared.step.HostStep.{HostStep}

@@ -13,12 +13,12 @@ use Rattle.pmb_transaction.specs.Body.{CallBody}
 use Rattle.pmb_registers.specs.declared.cml_bit.CmlBit.{CmlBit}
 use Rattle.pmb_registers.specs.State.{InState}
 use Rattle.pmb_registers.specs.Answer.{all_pages, answer}
-use Rattle.pmb_host.specs.declared.number.NumberFormat.{NumberFormat}
+use Rattle.pmb_value.specs.declared.number_format.NumberFormat.{NumberFormat}
 use Rattle.pmb_host.specs.declared.step.HostFault.TheVariants as faults
 use Rattle.pmb_host.specs.declared.step.HostStep.{HostStep}
 use Rattle.pmb_host.specs.declared.step.HostStep.TheVariants.{Done, Failed}
 use Rattle.pmb_host.specs.declared.step.Reply.{Reply}
-use Rattle.pmb_host.specs.Number.{number_coding}
+use Rattle.pmb_value.specs.NumberFormat.{number_coding}
 use Rattle.pmb_host.specs.Steps.{ReplyData, AllWritten, AllBytes, OneValue, reply_data}
 use Rattle.pmb_host.specs.Task.{replied, word_bytes}
 

@@ -16,7 +16,7 @@ use Rattle.pmb_device.specs.declared.signal.DeviceSignal.{DeviceSignal}
 use Rattle.pmb_devices.specs.Bus.{AnsweredSignal, recorded_events}
 use Rattle.pmb_host.specs.declared.host.Host.{Host}
 use Rattle.pmb_host.specs.declared.host.Phase.TheVariants as phases
-use Rattle.pmb_host.specs.declared.number.NumberFormat.{NumberFormat}
+use Rattle.pmb_value.specs.declared.number_format.NumberFormat.{NumberFormat}
 use Rattle.pmb_host.specs.declared.reply.Incoming.{Incoming}
 use Rattle.pmb_host.specs.declared.step.HostFault.{HostFault}
 use Rattle.pmb_host.specs.declared.step.HostStep.{HostStep}
@@ -24,7 +24,7 @@ use Rattle.pmb_host.specs.declared.step.HostStep.TheVariants.{Done, Failed}
 use Rattle.pmb_host.specs.declared.step.Reply.{Reply}
 use Rattle.pmb_host.specs.declared.step.Reply.TheVariants.{Written, Bytes, Value}
 use Rattle.pmb_host.specs.Host.{Ends, FirstSteps, HostStanding, HostStandsAt, IsDone, Steps, heard_with}
-use Rattle.pmb_host.specs.Number.{number_coding}
+use Rattle.pmb_value.specs.NumberFormat.{number_coding}
 use Rattle.pmb_host.specs.Signals.{Say, SayReply, legs_of, reply_form, reply_has_pec}
 use Rattle.pmb_host.specs.Steps.{Completes, Fails, IsTold, OneValue, ReplyData, SaysReply, Succeeds, bytes, bytes_before, bytes_read, reply_data, value, written}
 use Rattle.pmb_host.specs.Task.{replied, word_bytes}

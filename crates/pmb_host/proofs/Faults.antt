@@ -20,13 +20,14 @@ use Rattle.pmb_writer.specs.Invalid.{Rule, transaction_rules}
 use Rattle.pmb_writer.proofs.Packets.{packet_keeps}
 use Rattle.pmb_writer.proofs.Rules.{not_both, one_broken}
 use Rattle.pmb_request.specs.Request.{Command, RequestData, WriteParts, ReadBytes, CallBytes, Set, Get}
-use Rattle.pmb_host.specs.declared.number.NumberFormat.{NumberFormat}
-use Rattle.pmb_host.specs.declared.number.NumberFormat.TheVariants as formats
+use Rattle.pmb_value.specs.declared.number_format.NumberFormat.{NumberFormat}
+use Rattle.pmb_value.specs.declared.number_format.NumberFormat.TheVariants as formats
 use Rattle.pmb_host.specs.declared.number.Sign.{Sign}
 use Rattle.pmb_host.specs.declared.number.Sign.TheVariants as signs
 use Rattle.pmb_host.specs.declared.step.HostFault.{HostFault}
 use Rattle.pmb_host.specs.declared.step.HostFault.TheVariants as faults
-use Rattle.pmb_host.specs.Number.{is_signed, named_format, number_coding, number_of, vout_number}
+use Rattle.pmb_value.specs.NumberFormat.{number_coding}
+use Rattle.pmb_host.specs.Number.{is_signed, named_format, number_of, vout_number}
 use Rattle.pmb_host.specs.Rules.{CanSet, HasNoNumber, HasNumber, IsAllowed, IsFault, IsGetFault, IsNumber, IsOutside, IsRefusedBy, IsSetFault, above, below, call_rules, get_rules, no_format, no_number, no_quantity, outside, read_rules, refused, set_rules, wrong_pec}
 
 -- ---- one side of a range

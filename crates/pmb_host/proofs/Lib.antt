@@ -17,3 +17,4 @@ pub mod Asked
 pub mod Exact
 pub mod Checked
 pub mod Runs
+pub mod OneNearest

@@ -18,7 +18,7 @@ use Rattle.pmb_transaction.proofs.Known.{call_has_data, device_is, read_has_data
 use Rattle.pmb_writer.specs.Invalid.{forms_at}
 use Rattle.pmb_request.specs.Request.{RequestData, WriteParts, ReadBytes, CallBytes, Set, Get}
 use Rattle.pmb_host.specs.declared.host.Host.{Host}
-use Rattle.pmb_host.specs.declared.number.NumberFormat.{NumberFormat}
+use Rattle.pmb_value.specs.declared.number_format.NumberFormat.{NumberFormat}
 use Rattle.pmb_host.specs.declared.reply.Incoming.{Incoming}
 use Rattle.pmb_host.specs.Rules.{IsAllowed}
 use Rattle.pmb_host.specs.Signals.{AreRead, legs_of, part_bytes, reply_form, reply_has_pec, signals, wire_in}

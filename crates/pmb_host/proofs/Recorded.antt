@@ -22,7 +22,7 @@ use Rattle.pmb_device.specs.declared.signal.DeviceSignal.{DeviceSignal}
 use Rattle.pmb_device.specs.declared.signal.DeviceSignal.TheVariants as answers
 use Rattle.pmb_devices.specs.Bus.{AnsweredSignal, acknowledged, recorded, recorded_events}
 use Rattle.pmb_request.specs.Request.{Command, RequestData, WriteParts, ReadBytes, CallBytes, Set, Get}
-use Rattle.pmb_host.specs.declared.number.NumberFormat.{NumberFormat}
+use Rattle.pmb_value.specs.declared.number_format.NumberFormat.{NumberFormat}
 use Rattle.pmb_host.specs.Rules.{HasNumber, IsAllowed}
 use Rattle.pmb_host.specs.Signals.{Say, SayReply, leg_signals, legs_of, part_bytes, reading_signals, wire_in}
 use Rattle.pmb_host.specs.Steps.{Completes, GoWell, IsGood, SaysReply, byte_of, bytes_read, sent_signals}

@@ -17,9 +17,10 @@ use Rattle.pmb_value.specs.declared.vout.VoutFormat.TheVariants.{Unsigned, Signe
 use Rattle.pmb_writer.specs.Invalid.{forms_at}
 use Rattle.pmb_quantity.specs.Fraction.{Fraction}
 use Rattle.pmb_request.specs.Request.{Command, RequestData, WriteParts, ReadBytes, CallBytes, Set, Get}
-use Rattle.pmb_host.specs.declared.number.NumberFormat.{NumberFormat}
-use Rattle.pmb_host.specs.declared.number.NumberFormat.TheVariants.{Linear11, Linear11Fixed, Word}
-use Rattle.pmb_host.specs.Number.{number_coding, number_of}
+use Rattle.pmb_value.specs.declared.number_format.NumberFormat.{NumberFormat}
+use Rattle.pmb_value.specs.declared.number_format.NumberFormat.TheVariants.{Linear11, Linear11Fixed, Word}
+use Rattle.pmb_value.specs.NumberFormat.{number_coding}
+use Rattle.pmb_host.specs.Number.{number_of}
 use Rattle.pmb_host.specs.Rules.{CanSet, HasData, HasNumber, IsAllowed}
 use Rattle.pmb_host.specs.Signals.{reply_form}
 use Rattle.pmb_host.specs.Task.{task_of, word_bytes}

@@ -10,7 +10,7 @@ use Rattle.pmb_device.specs.declared.signal.HostSignal.TheVariants.{Stop}
 use Rattle.pmb_device.specs.declared.signal.DeviceSignal.{DeviceSignal}
 use Rattle.pmb_devices.specs.Bus.{AnsweredSignal}
 use Rattle.pmb_host.specs.declared.host.Host.{Host}
-use Rattle.pmb_host.specs.declared.number.NumberFormat.{NumberFormat}
+use Rattle.pmb_value.specs.declared.number_format.NumberFormat.{NumberFormat}
 use Rattle.pmb_host.specs.declared.step.HostStep.{HostStep}
 use Rattle.pmb_host.specs.declared.step.HostStep.TheVariants.{Send, Done, Failed}
 use Rattle.pmb_host.specs.declared.step.Reply.{Reply}

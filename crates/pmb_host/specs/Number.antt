@@ -3,24 +3,16 @@ use Rattle.std.specs.Prelude.{ℕ, Bool, true, false, Option, Some, None, Result
 use Rattle.pmb_coefficients.specs.Coefficients.{Coefficients}
 use Rattle.pmb_command.specs.declared.entry.Kind.{Kind}
 use Rattle.pmb_command.specs.declared.entry.Kind.TheVariants as kinds
-use Rattle.pmb_format.specs.Coding.{Coding}
-use Rattle.pmb_linear.specs.Linear.{linear11, linear11_fixed}
 use Rattle.pmb_value.specs.declared.vout.ModeFault.{ModeFault}
 use Rattle.pmb_value.specs.declared.vout.VoutFormat.{VoutFormat}
 use Rattle.pmb_value.specs.declared.vout.VoutFormat.TheVariants.{Direct}
-use Rattle.pmb_value.specs.Vout.{format_of, vout_coding}
-use Rattle.pmb_host.specs.declared.number.NumberFormat.{NumberFormat}
-use Rattle.pmb_host.specs.declared.number.NumberFormat.TheVariants.{Linear11, Linear11Fixed, Word}
+use Rattle.pmb_value.specs.Vout.{format_of}
+use Rattle.pmb_value.specs.declared.number_format.NumberFormat.{NumberFormat}
+use Rattle.pmb_value.specs.declared.number_format.NumberFormat.TheVariants.{Linear11, Linear11Fixed, Word}
 use Rattle.pmb_host.specs.declared.number.Sign.{Sign}
 use Rattle.pmb_host.specs.declared.number.Sign.TheVariants.{Unsigned, Signed}
 use Rattle.pmb_host.specs.declared.step.HostFault.{HostFault}
 use Rattle.pmb_host.specs.declared.step.HostFault.TheVariants.{NotAQuantity, ModeUnknown, Mode}
-
--- what a format codes
-abbrev pub number_coding : NumberFormat → Coding
-number_coding Linear11 = linear11
-number_coding (Linear11Fixed exponent) = linear11_fixed exponent
-number_coding (Word format) = vout_coding format
 
 abbrev pub is_signed : Sign → Bool
 is_signed Unsigned = false

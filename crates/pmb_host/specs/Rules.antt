@@ -11,10 +11,11 @@ use Rattle.pmb_transaction.specs.Transaction.{Write}
 use Rattle.pmb_writer.specs.declared.invalid.Invalid.{Invalid}
 use Rattle.pmb_writer.specs.declared.invalid.Invalid.TheVariants.{NotAllowed, PecMode}
 use Rattle.pmb_writer.specs.Invalid.{AreKept, HasPacket, IsFirstBroken, IsFirstFault, Rule, allows_form, fits_form, forms_at, has_command, has_device, keeps_mode, rule_unless}
-use Rattle.pmb_host.specs.declared.number.NumberFormat.{NumberFormat}
+use Rattle.pmb_value.specs.declared.number_format.NumberFormat.{NumberFormat}
 use Rattle.pmb_host.specs.declared.step.HostFault.{HostFault}
 use Rattle.pmb_host.specs.declared.step.HostFault.TheVariants as faults
-use Rattle.pmb_host.specs.Number.{number_coding, number_of}
+use Rattle.pmb_value.specs.NumberFormat.{number_coding}
+use Rattle.pmb_host.specs.Number.{number_of}
 use Rattle.pmb_request.specs.Request.{Command, RequestData, WriteParts, ReadBytes, CallBytes, Set, Get}
 
 -- some form, and not the one without data
@@ -108,13 +109,15 @@ module _ (profile : List DeviceParts) where
   IsFault (Set c value mode) fault = IsSetFault c value mode fault
   IsFault (Get c mode) fault = IsGetFault c mode fault
 
-  -- It has none. A quantity in the range of this format is written by the code nearest to it.
+  -- It has none. A quantity in the range of this format is written by the code nearest to it, and no other
+  -- code is nearest.
   pub record CanSet (c : Command) (value : Fraction) (mode : Option ℕ) (word : ℕ) : Type 0 where
     pub kept : AreKept (set_rules c)
     pub number : NumberFormat
     pub has : HasNumber c mode number
     pub in_range : IsInRange (number_coding number) value
     pub nearest : IsNearest (number_coding number) value word
+    pub only : (code : ℕ) → IsNearest (number_coding number) value code → code ≡ word
 
   -- A request keeps all rules. The word is the one that a Set writes, the format the one in which a Get
   -- is read.

@@ -6,7 +6,7 @@ use Rattle.pmb_device.specs.declared.signal.HostSignal.{HostSignal}
 use Rattle.pmb_device.specs.declared.signal.DeviceSignal.{DeviceSignal}
 use Rattle.pmb_devices.specs.Bus.{AnsweredSignal}
 use Rattle.pmb_request.specs.Request.{RequestData}
-use Rattle.pmb_host.specs.declared.number.NumberFormat.{NumberFormat}
+use Rattle.pmb_value.specs.declared.number_format.NumberFormat.{NumberFormat}
 use Rattle.pmb_host.specs.declared.step.HostStep.{HostStep}
 use Rattle.pmb_host.specs.Rules.{IsAllowed}
 use Rattle.pmb_host.specs.Task.{task_of}

@@ -14,12 +14,12 @@ use Rattle.pmb_device.specs.declared.signal.HostSignal.TheVariants.{Start, Byte,
 use Rattle.pmb_device.specs.declared.signal.DeviceSignal.{DeviceSignal}
 use Rattle.pmb_device.specs.declared.signal.DeviceSignal.TheVariants as answers
 use Rattle.pmb_devices.specs.Bus.{AnsweredSignal, recorded_events}
-use Rattle.pmb_host.specs.declared.number.NumberFormat.{NumberFormat}
+use Rattle.pmb_value.specs.declared.number_format.NumberFormat.{NumberFormat}
 use Rattle.pmb_host.specs.declared.step.HostFault.{HostFault}
 use Rattle.pmb_host.specs.declared.step.HostFault.TheVariants.{Refused, NoByte, BadPec}
 use Rattle.pmb_host.specs.declared.step.Reply.{Reply}
 use Rattle.pmb_host.specs.declared.step.Reply.TheVariants.{Written, Bytes, Value}
-use Rattle.pmb_host.specs.Number.{number_coding}
+use Rattle.pmb_value.specs.NumberFormat.{number_coding}
 use Rattle.pmb_host.specs.Task.{replied, word_bytes}
 use Rattle.pmb_host.specs.Signals.{AreRead, Say, leg_signals, legs_of, reply_form, reply_has_pec, signals}
 

@@ -10,12 +10,12 @@ ghost use Rattle.pmb_request.specs.Request.{Command};
 ghost use Rattle.pmb_host.specs.machine.Checks.{CanGet, Finds, HasReply, command_rules};
 ghost use Rattle.pmb_host.specs.Rules.{CanSet, HasNoNumber, HasNumber, IsGetFault, IsSetFault, call_rules, read_rules};
 
-use crate::number::{NumberFormat, number_of};
+use crate::number::{number_of, word_of};
 use crate::step::HostFault;
 use pmb_command::{Entry, Form};
 use pmb_table::laws::accepted_bus;
 use pmb_table::{DeviceProfile, Profile};
-use pmb_value::Quantity;
+use pmb_value::{NumberFormat, Quantity};
 use pmb_writer::Invalid;
 
 /// A device, and a command of it.
@@ -133,7 +133,7 @@ pub(crate) fn check_set(
         Some(_) => {}
     }
     match format_of(device, entry, mode, pec) {
-        Ok(format) => format.word_of(value),
+        Ok(format) => word_of(format, value),
         Err(fault) => Err(fault),
     }
 }

@@ -26,7 +26,6 @@ ghost use Rattle.pmb_devices.specs.Bus.{AnsweredSignal};
 
 use crate::checks::{check_call, check_get, check_read, check_set};
 use crate::leg::Leg;
-use crate::number::NumberFormat;
 use crate::reply::{Incoming, ReplyState};
 use crate::step::{HostFault, HostStep, Reply};
 use arrayvec::ArrayVec;
@@ -37,7 +36,7 @@ use pmb_request::Request;
 use pmb_table::Profile;
 use pmb_table::laws::accepted_bus;
 use pmb_transaction::{Part, Transaction};
-use pmb_value::{Format, Quantity};
+use pmb_value::{Format, NumberFormat, Quantity};
 use pmb_writer::check;
 
 /// What a host does next.

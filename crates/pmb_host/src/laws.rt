@@ -8,7 +8,7 @@ ghost use Rattle.pmb_writer.specs.Invalid.{HasPacket, IsFirstFault, forms_at};
 ghost use Rattle.pmb_writer.specs.declared.invalid.Invalid.{Invalid};
 ghost use Rattle.pmb_transaction.specs.Transaction.{Call, Read};
 ghost use Rattle.pmb_request.specs.Request.{CallBytes, Command, ReadBytes, RequestData};
-ghost use Rattle.pmb_host.specs.declared.number.NumberFormat.{NumberFormat};
+ghost use Rattle.pmb_value.specs.declared.number_format.NumberFormat.{NumberFormat};
 ghost use Rattle.pmb_host.specs.declared.step.HostFault.{HostFault};
 ghost use Rattle.pmb_host.specs.declared.step.HostFault.TheVariants as faults;
 ghost use Rattle.pmb_host.specs.Rules.{IsAllowed, IsFault};

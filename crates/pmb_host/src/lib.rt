@@ -26,7 +26,6 @@ mod run;
 mod step;
 
 pub use host::Host;
-pub use number::NumberFormat;
 pub use pmb_request::{Request, RequestFault, parse_request};
 pub use run::{Wire, drive};
 pub use step::{HostFault, HostStep, Reply};

@@ -1,68 +1,37 @@
 //! The number format of a command.
 
-ghost use Rattle.std.specs.Prelude.{◌≡◌, ℤ, MatchResult};
+ghost use Rattle.std.specs.Prelude.{◌≡◌, ℕ, ℤ, MatchResult};
 ghost use Rattle.pmb_format.specs.Coding.{IsInRange, IsNearest};
 ghost use Rattle.pmb_linear.specs.Linear.{IsExponent};
-ghost use Rattle.pmb_host.specs.Number.{number_coding as coding_of, number_of, vout_number};
+ghost use Rattle.pmb_value.specs.NumberFormat.{number_coding};
+ghost use Rattle.pmb_host.specs.Number.{number_of, vout_number};
 ghost use Rattle.pmb_host.specs.Rules.{IsOutside};
 
 use crate::step::HostFault;
 use pmb_command::Kind;
 use pmb_value::{
-    Direct, Format, Linear11, Linear11Fixed, Quantity, RangeFault, Steps, VoutFormat, vout_format,
+    Direct, Format, Linear11Fixed, NumberFormat, Quantity, RangeFault, Steps, VoutFormat,
+    vout_format,
 };
 
-/// The format of a command's numbers.
-#[derive(Clone, Copy, Debug, PartialEq, Eq)]
-pub enum NumberFormat {
-    /// LINEAR11.
-    Linear11,
-    /// LINEAR11, written with one exponent.
-    Linear11Fixed(Linear11Fixed),
-    /// ULINEAR16, SLINEAR16 or DIRECT.
-    Word(VoutFormat),
+/// Only one code of a format is nearest to a quantity. It does nothing.
+fn one_word(format: NumberFormat, value: &Quantity)
+    ensures { (a b : ℕ) → IsNearest (number_coding format) value.now a → IsNearest (number_coding format) value.now b → a ≡ b }
+{
+    format.obeys_laws();
+    let _ = value.den();
 }
 
-impl Format for NumberFormat {
-    ghost use Rattle.pmb_host.specs.Number.{number_coding};
-
-    ghost coding = { number_coding };
-
-    fn decode(&self, code: u16) -> Quantity {
-        match self {
-            NumberFormat::Linear11 => Linear11.decode(code),
-            NumberFormat::Linear11Fixed(format) => format.decode(code),
-            NumberFormat::Word(format) => format.decode(code),
-        }
-    }
-
-    fn encode(&self, quantity: &Quantity, steps: &mut Steps) -> Result<u16, RangeFault> {
-        match self {
-            NumberFormat::Linear11 => Linear11.encode(quantity, steps),
-            NumberFormat::Linear11Fixed(format) => format.encode(quantity, steps),
-            NumberFormat::Word(format) => format.encode(quantity, steps),
-        }
-    }
-
-    fn obeys_laws(&self) {
-        match self {
-            NumberFormat::Linear11 => Linear11.obeys_laws(),
-            NumberFormat::Linear11Fixed(format) => format.obeys_laws(),
-            NumberFormat::Word(format) => format.obeys_laws(),
-        }
-    }
-}
-
-impl NumberFormat {
-    /// The word that is written for a quantity: that of the code nearest to it.
-    pub(crate) fn word_of(self, value: &Quantity) -> Result<u16, HostFault>
-        ensures { MatchResult result (λ word. IsInRange (coding_of self) value.now × IsNearest (coding_of self) value.now word) (IsOutside self value.now) }
-    {
-        match self.encode(value, &mut Steps::new()) {
-            Ok(word) => Ok(word),
-            Err(RangeFault::Below) => Err(HostFault::Range(RangeFault::Below)),
-            Err(RangeFault::Above) => Err(HostFault::Range(RangeFault::Above)),
-        }
+/// The word that is written for a quantity: that of the code nearest to it.
+pub(crate) fn word_of(format: NumberFormat, value: &Quantity) -> Result<u16, HostFault>
+    ensures word { MatchResult result (λ word. IsInRange (number_coding format) value.now × IsNearest (number_coding format) value.now word) (IsOutside format value.now) }
+    ensures only { (a b : ℕ) → IsNearest (number_coding format) value.now a → IsNearest (number_coding format) value.now b → a ≡ b }
+{
+    one_word(format, value);
+    match format.encode(value, &mut Steps::new()) {
+        Ok(word) => Ok(word),
+        Err(RangeFault::Below) => Err(HostFault::Range(RangeFault::Below)),
+        Err(RangeFault::Above) => Err(HostFault::Range(RangeFault::Above)),
     }
 }
 

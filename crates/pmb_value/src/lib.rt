@@ -2,9 +2,9 @@
 //!
 //! A [`Format`] of two bytes (LINEAR11, ULINEAR16, SLINEAR16 or DIRECT) says which [`Quantity`] a
 //! code is worth, exactly, and which code is nearest to a quantity: the even one at a tie, and none
-//! for a quantity outside the range. [`vout_format`] answers the format that a VOUT_MODE names.
-//! [`Quantity::parse`] reads a quantity and [`Quantity::text`] writes it, with nothing lost: its
-//! text reads back as exactly that quantity.
+//! for a quantity outside the range. A [`NumberFormat`] is any of them, and [`vout_format`] answers
+//! the one that a VOUT_MODE names. [`Quantity::parse`] reads a quantity and [`Quantity::text`] writes
+//! it, with nothing lost: its text reads back as exactly that quantity.
 //!
 //! ```rust
 //! let format = vout_format(0x17, false, None)?;
@@ -17,8 +17,10 @@
 #![tactic(auto)]
 
 pub mod laws;
+mod number_format;
 mod vout;
 
+pub use number_format::NumberFormat;
 pub use pmb_coefficients::{Direct, DirectFault};
 pub use pmb_format::{Format, RangeFault, Steps};
 pub use pmb_linear::{BadExponent, Linear11, Linear11Fixed, Slinear16, Ulinear16};

@@ -1,5 +1,5 @@
 //! FORMATs that name a format, and those that don't.
-use pmb_convert::{FormatFault, NamedFormat, laws};
+use pmb_convert::{FormatFault, NumberFormat, laws, parse_format};
 use pmb_value::{Format, Quantity, Steps};
 
 // A name, a FORMAT, and what is wrong with it.
@@ -101,15 +101,15 @@ static FAULTS: [(&str, &str, FormatFault); 44] = [
 #[test]
 fn faults_of_formats(rt: HostRuntime) {
     for &(name, format, fault) in &FAULTS {
-        assert_eq!(rt; NamedFormat::parse(format), Err(fault), "{name}");
+        assert_eq!(rt; parse_format(format), Err(fault), "{name}");
     }
 }
 
 #[test]
 fn linear11_is_named(rt: HostRuntime) {
     assert_eq!(rt;
-        NamedFormat::parse("linear11"),
-        Ok(NamedFormat::Linear11),
+        parse_format("linear11"),
+        Ok(NumberFormat::Linear11),
         "linear11"
     );
     laws::one_format();
@@ -127,7 +127,7 @@ fn text_is<F: Format>(format: &F, code: u16, wanted: &str) -> bool {
 
 // Whether a FORMAT's code of a quantity is this one, and is worth that quantity.
 fn both_ways(format: &str, text: &str, code: u16) -> bool {
-    match (NamedFormat::parse(format), Quantity::parse(text.as_bytes())) {
+    match (parse_format(format), Quantity::parse(text.as_bytes())) {
         (Ok(format), Ok(quantity)) => {
             code_of(&format, &quantity) == Some(code) && text_is(&format, code, text)
         }
@@ -161,7 +161,7 @@ static CODES: [(&str, &str, &str, u16); 11] = [
 ];
 
 #[test]
-fn codes_of_named_formats(rt: HostRuntime) {
+fn codes_of_formats(rt: HostRuntime) {
     for &(name, format, text, code) in &CODES {
         assert!(rt; both_ways(format, text, code), "{name}");
     }

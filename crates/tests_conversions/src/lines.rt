@@ -1,6 +1,6 @@
 //! Lines and their answers. Expected values are worked out by hand from the formats' definitions.
 use crate::runs::{Task, over};
-use pmb_convert::{Conversion, NamedFormat, convert_lines};
+use pmb_convert::{Conversion, NumberFormat, convert_lines};
 use pmb_io::{Failing, Io, Tally};
 use std::alloc::{AllocError, Global};
 use std::test::Fail;
@@ -330,7 +330,7 @@ fn a_long_line_is_passed_over(rt: HostRuntime) -> Result<(), Fail> {
     bytes.extend_from_slice(b"\n8000\n")?;
     let mut reader = Io::new(bytes.as_slice());
     let mut writer = Io::new(Vec::new(rt.alloc()));
-    let conversion = Conversion::Decode(NamedFormat::Linear11);
+    let conversion = Conversion::Decode(NumberFormat::Linear11);
     let ran = convert_lines(conversion, b"", &mut reader, &mut writer);
     assert_eq!(rt;
         ran,

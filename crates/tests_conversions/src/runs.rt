@@ -1,6 +1,6 @@
 //! What a run over lines comes to.
 use crate::lines::Row;
-use pmb_convert::{NamedFormat, decode_lines, encode_lines};
+use pmb_convert::{decode_lines, encode_lines, parse_format};
 use pmb_io::{Failing, Io, Sink, Source, Tally, ToolFault};
 use std::alloc::Global;
 
@@ -26,7 +26,7 @@ fn run<R: Source, W: Sink>(
     reader: &mut R,
     writer: &mut W,
 ) -> Option<Result<Tally, ToolFault>> {
-    match (task, NamedFormat::parse(format)) {
+    match (task, parse_format(format)) {
         (Task::Encode, Ok(format)) => Some(encode_lines(format, first, reader, writer)),
         (Task::Decode, Ok(format)) => Some(decode_lines(format, first, reader, writer)),
         (_, Err(_)) => None,

@@ -5,7 +5,7 @@ use Rattle.pmb_command.specs.Bus.{IsEntry}
 use Rattle.pmb_command.specs.Entry.{EntryParts}
 use Rattle.pmb_command.specs.Parts.{CommandParts, DeviceParts, command_with, device_with}
 use Rattle.pmb_writer.specs.Invalid.{AreKept, Rule, forms_at, has_command, has_device}
-use Rattle.pmb_host.specs.declared.number.NumberFormat.{NumberFormat}
+use Rattle.pmb_value.specs.declared.number_format.NumberFormat.{NumberFormat}
 use Rattle.pmb_request.specs.Request.{Command}
 use Rattle.pmb_host.specs.Rules.{HasNumber, get_rules}
 

@@ -3,10 +3,10 @@ use Rattle.std.specs.Prelude.{◌≡◌, ◌≢◌, ℕ, ◌+◌, ◌*◌, ◌<�
 use Rattle.pmb_command.specs.declared.form.Form.{Form}
 use Rattle.pmb_command.specs.Wire.{Fits, wire, wire_length}
 use Rattle.pmb_format.specs.Coding.{value_of}
-use Rattle.pmb_host.specs.declared.number.NumberFormat.{NumberFormat}
+use Rattle.pmb_value.specs.declared.number_format.NumberFormat.{NumberFormat}
 use Rattle.pmb_host.specs.declared.reply.ReplyState.{ReplyState}
 use Rattle.pmb_host.specs.declared.reply.ReplyState.TheVariants.{Short, Whole, BadPec}
-use Rattle.pmb_host.specs.Number.{number_coding}
+use Rattle.pmb_value.specs.NumberFormat.{number_coding}
 use Rattle.pmb_host.specs.Steps.{ReplyData, AllBytes, OneValue}
 
 -- how many bytes a reply has that begins with these, with its packet error code

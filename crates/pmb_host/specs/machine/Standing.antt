@@ -20,7 +20,7 @@ use Rattle.pmb_devices.specs.Bus.{AnsweredSignal}
 use Rattle.pmb_host.specs.declared.host.Host.{Host}
 use Rattle.pmb_host.specs.declared.host.Phase.{Phase}
 use Rattle.pmb_host.specs.declared.host.Phase.TheVariants as phases
-use Rattle.pmb_host.specs.declared.number.NumberFormat.{NumberFormat}
+use Rattle.pmb_value.specs.declared.number_format.NumberFormat.{NumberFormat}
 use Rattle.pmb_host.specs.declared.step.HostFault.{HostFault}
 use Rattle.pmb_host.specs.declared.step.HostFault.TheVariants.{BadPec}
 use Rattle.pmb_host.specs.declared.step.HostStep.{HostStep}

@@ -1,6 +1,6 @@
 use Rattle.std.proofs.Common.{refl, ap, ◌∙◌, w8}
 use Rattle.std.proofs.lemmas.Int.{to_z-of_z}
-use Rattle.pmb_convert.specs.declared.named_format.NamedFormat.TheVariants.{Linear11Fixed}
+use Rattle.pmb_value.specs.declared.number_format.NumberFormat.TheVariants.{Linear11Fixed}
 use Rattle.pmb_convert.specs.Spelling.{named_linear, spelled, other, linear11_fixed}
 use Rattle.pmb_convert.proofs.spelling.linear11_fixed.Goals as goal
 

@@ -1,7 +1,7 @@
 use Rattle.std.proofs.Common.{refl, ap, ◌∙◌, w8}
 use Rattle.std.proofs.lemmas.Int.{to_z-of_z}
 use Rattle.pmb_value.specs.declared.vout.VoutFormat.TheVariants.{Signed}
-use Rattle.pmb_convert.specs.declared.named_format.NamedFormat.TheVariants.{Word}
+use Rattle.pmb_value.specs.declared.number_format.NumberFormat.TheVariants.{Word}
 use Rattle.pmb_convert.specs.Spelling.{named_linear, spelled, other, slinear16}
 use Rattle.pmb_convert.proofs.spelling.slinear16.Goals as goal
 

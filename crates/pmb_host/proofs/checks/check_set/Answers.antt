@@ -7,9 +7,9 @@ use Rattle.pmb_command.specs.Parts.{DeviceParts}
 use Rattle.pmb_quantity.specs.Fraction.{Fraction}
 use Rattle.pmb_format.specs.Coding.{IsInRange, IsNearest}
 use Rattle.pmb_writer.specs.Invalid.{AreKept}
-use Rattle.pmb_host.specs.declared.number.NumberFormat.{NumberFormat}
+use Rattle.pmb_value.specs.declared.number_format.NumberFormat.{NumberFormat}
 use Rattle.pmb_host.specs.declared.step.HostFault.{HostFault}
-use Rattle.pmb_host.specs.Number.{number_coding}
+use Rattle.pmb_value.specs.NumberFormat.{number_coding}
 use Rattle.pmb_request.specs.Request.{Command}
 use Rattle.pmb_host.specs.machine.Checks.{Finds}
 use Rattle.pmb_host.specs.Rules.{CanSet, HasNumber, IsOutside, IsSetFault, no_number, outside, set_rules}
@@ -25,9 +25,17 @@ kept profile command device entry form finds written some = rw (finds.known, fin
 answer : (profile : List DeviceParts) (command : Command) (value : Fraction) (mode : Option ℕ) (number : NumberFormat)
     → AreKept (set_rules profile command) → HasNumber profile command mode number
     → (word : Result ℕ HostFault) → MatchResult word (λ code. IsInRange (number_coding number) value × IsNearest (number_coding number) value code) (IsOutside number value)
+    → ((a b : ℕ) → IsNearest (number_coding number) value a → IsNearest (number_coding number) value b → a ≡ b)
     → MatchResult word (CanSet profile command value mode) (IsSetFault profile command value mode)
-answer profile command value mode number rules_kept has (Ok word) (inside, nearest) = record { kept = rules_kept; number = number; has = has; in_range = inside; nearest = nearest }
-answer profile command value mode number rules_kept has (Err fault) out = outside rules_kept number has out
+answer profile command value mode number rules_kept has (Ok word) (inside, nearest) one = record {
+  kept = rules_kept;
+  number = number;
+  has = has;
+  in_range = inside;
+  nearest = nearest;
+  only = λ code also. one code word also nearest;
+}
+answer profile command value mode number rules_kept has (Err fault) out one = outside rules_kept number has out
 
 pub returns-in-Ok-format_of : goal.returns-in-Ok-format_of
 returns-in-Ok-format_of c =
@@ -35,7 +43,7 @@ returns-in-Ok-format_of c =
     answer c.args.profile.now command c.args.value.now c.args.mode c.in-Ok-format_of.format
     (kept c.args.profile.now command _ _ c.in-Some.field-0 c.in-Ok.ensures (search rules) (search rules))
     (c.in-Ok-format_of.ensures c.args.profile.now command c.in-Ok.ensures refl)
-    c.word_of.result c.word_of.ensures
+    c.word_of.result c.word_of.ensures.word c.word_of.ensures.only
 
 pub returns-in-Err-format_of : goal.returns-in-Err-format_of
 returns-in-Err-format_of c =

@@ -1,4 +1,4 @@
-use Rattle.pmb_convert.proofs.named_format.NamedFormatFormat.encode.Goals as goal
+use Rattle.pmb_value.proofs.number_format.NumberFormatFormat.encode.Goals as goal
 
 pub returns-in-Linear11-clause-in_range : goal.returns-in-Linear11-clause-in_range
 returns-in-Linear11-clause-in_range c = rw c.in-Linear11.is c.encode.ensures.in_range

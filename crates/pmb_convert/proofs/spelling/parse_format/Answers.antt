@@ -2,7 +2,7 @@ use Rattle.std.proofs.Common.{codes, refl, sym, ◌∙◌}
 use Rattle.std.proofs.lemmas.Slice.Eq.{bytes_eq-Decides}
 use Rattle.pmb_convert.specs.Spelling.{spelled, linear11}
 use Rattle.pmb_convert.proofs.Sayings.{names_fixed, names_unsigned, names_signed, names_vout, names_direct}
-use Rattle.pmb_convert.proofs.named_format.NamedFormat.parse.Goals as goal
+use Rattle.pmb_convert.proofs.spelling.parse_format.Goals as goal
 
 pub returns-then-eq : goal.returns-then-eq
 returns-then-eq c = spelled linear11 ((bytes_eq-Decides c.args.text.now (codes "linear11")).0 (sym c.eq.ensures ∙ c.if-eq.true)) refl

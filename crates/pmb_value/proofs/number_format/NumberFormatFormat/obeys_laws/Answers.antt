@@ -1,4 +1,4 @@
-use Rattle.pmb_host.proofs.number.NumberFormatFormat.obeys_laws.Goals as goal
+use Rattle.pmb_value.proofs.number_format.NumberFormatFormat.obeys_laws.Goals as goal
 
 pub returns-in-Linear11-clause-one_code : goal.returns-in-Linear11-clause-one_code
 returns-in-Linear11-clause-one_code c = rw c.in-Linear11.is c.obeys_laws.ensures.one_code
