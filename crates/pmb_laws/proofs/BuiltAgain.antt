@@ -35,7 +35,7 @@ all_accepted (Refusal refusal ∷ outcomes) none =
     let one : refusals_in (Refusal refusal ∷ outcomes) ≡ 1 + refusals_in outcomes = sum_by-cons (λ (o : Outcome). cond (not (is_packet o)) 1 0) (Refusal refusal) outcomes in
     absurd (omega (arith, none, one))
 
-packets_are_all : (ts : List TransactionData) → packets_in (map Accepted ts) ≡ length ts
+pub packets_are_all : (ts : List TransactionData) → packets_in (map Accepted ts) ≡ length ts
 packets_are_all [] = refl
 packets_are_all (t ∷ ts) =
     let one : packets_in (map Accepted (t ∷ ts)) ≡ 1 + packets_in (map Accepted ts) = sum_by-cons (λ (o : Outcome). cond (is_packet o) 1 0) (Accepted t) (map Accepted ts) in

@@ -1,2 +1,5 @@
 pub mod ShownLines
 pub mod BuiltAgain
+pub mod ResultText
+pub mod SpelledText
+pub mod RunCaptures

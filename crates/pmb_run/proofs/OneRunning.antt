@@ -1,0 +1,133 @@
+-- What is run of bytes is one text and one tally.
+use Rattle.std.proofs.Common.{◌≡◌, ℕ, Option, List, [], ◌∷◌, ◌++◌, map, refl, sym, ◌∙◌, ap, subst}
+use Rattle.std.specs.Prelude.{count_by}
+use Rattle.pmb_bus.specs.declared.event.Event.{Event}
+use Rattle.pmb_command.specs.Parts.{DeviceParts}
+use Rattle.pmb_io.specs.Count.{capped}
+use Rattle.pmb_io.specs.Lines.{TextLine}
+use Rattle.pmb_io.specs.Lines as lines
+use Rattle.pmb_io.specs.declared.tally.Tally.{Tally}
+use Rattle.pmb_line.specs.declared.line_fault.LineFault.TheVariants as line_fault
+use Rattle.pmb_line.specs.Words.{line_words}
+use Rattle.pmb_note.specs.Context.{mode}
+use Rattle.pmb_registers.specs.State.{InState}
+use Rattle.pmb_transaction.specs.Packet.{Packet}
+use Rattle.pmb_transaction.specs.Transaction.{TransactionData}
+use Rattle.pmb_devices.specs.Runs.{all_after, first_members}
+use Rattle.pmb_request.specs.Request.{RequestData}
+use Rattle.pmb_request.specs.RequestFault.{IsRequestFault, SpellsRequest, fault_text}
+use Rattle.pmb_request.specs.declared.request_fault.RequestFault.{RequestFault}
+use Rattle.pmb_request.specs.declared.request_fault.RequestFault.TheVariants.{Line}
+use Rattle.pmb_value.specs.declared.number_format.NumberFormat.{NumberFormat}
+use Rattle.pmb_host.specs.declared.step.HostFault.{HostFault}
+use Rattle.pmb_host.specs.Rules.{IsAllowed, IsFault}
+use Rattle.pmb_host.specs.Task.{task_of}
+use Rattle.pmb_exchange.specs.Exchange.{EndsWith, Exchanges}
+use Rattle.pmb_run.specs.Answer.{IsRefused, RunAnswer, Recorded, Refusal, Nothing, Runs, RunsLine, RunsText, host_fault_text, is_done, is_failed, no_host, no_request}
+use Rattle.pmb_run.specs.Lines.{RunsCounted, RunsEach, RunsLines, answers_behind, recorded_by}
+use Rattle.pmb_run.proofs.Tasks.{one_task}
+use Rattle.pmb_run.proofs.Tellings.{one_end}
+
+-- what the layers below say of one line and one request
+pub record RunLaws (profile : List DeviceParts) : Type 0 where
+  pub one_request : (mode : ℕ → Option ℕ) (line : List ℕ) (a b : RequestData) → SpellsRequest mode line a → SpellsRequest mode line b → a ≡ b
+  pub one_line_fault : (line : List ℕ) (a b : RequestFault) → IsRequestFault line a → IsRequestFault line b → a ≡ b
+  pub no_line_fault : (mode : ℕ → Option ℕ) (line : List ℕ) (request : RequestData) (fault : RequestFault) → SpellsRequest mode line request
+      → IsRequestFault line fault → ⊥
+  pub one_host_fault : (request : RequestData) (a b : HostFault) → IsFault profile request a → IsFault profile request b → a ≡ b
+  pub no_host_fault : (request : RequestData) (word : ℕ) (number : Option NumberFormat) (fault : HostFault) → IsAllowed profile request word number
+      → IsFault profile request fault → ⊥
+  pub one_exchange : (members : List InState) (task a b : TransactionData) → map (λ m. m.device) members ≡ profile → Exchanges members task a
+      → Exchanges members task b → a ≡ b
+  pub one_packet : (t : TransactionData) (a b : List Event) → Packet profile t a → Packet profile t b → a ≡ b
+
+-- the devices stay those of the profile
+members_are : (ts : List TransactionData) (profile : List DeviceParts) → map (λ (m : InState). m.device) (all_after ts (first_members profile)) ≡ profile
+members_are ts [] = refl
+members_are ts (device ∷ profile) = ap (λ devices. device ∷ devices) (members_are ts profile)
+
+module _ (profile : List DeviceParts) (laws : RunLaws profile) where
+  -- ---- one line
+
+  module _ (before : List TransactionData) (line : List ℕ) where
+    abbrev modes : ℕ → Option ℕ
+    modes = mode profile before
+
+    abbrev members : List InState
+    members = all_after before (first_members profile)
+
+    one_run : (t u : TransactionData) (events others : List Event) (result other : List ℕ) → Runs profile before line t events result
+        → Runs profile before line u others other → Recorded t events result ≡ Recorded u others other
+    one_run t u events others result other x y =
+        let request_is : x.request ≡ y.request = laws.one_request modes line x.request y.request x.spells y.spells in
+        let allowed = subst (λ (r : RequestData). IsAllowed profile r x.word x.number) request_is x.allowed in
+        let same = one_task profile y.request x.word y.word x.number y.number allowed y.allowed in
+        let task_is : task_of x.request x.word ≡ task_of y.request y.word = ap (λ (r : RequestData). task_of r x.word) request_is ∙ same.task_is in
+        let done_is : t ≡ u =
+        laws.one_exchange members (task_of y.request y.word) t u (members_are before profile)
+        (subst (λ (task : TransactionData). Exchanges members task t) task_is x.exchanges) y.exchanges in
+        let events_are : events ≡ others = laws.one_packet u events others (subst (λ (done : TransactionData). Packet profile done events) done_is x.packet) y.packet in
+        let ends : EndsWith y.number u x.end =
+        subst (λ (done : TransactionData). EndsWith y.number done x.end) done_is
+        (subst (λ (number : Option NumberFormat). EndsWith number t x.end) same.number_is x.ends) in
+        let result_is : result ≡ other = x.told ∙ one_end y.number u x.end y.end ends y.ends ∙ sym y.told in
+        ap (λ (done : TransactionData). Recorded done events result) done_is ∙ ap (λ (es : List Event). Recorded u es result) events_are
+        ∙ ap (λ (text : List ℕ). Recorded u others text) result_is
+
+    not_both : (t : TransactionData) (events : List Event) (result why : List ℕ) → Runs profile before line t events result → IsRefused profile before line why → ⊥
+    not_both t events result why x (no_request because is some told) = laws.no_line_fault modes line x.request because x.spells is
+    not_both t events result why x (no_host request because spells is told) =
+        laws.no_host_fault x.request x.word x.number because x.allowed
+        (subst (λ (r : RequestData). IsFault profile r because) (laws.one_request modes line request x.request spells x.spells) is)
+
+    one_refusal : (a b : List ℕ) → IsRefused profile before line a → IsRefused profile before line b → a ≡ b
+    one_refusal a b (no_request because is some told) (no_request other also more telling) =
+        told ∙ ap fault_text (laws.one_line_fault line because other is also) ∙ sym telling
+    one_refusal a b (no_request because is some told) (no_host request other spells also telling) = absurd (laws.no_line_fault modes line request because spells is)
+    one_refusal a b (no_host request because spells is told) (no_request other also more telling) = absurd (laws.no_line_fault modes line request other spells also)
+    one_refusal a b (no_host request because spells is told) (no_host again other spelled also telling) =
+        told ∙ ap host_fault_text (laws.one_host_fault again because other
+        (subst (λ (r : RequestData). IsFault profile r because) (laws.one_request modes line request again spells spelled) is) also) ∙ sym telling
+
+    has_words : (why : List ℕ) → IsRefused profile before line why → line_words line ≡ [] → ⊥
+    has_words why (no_request because is some told) blank = some (laws.one_line_fault line because (Line line_fault.Blank) is blank)
+    has_words why (no_host request because spells is told) blank = laws.no_line_fault modes line request (Line line_fault.Blank) spells blank
+
+    same_answer : (a b : RunAnswer) → RunsText profile before line a → RunsText profile before line b → a ≡ b
+    same_answer (Recorded t events result) (Recorded u others other) x y = one_run t u events others result other x y
+    same_answer (Recorded t events result) (Refusal why) x y = absurd (not_both t events result why x y)
+    same_answer (Recorded t events result) Nothing x y = absurd (laws.no_line_fault modes line x.request (Line line_fault.Blank) x.spells y)
+    same_answer (Refusal why) (Recorded t events result) x y = absurd (not_both t events result why y x)
+    same_answer (Refusal why) (Refusal other) x y = ap Refusal (one_refusal why other x y)
+    same_answer (Refusal why) Nothing x y = absurd (has_words why x y)
+    same_answer Nothing (Recorded t events result) x y = absurd (laws.no_line_fault modes line y.request (Line line_fault.Blank) y.spells x)
+    same_answer Nothing (Refusal why) x y = absurd (has_words why y x)
+    same_answer Nothing Nothing x y = refl
+
+  same_at : (before : List TransactionData) (line : TextLine) (a b : RunAnswer) → RunsLine profile before line a → RunsLine profile before line b → a ≡ b
+  same_at before (lines.Ended line) a b x y = same_answer before line a b x y
+  same_at before (lines.Last line) a b x y = same_answer before line a b x y
+  same_at before lines.TooLong a b x y = x ∙ sym y
+
+  -- ---- all lines
+
+  same_each : (before : List TransactionData) (given : List TextLine) (xs ys : List RunAnswer) → RunsEach profile before given xs
+      → RunsEach profile before given ys → xs ≡ ys
+  same_each before [] [] [] x y = refl
+  same_each before [] [] (b ∷ ys) x y = absurd y
+  same_each before [] (a ∷ xs) ys x y = absurd x
+  same_each before (line ∷ given) [] ys x y = absurd x
+  same_each before (line ∷ given) (a ∷ xs) [] x y = absurd y
+  same_each before (line ∷ given) (a ∷ xs) (b ∷ ys) x y =
+      let first = same_at before line a b x.0 y.0 in
+      let rest = subst (λ (answer : RunAnswer). RunsEach profile (before ++ recorded_by answer) given xs) first x.1 in
+      ap (λ c. c ∷ xs) first ∙ ap (λ cs. b ∷ cs) (same_each (before ++ recorded_by b) given xs ys rest y.1)
+
+  pub one_text : (given : List TextLine) (a b : List ℕ) → RunsLines profile given a → RunsLines profile given b → a ≡ b
+  one_text given a b x y = x.whole ∙ ap (answers_behind 0) (same_each [] given x.answers y.answers x.each y.each) ∙ sym y.whole
+
+  pub one_tally : (given : List TextLine) (x y : List ℕ) (a b : Tally) → RunsCounted profile a given x → RunsCounted profile b given y → a ≡ b
+  one_tally given x y a b one other =
+      let same = same_each [] given one.given.answers other.given.answers one.given.each other.given.each in
+      ap (λ (n : ℕ). record a { packets = n }) (one.counts.packets_counted ∙ ap (λ answers. capped (count_by is_done answers)) same ∙ sym other.counts.packets_counted)
+      ∙ ap (λ (n : ℕ). record b { refusals = n }) (one.counts.refusals_counted ∙ ap (λ answers. capped (count_by is_failed answers)) same ∙ sym other.counts.refusals_counted)

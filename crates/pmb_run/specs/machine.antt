@@ -1,0 +1,3 @@
+-- What is kept from one request to the next.
+pub mod Bench
+pub mod Running

@@ -1,0 +1,52 @@
+//! Requests in; packets and results out.
+
+ghost use Rattle.std.specs.Prelude.{◌≡◌};
+ghost use Rattle.pmb_io.specs.Runs.{AsTool, Ran};
+ghost use Rattle.pmb_run.specs.Lines.{OrNoMemory, running};
+
+use crate::bench::Bench;
+use crate::runner::Runner;
+use pmb_devices::Bus;
+use pmb_io::laws::lines_are_handed_on;
+use pmb_io::{Lines, Sink, Source, Tally, ToolFault, each_piece};
+use pmb_table::Profile;
+use std::alloc::Global;
+
+/// Runs the request lines of the text that is `first` and what the reader gives, one after the other,
+/// against simulated devices: those of the profile, each as it is first made.
+///
+/// What is recorded of a request is written as canonical capture text (SMBus 3.0 section 6.5), and
+/// behind it a line with the result: `# done`, the bytes or the value that were read, or at which byte
+/// the packet was refused. A line that spells no request, or one for which there is no host, is answered
+/// by `# line N: ` and its first fault, where N counts all lines from 1 and stays at the greatest `u64`;
+/// a line of more than 32,768 bytes by `TooLong at 32768`. A line without words is answered by nothing.
+///
+/// A `set` and a `get` take the VOUT_MODE that the packets before them told. The answers to the lines of
+/// a piece are written before the next is read. The tally counts requests that were done as packets, and
+/// others as refusals. Memory is taken for the devices alone, before anything is read or written.
+///
+/// # Errors
+///
+/// `Memory` where there was none for the devices: nothing was read or written. `Read` where the reader
+/// failed: the answers to the lines that had ended are written. `Write` where the writer failed.
+/// `TooManyReads` where 2^32 reads gave bytes and the reader had not ended.
+pub fn run<R: Source, W: Sink>(
+    alloc: Global,
+    profile: &Profile,
+    first: &[u8],
+    reader: &mut R,
+    writer: &mut W,
+) -> Result<Tally, ToolFault>
+    // It is a run over the reader and the writer, and what it writes is the job of `run`; or there was no memory.
+    ensures { OrNoMemory ((reader.new ≡ reader.old) × (writer.new ≡ writer.old))
+        (AsTool (Ran R.told W.told (running profile.now) first.now (reader.old, writer.old) (reader.new, writer.new))) result }
+{
+    lines_are_handed_on::<Runner, 32768>();
+    let Ok(bus) = Bus::new(alloc, profile) else {
+        return Err(ToolFault::Memory);
+    };
+    let runner = Runner::new(Bench::new(profile, bus));
+    let mut lines = Lines::<Runner, 32768>::new(runner);
+    each_piece(&mut lines, first, reader, writer)?;
+    Ok(lines.task().tally())
+}
