@@ -2,3 +2,5 @@ pub mod Statuses
 pub mod Behind
 pub mod Formats
 pub mod Often
+pub mod Memory
+pub mod Working

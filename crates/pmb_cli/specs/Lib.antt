@@ -1,4 +1,5 @@
 pub mod Matter
+pub mod Memory
 pub mod Often
 pub mod Statuses
 pub mod Tasks

@@ -4,7 +4,7 @@ use Rattle.pmb_convert.specs.Lines.{converting}
 use Rattle.pmb_convert.specs.Spelling.{Names}
 use Rattle.pmb_convert.specs.declared.conversion.Conversion.{Conversion}
 use Rattle.pmb_convert.specs.declared.conversion.Conversion.TheVariants as conversions
-use Rattle.pmb_convert.specs.declared.named_format.NamedFormat.{NamedFormat}
+use Rattle.pmb_value.specs.declared.number_format.NumberFormat.{NumberFormat}
 use Rattle.pmb_io.specs.Runs.{Done, PartDone}
 use Rattle.pmb_io.specs.Told.{ReaderTold, WriterTold}
 use Rattle.pmb_io.specs.declared.tally.Tally.{Tally}
@@ -13,8 +13,8 @@ use Rattle.pmb_cli.specs.Statuses.{Does}
 use Rattle.pmb_cli.specs.Traffic.{DoneBehind, DoneUnderSample, PartDoneBehind, PartDoneUnderSample, working}
 
 -- The text names a format, and this holds of the conversion in it.
-pub record InFormat (conversion : NamedFormat → Conversion) (Holds : Conversion → Type 0) (text : List ℕ) : Type 0 where
-  pub format : NamedFormat
+pub record InFormat (conversion : NumberFormat → Conversion) (Holds : Conversion → Type 0) (text : List ℕ) : Type 0 where
+  pub format : NumberFormat
   pub names : Names text (Ok format)
   pub holds : Holds (conversion format)
 

@@ -1,4 +1,4 @@
--- What `pmb show`, `pmb check` and `pmb build` write of what they read.
+-- What `pmb show`, `pmb check`, `pmb build` and `pmb run` write of what they read.
 use Rattle.std.specs.Prelude.{◌≡◌, ◌⊎◌, ℕ, true, List, []}
 use Rattle.std.specs.Io.KnownBytes.{IsAtEnd}
 use Rattle.pmb_build.specs.Lines.{building}
@@ -9,15 +9,17 @@ use Rattle.pmb_io.specs.Runs.{Done, Job, OpenBefore, PartDone}
 use Rattle.pmb_io.specs.Told.{ReaderTold, WriterTold, told_by}
 use Rattle.pmb_io.specs.declared.tally.Tally.{Tally}
 use Rattle.pmb_front.specs.Front.{FirstMark, Undecided}
+use Rattle.pmb_run.specs.Lines.{running}
 use Rattle.pmb_cli.specs.Matter.{Behind, PartBehind, UnderSample}
 use Rattle.pmb_words.specs.declared.work.Work.{Work}
-use Rattle.pmb_words.specs.declared.work.Work.TheVariants.{Show, Check, Build}
+use Rattle.pmb_words.specs.declared.work.Work.TheVariants.{Show, Check, Build, Run}
 
 -- what each work is to write under a profile
 abbrev pub working : Work → List DeviceParts → Job Tally
 working Show profile = showing profile
 working Check profile = checking profile
 working Build profile = building profile
+working Run profile = running profile
 
 -- What was read but for a last piece left something open: nothing was decided of the profile, or the job wants more of what
 -- stands behind it.

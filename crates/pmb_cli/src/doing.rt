@@ -2,6 +2,7 @@
 
 ghost use Rattle.std.specs.Prelude.{◌≡◌, ◌≤◌, ◌⊎◌, false};
 ghost use Rattle.pmb_cli.specs.Matter.{HasBadProfile};
+ghost use Rattle.pmb_cli.specs.Memory.{ReadWithoutMemory};
 ghost use Rattle.pmb_cli.specs.Statuses.{StatusTells};
 ghost use Rattle.pmb_cli.specs.Tasks.{DoesTask};
 ghost use Rattle.pmb_status.specs.Status.{IsTold};
@@ -11,7 +12,7 @@ ghost use Rattle.pmb_words.specs.declared.work.Work.{Work as WorkOf};
 use crate::lines::run_lines;
 use crate::traffic::{run_behind, run_sample};
 use pmb_convert::laws::one_format;
-use pmb_convert::{Conversion, NamedFormat};
+use pmb_convert::{Conversion, parse_format};
 use pmb_io::{Sink, Source};
 use pmb_status::tell_format;
 use pmb_table::SAMPLE;
@@ -28,6 +29,7 @@ pub(crate) fn run_task<R: Source, W: Sink, E: Sink>(
 ) -> u8
     ensures status { StatusTells R.told W.told (reader.old, out.old) (reader.new, out.new) result }
     ensures did { DoesTask R.told W.told SAMPLE.now (asking_of task.entry) (reader.old, out.old) (reader.new, out.new) result }
+    ensures memory { result ≡ 4 → ReadWithoutMemory R.told (asking_of task.entry) reader.old reader.new }
     ensures told { result ≡ 2 → NamesNone (asking_of task.entry) ⊎ ((work : WorkOf) × (asking_of task.entry ≡ Traffic work false) × HasBadProfile R.told reader.old reader.new) }
     ensures err_told { 2 ≤ result → IsTold (E.told err.old) (E.told err.new) }
     ensures quiet { result ≤ 1 → err.new ≡ err.old }
@@ -38,11 +40,11 @@ pub(crate) fn run_task<R: Source, W: Sink, E: Sink>(
     one_format();
     match task {
         Task::Traffic(work, sample) => run_traffic(work, sample, alloc, reader, out, err),
-        Task::Encode(format) => match NamedFormat::parse(format) {
+        Task::Encode(format) => match parse_format(format) {
             Ok(format) => run_lines(Conversion::Encode(format), reader, out, err),
             Err(fault) => tell_format(fault, err),
         },
-        Task::Decode(format) => match NamedFormat::parse(format) {
+        Task::Decode(format) => match parse_format(format) {
             Ok(format) => run_lines(Conversion::Decode(format), reader, out, err),
             Err(fault) => tell_format(fault, err),
         },
@@ -61,6 +63,7 @@ fn run_traffic<R: Source, W: Sink, E: Sink>(
 ) -> u8
     ensures status { StatusTells R.told W.told (reader.old, out.old) (reader.new, out.new) result }
     ensures did { DoesTask R.told W.told SAMPLE.now (Traffic work sample) (reader.old, out.old) (reader.new, out.new) result }
+    ensures memory { result ≡ 4 → ReadWithoutMemory R.told (Traffic work sample) reader.old reader.new }
     ensures told { result ≡ 2 → (sample ≡ false) × HasBadProfile R.told reader.old reader.new }
     ensures err_told { 2 ≤ result → IsTold (E.told err.old) (E.told err.new) }
     ensures quiet { result ≤ 1 → err.new ≡ err.old }

@@ -10,8 +10,9 @@ mod traffic;
 
 pub use pmb_build::build;
 pub use pmb_capture::{check_capture, show};
-pub use pmb_convert::{FormatFault, NamedFormat, decode_lines, encode_lines};
+pub use pmb_convert::{FormatFault, NumberFormat, decode_lines, encode_lines, parse_format};
 pub use pmb_front::{Front, front};
 pub use pmb_io::{Failing, Io, IoFault, Sink, Source, Tally, ToolFault};
+pub use pmb_run::run;
 pub use pmb_words::no_words;
 pub use program::tool;

@@ -2,6 +2,7 @@
 
 ghost use Rattle.std.specs.Prelude.{◌≡◌, ◌≢◌, ◌≤◌, ◌⊎◌, [], false, map};
 ghost use Rattle.pmb_cli.specs.Matter.{HasBadProfile};
+ghost use Rattle.pmb_cli.specs.Memory.{ReadWithoutMemory};
 ghost use Rattle.pmb_cli.specs.Statuses.{StatusTells};
 ghost use Rattle.pmb_cli.specs.Tasks.{DoesTask};
 ghost use Rattle.pmb_status.specs.Status.{IsTold, Tells};
@@ -22,13 +23,14 @@ use std::convert::AsStr;
 /// | status | |
 /// | --- | --- |
 /// | 0 | done, or help or the version was asked for |
-/// | 1 | the capture has refusals, or lines were answered by a fault |
+/// | 1 | the capture has refusals, lines were answered by a fault, or requests failed |
 /// | 2 | the words are no command or name no format, or the profile has a fault or is too long |
 /// | 3 | a read or a write failed, or there were too many reads |
 /// | 4 | there was no memory |
 ///
 /// Faults of the statuses 2 to 4 are told on `err`. The words are looked at before anything is read,
-/// and then the format; then the profile is read, and then the capture or the lines.
+/// and then the format; then the profile is read, and then the capture or the lines. Want of memory is
+/// told before the capture or the lines are read, and nothing was written on `out` then.
 pub fn tool<S: AsStr, R: Source, W: Sink, E: Sink>(
     alloc: Global,
     words: &[S],
@@ -58,10 +60,13 @@ pub fn tool<S: AsStr, R: Source, W: Sink, E: Sink>(
     ensures bad_format_unread { HasBadFormat (map S.text words.now) → reader.new ≡ reader.old }
     ensures bad_format_unwritten { HasBadFormat (map S.text words.now) → out.new ≡ out.old }
 
-    // What was written is all that the words ask for: of a capture that is shown or checked, or of lines that are built, under
-    // the sample profile or under the one in front of them, or the answers to the lines that are encoded or decoded. Where a read
-    // failed or there were too many, it is so much of that.
+    // What was written is all that the words ask for: of a capture that is shown or checked, of lines that are built, or of
+    // requests that are run, under the sample profile or under the one in front of them, or the answers to the lines that are
+    // encoded or decoded. Where a read failed or there were too many, it is so much of that.
     ensures did { (asking : Asking) → AskFor (map S.text words.now) asking → DoesTask R.told W.told SAMPLE.now asking (reader.old, out.old) (reader.new, out.new) result }
+
+    // Where there was no memory, nothing was read, or the profile in front alone: the capture or the lines behind it were not.
+    ensures memory { (asking : Asking) → AskFor (map S.text words.now) asking → result ≡ 4 → ReadWithoutMemory R.told asking reader.old reader.new }
 
     // Whatever the words ask for, the status tells what failed, and how often was read.
     ensures status { StatusTells R.told W.told (reader.old, out.old) (reader.new, out.new) result }

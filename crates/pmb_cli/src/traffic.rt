@@ -1,19 +1,23 @@
-//! `pmb show`, `pmb check` and `pmb build`: what stands behind a profile, a capture or lines, under the
-//! sample profile or under the one in front of it.
+//! `pmb show`, `pmb check`, `pmb build` and `pmb run`: what stands behind a profile, a capture or lines,
+//! under the sample profile or under the one in front of it.
 
 ghost use Rattle.std.specs.Prelude.{◌≡◌, ◌≢◌, ◌≤◌, true, false};
 ghost use Rattle.pmb_io.specs.Runs.{AsTool, Ran};
 ghost use Rattle.pmb_cli.specs.Matter.{HasBadProfile};
+ghost use Rattle.pmb_cli.specs.Memory.{ReadNoMatter};
 ghost use Rattle.pmb_cli.specs.Statuses.{StatusTells};
 ghost use Rattle.pmb_cli.specs.Tasks.{DoesTask};
 ghost use Rattle.pmb_cli.specs.Traffic.{working};
+ghost use Rattle.pmb_run.specs.Lines.{OrNoMemory};
 ghost use Rattle.pmb_status.specs.Status.{IsTold};
 ghost use Rattle.pmb_words.specs.Asked.{Traffic};
+ghost use Rattle.pmb_words.specs.declared.work.Work.TheVariants.{Run};
 
 use pmb_build::build;
 use pmb_capture::{check_capture, show};
 use pmb_front::{front, sample_profile, tell_profile};
 use pmb_io::{Empty, Sink, Source, Tally, ToolFault};
+use pmb_run::run;
 use pmb_status::{ended, tell};
 use pmb_table::{Profile, SAMPLE};
 use pmb_words::Work;
@@ -24,20 +28,24 @@ use std::alloc::Global;
 /// # Errors
 ///
 /// `Read` where the reader failed, `Write` where the writer did. `TooManyReads` where 2^32 reads gave
-/// bytes and the reader had not ended.
-fn run<R: Source, W: Sink>(
+/// bytes and the reader had not ended. `Memory` where there was none for the devices of `run`.
+fn do_work<R: Source, W: Sink>(
     work: Work,
+    alloc: Global,
     profile: &Profile,
     first: &[u8],
     reader: &mut R,
     out: &mut W,
 ) -> Result<Tally, ToolFault>
-    ensures { AsTool (Ran R.told W.told (working work profile.now) first.now (reader.old, out.old) (reader.new, out.new)) result }
+    // `run` alone takes memory, before it reads or writes.
+    ensures { OrNoMemory ((work ≡ Run) × (reader.new ≡ reader.old) × (out.new ≡ out.old))
+        (AsTool (Ran R.told W.told (working work profile.now) first.now (reader.old, out.old) (reader.new, out.new))) result }
 {
     match work {
         Work::Show => show(profile, first, reader, out),
         Work::Check => check_capture(profile, first, reader, out),
         Work::Build => build(profile, first, reader, out),
+        Work::Run => run(alloc, profile, first, reader, out),
     }
 }
 
@@ -52,11 +60,12 @@ pub(crate) fn run_sample<R: Source, W: Sink, E: Sink>(
     ensures status { StatusTells R.told W.told (reader.old, out.old) (reader.new, out.new) result }
     ensures did { DoesTask R.told W.told SAMPLE.now (Traffic work true) (reader.old, out.old) (reader.new, out.new) result }
     ensures no_fault { result ≢ 2 }
+    ensures memory { result ≡ 4 → reader.new ≡ reader.old }
     ensures quiet { result ≤ 1 → err.new ≡ err.old }
     ensures err_told { 2 ≤ result → IsTold (E.told err.old) (E.told err.new) }
 {
     match sample_profile(alloc) {
-        Ok(profile) => ended(run(work, &profile, &[], reader, out), err),
+        Ok(profile) => ended(do_work(work, alloc, &profile, &[], reader, out), err),
         Err(fault) => tell(fault, err),
     }
 }
@@ -73,6 +82,7 @@ pub(crate) fn run_behind<R: Source, W: Sink, E: Sink>(
     ensures status { StatusTells R.told W.told (reader.old, out.old) (reader.new, out.new) result }
     ensures did { DoesTask R.told W.told SAMPLE.now (Traffic work false) (reader.old, out.old) (reader.new, out.new) result }
     ensures told { result ≡ 2 → HasBadProfile R.told reader.old reader.new }
+    ensures memory { result ≡ 4 → ReadNoMatter R.told reader.old reader.new }
     ensures quiet { result ≤ 1 → err.new ≡ err.old }
     ensures err_told { 2 ≤ result → IsTold (E.told err.old) (E.told err.new) }
 {
@@ -82,9 +92,12 @@ pub(crate) fn run_behind<R: Source, W: Sink, E: Sink>(
     };
     match Profile::from_toml(alloc, front.profile()) {
         Ok(profile) if front.has_capture() => {
-            ended(run(work, &profile, front.rest(), reader, out), err)
+            ended(
+                do_work(work, alloc, &profile, front.rest(), reader, out),
+                err,
+            )
         }
-        Ok(profile) => ended(run(work, &profile, &[], &mut Empty, out), err),
+        Ok(profile) => ended(do_work(work, alloc, &profile, &[], &mut Empty, out), err),
         Err(fault) => tell_profile(fault, err),
     }
 }

@@ -1,4 +1,4 @@
--- What `clap` finds in the words `pmb show`, `pmb check`, `pmb build`, `pmb encode FORMAT` and `pmb decode FORMAT`.
+-- What `clap` finds in the words `pmb show`, `pmb check`, `pmb build`, `pmb run`, `pmb encode FORMAT` and `pmb decode FORMAT`.
 use Rattle.std.proofs.Common.{◌≡◌, ◌≢◌, ℕ, true, false, eqb, Option, Some, None, List, [], ◌∷◌, codes, refl, sym, ap, ap₂, ◌∙◌}
 use Rattle.std.specs.Str.{bytes_eq}
 use Rattle.std.proofs.lemmas.Bool.{ne_eqb}
@@ -9,8 +9,9 @@ use Rattle.clap.specs.Simple.{built_leaf}
 use Rattle.clap.specs.Walk.{Held, Step, Walk, after_step, arg_by_index, finished, idle, nothing_held, settled, to_positional, value, walk, walk_from, walked, word_met}
 use Rattle.clap.specs.Words.{Kinds, Row, Rule, Shape, Text, subcommand_of}
 use Rattle.clap.proofs.OnLiterals.{clap_on_literals}
-use Rattle.pmb_words.specs.Asked.{AskFor, Decode, Encode, Traffic, format_in, has_sample}
-use Rattle.pmb_words.specs.declared.work.Work.TheVariants.{Show, Check, Build}
+use Rattle.pmb_words.specs.Asked.{AskFor, Decode, Encode, Traffic, format_in, has_sample, name_of}
+use Rattle.pmb_words.specs.declared.work.Work.{Work}
+use Rattle.pmb_words.specs.declared.work.Work.TheVariants.{Show, Check, Build, Run}
 use Rattle.clap.specs.declared.error.kind.ErrorKind.TheVariants.{DisplayHelp, DisplayVersion, InvalidSubcommand}
 use Rattle.pmb_words.specs.Words.{AskToTell, IsFlag, help, version, faults_of, lines_app, pmb_app}
 
@@ -138,102 +139,66 @@ asks_to_decode name format no_hyphen =
       );
     }
 
--- `pmb show` is taken, with the flag or without it.
+-- ---- `pmb show`, `pmb check`, `pmb build` and `pmb run`, with the flag or without it
+
 abbrev rows_in : Option (Text × List Row) → List Row
 rows_in None = []
 rows_in (Some subcommand) = subcommand.1
 
-show_sample_fault : (name : Text) → faults_of (name ∷ codes "show" ∷ codes "--sample" ∷ []) ≡ []
+-- the words, with the flag and without it
+abbrev sampled : Work → Text → List Text
+sampled work name = name ∷ name_of work ∷ codes "--sample" ∷ []
+
+abbrev unsampled : Work → Text → List Text
+unsampled work name = name ∷ name_of work ∷ []
+
+sampled_fault : (work : Work) (name : Text) → faults_of (sampled work name) ≡ []
 unfolding clap_on_literals
-show_sample_fault name = refl
+sampled_fault Show name = refl
+sampled_fault Check name = refl
+sampled_fault Build name = refl
+sampled_fault Run name = refl
 
-show_sample_rows : (name : Text) → subcommand_of pmb_app (name ∷ codes "show" ∷ codes "--sample" ∷ []) ≡ Some (codes "show", rows_in (subcommand_of pmb_app (name ∷ codes "show" ∷ codes "--sample" ∷ [])))
+sampled_rows : (work : Work) (name : Text) → subcommand_of pmb_app (sampled work name) ≡ Some (name_of work, rows_in (subcommand_of pmb_app (sampled work name)))
 unfolding clap_on_literals
-show_sample_rows name = refl
+sampled_rows Show name = refl
+sampled_rows Check name = refl
+sampled_rows Build name = refl
+sampled_rows Run name = refl
 
-show_sample_has : (name : Text) → true ≡ has_sample (rows_in (subcommand_of pmb_app (name ∷ codes "show" ∷ codes "--sample" ∷ [])))
+sampled_has : (work : Work) (name : Text) → true ≡ has_sample (rows_in (subcommand_of pmb_app (sampled work name)))
 unfolding clap_on_literals
-show_sample_has name = refl
+sampled_has Show name = refl
+sampled_has Check name = refl
+sampled_has Build name = refl
+sampled_has Run name = refl
 
-show_fault : (name : Text) → faults_of (name ∷ codes "show" ∷ []) ≡ []
+unsampled_fault : (work : Work) (name : Text) → faults_of (unsampled work name) ≡ []
 unfolding clap_on_literals
-show_fault name = refl
+unsampled_fault Show name = refl
+unsampled_fault Check name = refl
+unsampled_fault Build name = refl
+unsampled_fault Run name = refl
 
-show_rows : (name : Text) → subcommand_of pmb_app (name ∷ codes "show" ∷ []) ≡ Some (codes "show", rows_in (subcommand_of pmb_app (name ∷ codes "show" ∷ [])))
+unsampled_rows : (work : Work) (name : Text) → subcommand_of pmb_app (unsampled work name) ≡ Some (name_of work, rows_in (subcommand_of pmb_app (unsampled work name)))
 unfolding clap_on_literals
-show_rows name = refl
+unsampled_rows Show name = refl
+unsampled_rows Check name = refl
+unsampled_rows Build name = refl
+unsampled_rows Run name = refl
 
-show_has : (name : Text) → false ≡ has_sample (rows_in (subcommand_of pmb_app (name ∷ codes "show" ∷ [])))
+unsampled_has : (work : Work) (name : Text) → false ≡ has_sample (rows_in (subcommand_of pmb_app (unsampled work name)))
 unfolding clap_on_literals
-show_has name = refl
+unsampled_has Show name = refl
+unsampled_has Check name = refl
+unsampled_has Build name = refl
+unsampled_has Run name = refl
 
-pub asks_to_show_sample : (name : Text) → AskFor (name ∷ codes "show" ∷ codes "--sample" ∷ []) (Traffic Show true)
-asks_to_show_sample name = record { no_fault = show_sample_fault name; asks = (_, show_sample_rows name, show_sample_has name) }
+pub asks_sampled : (work : Work) (name : Text) → AskFor (sampled work name) (Traffic work true)
+asks_sampled work name = record { no_fault = sampled_fault work name; asks = (_, sampled_rows work name, sampled_has work name) }
 
-pub asks_to_show : (name : Text) → AskFor (name ∷ codes "show" ∷ []) (Traffic Show false)
-asks_to_show name = record { no_fault = show_fault name; asks = (_, show_rows name, show_has name) }
-
--- So is `pmb check`.
-check_sample_fault : (name : Text) → faults_of (name ∷ codes "check" ∷ codes "--sample" ∷ []) ≡ []
-unfolding clap_on_literals
-check_sample_fault name = refl
-
-check_sample_rows : (name : Text) → subcommand_of pmb_app (name ∷ codes "check" ∷ codes "--sample" ∷ []) ≡ Some (codes "check", rows_in (subcommand_of pmb_app (name ∷ codes "check" ∷ codes "--sample" ∷ [])))
-unfolding clap_on_literals
-check_sample_rows name = refl
-
-check_sample_has : (name : Text) → true ≡ has_sample (rows_in (subcommand_of pmb_app (name ∷ codes "check" ∷ codes "--sample" ∷ [])))
-unfolding clap_on_literals
-check_sample_has name = refl
-
-check_without_fault : (name : Text) → faults_of (name ∷ codes "check" ∷ []) ≡ []
-unfolding clap_on_literals
-check_without_fault name = refl
-
-check_rows : (name : Text) → subcommand_of pmb_app (name ∷ codes "check" ∷ []) ≡ Some (codes "check", rows_in (subcommand_of pmb_app (name ∷ codes "check" ∷ [])))
-unfolding clap_on_literals
-check_rows name = refl
-
-check_has : (name : Text) → false ≡ has_sample (rows_in (subcommand_of pmb_app (name ∷ codes "check" ∷ [])))
-unfolding clap_on_literals
-check_has name = refl
-
-pub asks_to_check_sample : (name : Text) → AskFor (name ∷ codes "check" ∷ codes "--sample" ∷ []) (Traffic Check true)
-asks_to_check_sample name = record { no_fault = check_sample_fault name; asks = (_, check_sample_rows name, check_sample_has name) }
-
-pub asks_to_check : (name : Text) → AskFor (name ∷ codes "check" ∷ []) (Traffic Check false)
-asks_to_check name = record { no_fault = check_without_fault name; asks = (_, check_rows name, check_has name) }
-
--- So is `pmb build`.
-build_sample_fault : (name : Text) → faults_of (name ∷ codes "build" ∷ codes "--sample" ∷ []) ≡ []
-unfolding clap_on_literals
-build_sample_fault name = refl
-
-build_sample_rows : (name : Text) → subcommand_of pmb_app (name ∷ codes "build" ∷ codes "--sample" ∷ []) ≡ Some (codes "build", rows_in (subcommand_of pmb_app (name ∷ codes "build" ∷ codes "--sample" ∷ [])))
-unfolding clap_on_literals
-build_sample_rows name = refl
-
-build_sample_has : (name : Text) → true ≡ has_sample (rows_in (subcommand_of pmb_app (name ∷ codes "build" ∷ codes "--sample" ∷ [])))
-unfolding clap_on_literals
-build_sample_has name = refl
-
-build_fault : (name : Text) → faults_of (name ∷ codes "build" ∷ []) ≡ []
-unfolding clap_on_literals
-build_fault name = refl
-
-build_rows : (name : Text) → subcommand_of pmb_app (name ∷ codes "build" ∷ []) ≡ Some (codes "build", rows_in (subcommand_of pmb_app (name ∷ codes "build" ∷ [])))
-unfolding clap_on_literals
-build_rows name = refl
-
-build_has : (name : Text) → false ≡ has_sample (rows_in (subcommand_of pmb_app (name ∷ codes "build" ∷ [])))
-unfolding clap_on_literals
-build_has name = refl
-
-pub asks_to_build_sample : (name : Text) → AskFor (name ∷ codes "build" ∷ codes "--sample" ∷ []) (Traffic Build true)
-asks_to_build_sample name = record { no_fault = build_sample_fault name; asks = (_, build_sample_rows name, build_sample_has name) }
-
-pub asks_to_build : (name : Text) → AskFor (name ∷ codes "build" ∷ []) (Traffic Build false)
-asks_to_build name = record { no_fault = build_fault name; asks = (_, build_rows name, build_has name) }
+pub asks_unsampled : (work : Work) (name : Text) → AskFor (unsampled work name) (Traffic work false)
+asks_unsampled work name = record { no_fault = unsampled_fault work name; asks = (_, unsampled_rows work name, unsampled_has work name) }
 
 -- The help and the version are asked for.
 help_fault : (name : Text) → faults_of (name ∷ codes "--help" ∷ []) ≡ DisplayHelp ∷ []

@@ -85,6 +85,8 @@ fn task_of<'a>(matches: &ArgMatches<'a>) -> Option<Task<'a>>
         Some(Task::Traffic(Work::Check, has_sample(arguments)))
     } else if name == "build" {
         Some(Task::Traffic(Work::Build, has_sample(arguments)))
+    } else if name == "run" {
+        Some(Task::Traffic(Work::Run, has_sample(arguments)))
     } else if name == "encode" {
         Some(Task::Encode(arguments.get_str("FORMAT").unwrap_or("")))
     } else if name == "decode" {

@@ -45,10 +45,10 @@ fn pmb_command<'a>(alloc: Global) -> Result<Command<'a>, AllocError>
     )
 }
 
-// `pmb` with `show`, `check` and `build`.
+// `pmb` with `show`, `check`, `build` and `run`.
 fn traffic_command<'a>(alloc: Global) -> Result<Command<'a>, AllocError>
-    ensures { IfOk result (λ command. app_of command ≡ with_subcommand (with_subcommand (with_subcommand (top_app (new_app (codes "pmb")))
-        (sampled_app (codes "show")).top) (sampled_app (codes "check")).top) (sampled_app (codes "build")).top) }
+    ensures { IfOk result (λ command. app_of command ≡ with_subcommand (with_subcommand (with_subcommand (with_subcommand (top_app (new_app (codes "pmb")))
+        (sampled_app (codes "show")).top) (sampled_app (codes "check")).top) (sampled_app (codes "build")).top) (sampled_app (codes "run")).top) }
 {
     let showing = with_sampled(
         alloc,
@@ -68,7 +68,7 @@ fn traffic_command<'a>(alloc: Global) -> Result<Command<'a>, AllocError>
          alone.\n\n\
          Example:\n  echo 'S b0 A 03 A 47 A P' | ./pmb check --sample",
     )?;
-    with_sampled(
+    let building = with_sampled(
         alloc,
         checking,
         "build",
@@ -76,6 +76,15 @@ fn traffic_command<'a>(alloc: Global) -> Result<Command<'a>, AllocError>
         "Standard input is a profile, a line '%%' and transaction lines, or with --sample the lines \
          alone.\n\n\
          Example:\n  echo 'write 58 21 00 18 pec' | ./pmb build --sample",
+    )?;
+    with_sampled(
+        alloc,
+        building,
+        "run",
+        "Runs requests on simulated devices: a packet and its result for each",
+        "Standard input is a profile, a line '%%' and request lines, or with --sample the lines \
+         alone.\n\n\
+         Example:\n  echo 'set 58 21 12' | ./pmb run --sample",
     )
 }
 
@@ -107,7 +116,7 @@ fn with_lines<'a>(
     command.subcommand(lines_command(alloc, name, about, example)?)
 }
 
-// A command with `show`, `check` or `build` as one more subcommand.
+// A command with `show`, `check`, `build` or `run` as one more subcommand.
 fn with_sampled<'a>(
     alloc: Global,
     command: Command<'a>,
@@ -120,7 +129,7 @@ fn with_sampled<'a>(
     command.subcommand(sampled_command(alloc, name, about, example)?)
 }
 
-// `show`, `check` or `build` with its flag.
+// `show`, `check`, `build` or `run` with its flag.
 fn sampled_command<'a>(
     alloc: Global,
     name: &'a str,

@@ -9,4 +9,6 @@ pub enum Work {
     Check,
     /// Packets are built from lines.
     Build,
+    /// Requests are run against simulated devices.
+    Run,
 }

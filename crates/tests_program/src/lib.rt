@@ -14,6 +14,8 @@ mod lines;
 #[cfg(test)]
 mod profiles;
 #[cfg(test)]
+mod requests;
+#[cfg(test)]
 mod run;
 #[cfg(test)]
 mod words;

@@ -1,4 +1,5 @@
-//! `pmb show` and `pmb check`: a profile in front of the capture, and a line `%%` between.
+//! `pmb show` and `pmb check`: a profile in front of the capture, and a line `%%` between; and what is
+//! told of a bad profile in front of requests.
 
 use crate::run::{Calls, Failure, check_failure, check_text, run, run_to_read};
 use pmb_cli::Io;
@@ -7,6 +8,8 @@ use std::test::Fail;
 const SHOW: [&str; 2] = ["pmb", "show"];
 
 const CHECK: [&str; 2] = ["pmb", "check"];
+
+const RUN: [&str; 2] = ["pmb", "run"];
 
 /// A name, an input, what is printed of it, what is told on standard error, and the status.
 type Row = (&'static str, &'static str, &'static str, &'static str, u8);
@@ -268,6 +271,29 @@ fn checks_each_row_under_its_profile(rt: HostRuntime) {
     for (name, input, printed, told, status) in &CHECKED {
         let expected = (*printed, *told, *status);
         check_text(&rt, rt.alloc(), &CHECK, name, input, expected);
+    }
+}
+
+/// A name, an input with requests, and what is told of the profile in front of them.
+static BEFORE_REQUESTS: [(&str, &str, &str); 4] = [
+    ("nothing", "", "pmb: profile: MissingKey\n"),
+    (
+        "no profile",
+        "%%\nread 58 7e\n",
+        "pmb: profile: MissingKey\n",
+    ),
+    ("no TOML", "read 58 7e\n", "pmb: profile: NotToml\n"),
+    (
+        "a bad profile",
+        "[[device]]\naddress = 0x20\npec = \"of\"\n%%\nwrite 20 03\n",
+        "pmb: profile: BadValue in device 0\n",
+    ),
+];
+
+#[test]
+fn tells_what_is_wrong_with_the_profile_of_requests(rt: HostRuntime) {
+    for (name, input, told) in &BEFORE_REQUESTS {
+        check_text(&rt, rt.alloc(), &RUN, name, input, ("", told, 2));
     }
 }
 

@@ -6,7 +6,7 @@ use std::io::ErrorKind;
 use std::process::Abort;
 
 /// A name, words that are no command, and what is told of them first.
-static REFUSED: [(&str, &[&str], &str); 9] = [
+static REFUSED: [(&str, &[&str], &str); 11] = [
     (
         "no words",
         &[],
@@ -48,6 +48,16 @@ static REFUSED: [(&str, &[&str], &str); 9] = [
         "error: unexpected argument 'x' found\n",
     ),
     (
+        "a word more of run",
+        &["pmb", "run", "--sample", "x"],
+        "error: unexpected argument 'x' found\n",
+    ),
+    (
+        "another flag of run",
+        &["pmb", "run", "--dry"],
+        "error: unexpected argument '--dry' found\n",
+    ),
+    (
         "the flag twice",
         &["pmb", "build", "--sample", "--sample"],
         "error: the argument '--sample' cannot be used multiple times\n",
@@ -62,13 +72,25 @@ fn refuses_words_that_are_no_command(rt: HostRuntime) {
     words_ask();
 }
 
-const ABOUT: &str =
-    "Reads and writes PMBus traffic, and converts between codes and quantities\n\nUsage: pmb <COMMAND>\n";
+const ABOUT: &str = "Reads and writes PMBus traffic, and converts between codes and quantities\n\n\
+    Usage: pmb <COMMAND>\n\n\
+    Commands:\n\
+    \x20 show    Shows the transactions of a capture, one a line\n\
+    \x20 check   Tells the refusals of a capture, one a line, and the number of packets\n\
+    \x20 build   Writes the bus events of transaction lines, a packet a line\n\
+    \x20 run     Runs requests on simulated devices: a packet and its result for each\n\
+    \x20 encode  Writes the code of each quantity, one a line\n\
+    \x20 decode  Writes the quantity of each code, one a line\n";
 
 const SHOW_EXAMPLE: &str = "Example:\n  echo 'S b0 A 21 A 00 A 18 A P' | ./pmb show --sample\n";
 
+const RUN_ABOUT: &str =
+    "Runs requests on simulated devices: a packet and its result for each\n\nUsage: pmb run [OPTIONS]\n";
+
+const RUN_EXAMPLE: &str = "Example:\n  echo 'set 58 21 12' | ./pmb run --sample\n";
+
 /// A name, words that ask to be told of the program, and what is printed first and last.
-static ASKING: [(&str, &[&str], &str, &str); 8] = [
+static ASKING: [(&str, &[&str], &str, &str); 10] = [
     ("help", &["pmb", "--help"], ABOUT, SHOW_EXAMPLE),
     ("the subcommand help", &["pmb", "help"], ABOUT, SHOW_EXAMPLE),
     (
@@ -88,6 +110,18 @@ static ASKING: [(&str, &[&str], &str, &str); 8] = [
         &["pmb", "build", "--help"],
         "Writes the bus events of transaction lines, a packet a line\n\nUsage: pmb build [OPTIONS]\n",
         "Example:\n  echo 'write 58 21 00 18 pec' | ./pmb build --sample\n",
+    ),
+    (
+        "help on run",
+        &["pmb", "run", "--help"],
+        RUN_ABOUT,
+        RUN_EXAMPLE,
+    ),
+    (
+        "the subcommand help on run",
+        &["pmb", "help", "run"],
+        RUN_ABOUT,
+        RUN_EXAMPLE,
     ),
     (
         "help on encode",

@@ -1,7 +1,8 @@
-use Rattle.std.proofs.Common.{◌∙◌, inl, inr, ap, refl, subst, sym}
+use Rattle.std.proofs.Common.{◌∙◌, inl, inr, ap, refl, subst, sym, arith}
 use Rattle.pmb_table.specs.declared.sample.TheConstants.{SAMPLE}
 use Rattle.pmb_words.specs.Asked.{NamesNone, Traffic, asking_of}
 use Rattle.pmb_words.specs.declared.tasks.Task.{Task}
+use Rattle.pmb_cli.specs.Memory.{ReadWithoutMemory}
 use Rattle.pmb_cli.specs.Tasks.{DoesTask}
 use Rattle.pmb_cli.proofs.Formats.{none_is_named}
 use Rattle.pmb_cli.proofs.Often.{none_in_all}
@@ -14,6 +15,10 @@ pub returns-in-Traffic-clause-did : goal.returns-in-Traffic-clause-did
 returns-in-Traffic-clause-did g c =
     subst (λ (t : Task). DoesTask g.R.Source.told g.W.Sink.told SAMPLE.now (asking_of t) (c.args.reader.now, c.args.out.now) (c.run_traffic.new.reader, c.run_traffic.new.out) c.run_traffic.result) (sym c.in-Traffic.is)
     c.run_traffic.ensures.did
+
+pub returns-in-Traffic-clause-memory : goal.returns-in-Traffic-clause-memory
+returns-in-Traffic-clause-memory g c four =
+    subst (λ (t : Task). ReadWithoutMemory g.R.Source.told (asking_of t) c.args.reader.now c.run_traffic.new.reader) (sym c.in-Traffic.is) (c.run_traffic.ensures.memory four)
 
 pub returns-in-Traffic-clause-told : goal.returns-in-Traffic-clause-told
 returns-in-Traffic-clause-told g c two =
@@ -33,6 +38,10 @@ returns-in-Ok-clause-did g c =
     subst (λ (t : Task). DoesTask g.R.Source.told g.W.Sink.told SAMPLE.now (asking_of t) (c.args.reader.now, c.args.out.now) (c.run_lines.new.reader, c.run_lines.new.out) c.run_lines.result) (sym c.in-Encode.is)
     (does_as _ _ _ _ _ _ _ (λ tally done. record { format = c.in-Ok.format; names = c.in-Ok.ensures; holds = done }) (λ part. record { format = c.in-Ok.format; names = c.in-Ok.ensures; holds = part }) c.run_lines.ensures.did)
 
+-- Lines are answered without memory.
+pub returns-in-Ok-clause-memory : goal.returns-in-Ok-clause-memory
+returns-in-Ok-clause-memory g c four = absurd (c.run_lines.ensures.no_fault.1 four)
+
 pub returns-in-Ok-clause-told : goal.returns-in-Ok-clause-told
 returns-in-Ok-clause-told g c two = absurd (c.run_lines.ensures.no_fault.0 two)
 
@@ -44,25 +53,36 @@ returns-in-Ok-clause-bad_format_unread g c none = absurd (none_is_named c.one_fo
 
 -- ---- lines to decode
 
-pub returns-in-Ok-parse-clause-did : goal.returns-in-Ok-parse-clause-did
-returns-in-Ok-parse-clause-did g c =
-    subst (λ (t : Task). DoesTask g.R.Source.told g.W.Sink.told SAMPLE.now (asking_of t) (c.args.reader.now, c.args.out.now) (c.run_lines-in-Ok-parse.new.reader, c.run_lines-in-Ok-parse.new.out) c.run_lines-in-Ok-parse.result) (sym c.in-Decode.is)
-    (does_as _ _ _ _ _ _ _ (λ tally done. record { format = c.in-Ok-parse.format; names = c.in-Ok-parse.ensures; holds = done }) (λ part. record { format = c.in-Ok-parse.format; names = c.in-Ok-parse.ensures; holds = part }) c.run_lines-in-Ok-parse.ensures.did)
+pub returns-in-Ok-parse_format-clause-did : goal.returns-in-Ok-parse_format-clause-did
+returns-in-Ok-parse_format-clause-did g c =
+    subst (λ (t : Task). DoesTask g.R.Source.told g.W.Sink.told SAMPLE.now (asking_of t) (c.args.reader.now, c.args.out.now) (c.run_lines-in-Ok-parse_format.new.reader, c.run_lines-in-Ok-parse_format.new.out) c.run_lines-in-Ok-parse_format.result) (sym c.in-Decode.is)
+    (does_as _ _ _ _ _ _ _ (λ tally done. record { format = c.in-Ok-parse_format.format; names = c.in-Ok-parse_format.ensures; holds = done }) (λ part. record { format = c.in-Ok-parse_format.format; names = c.in-Ok-parse_format.ensures; holds = part }) c.run_lines-in-Ok-parse_format.ensures.did)
 
-pub returns-in-Ok-parse-clause-told : goal.returns-in-Ok-parse-clause-told
-returns-in-Ok-parse-clause-told g c two = absurd (c.run_lines-in-Ok-parse.ensures.no_fault.0 two)
+pub returns-in-Ok-parse_format-clause-memory : goal.returns-in-Ok-parse_format-clause-memory
+returns-in-Ok-parse_format-clause-memory g c four = absurd (c.run_lines-in-Ok-parse_format.ensures.no_fault.1 four)
 
-pub returns-in-Ok-parse-clause-bad_format : goal.returns-in-Ok-parse-clause-bad_format
-returns-in-Ok-parse-clause-bad_format g c none = absurd (none_is_named c.one_format.ensures.named _ c.in-Ok-parse.format c.in-Ok-parse.ensures (subst (λ (t : Task). NamesNone (asking_of t)) c.in-Decode.is none))
+pub returns-in-Ok-parse_format-clause-told : goal.returns-in-Ok-parse_format-clause-told
+returns-in-Ok-parse_format-clause-told g c two = absurd (c.run_lines-in-Ok-parse_format.ensures.no_fault.0 two)
 
-pub returns-in-Ok-parse-clause-bad_format_unread : goal.returns-in-Ok-parse-clause-bad_format_unread
-returns-in-Ok-parse-clause-bad_format_unread g c none = absurd (none_is_named c.one_format.ensures.named _ c.in-Ok-parse.format c.in-Ok-parse.ensures (subst (λ (t : Task). NamesNone (asking_of t)) c.in-Decode.is none))
+pub returns-in-Ok-parse_format-clause-bad_format : goal.returns-in-Ok-parse_format-clause-bad_format
+returns-in-Ok-parse_format-clause-bad_format g c none = absurd (none_is_named c.one_format.ensures.named _ c.in-Ok-parse_format.format c.in-Ok-parse_format.ensures (subst (λ (t : Task). NamesNone (asking_of t)) c.in-Decode.is none))
+
+pub returns-in-Ok-parse_format-clause-bad_format_unread : goal.returns-in-Ok-parse_format-clause-bad_format_unread
+returns-in-Ok-parse_format-clause-bad_format_unread g c none = absurd (none_is_named c.one_format.ensures.named _ c.in-Ok-parse_format.format c.in-Ok-parse_format.ensures (subst (λ (t : Task). NamesNone (asking_of t)) c.in-Decode.is none))
+
+-- ---- a text that names no format
+
+pub returns-in-Err-clause-memory : goal.returns-in-Err-clause-memory
+returns-in-Err-clause-memory g c four = absurd (omega (arith, four, c.tell_format.ensures.status))
+
+pub returns-in-Err-parse_format-clause-memory : goal.returns-in-Err-parse_format-clause-memory
+returns-in-Err-parse_format-clause-memory g c four = absurd (omega (arith, four, c.tell_format-in-Err-parse_format.ensures.status))
 
 pub returns-in-Err-clause-told : goal.returns-in-Err-clause-told
 returns-in-Err-clause-told g c two = inl (subst (λ (t : Task). NamesNone (asking_of t)) (sym c.in-Encode.is) (c.in-Err.fault, c.in-Err.ensures))
 
-pub returns-in-Err-parse-clause-told : goal.returns-in-Err-parse-clause-told
-returns-in-Err-parse-clause-told g c two = inl (subst (λ (t : Task). NamesNone (asking_of t)) (sym c.in-Decode.is) (c.in-Err-parse.fault, c.in-Err-parse.ensures))
+pub returns-in-Err-parse_format-clause-told : goal.returns-in-Err-parse_format-clause-told
+returns-in-Err-parse_format-clause-told g c two = inl (subst (λ (t : Task). NamesNone (asking_of t)) (sym c.in-Decode.is) (c.in-Err-parse_format.fault, c.in-Err-parse_format.ensures))
 
 pub returns-in-Err-clause-status : goal.returns-in-Err-clause-status
 returns-in-Err-clause-status g c = refused_tells g.R.Source.told g.W.Sink.told _ _ _ _ (inl c.tell_format.ensures.status) refl (none_in_all _)
@@ -70,8 +90,8 @@ returns-in-Err-clause-status g c = refused_tells g.R.Source.told g.W.Sink.told _
 pub returns-in-Err-clause-did : goal.returns-in-Err-clause-did
 returns-in-Err-clause-did g c = does_none _ _ _ _ _ (inl c.tell_format.ensures.status)
 
-pub returns-in-Err-parse-clause-status : goal.returns-in-Err-parse-clause-status
-returns-in-Err-parse-clause-status g c = refused_tells g.R.Source.told g.W.Sink.told _ _ _ _ (inl c.tell_format-in-Err-parse.ensures.status) refl (none_in_all _)
+pub returns-in-Err-parse_format-clause-status : goal.returns-in-Err-parse_format-clause-status
+returns-in-Err-parse_format-clause-status g c = refused_tells g.R.Source.told g.W.Sink.told _ _ _ _ (inl c.tell_format-in-Err-parse_format.ensures.status) refl (none_in_all _)
 
-pub returns-in-Err-parse-clause-did : goal.returns-in-Err-parse-clause-did
-returns-in-Err-parse-clause-did g c = does_none _ _ _ _ _ (inl c.tell_format-in-Err-parse.ensures.status)
+pub returns-in-Err-parse_format-clause-did : goal.returns-in-Err-parse_format-clause-did
+returns-in-Err-parse_format-clause-did g c = does_none _ _ _ _ _ (inl c.tell_format-in-Err-parse_format.ensures.status)

@@ -1,6 +1,7 @@
-use Rattle.std.proofs.Common.{◌≡◌, subst, sym, Bool, true, false}
+use Rattle.std.proofs.Common.{◌≡◌, inr, subst, sym, Bool, true, false}
 use Rattle.pmb_table.specs.declared.sample.TheConstants.{SAMPLE}
 use Rattle.pmb_words.specs.Asked.{Traffic}
+use Rattle.pmb_cli.specs.Memory.{ReadWithoutMemory}
 use Rattle.pmb_cli.specs.Tasks.{DoesTask}
 use Rattle.pmb_cli.proofs.doing.run_traffic.Goals as goal
 
@@ -13,6 +14,11 @@ pub returns-then-sample-clause-did : goal.returns-then-sample-clause-did
 returns-then-sample-clause-did g c =
     let asked : c.args.sample ≡ true = c.if-sample.true in
     subst (λ (b : Bool). DoesTask g.R.Source.told g.W.Sink.told SAMPLE.now (Traffic c.args.work b) (c.args.reader.now, c.args.out.now) (c.run_sample.new.reader, c.run_sample.new.out) c.run_sample.result) (sym asked) c.run_sample.ensures.did
+
+pub returns-then-sample-clause-memory : goal.returns-then-sample-clause-memory
+returns-then-sample-clause-memory g c four =
+    let asked : c.args.sample ≡ true = c.if-sample.true in
+    subst (λ (b : Bool). ReadWithoutMemory g.R.Source.told (Traffic c.args.work b) c.args.reader.now c.run_sample.new.reader) (sym asked) (c.run_sample.ensures.memory four)
 
 pub returns-then-sample-clause-told : goal.returns-then-sample-clause-told
 returns-then-sample-clause-told g c two = absurd (c.run_sample.ensures.no_fault two)
@@ -32,6 +38,11 @@ pub returns-else-sample-clause-did : goal.returns-else-sample-clause-did
 returns-else-sample-clause-did g c =
     let asked : c.args.sample ≡ false = c.if-sample.false in
     subst (λ (b : Bool). DoesTask g.R.Source.told g.W.Sink.told SAMPLE.now (Traffic c.args.work b) (c.args.reader.now, c.args.out.now) (c.run_behind.new.reader, c.run_behind.new.out) c.run_behind.result) (sym asked) c.run_behind.ensures.did
+
+pub returns-else-sample-clause-memory : goal.returns-else-sample-clause-memory
+returns-else-sample-clause-memory g c four =
+    let asked : c.args.sample ≡ false = c.if-sample.false in
+    subst (λ (b : Bool). ReadWithoutMemory g.R.Source.told (Traffic c.args.work b) c.args.reader.now c.run_behind.new.reader) (sym asked) (inr (c.run_behind.ensures.memory four))
 
 pub returns-else-sample-clause-told : goal.returns-else-sample-clause-told
 returns-else-sample-clause-told g c two = (c.if-sample.false, c.run_behind.ensures.told two)

@@ -3,7 +3,9 @@ use Rattle.pmb_status.specs.Status.{IsTold}
 use Rattle.pmb_table.specs.declared.sample.TheConstants.{SAMPLE}
 use Rattle.pmb_words.specs.Asked.{AskFor, Asking, Decode, Encode, asking_of}
 use Rattle.pmb_cli.specs.Statuses.{StatusTells}
+use Rattle.pmb_cli.specs.Memory.{ReadWithoutMemory}
 use Rattle.pmb_cli.specs.Tasks.{DoesTask}
+use Rattle.pmb_cli.proofs.Memory.{unread}
 use Rattle.pmb_cli.proofs.Often.{none_in_all}
 use Rattle.pmb_cli.proofs.program.tool.Goals as goal
 
@@ -14,6 +16,11 @@ returns-in-Ok-clause-did g c asking ask =
     let same : asking_of c.in-Ok.task ≡ asking = c.one_asking.ensures.one _ (asking_of c.in-Ok.task) asking c.in-Ok.ensures.ok ask in
     subst (λ (out : g.row.W.Denot). DoesTask g.R.Source.told g.W.Sink.told SAMPLE.now asking (c.args.reader.now, out) (c.run_task.new.reader, c.run_task.new.out) c.run_task.result) c.in-Ok.ensures.ok_quiet.0
     (subst (λ (a : Asking). DoesTask g.R.Source.told g.W.Sink.told SAMPLE.now a (c.args.reader.now, c.asked.new.out) (c.run_task.new.reader, c.run_task.new.out) c.run_task.result) same c.run_task.ensures.did)
+
+pub returns-in-Ok-clause-memory : goal.returns-in-Ok-clause-memory
+returns-in-Ok-clause-memory g c asking ask four =
+    subst (λ (a : Asking). ReadWithoutMemory g.R.Source.told a c.args.reader.now c.run_task.new.reader)
+    (c.one_asking.ensures.one _ (asking_of c.in-Ok.task) asking c.in-Ok.ensures.ok ask) (c.run_task.ensures.memory four)
 
 pub returns-in-Ok-clause-status : goal.returns-in-Ok-clause-status
 returns-in-Ok-clause-status g c =
@@ -76,6 +83,9 @@ returns-in-Err-clause-status g c = record {
   io_failed = λ three. inr (inl (c.in-Err.ensures.io_failed three));
   reads = none_in_all _;
 }
+
+pub returns-in-Err-clause-memory : goal.returns-in-Err-clause-memory
+returns-in-Err-clause-memory g c asking ask four = unread g.R.Source.told asking _ _ refl
 
 pub returns-in-Err-clause-told : goal.returns-in-Err-clause-told
 returns-in-Err-clause-told g c two = inl (c.in-Err.ensures.told two)

@@ -4,9 +4,13 @@ use Rattle.pmb_keys.specs.declared.fault.FaultKind.TheVariants.{OutOfMemory}
 use Rattle.pmb_io.specs.declared.fault.ToolFault.{ToolFault}
 use Rattle.pmb_io.specs.declared.fault.ToolFault.TheVariants.{Read}
 use Rattle.pmb_table.specs.Profile.{Says}
+use Rattle.pmb_run.specs.Lines.{OrNoMemory}
+use Rattle.pmb_words.specs.declared.work.Work.TheVariants.{Run}
 use Rattle.pmb_cli.specs.Traffic.{DoneBehind, working}
 use Rattle.pmb_cli.proofs.Behind.{behind_all, behind_mark, part_behind, part_of_profile}
-use Rattle.pmb_cli.proofs.Statuses.{does_as, does_none, four_at_most, is_read, is_too_long, no_failed_read, nothing_did, nothing_tells, nothing_told, refused_tells, run_did, run_unrefused, status_tells, two_or_more}
+use Rattle.pmb_cli.proofs.Statuses.{does_as, does_none, four_at_most, is_read, is_too_long, no_failed_read, nothing_told, refused_tells, two_or_more}
+use Rattle.pmb_cli.proofs.Memory.{front_alone, is_memory}
+use Rattle.pmb_cli.proofs.Working.{nothing_worked_did, nothing_worked_tells, worked_did, worked_tells, worked_unread, worked_unrefused}
 use Rattle.pmb_cli.proofs.Often.{reads_of_front}
 use Rattle.pmb_cli.proofs.traffic.run_behind.Goals as goal
 
@@ -15,13 +19,13 @@ use Rattle.pmb_cli.proofs.traffic.run_behind.Goals as goal
 -- Nothing failed in front of it, so what failed did so behind the profile.
 pub returns-in-Ok-from_toml-clause-status : goal.returns-in-Ok-from_toml-clause-status
 returns-in-Ok-from_toml-clause-status g c =
-    status_tells g.R.Source.told g.W.Sink.told _ _ _ _ c.args.reader.now (record {
+    worked_tells g.R.Source.told g.W.Sink.told _ _ _ _ _ _ _ c.args.reader.now (record {
       none_failed = c.in-Ok.ensures.no_read (λ is. cc);
       not_ended = c.in-Ok.ensures.mark_not_ended (sym c.has_capture.ensures ∙ c.if-has_capture.true);
       few = c.in-Ok.ensures.reads;
       read = c.in-Ok.ensures.ok.read;
       consumed = c.in-Ok.ensures.ok.reads.gave.consumed;
-    }) c.run.result _ c.ended.ensures.status c.run.ensures
+    }) c.do_work.result _ c.ended.ensures.status c.do_work.ensures
 
 pub returns-in-Ok-from_toml-clause-did : goal.returns-in-Ok-from_toml-clause-did
 returns-in-Ok-from_toml-clause-did g c =
@@ -32,21 +36,28 @@ returns-in-Ok-from_toml-clause-did g c =
     ] in
     let of_front = subst (λ (text : List ℕ). Says text (Ok devices)) c.profile.ensures says in
     let marked = sym c.has_capture.ensures ∙ c.if-has_capture.true in
-    let ran = subst (λ (rest : List ℕ). AsTool (Ran g.R.Source.told g.W.Sink.told (working c.args.work devices) rest (c.front.new.reader, c.args.out.now) (c.run.new.reader, c.run.new.out)) c.run.result) c.rest.ensures c.run.ensures in
+    let worked = subst (λ (rest : List ℕ). OrNoMemory ((c.args.work ≡ Run) × (c.do_work.new.reader ≡ c.front.new.reader) × (c.do_work.new.out ≡ c.args.out.now))
+    (AsTool (Ran g.R.Source.told g.W.Sink.told (working c.args.work devices) rest (c.front.new.reader, c.args.out.now) (c.do_work.new.reader, c.do_work.new.out))) c.do_work.result) c.rest.ensures c.do_work.ensures in
     does_as _ _ _ _ _ _ _
-    (λ tally done. behind_mark g.R.Source.told g.W.Sink.told (working c.args.work) devices c.args.reader.now c.front.new.reader c.args.out.now c.run.new.out c.in-Ok.front c.in-Ok.ensures.ok c.run.new.reader tally marked of_front done)
-    (λ part. part_behind g.R.Source.told g.W.Sink.told (working c.args.work) devices c.args.reader.now c.front.new.reader c.args.out.now c.run.new.out c.in-Ok.front c.in-Ok.ensures.ok c.run.new.reader marked of_front part)
-    (run_did g.R.Source.told g.W.Sink.told _ _ _ _ c.run.result _ c.ended.ensures.status ran)
+    (λ tally done. behind_mark g.R.Source.told g.W.Sink.told (working c.args.work) devices c.args.reader.now c.front.new.reader c.args.out.now c.do_work.new.out c.in-Ok.front c.in-Ok.ensures.ok c.do_work.new.reader tally marked of_front done)
+    (λ part. part_behind g.R.Source.told g.W.Sink.told (working c.args.work) devices c.args.reader.now c.front.new.reader c.args.out.now c.do_work.new.out c.in-Ok.front c.in-Ok.ensures.ok c.do_work.new.reader marked of_front part)
+    (worked_did g.R.Source.told g.W.Sink.told _ _ _ _ _ _ _ c.do_work.result _ c.ended.ensures.status worked)
 
--- The work has no fault of memory or of a profile.
+-- The work has no fault of a profile.
 pub returns-in-Ok-from_toml-clause-told : goal.returns-in-Ok-from_toml-clause-told
-returns-in-Ok-from_toml-clause-told g c two = absurd (run_unrefused g.R.Source.told g.W.Sink.told _ _ _ _ c.run.result c.run.ensures (inl (sym c.ended.ensures.status ∙ two)))
+returns-in-Ok-from_toml-clause-told g c two = absurd (worked_unrefused g.R.Source.told g.W.Sink.told _ _ _ _ _ _ _ c.do_work.result c.do_work.ensures (sym c.ended.ensures.status ∙ two))
+
+-- Without memory for the devices it read nothing behind the front.
+pub returns-in-Ok-from_toml-clause-memory : goal.returns-in-Ok-from_toml-clause-memory
+returns-in-Ok-from_toml-clause-memory g c four =
+    front_alone g.R.Source.told _ c.front.new.reader _ c.in-Ok.front c.in-Ok.ensures.ok c.in-Ok.ensures.mark_not_ended
+    (worked_unread g.R.Source.told g.W.Sink.told _ _ _ _ _ _ _ c.do_work.result c.do_work.ensures (sym c.ended.ensures.status ∙ four))
 
 -- ---- all was profile, and nothing follows
 
 pub returns-in-Ok-2-clause-status : goal.returns-in-Ok-2-clause-status
 returns-in-Ok-2-clause-status g c =
-    nothing_tells g.R.Source.told g.W.Sink.told _ _ _ _ _ c.args.reader.now c.front.new.reader (c.in-Ok.ensures.no_read (λ is. cc)) c.in-Ok.ensures.reads c.run-in-Ok-2.result _ c.ended-in-Ok-2.ensures.status c.run-in-Ok-2.ensures
+    nothing_worked_tells g.R.Source.told g.W.Sink.told _ _ _ _ _ _ c.args.reader.now c.front.new.reader (c.in-Ok.ensures.no_read (λ is. cc)) c.in-Ok.ensures.reads c.do_work-in-Ok-2.result _ c.ended-in-Ok-2.ensures.status c.do_work-in-Ok-2.ensures
 
 pub returns-in-Ok-2-clause-did : goal.returns-in-Ok-2-clause-did
 returns-in-Ok-2-clause-did g c =
@@ -55,13 +66,16 @@ returns-in-Ok-2-clause-did g c =
       | inl memory ↦ absurd (cc)
       | inr says ↦ says
     ] in
-    nothing_did g.R.Source.told g.W.Sink.told (working c.args.work devices) _ _ _ _ (λ tally. DoneBehind g.R.Source.told g.W.Sink.told (working c.args.work) tally (c.args.reader.now, c.args.out.now) (c.front.new.reader, c.run-in-Ok-2.new.out)) _
+    nothing_worked_did g.R.Source.told g.W.Sink.told _ (working c.args.work devices) _ _ _ _ (λ tally. DoneBehind g.R.Source.told g.W.Sink.told (working c.args.work) tally (c.args.reader.now, c.args.out.now) (c.front.new.reader, c.do_work-in-Ok-2.new.out)) _
     (λ tally done. behind_all g.R.Source.told g.W.Sink.told (working c.args.work) devices c.args.reader.now c.front.new.reader _ _ c.in-Ok.front c.in-Ok.ensures.ok nothing_told _ _ tally (sym c.has_capture.ensures ∙ c.if-has_capture.false)
     (subst (λ (text : List ℕ). Says text (Ok devices)) c.profile.ensures says) refl done)
-    c.run-in-Ok-2.result _ c.ended-in-Ok-2.ensures.status c.run-in-Ok-2.ensures
+    c.do_work-in-Ok-2.result _ c.ended-in-Ok-2.ensures.status c.do_work-in-Ok-2.ensures
 
 pub returns-in-Ok-2-clause-told : goal.returns-in-Ok-2-clause-told
-returns-in-Ok-2-clause-told g c two = absurd (run_unrefused nothing_told g.W.Sink.told _ _ _ _ c.run-in-Ok-2.result c.run-in-Ok-2.ensures (inl (sym c.ended-in-Ok-2.ensures.status ∙ two)))
+returns-in-Ok-2-clause-told g c two = absurd (worked_unrefused nothing_told g.W.Sink.told _ _ _ _ _ _ _ c.do_work-in-Ok-2.result c.do_work-in-Ok-2.ensures (sym c.ended-in-Ok-2.ensures.status ∙ two))
+
+pub returns-in-Ok-2-clause-memory : goal.returns-in-Ok-2-clause-memory
+returns-in-Ok-2-clause-memory g c four = front_alone g.R.Source.told _ c.front.new.reader _ c.in-Ok.front c.in-Ok.ensures.ok c.in-Ok.ensures.mark_not_ended refl
 
 -- ---- the profile has a fault
 
@@ -87,7 +101,15 @@ returns-clause-told g c two =
       ];
     })
 
+-- There was no memory for the profile, and nothing was read behind it.
+pub returns-clause-memory : goal.returns-clause-memory
+returns-clause-memory g c four = front_alone g.R.Source.told _ c.front.new.reader _ c.in-Ok.front c.in-Ok.ensures.ok c.in-Ok.ensures.mark_not_ended refl
+
 -- ---- no front was read
+
+-- Status 4 is that of memory.
+pub returns-in-Err-clause-memory : goal.returns-in-Err-clause-memory
+returns-in-Err-clause-memory g c four = inl (c.in-Err.ensures.before_memory (ap (λ (f : ToolFault). Err f) (is_memory c.in-Err.fault (sym c.tell.ensures.status ∙ four))))
 
 pub returns-in-Err-clause-told : goal.returns-in-Err-clause-told
 returns-in-Err-clause-told g c two = inl (c.in-Err.ensures.too_long (ap (λ (f : ToolFault). Err f) (is_too_long c.in-Err.fault (sym c.tell.ensures.status ∙ two))))

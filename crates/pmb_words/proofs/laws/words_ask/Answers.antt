@@ -1,23 +1,31 @@
-use Rattle.pmb_words.proofs.AskedWords.{asks_to_check, asks_to_check_sample, asks_to_build, asks_to_build_sample, asks_to_decode, asks_to_encode, asks_to_show, asks_to_show_sample, asks_for_help, asks_for_version, has_help_fault}
+use Rattle.pmb_words.specs.declared.work.Work.TheVariants.{Show, Check, Build, Run}
+use Rattle.pmb_words.proofs.AskedWords.{asks_sampled, asks_unsampled, asks_to_decode, asks_to_encode, asks_for_help, asks_for_version, has_help_fault}
 use Rattle.pmb_words.proofs.laws.words_ask.Goals as goal
 
+-- the words of each work
 pub returns-clause-show_sample : goal.returns-clause-show_sample
-returns-clause-show_sample c = asks_to_show_sample
+returns-clause-show_sample c = asks_sampled Show
 
 pub returns-clause-show : goal.returns-clause-show
-returns-clause-show c = asks_to_show
+returns-clause-show c = asks_unsampled Show
 
 pub returns-clause-check_sample : goal.returns-clause-check_sample
-returns-clause-check_sample c = asks_to_check_sample
+returns-clause-check_sample c = asks_sampled Check
 
 pub returns-clause-check : goal.returns-clause-check
-returns-clause-check c = asks_to_check
+returns-clause-check c = asks_unsampled Check
 
 pub returns-clause-build_sample : goal.returns-clause-build_sample
-returns-clause-build_sample c = asks_to_build_sample
+returns-clause-build_sample c = asks_sampled Build
 
 pub returns-clause-build : goal.returns-clause-build
-returns-clause-build c = asks_to_build
+returns-clause-build c = asks_unsampled Build
+
+pub returns-clause-run_sample : goal.returns-clause-run_sample
+returns-clause-run_sample c = asks_sampled Run
+
+pub returns-clause-run : goal.returns-clause-run
+returns-clause-run c = asks_unsampled Run
 
 pub returns-clause-encode : goal.returns-clause-encode
 returns-clause-encode c = asks_to_encode

@@ -1,0 +1,29 @@
+-- What was read where there was no memory.
+use Rattle.std.proofs.Common.{◌≡◌, true, false, inl, inr, refl, sym, subst, arith}
+use Rattle.pmb_front.specs.Front.{Parts, ReadFront}
+use Rattle.pmb_io.specs.Told.{ReaderTold}
+use Rattle.pmb_io.specs.declared.fault.ToolFault.{ToolFault}
+use Rattle.pmb_io.specs.declared.fault.ToolFault.TheVariants.{Read, Write, TooManyReads, ProfileTooLong, Memory}
+use Rattle.pmb_status.specs.Status.{status_of}
+use Rattle.pmb_words.specs.Asked.{Asking, Traffic, Encode, Decode}
+use Rattle.pmb_cli.specs.Memory.{ReadNoMatter, ReadWithoutMemory}
+
+-- a fault of status 4 is that of memory
+pub is_memory : (fault : ToolFault) → status_of fault ≡ 4 → fault ≡ Memory
+is_memory Read four = absurd (omega (arith, four))
+is_memory Write four = absurd (omega (arith, four))
+is_memory TooManyReads four = absurd (omega (arith, four))
+is_memory ProfileTooLong four = absurd (omega (arith, four))
+is_memory Memory four = refl
+
+module _ {R : Type 0} (told : R → ReaderTold) where
+  -- where nothing was read
+  pub unread : (asking : Asking) (old new : R) → new ≡ old → ReadWithoutMemory told asking old new
+  unread (Traffic work true) old new same = same
+  unread (Traffic work false) old new same = inl same
+  unread (Encode format) old new same = same
+  unread (Decode format) old new same = same
+
+  -- where the front was read, and nothing behind it
+  pub front_alone : (old mid new : R) (parts : Parts) → ReadFront told old mid parts → (parts.marked ≡ true → (told mid).ended ≡ (told old).ended) → new ≡ mid → ReadNoMatter told old new
+  front_alone old mid new parts front not_ended same = subst (λ (r : R). ReadNoMatter told old r) (sym same) (inr (record { parts = parts; front = front; not_ended = not_ended }))
