@@ -183,6 +183,17 @@ struct Came {
     result: Vec<u8>,
 }
 
+/// The word that a read told, where its data are two bytes.
+fn word_of(transaction: &Transaction) -> Option<u16> {
+    let Transaction::Read { reply, .. } = transaction else {
+        return None;
+    };
+    match reply.as_slice() {
+        [low, high] => Some(u16::from_le_bytes([*low, *high])),
+        _ => None,
+    }
+}
+
 /// Appends bytes as they are written: two digits each, with a space between two.
 fn push_bytes(text: &mut Vec<u8>, bytes: &[u8]) -> Result<(), AllocError> {
     if bytes.is_empty() {
@@ -452,10 +463,10 @@ impl<'p> PlainBus<'p> {
             return Ok(Err(why));
         }
         let mut came = self.read(addr, code, pec)?;
-        if let Transaction::Read { reply, .. } = &came.transaction
-            && let &[low, high] = reply.as_slice()
-            && let Ok(value) = self.value(device, kind, u16::from_le_bytes([low, high]))
-        {
+        let Some(word) = word_of(&came.transaction) else {
+            return Ok(Ok(came));
+        };
+        if let Ok(value) = self.value(device, kind, word) {
             came.result = Vec::from_slice(self.alloc, value.text().as_bytes())?;
         }
         Ok(Ok(came))
