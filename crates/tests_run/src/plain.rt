@@ -2,6 +2,7 @@
 //! registers of the devices alone, with no signals, and each transaction then changes the registers.
 
 use arrayvec::ArrayVec;
+use itoa::Buffer;
 use plain_devices::PlainRegisters;
 use plain_packets::packet;
 use pmb_bus::event_text;
@@ -219,11 +220,7 @@ pub(crate) fn hex_digits(byte: u8) -> [u8; 2] {
 
 /// Appends a decimal number.
 fn push_number(text: &mut Vec<u8>, number: usize) -> Result<(), AllocError> {
-    if number >= 10 {
-        push_number(text, number / 10)?;
-    }
-    text.push(b'0' + (number % 10) as u8)?;
-    Ok(())
+    text.extend_from_slice(Buffer::new().format(number).as_bytes())
 }
 
 impl<'p> PlainBus<'p> {
@@ -421,7 +418,7 @@ impl<'p> PlainBus<'p> {
                     .and_then(|device| device.entry(code))
                     .is_some_and(|entry| entry.shape.call == Some(Form::Block))
                 {
-                    body.push(data.len() as u8)?;
+                    body.push(u8::try_from(data.len()).unwrap_or(u8::MAX))?;
                 }
                 body.extend_from_slice(data)?;
                 self.refused(addr, body.as_slice(), bit)
@@ -458,18 +455,27 @@ impl<'p> PlainBus<'p> {
         let Some(entry) = device.entry(code) else {
             return Ok(Err("UnknownCommand"));
         };
-        let kind = entry.kind;
-        if let Err(why) = self.value(device, kind, 0) {
-            return Ok(Err(why));
+        match self.value(device, entry.kind, 0) {
+            Ok(_) => {
+                let came = self.read(addr, code, pec)?;
+                Ok(Ok(self.told(device, entry.kind, came)?))
+            }
+            Err(why) => Ok(Err(why)),
         }
-        let mut came = self.read(addr, code, pec)?;
+    }
+
+    /// What was read, told as a quantity.
+    fn told(&self, device: &DeviceProfile, kind: Kind, came: Came) -> Result<Came, AllocError> {
         let Some(word) = word_of(&came.transaction) else {
-            return Ok(Ok(came));
+            return Ok(came);
         };
-        if let Ok(value) = self.value(device, kind, word) {
-            came.result = Vec::from_slice(self.alloc, value.text().as_bytes())?;
+        match self.value(device, kind, word) {
+            Ok(value) => Ok(Came {
+                transaction: came.transaction,
+                result: Vec::from_slice(self.alloc, value.text().as_bytes())?,
+            }),
+            Err(_) => Ok(came),
         }
-        Ok(Ok(came))
     }
 
     /// What is written for a request on the line of a number, and whether the request was done.
