@@ -7,7 +7,7 @@ use std::process::Abort;
 use std::test::Fail;
 
 /// The profile of the board.
-static PROFILE: &str =
+pub(crate) static PROFILE: &str =
     r#"# The bus of a board: a step-down converter with two outputs, and the hot-swap controller of its
 # 12 V input. An example, and not a vendor's file.
 
