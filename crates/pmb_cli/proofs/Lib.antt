@@ -1,4 +1,5 @@
 pub mod Statuses
+pub mod Codes
 pub mod Behind
 pub mod Formats
 pub mod Often

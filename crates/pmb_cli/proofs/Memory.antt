@@ -1,20 +1,21 @@
 -- What was read where there was no memory.
-use Rattle.std.proofs.Common.{◌≡◌, true, false, inl, inr, refl, sym, subst, arith}
+use Rattle.std.proofs.Common.{◌≡◌, true, false, inl, inr, refl, sym, subst}
 use Rattle.pmb_front.specs.Front.{Parts, ReadFront}
 use Rattle.pmb_io.specs.Told.{ReaderTold}
 use Rattle.pmb_io.specs.declared.fault.ToolFault.{ToolFault}
 use Rattle.pmb_io.specs.declared.fault.ToolFault.TheVariants.{Read, Write, TooManyReads, ProfileTooLong, Memory}
 use Rattle.pmb_status.specs.Status.{status_of}
+use Rattle.pmb_status.specs.declared.status.Status.TheVariants.{BadWords, IoFailed, NoMemory}
 use Rattle.pmb_words.specs.Asked.{Asking, Traffic, Encode, Decode}
 use Rattle.pmb_cli.specs.Memory.{ReadNoMatter, ReadWithoutMemory}
 
--- a fault of status 4 is that of memory
-pub is_memory : (fault : ToolFault) → status_of fault ≡ 4 → fault ≡ Memory
-is_memory Read four = absurd (omega (arith, four))
-is_memory Write four = absurd (omega (arith, four))
-is_memory TooManyReads four = absurd (omega (arith, four))
-is_memory ProfileTooLong four = absurd (omega (arith, four))
-is_memory Memory four = refl
+-- a fault of status NoMemory is that of memory
+pub is_memory : (fault : ToolFault) → status_of fault ≡ NoMemory → fault ≡ Memory
+is_memory Read none = let clash : IoFailed ≡ NoMemory = none in cc
+is_memory Write none = let clash : IoFailed ≡ NoMemory = none in cc
+is_memory TooManyReads none = let clash : IoFailed ≡ NoMemory = none in cc
+is_memory ProfileTooLong none = let clash : BadWords ≡ NoMemory = none in cc
+is_memory Memory none = refl
 
 module _ {R : Type 0} (told : R → ReaderTold) where
   -- where nothing was read

@@ -1,5 +1,5 @@
 -- What the status of a run says of its outcome.
-use Rattle.std.proofs.Common.{◌≡◌, ◌≢◌, ◌∙◌, ap, ℕ, ◌+◌, ◌≤◌, ◌⊎◌, ◌==◌, if◌then◌else◌, Bool, true, false, Result, Ok, Err, Some, List, [], ◌++◌, length-append, subst, inl, inr, refl, sym, arith}
+use Rattle.std.proofs.Common.{◌≡◌, ◌≢◌, ◌∙◌, ap, ℕ, ◌+◌, ◌⊎◌, ◌==◌, if◌then◌else◌, Bool, true, false, Result, Ok, Err, Some, List, [], ◌++◌, length-append, subst, inl, inr, refl, sym, arith}
 use Rattle.std.specs.Io.KnownBytes.{Consumes}
 use Rattle.pmb_io.specs.Count.{raised}
 use Rattle.pmb_io.specs.Runs.{AsTool, Done, Job, PartDone, Ran, most_reads}
@@ -11,53 +11,52 @@ use Rattle.pmb_io.specs.declared.tally.Tally.{Tally}
 use Rattle.pmb_io.proofs.Running.{raised_by_none, raised_twice}
 use Rattle.pmb_io.proofs.Writing.{consumes_nothing, consumes_then}
 use Rattle.pmb_front.specs.Front.{MadeFrontReads}
-use Rattle.pmb_status.specs.Status.{run_status, status_of}
+use Rattle.pmb_status.specs.Status.{EndedWell, run_status, status_of}
+use Rattle.pmb_status.specs.declared.status.Status.{Status}
+use Rattle.pmb_status.specs.declared.status.Status.TheVariants.{BadWords, IoFailed, NoMemory}
+use Rattle.pmb_status.specs.declared.status.Status.TheVariants as statuses
 use Rattle.pmb_cli.specs.Often.{MadeReadsInAll}
 use Rattle.pmb_cli.specs.Statuses.{Does, StatusTells}
 use Rattle.pmb_cli.proofs.Often.{reads_behind, reads_of_front}
 
--- a run that ended well has status 0 or 1
-well_within : (tally : Tally) → run_status (Ok tally) ≤ 1
-well_within tally = by (tally.refusals == 0)
+-- a run that ended did so well
+well : (tally : Tally) → EndedWell (run_status (Ok tally))
+well tally = by (tally.refusals == 0)
   where
-    by : (b : Bool) → (if b then 0 else 1) ≤ 1
-    by true = omega arith
-    by false = omega arith
+    by : (b : Bool) → EndedWell (if b then statuses.Done else statuses.Refusals)
+    by true = tt
+    by false = tt
 
--- each fault has status 2 or more
-pub two_or_more : (fault : ToolFault) → 2 ≤ status_of fault
-two_or_more Read = omega arith
-two_or_more Write = omega arith
-two_or_more TooManyReads = omega arith
-two_or_more ProfileTooLong = omega arith
-two_or_more Memory = omega arith
+-- so its status is none that did not
+not_well : (tally : Tally) (status : Status) → run_status (Ok tally) ≡ status → EndedWell status
+not_well tally status is = subst EndedWell is (well tally)
 
--- and 4 at most
-pub four_at_most : (fault : ToolFault) → status_of fault ≤ 4
-four_at_most Read = omega arith
-four_at_most Write = omega arith
-four_at_most TooManyReads = omega arith
-four_at_most ProfileTooLong = omega arith
-four_at_most Memory = omega arith
+-- of a fault it is none that ended well
+pub fault_failed : (fault : ToolFault) → EndedWell (status_of fault) → ⊥
+fault_failed Read ended = ended
+fault_failed Write ended = ended
+fault_failed TooManyReads ended = ended
+fault_failed ProfileTooLong ended = ended
+fault_failed Memory ended = ended
 
--- and 2 where the profile is too long
-pub is_too_long : (fault : ToolFault) → status_of fault ≡ 2 → fault ≡ ProfileTooLong
-is_too_long Read two = absurd (omega (arith, two))
-is_too_long Write two = absurd (omega (arith, two))
-is_too_long TooManyReads two = absurd (omega (arith, two))
-is_too_long ProfileTooLong two = refl
-is_too_long Memory two = absurd (omega (arith, two))
+-- BadWords where the profile is too long
+pub is_too_long : (fault : ToolFault) → status_of fault ≡ BadWords → fault ≡ ProfileTooLong
+is_too_long Read bad = let clash : IoFailed ≡ BadWords = bad in cc
+is_too_long Write bad = let clash : IoFailed ≡ BadWords = bad in cc
+is_too_long TooManyReads bad = let clash : IoFailed ≡ BadWords = bad in cc
+is_too_long ProfileTooLong bad = refl
+is_too_long Memory bad = let clash : NoMemory ≡ BadWords = bad in cc
 
--- 3 where a read failed, if no write did and there were few reads
-pub is_read : (fault : ToolFault) → (fault ≡ Write → ⊥) → (fault ≡ TooManyReads → ⊥) → status_of fault ≡ 3 → fault ≡ Read
-is_read Read no_write few three = refl
-is_read Write no_write few three = absurd (no_write refl)
-is_read TooManyReads no_write few three = absurd (few refl)
-is_read ProfileTooLong no_write few three = absurd (omega (arith, three))
-is_read Memory no_write few three = absurd (omega (arith, three))
+-- IoFailed where a read failed, if no write did and there were few reads
+pub is_read : (fault : ToolFault) → (fault ≡ Write → ⊥) → (fault ≡ TooManyReads → ⊥) → status_of fault ≡ IoFailed → fault ≡ Read
+is_read Read no_write few failed = refl
+is_read Write no_write few failed = absurd (no_write refl)
+is_read TooManyReads no_write few failed = absurd (few refl)
+is_read ProfileTooLong no_write few failed = let clash : BadWords ≡ IoFailed = failed in cc
+is_read Memory no_write few failed = let clash : NoMemory ≡ IoFailed = failed in cc
 
 -- and where the status is another, no read failed
-pub no_failed_read : {A : Type 0} (answer : Result A ToolFault) (fault : ToolFault) → status_of fault ≢ 3 → answer ≡ Err fault → answer ≡ Err Read → ⊥
+pub no_failed_read : {A : Type 0} (answer : Result A ToolFault) (fault : ToolFault) → status_of fault ≢ IoFailed → answer ≡ Err fault → answer ≡ Err Read → ⊥
 no_failed_read answer Read other is also = other refl
 no_failed_read answer Write other is also = other refl
 no_failed_read answer TooManyReads other is also = other refl
@@ -88,28 +87,28 @@ module _ {R W : Type 0} (reader_told : R → ReaderTold) (writer_told : W → Wr
   -- what it wrote, by its own status
   did : (outcome : Result Tally ToolFault) → AsTool (Ran reader_told writer_told job first old new) outcome
       → Does (λ tally. Done reader_told writer_told job tally first old new) (PartDone reader_told writer_told job first old new) (writer_told old.1) (writer_told new.1) (run_status outcome)
-  did (Ok tally) ran = record { wrote = λ _. (tally, refl, ran.ok); part = λ three. absurd (omega (arith, three, well_within tally)) }
-  did (Err Read) ran = record { wrote = λ done. absurd (omega (arith, done)); part = λ _. inr (ran.before (inl refl)) }
-  did (Err Write) ran = record { wrote = λ done. absurd (omega (arith, done)); part = λ _. inl (ran.write refl) }
-  did (Err TooManyReads) ran = record { wrote = λ done. absurd (omega (arith, done)); part = λ _. inr (ran.before (inr refl)) }
+  did (Ok tally) ran = record { wrote = λ _. (tally, refl, ran.ok); part = λ failed. absurd (not_well tally IoFailed failed) }
+  did (Err Read) ran = record { wrote = λ ended. absurd ended; part = λ _. inr (ran.before (inl refl)) }
+  did (Err Write) ran = record { wrote = λ ended. absurd ended; part = λ _. inl (ran.write refl) }
+  did (Err TooManyReads) ran = record { wrote = λ ended. absurd ended; part = λ _. inr (ran.before (inr refl)) }
   did (Err ProfileTooLong) ran = absurd ran
   did (Err Memory) ran = absurd ran
 
   -- by the status that was answered for it
-  pub run_did : (outcome : Result Tally ToolFault) (status : ℕ) → status ≡ run_status outcome → AsTool (Ran reader_told writer_told job first old new) outcome
+  pub run_did : (outcome : Result Tally ToolFault) (status : Status) → status ≡ run_status outcome → AsTool (Ran reader_told writer_told job first old new) outcome
       → Does (λ tally. Done reader_told writer_told job tally first old new) (PartDone reader_told writer_told job first old new) (writer_told old.1) (writer_told new.1) status
   run_did outcome status is ran = subst (Does (λ tally. Done reader_told writer_told job tally first old new) (PartDone reader_told writer_told job first old new) (writer_told old.1) (writer_told new.1)) (sym is) (did outcome ran)
 
   -- it is not refused
-  pub run_unrefused : (outcome : Result Tally ToolFault) → AsTool (Ran reader_told writer_told job first old new) outcome → (run_status outcome ≡ 2) ⊎ (run_status outcome ≡ 4) → ⊥
-  run_unrefused (Ok tally) ran (inl two) = omega (arith, two, well_within tally)
-  run_unrefused (Ok tally) ran (inr four) = omega (arith, four, well_within tally)
-  run_unrefused (Err Read) ran (inl two) = omega (arith, two)
-  run_unrefused (Err Read) ran (inr four) = omega (arith, four)
-  run_unrefused (Err Write) ran (inl two) = omega (arith, two)
-  run_unrefused (Err Write) ran (inr four) = omega (arith, four)
-  run_unrefused (Err TooManyReads) ran (inl two) = omega (arith, two)
-  run_unrefused (Err TooManyReads) ran (inr four) = omega (arith, four)
+  pub run_unrefused : (outcome : Result Tally ToolFault) → AsTool (Ran reader_told writer_told job first old new) outcome → (run_status outcome ≡ BadWords) ⊎ (run_status outcome ≡ NoMemory) → ⊥
+  run_unrefused (Ok tally) ran (inl bad) = not_well tally BadWords bad
+  run_unrefused (Ok tally) ran (inr memory) = not_well tally NoMemory memory
+  run_unrefused (Err Read) ran (inl bad) = let clash : IoFailed ≡ BadWords = bad in cc
+  run_unrefused (Err Read) ran (inr memory) = let clash : IoFailed ≡ NoMemory = memory in cc
+  run_unrefused (Err Write) ran (inl bad) = let clash : IoFailed ≡ BadWords = bad in cc
+  run_unrefused (Err Write) ran (inr memory) = let clash : IoFailed ≡ NoMemory = memory in cc
+  run_unrefused (Err TooManyReads) ran (inl bad) = let clash : IoFailed ≡ BadWords = bad in cc
+  run_unrefused (Err TooManyReads) ran (inr memory) = let clash : IoFailed ≡ NoMemory = memory in cc
   run_unrefused (Err ProfileTooLong) ran refused = ran
   run_unrefused (Err Memory) ran refused = ran
 
@@ -119,28 +118,24 @@ module _ {R W : Type 0} (reader_told : R → ReaderTold) (writer_told : W → Wr
   tells : (start : R) → IsBefore (reader_told start) (reader_told old.0) → (outcome : Result Tally ToolFault) → AsTool (Ran reader_told writer_told job first old new) outcome
       → StatusTells reader_told writer_told (start, old.1) new (run_status outcome)
   tells start before (Ok tally) ran = record {
-    within = omega (arith, well_within tally);
     unwritten = λ refused. absurd (run_unrefused (Ok tally) ran refused);
     none_failed = λ _. (ran.no_read (λ is. cc) ∙ before.none_failed, ran.no_write (λ is. cc));
-    io_failed = λ three. absurd (omega (arith, three, well_within tally));
+    io_failed = λ failed. absurd (not_well tally IoFailed failed);
     reads = reads_behind _ _ _ before.few ran.reads;
   }
   tells start before (Err Read) ran = record {
-    within = omega arith;
     unwritten = λ refused. absurd (run_unrefused (Err Read) ran refused);
     none_failed = λ other. absurd (other refl);
     io_failed = λ _. inl (ran.read refl ∙ ap (λ n. raised n 1) before.none_failed, ran.read_not_ended refl ∙ before.not_ended);
     reads = reads_behind _ _ _ before.few ran.reads;
   }
   tells start before (Err Write) ran = record {
-    within = omega arith;
     unwritten = λ refused. absurd (run_unrefused (Err Write) ran refused);
     none_failed = λ other. absurd (other refl);
     io_failed = λ _. inr (inl (ran.write refl));
     reads = reads_behind _ _ _ before.few ran.reads;
   }
   tells start before (Err TooManyReads) ran = record {
-    within = omega arith;
     unwritten = λ refused. absurd (run_unrefused (Err TooManyReads) ran refused);
     none_failed = λ other. absurd (other refl);
     io_failed = λ _.
@@ -162,7 +157,7 @@ module _ {R W : Type 0} (reader_told : R → ReaderTold) (writer_told : W → Wr
   tells start before (Err Memory) ran = absurd ran
 
   -- by the status that was answered for it
-  pub status_tells : (start : R) → IsBefore (reader_told start) (reader_told old.0) → (outcome : Result Tally ToolFault) (status : ℕ) → status ≡ run_status outcome → AsTool (Ran reader_told writer_told job first old new) outcome
+  pub status_tells : (start : R) → IsBefore (reader_told start) (reader_told old.0) → (outcome : Result Tally ToolFault) (status : Status) → status ≡ run_status outcome → AsTool (Ran reader_told writer_told job first old new) outcome
       → StatusTells reader_told writer_told (start, old.1) new status
   status_tells start before outcome status is ran = subst (StatusTells reader_told writer_told (start, old.1) new) (sym is) (tells start before outcome ran)
 
@@ -189,15 +184,13 @@ module _ {R W : Type 0} (reader_told : R → ReaderTold) (writer_told : W → Wr
   all_tells : (start mid : R) → (reader_told mid).failures ≡ (reader_told start).failures → MadeFrontReads (reader_told start).reads (reader_told mid).reads
       → (outcome : Result Tally ToolFault) → NothingRan outcome → StatusTells reader_told writer_told (start, out) (mid, out_new) (run_status outcome)
   all_tells start mid none_failed few (Ok tally) ran = record {
-    within = omega (arith, well_within tally);
     unwritten = λ refused. absurd (run_unrefused nothing_told writer_told job [] (empty, out) (empty_new, out_new) (Ok tally) ran refused);
     none_failed = λ _. (none_failed, ran.no_write (λ is. cc));
-    io_failed = λ three. absurd (omega (arith, three, well_within tally));
+    io_failed = λ failed. absurd (not_well tally IoFailed failed);
     reads = reads_of_front _ _ few;
   }
   all_tells start mid none_failed few (Err Read) ran = absurd (no_read_of_nothing ran)
   all_tells start mid none_failed few (Err Write) ran = record {
-    within = omega arith;
     unwritten = λ refused. absurd (run_unrefused nothing_told writer_told job [] (empty, out) (empty_new, out_new) (Err Write) ran refused);
     none_failed = λ other. absurd (other refl);
     io_failed = λ _. inr (inl (ran.write refl));
@@ -209,56 +202,54 @@ module _ {R W : Type 0} (reader_told : R → ReaderTold) (writer_told : W → Wr
 
   -- what the status tells that was answered for it
   pub nothing_tells : (start mid : R) → (reader_told mid).failures ≡ (reader_told start).failures → MadeFrontReads (reader_told start).reads (reader_told mid).reads
-      → (outcome : Result Tally ToolFault) (status : ℕ) → status ≡ run_status outcome → AsTool (Ran nothing_told writer_told job [] (empty, out) (empty_new, out_new)) outcome
+      → (outcome : Result Tally ToolFault) (status : Status) → status ≡ run_status outcome → AsTool (Ran nothing_told writer_told job [] (empty, out) (empty_new, out_new)) outcome
       → StatusTells reader_told writer_told (start, out) (mid, out_new) status
   nothing_tells start mid none_failed few outcome status is ran = subst (StatusTells reader_told writer_told (start, out) (mid, out_new)) (sym is) (all_tells start mid none_failed few outcome ran)
 
   module _ (Wrote : Tally → Type 0) (WrotePart : Type 0) (wrote : (tally : Tally) → Done nothing_told writer_told job tally [] (empty, out) (empty_new, out_new) → Wrote tally) where
     -- what was written for all profile, by its own status
     all_did : (outcome : Result Tally ToolFault) → NothingRan outcome → Does Wrote WrotePart (writer_told out) (writer_told out_new) (run_status outcome)
-    all_did (Ok tally) ran = record { wrote = λ _. (tally, refl, wrote tally ran.ok); part = λ three. absurd (omega (arith, three, well_within tally)) }
+    all_did (Ok tally) ran = record { wrote = λ _. (tally, refl, wrote tally ran.ok); part = λ failed. absurd (not_well tally IoFailed failed) }
     all_did (Err Read) ran = absurd (no_read_of_nothing ran)
-    all_did (Err Write) ran = record { wrote = λ done. absurd (omega (arith, done)); part = λ _. inl (ran.write refl) }
+    all_did (Err Write) ran = record { wrote = λ ended. absurd ended; part = λ _. inl (ran.write refl) }
     all_did (Err TooManyReads) ran = absurd (nothing_is_few ran)
     all_did (Err ProfileTooLong) ran = absurd ran
     all_did (Err Memory) ran = absurd ran
 
     -- by the status that was answered for it
-    pub nothing_did : (outcome : Result Tally ToolFault) (status : ℕ) → status ≡ run_status outcome → AsTool (Ran nothing_told writer_told job [] (empty, out) (empty_new, out_new)) outcome
+    pub nothing_did : (outcome : Result Tally ToolFault) (status : Status) → status ≡ run_status outcome → AsTool (Ran nothing_told writer_told job [] (empty, out) (empty_new, out_new)) outcome
         → Does Wrote WrotePart (writer_told out) (writer_told out_new) status
     nothing_did outcome status is ran = subst (Does Wrote WrotePart (writer_told out) (writer_told out_new)) (sym is) (all_did outcome ran)
 
 -- ---- of what was asked for
 
 -- who does one does another that follows from it
-pub does_as : (P Q : Tally → Type 0) (PPart QPart : Type 0) (old new : WriterTold) (status : ℕ) → ((tally : Tally) → P tally → Q tally) → (PPart → QPart) → Does P PPart old new status → Does Q QPart old new status
+pub does_as : (P Q : Tally → Type 0) (PPart QPart : Type 0) (old new : WriterTold) (status : Status) → ((tally : Tally) → P tally → Q tally) → (PPart → QPart) → Does P PPart old new status → Does Q QPart old new status
 does_as P Q PPart QPart old new status wrote part does = record {
   wrote = λ done. let all = does.wrote done in (all.0, all.1, wrote all.0 all.2);
-  part = λ three. elim (does.part three) [
+  part = λ failed. elim (does.part failed) [
     | inl write ↦ inl write
     | inr some ↦ inr (part some)
   ];
 }
 
--- with status 2 or 4 nothing is done
-pub does_none : (P : Tally → Type 0) (PPart : Type 0) (old new : WriterTold) (status : ℕ) → (status ≡ 2) ⊎ (status ≡ 4) → Does P PPart old new status
-does_none P PPart old new status (inl two) = record { wrote = λ done. absurd (omega (arith, done, two)); part = λ three. absurd (omega (arith, three, two)) }
-does_none P PPart old new status (inr four) = record { wrote = λ done. absurd (omega (arith, done, four)); part = λ three. absurd (omega (arith, three, four)) }
+-- where the words are bad or there is no memory nothing is done
+pub does_none : (P : Tally → Type 0) (PPart : Type 0) (old new : WriterTold) (status : Status) → (status ≡ BadWords) ⊎ (status ≡ NoMemory) → Does P PPart old new status
+does_none P PPart old new status (inl bad) = record { wrote = λ ended. absurd (subst EndedWell bad ended); part = λ failed. let clash : BadWords ≡ IoFailed = sym bad ∙ failed in cc }
+does_none P PPart old new status (inr memory) = record { wrote = λ ended. absurd (subst EndedWell memory ended); part = λ failed. let clash : NoMemory ≡ IoFailed = sym memory ∙ failed in cc }
 
 -- and nothing failed, where nothing did
-pub refused_tells : {R W : Type 0} (reader_told : R → ReaderTold) (writer_told : W → WriterTold) (old new : R) (out : W) (status : ℕ) → (status ≡ 2) ⊎ (status ≡ 4)
+pub refused_tells : {R W : Type 0} (reader_told : R → ReaderTold) (writer_told : W → WriterTold) (old new : R) (out : W) (status : Status) → (status ≡ BadWords) ⊎ (status ≡ NoMemory)
     → (reader_told new).failures ≡ (reader_told old).failures → MadeReadsInAll (reader_told old).reads (reader_told new).reads → StatusTells reader_told writer_told (old, out) (new, out) status
-refused_tells reader_told writer_told old new out status (inl two) none_failed reads = record {
-  within = omega (arith, two);
+refused_tells reader_told writer_told old new out status (inl bad) none_failed reads = record {
   unwritten = λ _. refl;
   none_failed = λ _. (none_failed, refl);
-  io_failed = λ three. absurd (omega (arith, three, two));
+  io_failed = λ failed. let clash : BadWords ≡ IoFailed = sym bad ∙ failed in cc;
   reads = reads;
 }
-refused_tells reader_told writer_told old new out status (inr four) none_failed reads = record {
-  within = omega (arith, four);
+refused_tells reader_told writer_told old new out status (inr memory) none_failed reads = record {
   unwritten = λ _. refl;
   none_failed = λ _. (none_failed, refl);
-  io_failed = λ three. absurd (omega (arith, three, four));
+  io_failed = λ failed. let clash : NoMemory ≡ IoFailed = sym memory ∙ failed in cc;
   reads = reads;
 }

@@ -1,5 +1,5 @@
 -- A work that may lack memory: what its outcome and its status say.
-use Rattle.std.proofs.Common.{◌≡◌, ◌∙◌, ℕ, Result, Ok, Err, List, [], inl, inr, refl, sym, ap, subst, arith}
+use Rattle.std.proofs.Common.{◌≡◌, ◌∙◌, ℕ, Result, Ok, Err, List, [], inl, inr, refl, sym, ap, subst}
 use Rattle.pmb_front.specs.Front.{MadeFrontReads}
 use Rattle.pmb_io.specs.Runs.{AsTool, Done, Job, PartDone, Ran}
 use Rattle.pmb_io.specs.Told.{ReaderTold, WriterTold}
@@ -9,6 +9,8 @@ use Rattle.pmb_io.specs.declared.fault.ToolFault.TheVariants.{Read, Write, TooMa
 use Rattle.pmb_io.specs.declared.tally.Tally.{Tally}
 use Rattle.pmb_run.specs.Lines.{OrNoMemory}
 use Rattle.pmb_status.specs.Status.{run_status}
+use Rattle.pmb_status.specs.declared.status.Status.{Status}
+use Rattle.pmb_status.specs.declared.status.Status.TheVariants.{BadWords, IoFailed, NoMemory}
 use Rattle.pmb_cli.specs.Often.{MadeReadsInAll}
 use Rattle.pmb_cli.specs.Statuses.{Does, StatusTells}
 use Rattle.pmb_cli.proofs.Often.{reads_of_front}
@@ -54,38 +56,37 @@ module _ {R W : Type 0} (reader_told : R → ReaderTold) (writer_told : W → Wr
   work_with_memory given (Err ProfileTooLong) ran = ran
   work_with_memory given (Err Memory) none = (given, none.0, none.1)
 
-  abbrev DoesIt : ℕ → Type 0
+  abbrev DoesIt : Status → Type 0
   DoesIt = Does (λ tally. Done reader_told writer_told job tally first (reader, out) (reader_new, out_new)) (PartDone reader_told writer_told job first (reader, out) (reader_new, out_new)) (writer_told out) (writer_told out_new)
 
   -- what it wrote
-  pub worked_did : (outcome : Result Tally ToolFault) (status : ℕ) → status ≡ run_status outcome → Worked outcome → DoesIt status
+  pub worked_did : (outcome : Result Tally ToolFault) (status : Status) → status ≡ run_status outcome → Worked outcome → DoesIt status
   worked_did outcome status is worked = subst DoesIt (sym is) (from_either _ _ (λ outcome. DoesIt (run_status outcome))
       (λ outcome ran. run_did reader_told writer_told job first (reader, out) (reader_new, out_new) outcome (run_status outcome) refl ran)
-      (λ none. does_none _ _ _ _ 4 (inr refl)) outcome worked)
+      (λ none. does_none _ _ _ _ NoMemory (inr refl)) outcome worked)
 
   -- the profile was not refused by it
-  pub worked_unrefused : (outcome : Result Tally ToolFault) → Worked outcome → run_status outcome ≡ 2 → ⊥
-  worked_unrefused = from_either _ _ (λ outcome. run_status outcome ≡ 2 → ⊥)
-      (λ outcome ran two. run_unrefused reader_told writer_told job first (reader, out) (reader_new, out_new) outcome ran (inl two))
-      (λ none two. omega (arith, two))
+  pub worked_unrefused : (outcome : Result Tally ToolFault) → Worked outcome → run_status outcome ≡ BadWords → ⊥
+  worked_unrefused = from_either _ _ (λ outcome. run_status outcome ≡ BadWords → ⊥)
+      (λ outcome ran bad. run_unrefused reader_told writer_told job first (reader, out) (reader_new, out_new) outcome ran (inl bad))
+      (λ none bad. let clash : NoMemory ≡ BadWords = bad in cc)
 
   -- without memory nothing was read
-  pub worked_unread : (outcome : Result Tally ToolFault) → Worked outcome → run_status outcome ≡ 4 → reader_new ≡ reader
-  worked_unread = from_either _ _ (λ outcome. run_status outcome ≡ 4 → reader_new ≡ reader)
-      (λ outcome ran four. absurd (run_unrefused reader_told writer_told job first (reader, out) (reader_new, out_new) outcome ran (inr four)))
-      (λ none four. none.1)
+  pub worked_unread : (outcome : Result Tally ToolFault) → Worked outcome → run_status outcome ≡ NoMemory → reader_new ≡ reader
+  worked_unread = from_either _ _ (λ outcome. run_status outcome ≡ NoMemory → reader_new ≡ reader)
+      (λ outcome ran memory. absurd (run_unrefused reader_told writer_told job first (reader, out) (reader_new, out_new) outcome ran (inr memory)))
+      (λ none memory. none.1)
 
   -- what its status tells, where the reader was read before
-  pub worked_tells : (start : R) → IsBefore (reader_told start) (reader_told reader) → (outcome : Result Tally ToolFault) (status : ℕ) → status ≡ run_status outcome → Worked outcome
+  pub worked_tells : (start : R) → IsBefore (reader_told start) (reader_told reader) → (outcome : Result Tally ToolFault) (status : Status) → status ≡ run_status outcome → Worked outcome
       → StatusTells reader_told writer_told (start, out) (reader_new, out_new) status
   worked_tells start before outcome status is worked = subst (StatusTells reader_told writer_told (start, out) (reader_new, out_new)) (sym is)
       (from_either _ _ (λ outcome. StatusTells reader_told writer_told (start, out) (reader_new, out_new) (run_status outcome))
       (λ outcome ran. status_tells reader_told writer_told job first (reader, out) (reader_new, out_new) start before outcome (run_status outcome) refl ran)
       (λ none. record {
-        within = omega arith;
         unwritten = λ _. none.2;
         none_failed = λ _. (ap (λ (r : R). (reader_told r).failures) none.1 ∙ before.none_failed, ap (λ (w : W). (writer_told w).failures) none.2);
-        io_failed = λ three. absurd (omega (arith, three));
+        io_failed = λ failed. let clash : NoMemory ≡ IoFailed = failed in cc;
         reads = subst (λ (r : R). MadeReadsInAll (reader_told start).reads (reader_told r).reads) (sym none.1) (reads_of_front _ _ before.few);
       })
       outcome worked)
@@ -98,23 +99,22 @@ module _ {R W : Type 0} (reader_told : R → ReaderTold) (writer_told : W → Wr
 
   -- what its status tells of the reader whose front was read
   pub nothing_worked_tells : (start mid : R) → (reader_told mid).failures ≡ (reader_told start).failures → MadeFrontReads (reader_told start).reads (reader_told mid).reads
-      → (outcome : Result Tally ToolFault) (status : ℕ) → status ≡ run_status outcome → NothingWorked outcome → StatusTells reader_told writer_told (start, out) (mid, out_new) status
+      → (outcome : Result Tally ToolFault) (status : Status) → status ≡ run_status outcome → NothingWorked outcome → StatusTells reader_told writer_told (start, out) (mid, out_new) status
   nothing_worked_tells start mid none_failed few outcome status is worked = subst (StatusTells reader_told writer_told (start, out) (mid, out_new)) (sym is)
       (from_either _ _ (λ outcome. StatusTells reader_told writer_told (start, out) (mid, out_new) (run_status outcome))
       (λ outcome ran. nothing_tells reader_told writer_told job empty empty_new out out_new start mid none_failed few outcome (run_status outcome) refl ran)
       (λ none. record {
-        within = omega arith;
         unwritten = λ _. none.2;
         none_failed = λ _. (none_failed, ap (λ (w : W). (writer_told w).failures) none.2);
-        io_failed = λ three. absurd (omega (arith, three));
+        io_failed = λ failed. let clash : NoMemory ≡ IoFailed = failed in cc;
         reads = reads_of_front _ _ few;
       })
       outcome worked)
 
   -- what was written for all profile
   pub nothing_worked_did : (Wrote : Tally → Type 0) (WrotePart : Type 0) (wrote : (tally : Tally) → Done nothing_told writer_told job tally [] (empty, out) (empty_new, out_new) → Wrote tally)
-      → (outcome : Result Tally ToolFault) (status : ℕ) → status ≡ run_status outcome → NothingWorked outcome → Does Wrote WrotePart (writer_told out) (writer_told out_new) status
+      → (outcome : Result Tally ToolFault) (status : Status) → status ≡ run_status outcome → NothingWorked outcome → Does Wrote WrotePart (writer_told out) (writer_told out_new) status
   nothing_worked_did Wrote WrotePart wrote outcome status is worked = subst (Does Wrote WrotePart (writer_told out) (writer_told out_new)) (sym is)
       (from_either _ _ (λ outcome. Does Wrote WrotePart (writer_told out) (writer_told out_new) (run_status outcome))
       (λ outcome ran. nothing_did reader_told writer_told job empty empty_new out out_new Wrote WrotePart wrote outcome (run_status outcome) refl ran)
-      (λ none. does_none _ _ _ _ 4 (inr refl)) outcome worked)
+      (λ none. does_none _ _ _ _ NoMemory (inr refl)) outcome worked)

@@ -8,6 +8,7 @@ use Rattle.pmb_value.specs.declared.number_format.NumberFormat.{NumberFormat}
 use Rattle.pmb_io.specs.Runs.{Done, PartDone}
 use Rattle.pmb_io.specs.Told.{ReaderTold, WriterTold}
 use Rattle.pmb_io.specs.declared.tally.Tally.{Tally}
+use Rattle.pmb_status.specs.declared.status.Status.{Status}
 use Rattle.pmb_words.specs.Asked.{Asking, Traffic, Encode, Decode}
 use Rattle.pmb_cli.specs.Statuses.{Does}
 use Rattle.pmb_cli.specs.Traffic.{DoneBehind, DoneUnderSample, PartDoneBehind, PartDoneUnderSample, working}
@@ -35,5 +36,5 @@ module _ {R W : Type 0} (reader_told : R → ReaderTold) (writer_told : W → Wr
   WroteTaskPart (Decode text) old new = InFormat conversions.Decode (λ conversion. PartDone reader_told writer_told (converting conversion) [] old new) text
 
   -- what a status says of it
-  abbrev pub DoesTask : Asking → R × W → R × W → ℕ → Type 0
+  abbrev pub DoesTask : Asking → R × W → R × W → Status → Type 0
   DoesTask asking old new status = Does (WroteTask asking old new) (WroteTaskPart asking old new) (writer_told old.1) (writer_told new.1) status

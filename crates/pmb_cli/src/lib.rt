@@ -14,5 +14,4 @@ pub use pmb_convert::{FormatFault, NumberFormat, decode_lines, encode_lines, par
 pub use pmb_front::{Front, front};
 pub use pmb_io::{Failing, Io, IoFault, Sink, Source, Tally, ToolFault};
 pub use pmb_run::run;
-pub use pmb_words::no_words;
-pub use program::tool;
+pub use program::{no_words, tool};

@@ -1,7 +1,7 @@
 //! `pmb show`, `pmb check`, `pmb build` and `pmb run`: what stands behind a profile, a capture or lines,
 //! under the sample profile or under the one in front of it.
 
-ghost use Rattle.std.specs.Prelude.{◌≡◌, ◌≢◌, ◌≤◌, true, false};
+ghost use Rattle.std.specs.Prelude.{◌≡◌, ◌≢◌, true, false};
 ghost use Rattle.pmb_io.specs.Runs.{AsTool, Ran};
 ghost use Rattle.pmb_cli.specs.Matter.{HasBadProfile};
 ghost use Rattle.pmb_cli.specs.Memory.{ReadNoMatter};
@@ -9,7 +9,7 @@ ghost use Rattle.pmb_cli.specs.Statuses.{StatusTells};
 ghost use Rattle.pmb_cli.specs.Tasks.{DoesTask};
 ghost use Rattle.pmb_cli.specs.Traffic.{working};
 ghost use Rattle.pmb_run.specs.Lines.{OrNoMemory};
-ghost use Rattle.pmb_status.specs.Status.{IsTold};
+ghost use Rattle.pmb_status.specs.Status.{EndedWell, Failed, IsTold};
 ghost use Rattle.pmb_words.specs.Asked.{Traffic};
 ghost use Rattle.pmb_words.specs.declared.work.Work.TheVariants.{Run};
 
@@ -18,7 +18,7 @@ use pmb_capture::{check_capture, show};
 use pmb_front::{front, sample_profile, tell_profile};
 use pmb_io::{Empty, Sink, Source, Tally, ToolFault};
 use pmb_run::run;
-use pmb_status::{ended, tell};
+use pmb_status::{Status, ended, tell};
 use pmb_table::{Profile, SAMPLE};
 use pmb_words::Work;
 use std::alloc::Global;
@@ -56,13 +56,13 @@ pub(crate) fn run_sample<R: Source, W: Sink, E: Sink>(
     reader: &mut R,
     out: &mut W,
     err: &mut E,
-) -> u8
+) -> Status
     ensures status { StatusTells R.told W.told (reader.old, out.old) (reader.new, out.new) result }
     ensures did { DoesTask R.told W.told SAMPLE.now (Traffic work true) (reader.old, out.old) (reader.new, out.new) result }
-    ensures no_fault { result ≢ 2 }
-    ensures memory { result ≡ 4 → reader.new ≡ reader.old }
-    ensures quiet { result ≤ 1 → err.new ≡ err.old }
-    ensures err_told { 2 ≤ result → IsTold (E.told err.old) (E.told err.new) }
+    ensures no_fault { result ≢ Status.BadWords }
+    ensures memory { result ≡ Status.NoMemory → reader.new ≡ reader.old }
+    ensures quiet { EndedWell result → err.new ≡ err.old }
+    ensures err_told { Failed result → IsTold (E.told err.old) (E.told err.new) }
 {
     match sample_profile(alloc) {
         Ok(profile) => ended(do_work(work, alloc, &profile, &[], reader, out), err),
@@ -78,13 +78,13 @@ pub(crate) fn run_behind<R: Source, W: Sink, E: Sink>(
     reader: &mut R,
     out: &mut W,
     err: &mut E,
-) -> u8
+) -> Status
     ensures status { StatusTells R.told W.told (reader.old, out.old) (reader.new, out.new) result }
     ensures did { DoesTask R.told W.told SAMPLE.now (Traffic work false) (reader.old, out.old) (reader.new, out.new) result }
-    ensures told { result ≡ 2 → HasBadProfile R.told reader.old reader.new }
-    ensures memory { result ≡ 4 → ReadNoMatter R.told reader.old reader.new }
-    ensures quiet { result ≤ 1 → err.new ≡ err.old }
-    ensures err_told { 2 ≤ result → IsTold (E.told err.old) (E.told err.new) }
+    ensures told { result ≡ Status.BadWords → HasBadProfile R.told reader.old reader.new }
+    ensures memory { result ≡ Status.NoMemory → ReadNoMatter R.told reader.old reader.new }
+    ensures quiet { EndedWell result → err.new ≡ err.old }
+    ensures err_told { Failed result → IsTold (E.told err.old) (E.told err.new) }
 {
     let front = match front(alloc, reader) {
         Ok(front) => front,

@@ -6,22 +6,22 @@ ghost use Rattle.pmb_status.specs.Status.{IsTold};
 
 use arrayvec::ArrayString;
 use pmb_io::{Sink, ToolFault};
-use pmb_status::{BAD_WORDS, tell, tell_text};
+use pmb_status::{Status, tell, tell_text};
 use pmb_table::{FaultKind, ProfileFault};
 use std::fmt::Write;
 
 /// Tells what is wrong with a profile, and where, on `err`.
-pub fn tell_profile<E: Sink>(fault: ProfileFault, err: &mut E) -> u8
-    ensures memory { fault.what ≡ OutOfMemory → result ≡ 4 }
-    ensures other { fault.what ≢ OutOfMemory → result ≡ 2 }
-    ensures refused { (result ≡ 2) ⊎ (result ≡ 4) }
+pub fn tell_profile<E: Sink>(fault: ProfileFault, err: &mut E) -> Status
+    ensures memory { fault.what ≡ OutOfMemory → result ≡ Status.NoMemory }
+    ensures other { fault.what ≢ OutOfMemory → result ≡ Status.BadWords }
+    ensures refused { (result ≡ Status.BadWords) ⊎ (result ≡ Status.NoMemory) }
     ensures err_told { IsTold (E.told err.old) (E.told err.new) }
 {
     if fault.what == FaultKind::OutOfMemory {
         return tell(ToolFault::Memory, err);
     }
     tell_text(profile_text(fault).as_str(), err);
-    BAD_WORDS
+    Status::BadWords
 }
 
 /// What is told of a fault of a profile.

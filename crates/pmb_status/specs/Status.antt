@@ -7,18 +7,48 @@ use Rattle.pmb_io.specs.Told.{ReaderTold, WriterTold}
 use Rattle.pmb_io.specs.declared.fault.ToolFault.{ToolFault}
 use Rattle.pmb_io.specs.declared.fault.ToolFault.TheVariants.{Read, Write, TooManyReads, ProfileTooLong, Memory}
 use Rattle.pmb_io.specs.declared.tally.Tally.{Tally}
+use Rattle.pmb_status.specs.declared.status.Status.{Status}
+use Rattle.pmb_status.specs.declared.status.Status.TheVariants.{Done, Refusals, BadWords, IoFailed, NoMemory}
 
--- 2 for a profile that is too long, 3 for a read or a write, 4 for memory
-abbrev pub status_of : ToolFault → ℕ
-status_of Read = 3
-status_of Write = 3
-status_of TooManyReads = 3
-status_of ProfileTooLong = 2
-status_of Memory = 4
+-- the number of a status, with which the process exits
+abbrev pub code_of : Status → ℕ
+code_of Done = 0
+code_of Refusals = 1
+code_of BadWords = 2
+code_of IoFailed = 3
+code_of NoMemory = 4
 
--- of a run that ended: 1 where it met refusals
-abbrev pub run_status : Result Tally ToolFault → ℕ
-run_status (Ok tally) = if tally.refusals == 0 then 0 else 1
+-- this holds of the status that has this number
+abbrev pub OfCode : (Status → Type 0) → ℕ → Type 0
+OfCode Holds code = (status : Status) × (code ≡ code_of status) × Holds status
+
+-- all was done, with refusals or without
+abbrev pub EndedWell : Status → Type 0
+EndedWell Done = Unit {0}
+EndedWell Refusals = Unit {0}
+EndedWell BadWords = ⊥
+EndedWell IoFailed = ⊥
+EndedWell NoMemory = ⊥
+
+-- the status is neither Done nor Refusals
+abbrev pub Failed : Status → Type 0
+Failed Done = ⊥
+Failed Refusals = ⊥
+Failed BadWords = Unit {0}
+Failed IoFailed = Unit {0}
+Failed NoMemory = Unit {0}
+
+-- that of a fault: a profile that is too long counts as bad words
+abbrev pub status_of : ToolFault → Status
+status_of Read = IoFailed
+status_of Write = IoFailed
+status_of TooManyReads = IoFailed
+status_of ProfileTooLong = BadWords
+status_of Memory = NoMemory
+
+-- of a run that ended: Refusals where it met some
+abbrev pub run_status : Result Tally ToolFault → Status
+run_status (Ok tally) = if tally.refusals == 0 then Done else Refusals
 run_status (Err fault) = status_of fault
 
 -- a reader gave bytes in 2^32 reads or more, and so as many bytes

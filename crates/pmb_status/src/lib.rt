@@ -3,7 +3,4 @@
 
 mod status;
 
-pub use status::{
-    BAD_WORDS, DONE, IO_FAILED, NO_MEMORY, REFUSALS, ended, tell, tell_format, tell_nothing,
-    tell_text,
-};
+pub use status::{Status, ended, tell, tell_format, tell_nothing, tell_text};

@@ -1,37 +1,52 @@
 //! The exit statuses, and what is told of them on standard error.
 
-ghost use Rattle.std.specs.Prelude.{◌≡◌, ◌≤◌};
-ghost use Rattle.pmb_status.specs.Status.{IsTold, run_status, status_of};
+ghost use Rattle.std.specs.Prelude.{◌≡◌};
+ghost use Rattle.pmb_status.specs.Status.{EndedWell, Failed, IsTold, code_of, run_status, status_of};
 
 use arrayvec::ArrayString;
 use pmb_convert::FormatFault;
 use pmb_io::{Sink, Tally, ToolFault};
 use std::fmt::Write;
 
-/// Nothing went wrong.
-pub const DONE: u8 = 0;
+/// How the program ended: its exit status.
+#[derive(Clone, Copy)]
+pub enum Status {
+    /// Nothing went wrong.
+    Done,
+    /// The capture has refusals, or lines were answered by a fault.
+    Refusals,
+    /// The words are no command or name no format, or the profile has a fault or is too long.
+    BadWords,
+    /// A read or a write failed, or there were too many reads.
+    IoFailed,
+    /// There was no memory.
+    NoMemory,
+}
 
-/// The capture has refusals, or lines were answered by a fault.
-pub const REFUSALS: u8 = 1;
-
-/// The words are no command or name no format, or the profile has a fault or is too long.
-pub const BAD_WORDS: u8 = 2;
-
-/// A read or a write failed, or there were too many reads.
-pub const IO_FAILED: u8 = 3;
-
-/// There was no memory.
-pub const NO_MEMORY: u8 = 4;
+impl Status {
+    /// The number of the status, with which the process exits: 0 to 4.
+    pub fn code(self) -> u8
+        ensures { result ≡ code_of self }
+    {
+        match self {
+            Status::Done => 0,
+            Status::Refusals => 1,
+            Status::BadWords => 2,
+            Status::IoFailed => 3,
+            Status::NoMemory => 4,
+        }
+    }
+}
 
 /// The status of a run that ended, of which a fault is told on `err`.
-pub fn ended<E: Sink>(outcome: Result<Tally, ToolFault>, err: &mut E) -> u8
+pub fn ended<E: Sink>(outcome: Result<Tally, ToolFault>, err: &mut E) -> Status
     ensures status { result ≡ run_status outcome }
-    ensures quiet { result ≤ 1 → err.new ≡ err.old }
-    ensures err_told { 2 ≤ result → IsTold (E.told err.old) (E.told err.new) }
+    ensures quiet { EndedWell result → err.new ≡ err.old }
+    ensures err_told { Failed result → IsTold (E.told err.old) (E.told err.new) }
 {
     match outcome {
-        Ok(tally) if tally.refusals == 0 => DONE,
-        Ok(_) => REFUSALS,
+        Ok(tally) if tally.refusals == 0 => Status::Done,
+        Ok(_) => Status::Refusals,
         Err(fault) => tell(fault, err),
     }
 }
@@ -47,7 +62,7 @@ pub fn tell_text<E: Sink>(text: &str, err: &mut E)
 }
 
 /// Tells a fault on `err` and answers its status.
-pub fn tell<E: Sink>(fault: ToolFault, err: &mut E) -> u8
+pub fn tell<E: Sink>(fault: ToolFault, err: &mut E) -> Status
     ensures status { result ≡ status_of fault }
     ensures err_told { IsTold (E.told err.old) (E.told err.new) }
 {
@@ -55,28 +70,28 @@ pub fn tell<E: Sink>(fault: ToolFault, err: &mut E) -> u8
     let _ = write!(text, "{fault}\n");
     tell_text(text.as_str(), err);
     match fault {
-        ToolFault::Read | ToolFault::Write | ToolFault::TooManyReads => IO_FAILED,
-        ToolFault::ProfileTooLong => BAD_WORDS,
-        ToolFault::Memory => NO_MEMORY,
+        ToolFault::Read | ToolFault::Write | ToolFault::TooManyReads => Status::IoFailed,
+        ToolFault::ProfileTooLong => Status::BadWords,
+        ToolFault::Memory => Status::NoMemory,
     }
 }
 
 /// Tells why a FORMAT names no format on `err`.
-pub fn tell_format<E: Sink>(fault: FormatFault, err: &mut E) -> u8
-    ensures status { result ≡ 2 }
+pub fn tell_format<E: Sink>(fault: FormatFault, err: &mut E) -> Status
+    ensures status { result ≡ Status.BadWords }
     ensures err_told { IsTold (E.told err.old) (E.told err.new) }
 {
     let mut text = ArrayString::<32>::new();
     let _ = write!(text, "format: {fault}\n");
     tell_text(text.as_str(), err);
-    BAD_WORDS
+    Status::BadWords
 }
 
 /// Tells on `err` that the words ask for nothing.
-pub fn tell_nothing<E: Sink>(err: &mut E) -> u8
-    ensures status { result ≡ 2 }
+pub fn tell_nothing<E: Sink>(err: &mut E) -> Status
+    ensures status { result ≡ Status.BadWords }
     ensures err_told { IsTold (E.told err.old) (E.told err.new) }
 {
     tell_text("no command\n", err);
-    BAD_WORDS
+    Status::BadWords
 }

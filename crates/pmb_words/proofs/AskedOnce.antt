@@ -2,6 +2,8 @@
 use Rattle.std.proofs.Common.{◌≡◌, ◌⊎◌, ℕ, Option, Some, None, List, [], ◌∷◌, get_or, codes, inl, inr, refl, sym, ap, ◌∙◌, subst, arith}
 use Rattle.clap.specs.Words.{IsAmong, Kinds, Row, Text, subcommand_of}
 use Rattle.clap.specs.declared.error.kind.ErrorKind.{ErrorKind}
+use Rattle.pmb_status.specs.declared.status.Status.{Status}
+use Rattle.pmb_status.specs.declared.status.Status.TheVariants.{Done, BadWords, IoFailed, NoMemory}
 use Rattle.pmb_words.specs.Asked.{AskFor, Asking, SubcommandAsks, Decode, Encode, HasBadFormat, NamesNone, Traffic, format_in, has_sample, name_of}
 use Rattle.pmb_words.specs.declared.work.Work.{Work}
 use Rattle.pmb_words.specs.declared.work.Work.TheVariants.{Show, Check, Build, Run}
@@ -138,3 +140,15 @@ pub is_telling : (words : List Text) (kind : ErrorKind) → AskToTell words → 
 is_telling words kind ask (inl memory) = inl memory
 is_telling words kind (help is) (inr among) = inr (inl (only_one kind DisplayHelp (subst (λ (ks : Kinds). IsAmong kind ks) is among)))
 is_telling words kind (version is) (inr among) = inr (inr (only_one kind DisplayVersion (subst (λ (ks : Kinds). IsAmong kind ks) is among)))
+
+-- ---- the status of what was told
+
+-- where there was no memory, the words are not told to be bad
+pub memory_is_not_bad : (status : Status) → status ≡ BadWords → status ≡ NoMemory → ⊥
+memory_is_not_bad status bad memory = let clash : BadWords ≡ NoMemory = sym bad ∙ memory in cc
+
+-- nor where a text about `pmb` was asked for
+pub told_is_not_bad : (status : Status) → status ≡ BadWords → (status ≡ Done) ⊎ (status ≡ IoFailed) ⊎ (status ≡ NoMemory) → ⊥
+told_is_not_bad status bad (inl done) = let clash : BadWords ≡ Done = sym bad ∙ done in cc
+told_is_not_bad status bad (inr (inl failed)) = let clash : BadWords ≡ IoFailed = sym bad ∙ failed in cc
+told_is_not_bad status bad (inr (inr memory)) = memory_is_not_bad status bad memory

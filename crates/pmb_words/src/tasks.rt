@@ -1,8 +1,8 @@
 //! What the words of the command ask for.
 
-ghost use Rattle.std.specs.Prelude.{◌≡◌, ◌≢◌, ◌≤◌, ◌⊎◌, IfErr, IfOk, map};
+ghost use Rattle.std.specs.Prelude.{◌≡◌, ◌≢◌, ◌⊎◌, IfErr, IfOk, map};
 ghost use Rattle.clap.specs.Words.{subcommand_rows_of};
-ghost use Rattle.pmb_status.specs.Status.{IsTold, Tells};
+ghost use Rattle.pmb_status.specs.Status.{EndedWell, Failed, IsTold, Tells};
 ghost use Rattle.pmb_io.specs.Count.{raised};
 ghost use Rattle.pmb_words.specs.Asked.{AskFor, AskForNothing, Asking, AsksTask, asking_of};
 ghost use Rattle.pmb_words.specs.Words.{AreRefused, AskToTell, MayBeRefused};
@@ -12,7 +12,7 @@ use crate::words::{parse, tell_words};
 use crate::work::Work;
 use clap::ArgMatches;
 use pmb_io::Sink;
-use pmb_status::tell_nothing;
+use pmb_status::{Status, tell_nothing};
 use std::alloc::Global;
 use std::convert::AsStr;
 
@@ -33,36 +33,35 @@ pub enum Task<'a> {
 ///
 /// # Errors
 ///
-/// The exit status of what was told: 0 for help or the version, 2 for words that are no command, 3
-/// where `out` failed, and 4 where there was no memory.
+/// The exit status of what was told: `Done` for help or the version, `BadWords` for words that are no
+/// command, `IoFailed` where `out` failed, and `NoMemory` where there was no memory.
 pub fn asked<'a, S: AsStr, W: Sink, E: Sink>(
     alloc: Global,
     words: &'a [S],
     out: &mut W,
     err: &mut E,
-) -> Result<Task<'a>, u8>
+) -> Result<Task<'a>, Status>
     ensures ok { IfOk result (λ task. AskFor (map S.text words.entry.now) (asking_of task)) }
     ensures ok_quiet { IfOk result (λ _. (out.new ≡ out.old) × (err.new ≡ err.old)) }
 
-    // Whatever the words, 1 is never answered: it is for what is read alone.
-    ensures within { IfErr result (λ status. status ≤ 4) }
-    ensures not_one { IfErr result (λ status. status ≢ 1) }
+    // Whatever the words, `Refusals` is never answered: it is for what is read alone.
+    ensures not_refusals { IfErr result (λ status. status ≢ Status.Refusals) }
 
     // Where they ask for something, only memory is lacking.
-    ensures memory { IfErr result (λ status. (asking : Asking) → AskFor (map S.text words.entry.now) asking → status ≡ 4) }
-    ensures nothing { IfErr result (λ status. AskForNothing (map S.text words.entry.now) → (status ≡ 2) ⊎ (status ≡ 4)) }
-    ensures refused { IfErr result (λ status. AreRefused (map S.text words.entry.now) → (status ≡ 2) ⊎ (status ≡ 4)) }
-    ensures told { IfErr result (λ status. status ≡ 2 → MayBeRefused (map S.text words.entry.now) ⊎ AskForNothing (map S.text words.entry.now)) }
-    ensures helped { IfErr result (λ status. AskToTell (map S.text words.entry.now) → (status ≡ 0) ⊎ (status ≡ 3) ⊎ (status ≡ 4)) }
+    ensures memory { IfErr result (λ status. (asking : Asking) → AskFor (map S.text words.entry.now) asking → status ≡ Status.NoMemory) }
+    ensures nothing { IfErr result (λ status. AskForNothing (map S.text words.entry.now) → (status ≡ Status.BadWords) ⊎ (status ≡ Status.NoMemory)) }
+    ensures refused { IfErr result (λ status. AreRefused (map S.text words.entry.now) → (status ≡ Status.BadWords) ⊎ (status ≡ Status.NoMemory)) }
+    ensures told { IfErr result (λ status. status ≡ Status.BadWords → MayBeRefused (map S.text words.entry.now) ⊎ AskForNothing (map S.text words.entry.now)) }
+    ensures helped { IfErr result (λ status. AskToTell (map S.text words.entry.now) → (status ≡ Status.Done) ⊎ (status ≡ Status.IoFailed) ⊎ (status ≡ Status.NoMemory)) }
 
     // Help and the version go to `out` alone, and a fault to `err`.
-    ensures out_told { IfErr result (λ status. status ≡ 0 → Tells (W.told out.old) (W.told out.new)) }
-    ensures err_told { IfErr result (λ status. 2 ≤ status → IsTold (E.told err.old) (E.told err.new)) }
-    ensures quiet { IfErr result (λ status. status ≤ 1 → err.new ≡ err.old) }
+    ensures out_told { IfErr result (λ status. status ≡ Status.Done → Tells (W.told out.old) (W.told out.new)) }
+    ensures err_told { IfErr result (λ status. Failed status → IsTold (E.told err.old) (E.told err.new)) }
+    ensures quiet { IfErr result (λ status. EndedWell status → err.new ≡ err.old) }
     ensures unwritten { IfErr result (λ status. AreRefused (map S.text words.entry.now) → out.new ≡ out.old) }
-    ensures refused_unwritten { IfErr result (λ status. (status ≡ 2) ⊎ (status ≡ 4) → out.new ≡ out.old) }
-    ensures none_failed { IfErr result (λ status. status ≢ 3 → (W.told out.new).failures ≡ (W.told out.old).failures) }
-    ensures io_failed { IfErr result (λ status. status ≡ 3 → (W.told out.new).failures ≡ raised (W.told out.old).failures 1) }
+    ensures refused_unwritten { IfErr result (λ status. (status ≡ Status.BadWords) ⊎ (status ≡ Status.NoMemory) → out.new ≡ out.old) }
+    ensures none_failed { IfErr result (λ status. status ≢ Status.IoFailed → (W.told out.new).failures ≡ (W.told out.old).failures) }
+    ensures io_failed { IfErr result (λ status. status ≡ Status.IoFailed → (W.told out.new).failures ≡ raised (W.told out.old).failures 1) }
 {
     let matches = match parse(alloc, words) {
         Ok(matches) => matches,

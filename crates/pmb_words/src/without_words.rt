@@ -5,19 +5,19 @@ ghost use Rattle.std.specs.declared.io.ErrorKind.TheVariants.{OutOfMemory};
 ghost use Rattle.pmb_status.specs.Status.{IsTold};
 
 use pmb_io::{Sink, ToolFault};
-use pmb_status::{BAD_WORDS, tell};
+use pmb_status::{Status, tell};
 use std::io;
 
 /// What `pmb` answers where the process's words can't be had: there is no memory for them, or they
 /// are not UTF-8, which is told on `err` as other bad words are.
-pub fn no_words<E: Sink>(kind: io::ErrorKind, err: &mut E) -> u8
-    ensures memory { kind ≡ OutOfMemory → result ≡ 4 }
-    ensures others { kind ≢ OutOfMemory → result ≡ 2 }
+pub fn no_words<E: Sink>(kind: io::ErrorKind, err: &mut E) -> Status
+    ensures memory { kind ≡ OutOfMemory → result ≡ Status.NoMemory }
+    ensures others { kind ≢ OutOfMemory → result ≡ Status.BadWords }
     ensures err_told { IsTold (E.told err.old) (E.told err.new) }
 {
     if kind == io::ErrorKind::OutOfMemory {
         return tell(ToolFault::Memory, err);
     }
     let _ = err.write_all(b"error: the words of the command are not UTF-8\n");
-    BAD_WORDS
+    Status::BadWords
 }

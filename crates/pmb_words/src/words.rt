@@ -1,17 +1,18 @@
 //! The words of the command, as `clap` reads them: no other module knows it.
 
-ghost use Rattle.std.specs.Prelude.{◌≡◌, ◌≢◌, ◌≤◌, ◌⊎◌, [], codes, false, map, IfOk};
+ghost use Rattle.std.specs.Prelude.{◌≡◌, ◌≢◌, ◌⊎◌, [], codes, false, map, IfOk};
+ghost use Rattle.std.specs.Io.KnownBytes.{Appends};
 ghost use Rattle.clap.specs.Words.{FailsBy, app_of, kind_of, new_app, subcommand_of, subcommand_rows_of, with_subcommand};
 ghost use Rattle.clap.specs.declared.builder.command.Command.TheViews.{out-Command as fields_of};
 ghost use Rattle.pmb_io.specs.Count.{raised};
-ghost use Rattle.pmb_status.specs.Status.{IsTold, Tells};
+ghost use Rattle.pmb_status.specs.Status.{EndedWell, Failed, IsTold, Tells};
 ghost use Rattle.pmb_words.specs.Words.{IsTelling, faults_of, lines_app, pmb_app, sampled_app, top_app};
 
 use clap::error::ErrorKind;
 use clap::{Arg, ArgAction, ArgMatches, Command, Error};
 use pmb_convert::FormatFault;
 use pmb_io::{Sink, ToolFault};
-use pmb_status::{BAD_WORDS, DONE, tell, tell_format};
+use pmb_status::{Status, tell, tell_format};
 use std::alloc::{AllocError, Global};
 use std::convert::AsStr;
 
@@ -193,21 +194,20 @@ pub(crate) fn tell_words<S: AsStr, W: Sink, E: Sink>(
     error: &Error,
     out: &mut W,
     err: &mut E,
-) -> u8
-    ensures within { result ≤ 4 }
-    ensures not_one { result ≢ 1 }
-    ensures none_failed { result ≢ 3 → (W.told out.new).failures ≡ (W.told out.old).failures }
-    ensures io_failed { result ≡ 3 → (W.told out.new).failures ≡ raised (W.told out.old).failures 1 }
-    ensures refused { (¬ IsTelling (kind_of error.now)) → (result ≡ 2) ⊎ (result ≡ 4) }
-    ensures told { IsTelling (kind_of error.now) → (result ≡ 0) ⊎ (result ≡ 3) ⊎ (result ≡ 4) }
-    ensures memory { kind_of error.now ≡ ErrorKind.OutOfMemory → result ≡ 4 }
-    ensures refused_unwritten { (result ≡ 2) ⊎ (result ≡ 4) → out.new ≡ out.old }
+) -> Status
+    ensures not_refusals { result ≢ Status.Refusals }
+    ensures none_failed { result ≢ Status.IoFailed → (W.told out.new).failures ≡ (W.told out.old).failures }
+    ensures io_failed { result ≡ Status.IoFailed → (W.told out.new).failures ≡ raised (W.told out.old).failures 1 }
+    ensures refused { (¬ IsTelling (kind_of error.now)) → (result ≡ Status.BadWords) ⊎ (result ≡ Status.NoMemory) }
+    ensures told { IsTelling (kind_of error.now) → (result ≡ Status.Done) ⊎ (result ≡ Status.IoFailed) ⊎ (result ≡ Status.NoMemory) }
+    ensures memory { kind_of error.now ≡ ErrorKind.OutOfMemory → result ≡ Status.NoMemory }
+    ensures refused_unwritten { (result ≡ Status.BadWords) ⊎ (result ≡ Status.NoMemory) → out.new ≡ out.old }
     ensures unwritten { (¬ IsTelling (kind_of error.now)) → out.new ≡ out.old }
 
     // Help and the version go to `out` alone, and a fault to `err`.
-    ensures quiet { result ≡ 0 → err.new ≡ err.old }
-    ensures out_told { result ≡ 0 → Tells (W.told out.old) (W.told out.new) }
-    ensures err_told { 2 ≤ result → IsTold (E.told err.old) (E.told err.new) }
+    ensures quiet { EndedWell result → err.new ≡ err.old }
+    ensures out_told { result ≡ Status.Done → Tells (W.told out.old) (W.told out.new) }
+    ensures err_told { Failed result → IsTold (E.told err.old) (E.told err.new) }
 {
     let kind = error.kind();
     if kind == ErrorKind::OutOfMemory {
@@ -228,29 +228,30 @@ pub(crate) fn tell_words<S: AsStr, W: Sink, E: Sink>(
 }
 
 // Tells help or the version on `out`, and answers the exit status.
-fn tell_about<W: Sink, E: Sink>(text: &str, out: &mut W, err: &mut E) -> u8
+fn tell_about<W: Sink, E: Sink>(text: &str, out: &mut W, err: &mut E) -> Status
     requires some { text.now ≢ [] }
-    ensures told { (result ≡ 0) ⊎ (result ≡ 3) }
-    ensures done { result ≡ 0 → (W.told out.new).failures ≡ (W.told out.old).failures }
-    ensures io_failed { result ≡ 3 → (W.told out.new).failures ≡ raised (W.told out.old).failures 1 }
-    ensures quiet { result ≡ 0 → err.new ≡ err.old }
-    ensures out_told { result ≡ 0 → Tells (W.told out.old) (W.told out.new) }
-    ensures err_told { result ≡ 3 → IsTold (E.told err.old) (E.told err.new) }
+    ensures said { result ≡ Status.Done → Appends (W.told out.old).held (W.told out.new).held text.now }
+    ensures told { (result ≡ Status.Done) ⊎ (result ≡ Status.IoFailed) }
+    ensures done { result ≡ Status.Done → (W.told out.new).failures ≡ (W.told out.old).failures }
+    ensures io_failed { result ≡ Status.IoFailed → (W.told out.new).failures ≡ raised (W.told out.old).failures 1 }
+    ensures quiet { EndedWell result → err.new ≡ err.old }
+    ensures out_told { result ≡ Status.Done → Tells (W.told out.old) (W.told out.new) }
+    ensures err_told { Failed result → IsTold (E.told err.old) (E.told err.new) }
 {
     match out.write_all(text.as_bytes()) {
-        Ok(()) => DONE,
+        Ok(()) => Status::Done,
         Err(_) => tell(ToolFault::Write, err),
     }
 }
 
 // Tells a fault of the words on `err`, and answers the exit status.
-fn tell_fault<E: Sink>(text: &str, err: &mut E) -> u8
+fn tell_fault<E: Sink>(text: &str, err: &mut E) -> Status
     requires some { text.now ≢ [] }
-    ensures status { result ≡ 2 }
+    ensures status { result ≡ Status.BadWords }
     ensures err_told { IsTold (E.told err.old) (E.told err.new) }
 {
     let _ = err.write_all(text.as_bytes());
-    BAD_WORDS
+    Status::BadWords
 }
 
 /// What `clap` says, or the program's name where it says nothing.

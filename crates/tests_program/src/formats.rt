@@ -63,7 +63,7 @@ fn tells_what_is_wrong_with_a_format(rt: HostRuntime) {
 }
 
 /// A name, words that are refused, and what is told of them first.
-static REFUSED: [(&str, &[&str], &str); 6] = [
+static REFUSED: [(&str, &[&str], &str); 7] = [
     (
         "no FORMAT",
         &["pmb", "encode"],
@@ -90,7 +90,12 @@ static REFUSED: [(&str, &[&str], &str); 6] = [
         "pmb: format: BadFormat\n",
     ),
     (
-        "a flag for FORMAT",
+        "a flag for FORMAT of encode",
+        &["pmb", "encode", "--x"],
+        "error: unexpected argument '--x' found\n",
+    ),
+    (
+        "a flag for FORMAT of decode",
         &["pmb", "decode", "--x"],
         "error: unexpected argument '--x' found\n",
     ),

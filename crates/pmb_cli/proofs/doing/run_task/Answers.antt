@@ -1,5 +1,6 @@
-use Rattle.std.proofs.Common.{◌∙◌, inl, inr, ap, refl, subst, sym, arith}
+use Rattle.std.proofs.Common.{◌≡◌, ◌∙◌, inl, inr, ap, refl, subst, sym}
 use Rattle.pmb_table.specs.declared.sample.TheConstants.{SAMPLE}
+use Rattle.pmb_status.specs.declared.status.Status.TheVariants.{BadWords, NoMemory}
 use Rattle.pmb_words.specs.Asked.{NamesNone, Traffic, asking_of}
 use Rattle.pmb_words.specs.declared.tasks.Task.{Task}
 use Rattle.pmb_cli.specs.Memory.{ReadWithoutMemory}
@@ -17,12 +18,12 @@ returns-in-Traffic-clause-did g c =
     c.run_traffic.ensures.did
 
 pub returns-in-Traffic-clause-memory : goal.returns-in-Traffic-clause-memory
-returns-in-Traffic-clause-memory g c four =
-    subst (λ (t : Task). ReadWithoutMemory g.R.Source.told (asking_of t) c.args.reader.now c.run_traffic.new.reader) (sym c.in-Traffic.is) (c.run_traffic.ensures.memory four)
+returns-in-Traffic-clause-memory g c memory =
+    subst (λ (t : Task). ReadWithoutMemory g.R.Source.told (asking_of t) c.args.reader.now c.run_traffic.new.reader) (sym c.in-Traffic.is) (c.run_traffic.ensures.memory memory)
 
 pub returns-in-Traffic-clause-told : goal.returns-in-Traffic-clause-told
-returns-in-Traffic-clause-told g c two =
-    let told = c.run_traffic.ensures.told two in
+returns-in-Traffic-clause-told g c bad =
+    let told = c.run_traffic.ensures.told bad in
     inr (c.in-Traffic.work, ap asking_of c.in-Traffic.is ∙ ap (Traffic c.in-Traffic.work) told.0, told.1)
 
 pub returns-in-Traffic-clause-bad_format : goal.returns-in-Traffic-clause-bad_format
@@ -40,10 +41,10 @@ returns-in-Ok-clause-did g c =
 
 -- Lines are answered without memory.
 pub returns-in-Ok-clause-memory : goal.returns-in-Ok-clause-memory
-returns-in-Ok-clause-memory g c four = absurd (c.run_lines.ensures.no_fault.1 four)
+returns-in-Ok-clause-memory g c memory = absurd (c.run_lines.ensures.no_fault.1 memory)
 
 pub returns-in-Ok-clause-told : goal.returns-in-Ok-clause-told
-returns-in-Ok-clause-told g c two = absurd (c.run_lines.ensures.no_fault.0 two)
+returns-in-Ok-clause-told g c bad = absurd (c.run_lines.ensures.no_fault.0 bad)
 
 pub returns-in-Ok-clause-bad_format : goal.returns-in-Ok-clause-bad_format
 returns-in-Ok-clause-bad_format g c none = absurd (none_is_named c.one_format.ensures.named _ c.in-Ok.format c.in-Ok.ensures (subst (λ (t : Task). NamesNone (asking_of t)) c.in-Encode.is none))
@@ -59,10 +60,10 @@ returns-in-Ok-parse_format-clause-did g c =
     (does_as _ _ _ _ _ _ _ (λ tally done. record { format = c.in-Ok-parse_format.format; names = c.in-Ok-parse_format.ensures; holds = done }) (λ part. record { format = c.in-Ok-parse_format.format; names = c.in-Ok-parse_format.ensures; holds = part }) c.run_lines-in-Ok-parse_format.ensures.did)
 
 pub returns-in-Ok-parse_format-clause-memory : goal.returns-in-Ok-parse_format-clause-memory
-returns-in-Ok-parse_format-clause-memory g c four = absurd (c.run_lines-in-Ok-parse_format.ensures.no_fault.1 four)
+returns-in-Ok-parse_format-clause-memory g c memory = absurd (c.run_lines-in-Ok-parse_format.ensures.no_fault.1 memory)
 
 pub returns-in-Ok-parse_format-clause-told : goal.returns-in-Ok-parse_format-clause-told
-returns-in-Ok-parse_format-clause-told g c two = absurd (c.run_lines-in-Ok-parse_format.ensures.no_fault.0 two)
+returns-in-Ok-parse_format-clause-told g c bad = absurd (c.run_lines-in-Ok-parse_format.ensures.no_fault.0 bad)
 
 pub returns-in-Ok-parse_format-clause-bad_format : goal.returns-in-Ok-parse_format-clause-bad_format
 returns-in-Ok-parse_format-clause-bad_format g c none = absurd (none_is_named c.one_format.ensures.named _ c.in-Ok-parse_format.format c.in-Ok-parse_format.ensures (subst (λ (t : Task). NamesNone (asking_of t)) c.in-Decode.is none))
@@ -73,16 +74,16 @@ returns-in-Ok-parse_format-clause-bad_format_unread g c none = absurd (none_is_n
 -- ---- a text that names no format
 
 pub returns-in-Err-clause-memory : goal.returns-in-Err-clause-memory
-returns-in-Err-clause-memory g c four = absurd (omega (arith, four, c.tell_format.ensures.status))
+returns-in-Err-clause-memory g c memory = let clash : BadWords ≡ NoMemory = sym c.tell_format.ensures.status ∙ memory in cc
 
 pub returns-in-Err-parse_format-clause-memory : goal.returns-in-Err-parse_format-clause-memory
-returns-in-Err-parse_format-clause-memory g c four = absurd (omega (arith, four, c.tell_format-in-Err-parse_format.ensures.status))
+returns-in-Err-parse_format-clause-memory g c memory = let clash : BadWords ≡ NoMemory = sym c.tell_format-in-Err-parse_format.ensures.status ∙ memory in cc
 
 pub returns-in-Err-clause-told : goal.returns-in-Err-clause-told
-returns-in-Err-clause-told g c two = inl (subst (λ (t : Task). NamesNone (asking_of t)) (sym c.in-Encode.is) (c.in-Err.fault, c.in-Err.ensures))
+returns-in-Err-clause-told g c bad = inl (subst (λ (t : Task). NamesNone (asking_of t)) (sym c.in-Encode.is) (c.in-Err.fault, c.in-Err.ensures))
 
 pub returns-in-Err-parse_format-clause-told : goal.returns-in-Err-parse_format-clause-told
-returns-in-Err-parse_format-clause-told g c two = inl (subst (λ (t : Task). NamesNone (asking_of t)) (sym c.in-Decode.is) (c.in-Err-parse_format.fault, c.in-Err-parse_format.ensures))
+returns-in-Err-parse_format-clause-told g c bad = inl (subst (λ (t : Task). NamesNone (asking_of t)) (sym c.in-Decode.is) (c.in-Err-parse_format.fault, c.in-Err-parse_format.ensures))
 
 pub returns-in-Err-clause-status : goal.returns-in-Err-clause-status
 returns-in-Err-clause-status g c = refused_tells g.R.Source.told g.W.Sink.told _ _ _ _ (inl c.tell_format.ensures.status) refl (none_in_all _)

@@ -16,12 +16,12 @@ returns-then-sample-clause-did g c =
     subst (λ (b : Bool). DoesTask g.R.Source.told g.W.Sink.told SAMPLE.now (Traffic c.args.work b) (c.args.reader.now, c.args.out.now) (c.run_sample.new.reader, c.run_sample.new.out) c.run_sample.result) (sym asked) c.run_sample.ensures.did
 
 pub returns-then-sample-clause-memory : goal.returns-then-sample-clause-memory
-returns-then-sample-clause-memory g c four =
+returns-then-sample-clause-memory g c memory =
     let asked : c.args.sample ≡ true = c.if-sample.true in
-    subst (λ (b : Bool). ReadWithoutMemory g.R.Source.told (Traffic c.args.work b) c.args.reader.now c.run_sample.new.reader) (sym asked) (c.run_sample.ensures.memory four)
+    subst (λ (b : Bool). ReadWithoutMemory g.R.Source.told (Traffic c.args.work b) c.args.reader.now c.run_sample.new.reader) (sym asked) (c.run_sample.ensures.memory memory)
 
 pub returns-then-sample-clause-told : goal.returns-then-sample-clause-told
-returns-then-sample-clause-told g c two = absurd (c.run_sample.ensures.no_fault two)
+returns-then-sample-clause-told g c bad = absurd (c.run_sample.ensures.no_fault bad)
 
 pub returns-then-sample-clause-err_told : goal.returns-then-sample-clause-err_told
 returns-then-sample-clause-err_told g c = c.run_sample.ensures.err_told
@@ -40,12 +40,12 @@ returns-else-sample-clause-did g c =
     subst (λ (b : Bool). DoesTask g.R.Source.told g.W.Sink.told SAMPLE.now (Traffic c.args.work b) (c.args.reader.now, c.args.out.now) (c.run_behind.new.reader, c.run_behind.new.out) c.run_behind.result) (sym asked) c.run_behind.ensures.did
 
 pub returns-else-sample-clause-memory : goal.returns-else-sample-clause-memory
-returns-else-sample-clause-memory g c four =
+returns-else-sample-clause-memory g c memory =
     let asked : c.args.sample ≡ false = c.if-sample.false in
-    subst (λ (b : Bool). ReadWithoutMemory g.R.Source.told (Traffic c.args.work b) c.args.reader.now c.run_behind.new.reader) (sym asked) (inr (c.run_behind.ensures.memory four))
+    subst (λ (b : Bool). ReadWithoutMemory g.R.Source.told (Traffic c.args.work b) c.args.reader.now c.run_behind.new.reader) (sym asked) (inr (c.run_behind.ensures.memory memory))
 
 pub returns-else-sample-clause-told : goal.returns-else-sample-clause-told
-returns-else-sample-clause-told g c two = (c.if-sample.false, c.run_behind.ensures.told two)
+returns-else-sample-clause-told g c bad = (c.if-sample.false, c.run_behind.ensures.told bad)
 
 pub returns-else-sample-clause-err_told : goal.returns-else-sample-clause-err_told
 returns-else-sample-clause-err_told g c = c.run_behind.ensures.err_told

@@ -11,6 +11,6 @@ returns-clause-did g c = run_did g.R.Source.told g.W.Sink.told _ _ _ _ c.convert
 -- Lines have no fault of memory or of a profile.
 pub returns-clause-no_fault : goal.returns-clause-no_fault
 returns-clause-no_fault g c = (
-  λ two. run_unrefused g.R.Source.told g.W.Sink.told _ _ _ _ c.convert_lines.result c.convert_lines.ensures (inl (sym c.ended.ensures.status ∙ two)),
-  λ four. run_unrefused g.R.Source.told g.W.Sink.told _ _ _ _ c.convert_lines.result c.convert_lines.ensures (inr (sym c.ended.ensures.status ∙ four)),
+  λ bad. run_unrefused g.R.Source.told g.W.Sink.told _ _ _ _ c.convert_lines.result c.convert_lines.ensures (inl (sym c.ended.ensures.status ∙ bad)),
+  λ memory. run_unrefused g.R.Source.told g.W.Sink.told _ _ _ _ c.convert_lines.result c.convert_lines.ensures (inr (sym c.ended.ensures.status ∙ memory)),
 )

@@ -1,103 +1,45 @@
-use Rattle.std.proofs.Common.{◌≡◌, ◌∙◌, inl, inr, map, refl, subst}
-use Rattle.pmb_status.specs.Status.{IsTold}
-use Rattle.pmb_table.specs.declared.sample.TheConstants.{SAMPLE}
-use Rattle.pmb_words.specs.Asked.{AskFor, Asking, Decode, Encode, asking_of}
-use Rattle.pmb_cli.specs.Statuses.{StatusTells}
-use Rattle.pmb_cli.specs.Memory.{ReadWithoutMemory}
-use Rattle.pmb_cli.specs.Tasks.{DoesTask}
-use Rattle.pmb_cli.proofs.Memory.{unread}
-use Rattle.pmb_cli.proofs.Often.{none_in_all}
+use Rattle.std.proofs.Common.{◌∙◌, sym}
+use Rattle.pmb_status.specs.declared.status.Status.TheVariants.{Done, Refusals, BadWords, IoFailed, NoMemory}
+use Rattle.pmb_cli.proofs.Codes.{by_code, code_within, ended_by_code, failed_by_code, one_of_three, one_of_two}
 use Rattle.pmb_cli.proofs.program.tool.Goals as goal
 
--- ---- words that ask for something: nothing was told yet, and it was done
+-- ---- what is said of a status is said of its number
 
-pub returns-in-Ok-clause-did : goal.returns-in-Ok-clause-did
-returns-in-Ok-clause-did g c asking ask =
-    let same : asking_of c.in-Ok.task ≡ asking = c.one_asking.ensures.one _ (asking_of c.in-Ok.task) asking c.in-Ok.ensures.ok ask in
-    subst (λ (out : g.row.W.Denot). DoesTask g.R.Source.told g.W.Sink.told SAMPLE.now asking (c.args.reader.now, out) (c.run_task.new.reader, c.run_task.new.out) c.run_task.result) c.in-Ok.ensures.ok_quiet.0
-    (subst (λ (a : Asking). DoesTask g.R.Source.told g.W.Sink.told SAMPLE.now a (c.args.reader.now, c.asked.new.out) (c.run_task.new.reader, c.run_task.new.out) c.run_task.result) same c.run_task.ensures.did)
+pub returns-clause-out_told : goal.returns-clause-out_told
+returns-clause-out_told g c some done = c.run_words.ensures.out_told some (by_code _ Done (sym c.code.ensures ∙ done))
 
-pub returns-in-Ok-clause-memory : goal.returns-in-Ok-clause-memory
-returns-in-Ok-clause-memory g c asking ask four =
-    subst (λ (a : Asking). ReadWithoutMemory g.R.Source.told a c.args.reader.now c.run_task.new.reader)
-    (c.one_asking.ensures.one _ (asking_of c.in-Ok.task) asking c.in-Ok.ensures.ok ask) (c.run_task.ensures.memory four)
+pub returns-clause-not_one : goal.returns-clause-not_one
+returns-clause-not_one g c some one = c.run_words.ensures.not_refusals some (by_code _ Refusals (sym c.code.ensures ∙ one))
 
-pub returns-in-Ok-clause-status : goal.returns-in-Ok-clause-status
-returns-in-Ok-clause-status g c =
-    subst (λ (out : g.row.W.Denot). StatusTells g.R.Source.told g.W.Sink.told (c.args.reader.now, out) (c.run_task.new.reader, c.run_task.new.out) c.run_task.result) c.in-Ok.ensures.ok_quiet.0 c.run_task.ensures.status
+pub returns-clause-helped : goal.returns-clause-helped
+returns-clause-helped g c ask = one_of_three _ Done IoFailed NoMemory c.code.ensures (c.run_words.ensures.helped ask)
 
-pub returns-in-Ok-clause-told : goal.returns-in-Ok-clause-told
-returns-in-Ok-clause-told g c two = elim (c.run_task.ensures.told two) [
-  | inl none ↦ inr (inl (c.one_asking.ensures.names_none _ (asking_of c.in-Ok.task) c.in-Ok.ensures.ok none))
-  | inr bad ↦ inr (inr (bad.0, subst (λ (a : Asking). AskFor (map g.S.AsStr.text c.args.words.now) a) bad.1 c.in-Ok.ensures.ok, bad.2))
-]
+pub returns-clause-refused : goal.returns-clause-refused
+returns-clause-refused g c refused = one_of_two _ BadWords NoMemory c.code.ensures (c.run_words.ensures.refused refused)
 
-pub returns-in-Ok-clause-err_told : goal.returns-in-Ok-clause-err_told
-returns-in-Ok-clause-err_told g c two = subst (λ (err : g.row.E.Denot). IsTold (g.E.Sink.told err) (g.E.Sink.told c.run_task.new.err)) c.in-Ok.ensures.ok_quiet.1 (c.run_task.ensures.err_told two)
+pub returns-clause-told : goal.returns-clause-told
+returns-clause-told g c two = c.run_words.ensures.told (by_code _ BadWords (sym c.code.ensures ∙ two))
 
-pub returns-in-Ok-clause-quiet : goal.returns-in-Ok-clause-quiet
-returns-in-Ok-clause-quiet g c done = c.run_task.ensures.quiet done ∙ c.in-Ok.ensures.ok_quiet.1
+pub returns-clause-nothing : goal.returns-clause-nothing
+returns-clause-nothing g c none = one_of_two _ BadWords NoMemory c.code.ensures (c.run_words.ensures.nothing none)
 
--- A bad format is that of what they ask for.
-pub returns-in-Ok-clause-bad_format : goal.returns-in-Ok-clause-bad_format
-returns-in-Ok-clause-bad_format g c bad = inl (c.run_task.ensures.bad_format (c.one_asking.ensures.bad_format _ (asking_of c.in-Ok.task) c.in-Ok.ensures.ok bad))
+pub returns-clause-err_told : goal.returns-clause-err_told
+returns-clause-err_told g c two = c.run_words.ensures.err_told (failed_by_code _ c.code.ensures two)
 
-pub returns-in-Ok-clause-bad_format_unread : goal.returns-in-Ok-clause-bad_format_unread
-returns-in-Ok-clause-bad_format_unread g c bad = c.run_task.ensures.bad_format_unread (c.one_asking.ensures.bad_format _ (asking_of c.in-Ok.task) c.in-Ok.ensures.ok bad)
+pub returns-clause-quiet : goal.returns-clause-quiet
+returns-clause-quiet g c one = c.run_words.ensures.quiet (ended_by_code _ c.code.ensures one)
 
-pub returns-in-Ok-clause-bad_format_unwritten : goal.returns-in-Ok-clause-bad_format_unwritten
-returns-in-Ok-clause-bad_format_unwritten g c bad = c.run_task.ensures.status.unwritten (inl (c.run_task.ensures.bad_format (c.one_asking.ensures.bad_format _ (asking_of c.in-Ok.task) c.in-Ok.ensures.ok bad))) ∙ c.in-Ok.ensures.ok_quiet.0
+pub returns-clause-bad_format : goal.returns-clause-bad_format
+returns-clause-bad_format g c bad = one_of_two _ BadWords NoMemory c.code.ensures (c.run_words.ensures.bad_format bad)
 
--- They ask for nothing else.
-pub returns-in-Ok-clause-refused : goal.returns-in-Ok-clause-refused
-returns-in-Ok-clause-refused g c refused = absurd (c.one_asking.ensures.not_refused _ (asking_of c.in-Ok.task) c.in-Ok.ensures.ok refused)
+pub returns-clause-did : goal.returns-clause-did
+returns-clause-did g c asking ask = (c.run_words.result, c.code.ensures, c.run_words.ensures.did asking ask)
 
-pub returns-in-Ok-clause-unwritten : goal.returns-in-Ok-clause-unwritten
-returns-in-Ok-clause-unwritten g c refused = absurd (c.one_asking.ensures.not_refused _ (asking_of c.in-Ok.task) c.in-Ok.ensures.ok refused)
+pub returns-clause-memory : goal.returns-clause-memory
+returns-clause-memory g c asking ask four = c.run_words.ensures.memory asking ask (by_code _ NoMemory (sym c.code.ensures ∙ four))
 
-pub returns-in-Ok-clause-unread : goal.returns-in-Ok-clause-unread
-returns-in-Ok-clause-unread g c some = absurd (some c.in-Ok.ensures.ok.no_fault)
+pub returns-clause-status : goal.returns-clause-status
+returns-clause-status g c = (c.run_words.result, c.code.ensures, c.run_words.ensures.status)
 
-pub returns-in-Ok-clause-helped : goal.returns-in-Ok-clause-helped
-returns-in-Ok-clause-helped g c ask = absurd (c.one_asking.ensures.not_told _ (asking_of c.in-Ok.task) c.in-Ok.ensures.ok ask)
-
-pub returns-in-Ok-clause-out_told : goal.returns-in-Ok-clause-out_told
-returns-in-Ok-clause-out_told g c some done = absurd (some c.in-Ok.ensures.ok.no_fault)
-
-pub returns-in-Ok-clause-not_one : goal.returns-in-Ok-clause-not_one
-returns-in-Ok-clause-not_one g c some one = some c.in-Ok.ensures.ok.no_fault
-
-pub returns-in-Ok-clause-nothing : goal.returns-in-Ok-clause-nothing
-returns-in-Ok-clause-nothing g c none = absurd (c.one_asking.ensures.something _ (asking_of c.in-Ok.task) c.in-Ok.ensures.ok none)
-
-pub returns-in-Ok-clause-nothing_unread : goal.returns-in-Ok-clause-nothing_unread
-returns-in-Ok-clause-nothing_unread g c none = absurd (c.one_asking.ensures.something _ (asking_of c.in-Ok.task) c.in-Ok.ensures.ok none)
-
--- ---- words that ask for nothing to be done
-
-pub returns-in-Err-clause-status : goal.returns-in-Err-clause-status
-returns-in-Err-clause-status g c = record {
-  within = c.in-Err.ensures.within;
-  unwritten = c.in-Err.ensures.refused_unwritten;
-  none_failed = λ other. (refl, c.in-Err.ensures.none_failed other);
-  io_failed = λ three. inr (inl (c.in-Err.ensures.io_failed three));
-  reads = none_in_all _;
-}
-
-pub returns-in-Err-clause-memory : goal.returns-in-Err-clause-memory
-returns-in-Err-clause-memory g c asking ask four = unread g.R.Source.told asking _ _ refl
-
-pub returns-in-Err-clause-told : goal.returns-in-Err-clause-told
-returns-in-Err-clause-told g c two = inl (c.in-Err.ensures.told two)
-
-pub returns-in-Err-clause-bad_format : goal.returns-in-Err-clause-bad_format
-returns-in-Err-clause-bad_format g c bad = elim bad.asks [
-  | inl ask ↦ inr (c.in-Err.ensures.memory (Encode bad.format) ask)
-  | inr ask ↦ inr (c.in-Err.ensures.memory (Decode bad.format) ask)
-]
-
-pub returns-in-Err-clause-bad_format_unwritten : goal.returns-in-Err-clause-bad_format_unwritten
-returns-in-Err-clause-bad_format_unwritten g c bad = elim bad.asks [
-  | inl ask ↦ c.in-Err.ensures.refused_unwritten (inr (c.in-Err.ensures.memory (Encode bad.format) ask))
-  | inr ask ↦ c.in-Err.ensures.refused_unwritten (inr (c.in-Err.ensures.memory (Decode bad.format) ask))
-]
+pub returns-clause-within : goal.returns-clause-within
+returns-clause-within g c = code_within _ c.code.ensures

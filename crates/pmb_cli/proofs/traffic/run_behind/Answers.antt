@@ -1,14 +1,16 @@
-use Rattle.std.proofs.Common.{◌≡◌, ◌≤◌, ◌∙◌, ℕ, List, Err, Ok, inl, inr, sym, ap, subst, refl, arith}
+use Rattle.std.proofs.Common.{◌≡◌, ◌∙◌, ℕ, List, Err, Ok, inl, inr, sym, ap, subst, refl}
 use Rattle.pmb_io.specs.Runs.{AsTool, Ran}
 use Rattle.pmb_keys.specs.declared.fault.FaultKind.TheVariants.{OutOfMemory}
 use Rattle.pmb_io.specs.declared.fault.ToolFault.{ToolFault}
 use Rattle.pmb_io.specs.declared.fault.ToolFault.TheVariants.{Read}
+use Rattle.pmb_status.specs.Status.{EndedWell}
+use Rattle.pmb_status.specs.declared.status.Status.TheVariants.{BadWords, NoMemory}
 use Rattle.pmb_table.specs.Profile.{Says}
 use Rattle.pmb_run.specs.Lines.{OrNoMemory}
 use Rattle.pmb_words.specs.declared.work.Work.TheVariants.{Run}
 use Rattle.pmb_cli.specs.Traffic.{DoneBehind, working}
 use Rattle.pmb_cli.proofs.Behind.{behind_all, behind_mark, part_behind, part_of_profile}
-use Rattle.pmb_cli.proofs.Statuses.{does_as, does_none, four_at_most, is_read, is_too_long, no_failed_read, nothing_told, refused_tells, two_or_more}
+use Rattle.pmb_cli.proofs.Statuses.{does_as, does_none, fault_failed, is_read, is_too_long, no_failed_read, nothing_told, refused_tells}
 use Rattle.pmb_cli.proofs.Memory.{front_alone, is_memory}
 use Rattle.pmb_cli.proofs.Working.{nothing_worked_did, nothing_worked_tells, worked_did, worked_tells, worked_unread, worked_unrefused}
 use Rattle.pmb_cli.proofs.Often.{reads_of_front}
@@ -45,13 +47,13 @@ returns-in-Ok-from_toml-clause-did g c =
 
 -- The work has no fault of a profile.
 pub returns-in-Ok-from_toml-clause-told : goal.returns-in-Ok-from_toml-clause-told
-returns-in-Ok-from_toml-clause-told g c two = absurd (worked_unrefused g.R.Source.told g.W.Sink.told _ _ _ _ _ _ _ c.do_work.result c.do_work.ensures (sym c.ended.ensures.status ∙ two))
+returns-in-Ok-from_toml-clause-told g c bad = absurd (worked_unrefused g.R.Source.told g.W.Sink.told _ _ _ _ _ _ _ c.do_work.result c.do_work.ensures (sym c.ended.ensures.status ∙ bad))
 
 -- Without memory for the devices it read nothing behind the front.
 pub returns-in-Ok-from_toml-clause-memory : goal.returns-in-Ok-from_toml-clause-memory
-returns-in-Ok-from_toml-clause-memory g c four =
+returns-in-Ok-from_toml-clause-memory g c memory =
     front_alone g.R.Source.told _ c.front.new.reader _ c.in-Ok.front c.in-Ok.ensures.ok c.in-Ok.ensures.mark_not_ended
-    (worked_unread g.R.Source.told g.W.Sink.told _ _ _ _ _ _ _ c.do_work.result c.do_work.ensures (sym c.ended.ensures.status ∙ four))
+    (worked_unread g.R.Source.told g.W.Sink.told _ _ _ _ _ _ _ c.do_work.result c.do_work.ensures (sym c.ended.ensures.status ∙ memory))
 
 -- ---- all was profile, and nothing follows
 
@@ -72,10 +74,10 @@ returns-in-Ok-2-clause-did g c =
     c.do_work-in-Ok-2.result _ c.ended-in-Ok-2.ensures.status c.do_work-in-Ok-2.ensures
 
 pub returns-in-Ok-2-clause-told : goal.returns-in-Ok-2-clause-told
-returns-in-Ok-2-clause-told g c two = absurd (worked_unrefused nothing_told g.W.Sink.told _ _ _ _ _ _ _ c.do_work-in-Ok-2.result c.do_work-in-Ok-2.ensures (sym c.ended-in-Ok-2.ensures.status ∙ two))
+returns-in-Ok-2-clause-told g c bad = absurd (worked_unrefused nothing_told g.W.Sink.told _ _ _ _ _ _ _ c.do_work-in-Ok-2.result c.do_work-in-Ok-2.ensures (sym c.ended-in-Ok-2.ensures.status ∙ bad))
 
 pub returns-in-Ok-2-clause-memory : goal.returns-in-Ok-2-clause-memory
-returns-in-Ok-2-clause-memory g c four = front_alone g.R.Source.told _ c.front.new.reader _ c.in-Ok.front c.in-Ok.ensures.ok c.in-Ok.ensures.mark_not_ended refl
+returns-in-Ok-2-clause-memory g c memory = front_alone g.R.Source.told _ c.front.new.reader _ c.in-Ok.front c.in-Ok.ensures.ok c.in-Ok.ensures.mark_not_ended refl
 
 -- ---- the profile has a fault
 
@@ -85,9 +87,9 @@ returns-clause-status g c = refused_tells g.R.Source.told g.W.Sink.told _ _ _ _ 
 pub returns-clause-did : goal.returns-clause-did
 returns-clause-did g c = does_none _ _ _ _ _ c.tell_profile.ensures.refused
 
--- Status 2 is not that of memory, so the profile has the fault.
+-- BadWords is not the status of memory, so the profile has the fault.
 pub returns-clause-told : goal.returns-clause-told
-returns-clause-told g c two =
+returns-clause-told g c bad =
     let fault = c.in-Err-from_toml.fault in
     inr (record {
       parts = c.in-Ok.front;
@@ -96,40 +98,39 @@ returns-clause-told g c two =
       says = elim c.in-Err-from_toml.ensures.says [
         | inl memory ↦
             let what : fault.what ≡ OutOfMemory = cc in
-            absurd (omega (arith, two, c.tell_profile.ensures.memory what))
+            let clash : BadWords ≡ NoMemory = sym bad ∙ c.tell_profile.ensures.memory what in cc
         | inr says ↦ subst (λ text. Says text (Err fault)) c.profile.ensures says
       ];
     })
 
 -- There was no memory for the profile, and nothing was read behind it.
 pub returns-clause-memory : goal.returns-clause-memory
-returns-clause-memory g c four = front_alone g.R.Source.told _ c.front.new.reader _ c.in-Ok.front c.in-Ok.ensures.ok c.in-Ok.ensures.mark_not_ended refl
+returns-clause-memory g c memory = front_alone g.R.Source.told _ c.front.new.reader _ c.in-Ok.front c.in-Ok.ensures.ok c.in-Ok.ensures.mark_not_ended refl
 
 -- ---- no front was read
 
--- Status 4 is that of memory.
+-- NoMemory is the status of memory.
 pub returns-in-Err-clause-memory : goal.returns-in-Err-clause-memory
-returns-in-Err-clause-memory g c four = inl (c.in-Err.ensures.before_memory (ap (λ (f : ToolFault). Err f) (is_memory c.in-Err.fault (sym c.tell.ensures.status ∙ four))))
+returns-in-Err-clause-memory g c memory = inl (c.in-Err.ensures.before_memory (ap (λ (f : ToolFault). Err f) (is_memory c.in-Err.fault (sym c.tell.ensures.status ∙ memory))))
 
 pub returns-in-Err-clause-told : goal.returns-in-Err-clause-told
-returns-in-Err-clause-told g c two = inl (c.in-Err.ensures.too_long (ap (λ (f : ToolFault). Err f) (is_too_long c.in-Err.fault (sym c.tell.ensures.status ∙ two))))
+returns-in-Err-clause-told g c bad = inl (c.in-Err.ensures.too_long (ap (λ (f : ToolFault). Err f) (is_too_long c.in-Err.fault (sym c.tell.ensures.status ∙ bad))))
 
--- Status 3 is that of a failed read.
+-- IoFailed is the status of a failed read.
 pub returns-in-Err-clause-status : goal.returns-in-Err-clause-status
 returns-in-Err-clause-status g c = record {
-  within = subst (λ (n : ℕ). n ≤ 4) (sym c.tell.ensures.status) (four_at_most c.in-Err.fault);
   unwritten = λ _. refl;
-  none_failed = λ other. (c.in-Err.ensures.no_read (no_failed_read _ c.in-Err.fault (λ three. other (c.tell.ensures.status ∙ three)) refl), refl);
-  io_failed = λ three.
-      let read : c.in-Err.fault ≡ Read = is_read c.in-Err.fault (λ is. c.in-Err.ensures.no_write (ap (λ (f : ToolFault). Err f) is)) (λ is. c.in-Err.ensures.few_reads (ap (λ (f : ToolFault). Err f) is)) (sym c.tell.ensures.status ∙ three) in
+  none_failed = λ other. (c.in-Err.ensures.no_read (no_failed_read _ c.in-Err.fault (λ failed. other (c.tell.ensures.status ∙ failed)) refl), refl);
+  io_failed = λ failed.
+      let read : c.in-Err.fault ≡ Read = is_read c.in-Err.fault (λ is. c.in-Err.ensures.no_write (ap (λ (f : ToolFault). Err f) is)) (λ is. c.in-Err.ensures.few_reads (ap (λ (f : ToolFault). Err f) is)) (sym c.tell.ensures.status ∙ failed) in
       inl (c.in-Err.ensures.read (ap (λ (f : ToolFault). Err f) read), c.in-Err.ensures.read_not_ended (ap (λ (f : ToolFault). Err f) read));
   reads = reads_of_front _ _ c.in-Err.ensures.reads;
 }
 
 pub returns-in-Err-clause-did : goal.returns-in-Err-clause-did
 returns-in-Err-clause-did g c = record {
-  wrote = λ done. absurd (omega (arith, done, c.tell.ensures.status, two_or_more c.in-Err.fault));
-  part = λ three.
-      let read : c.in-Err.fault ≡ Read = is_read c.in-Err.fault (λ is. c.in-Err.ensures.no_write (ap (λ (f : ToolFault). Err f) is)) (λ is. c.in-Err.ensures.few_reads (ap (λ (f : ToolFault). Err f) is)) (sym c.tell.ensures.status ∙ three) in
+  wrote = λ ended. absurd (fault_failed c.in-Err.fault (subst EndedWell c.tell.ensures.status ended));
+  part = λ failed.
+      let read : c.in-Err.fault ≡ Read = is_read c.in-Err.fault (λ is. c.in-Err.ensures.no_write (ap (λ (f : ToolFault). Err f) is)) (λ is. c.in-Err.ensures.few_reads (ap (λ (f : ToolFault). Err f) is)) (sym c.tell.ensures.status ∙ failed) in
       inr (part_of_profile g.R.Source.told g.W.Sink.told (working c.args.work) c.args.reader.now c.front.new.reader _ (c.in-Err.ensures.before_read (ap (λ (f : ToolFault). Err f) read)));
 }

@@ -14,11 +14,11 @@ returns-in-Ok-clause-did g c =
     (worked_did g.R.Source.told g.W.Sink.told _ _ _ _ _ _ _ c.do_work.result _ c.ended.ensures.status c.do_work.ensures)
 
 pub returns-in-Ok-clause-no_fault : goal.returns-in-Ok-clause-no_fault
-returns-in-Ok-clause-no_fault g c two = worked_unrefused g.R.Source.told g.W.Sink.told _ _ _ _ _ _ _ c.do_work.result c.do_work.ensures (sym c.ended.ensures.status ∙ two)
+returns-in-Ok-clause-no_fault g c bad = worked_unrefused g.R.Source.told g.W.Sink.told _ _ _ _ _ _ _ c.do_work.result c.do_work.ensures (sym c.ended.ensures.status ∙ bad)
 
 -- Without memory for the devices nothing was read.
 pub returns-in-Ok-clause-memory : goal.returns-in-Ok-clause-memory
-returns-in-Ok-clause-memory g c four = worked_unread g.R.Source.told g.W.Sink.told _ _ _ _ _ _ _ c.do_work.result c.do_work.ensures (sym c.ended.ensures.status ∙ four)
+returns-in-Ok-clause-memory g c memory = worked_unread g.R.Source.told g.W.Sink.told _ _ _ _ _ _ _ c.do_work.result c.do_work.ensures (sym c.ended.ensures.status ∙ memory)
 
 -- There was no memory for the sample.
 pub returns-in-Err-clause-status : goal.returns-in-Err-clause-status
@@ -28,4 +28,4 @@ pub returns-in-Err-clause-did : goal.returns-in-Err-clause-did
 returns-in-Err-clause-did g c = does_none _ _ _ _ _ (inr (rw c.in-Err.ensures.memory at c.tell.ensures.status))
 
 pub returns-in-Err-clause-memory : goal.returns-in-Err-clause-memory
-returns-in-Err-clause-memory g c four = refl
+returns-in-Err-clause-memory g c memory = refl

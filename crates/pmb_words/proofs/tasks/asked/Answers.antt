@@ -1,7 +1,7 @@
-use Rattle.std.proofs.Common.{inl, inr, subst, arith}
+use Rattle.std.proofs.Common.{inl, inr, subst}
 use Rattle.clap.specs.Words.{kind_of}
 use Rattle.pmb_words.specs.Asked.{SubcommandAsks, asking_of}
-use Rattle.pmb_words.proofs.AskedOnce.{is_telling, only_memory, refused_is_no_telling}
+use Rattle.pmb_words.proofs.AskedOnce.{is_telling, memory_is_not_bad, only_memory, refused_is_no_telling, told_is_not_bad}
 use Rattle.pmb_words.proofs.tasks.asked.Goals as goal
 
 -- What is kept of the words is what they ask for.
@@ -23,11 +23,11 @@ returns-in-Err-clause-nothing g c ask = inr (c.tell_words.ensures.memory (only_m
 
 -- It is neither that of help nor that of memory, so the error's kind is among the faults.
 pub returns-in-Err-clause-told : goal.returns-in-Err-clause-told
-returns-in-Err-clause-told g c two = inl (record {
+returns-in-Err-clause-told g c bad = inl (record {
   kind = kind_of c.in-Err.error;
-  no_telling = λ telling. omega (arith, two, c.tell_words.ensures.told telling);
+  no_telling = λ telling. told_is_not_bad _ bad (c.tell_words.ensures.told telling);
   among = elim c.in-Err.ensures.kinds [
-    | inl memory ↦ absurd (omega (arith, two, c.tell_words.ensures.memory memory))
+    | inl memory ↦ absurd (memory_is_not_bad _ bad (c.tell_words.ensures.memory memory))
     | inr among ↦ among
   ];
 })
