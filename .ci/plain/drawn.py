@@ -1,0 +1,266 @@
+"""Rows that are drawn: profiles, packets, lines, requests and quantities of every kind, most of
+them right."""
+
+from fractions import Fraction
+
+from . import lines, numbers, packets, profiles, tables
+from .packets import Alert, Call, NoAlert, Part, Read, Refused, Write
+
+PROFILES = (
+    (["--sample"], b"", profiles.SAMPLE),
+    ([], profiles.ODD_TEXT + b"%%\n", profiles.ODD),
+)
+OFTEN = (0x00, 0x03, 0x20, 0x21, 0x22, 0x30, 0x79, 0x7E, 0x88, 0x99)
+
+
+def some_bytes(chance, count):
+    likely = (0, 1, 0x20, 0x21, 0xFF)
+    return tuple(chance.choice((*likely, chance.randrange(256))) for _ in range(count))
+
+
+def data(chance, form):
+    """Data of a form; seldom of another length."""
+    if form in (None, "block") or chance.random() < 0.05:
+        return some_bytes(chance, chance.choice((0, 1, 2, 2, 3, 4)))
+    return some_bytes(chance, packets.SIZES[form])
+
+
+def command(chance, profile, has_form):
+    """A device and a command of it with some form; seldom another address or code."""
+    device = chance.choice(profile.devices)
+    entries = [entry for entry in device.entries.values() if has_form(entry)]
+    likely = [entry for entry in entries if entry.code in OFTEN or entry.code >= 0xD0]
+    entries = likely if likely and chance.random() < 0.7 else entries
+    entry = chance.choice(entries) if entries else None
+    if entry is None or chance.random() < 0.03:
+        entry = profiles.Entry(chance.randrange(256), "")
+    address = device.address if chance.random() < 0.97 else chance.randrange(256)
+    pec = chance.random() < {"off": 0.03, "on": 0.97, "optional": 0.4}[device.pec]
+    return address, entry, pec
+
+
+def part(chance, profile):
+    address, entry, pec = command(chance, profile, lambda entry: entry.write)
+    return Part(address, entry.code, data(chance, entry.write), pec)
+
+
+def parts(chance, profile, count):
+    return tuple(part(chance, profile) for _ in range(count))
+
+
+def transaction(chance, profile):
+    """A transaction; `check` says whether it has a packet."""
+    kind = chance.choice(("write", "write", "read", "read", "call", "refused", "refused", "alert"))
+    if kind == "write":
+        return Write(parts(chance, profile, chance.choice((1, 1, 1, 2, 3))))
+    if kind == "read":
+        address, entry, pec = command(chance, profile, lambda entry: entry.read)
+        return Read(address, entry.code, data(chance, entry.read), pec)
+    if kind == "call":
+        address, entry, pec = command(chance, profile, lambda entry: entry.call)
+        sent, reply = data(chance, entry.call), data(chance, entry.call)
+        return Call(address, entry.code, sent, reply, pec)
+    if kind == "refused":
+        return refused(chance, profile)
+    return chance.choice((NoAlert(), Alert(chance.randrange(256), chance.random() < 0.5)))
+
+
+def refused(chance, profile):
+    """A packet whose last leg was refused, somewhere."""
+    before = parts(chance, profile, chance.choice((0, 0, 0, 1, 2)))
+    address, entry, _ = command(chance, profile, lambda entry: True)
+    form = chance.choice((entry.write, entry.call, entry.read and "zero"))
+    sent = data(chance, form)
+    sent = (entry.code, *((len(sent), *sent) if form == "block" else sent))
+    if chance.random() < 0.3:
+        return Refused(before, address, sent, True)
+    sent = (*sent, chance.randrange(256))[: chance.randrange(len(sent) + 2)]
+    return Refused(before, address, sent, False)
+
+
+def capture(chance, profile, count):
+    """Packets one after the other."""
+    events = []
+    for _ in range(count):
+        drawn = transaction(chance, profile)
+        if packets.check(profile, drawn) is None:
+            events += packets.events_of(profile, drawn)
+    return packets.events_text(events)
+
+
+def is_asked(kind, entry):
+    """Whether a command is one for a request of a kind."""
+    if kind in ("read", "call"):
+        return entry.read if kind == "read" else entry.call
+    return entry.kind not in ("raw", "status")
+
+
+def request_line(chance, profile):
+    """A request; the transaction lines of writes are requests too."""
+    kind = chance.choice(("write", "write", "read", "call", "set", "get"))
+    if kind == "write":
+        return lines.line_of(Write(parts(chance, profile, chance.choice((1, 1, 2)))))
+    address, entry, pec = command(chance, profile, lambda entry: is_asked(kind, entry))
+    words = [kind, "%02x" % address, "%02x" % entry.code]
+    if kind == "call":
+        words += ["%02x" % byte for byte in data(chance, entry.call)]
+    if kind == "set":
+        words.append(quantity(chance, ("ulinear16", -9)))
+    return " ".join(words + (["pec"] if pec else []))
+
+
+def quantity(chance, form):
+    """A value of a format, or a number half way to another one, or close to that."""
+    one = numbers.decode(form, chance.randrange(2**16))
+    ordered, _ = numbers.values(form)
+    place = chance.choice((0, 1, len(ordered) - 2, chance.randrange(len(ordered) - 1)))
+    half = Fraction(ordered[place] + ordered[place + 1], 2 * numbers.denominator(form))
+    little = Fraction(chance.choice((-1, 0, 0, 1)), 10 ** chance.randrange(1, 9))
+    end = Fraction(chance.choice((ordered[0], ordered[-1])), numbers.denominator(form))
+    return numbers.text(chance.choice((one, half, half + little, half + little, end + little)))
+
+
+def rows_under(chance, flag, front, profile):
+    """A capture, lines and requests."""
+    some = capture(chance, profile, chance.randrange(1, 7)).encode()
+    drawn = [lines.line_of(transaction(chance, profile)) for _ in range(6)]
+    asked = [request_line(chance, profile) for _ in range(12)]
+    return [
+        (["show", *flag], front + some),
+        (["build", *flag], front + "\n".join(drawn).encode()),
+        (["run", *flag], front + "\n".join(asked).encode()),
+    ]
+
+
+def rows(chance, count):
+    """So many rows of each kind, and four times as many profiles."""
+    found = []
+    for _ in range(count):
+        for flag, front, profile in PROFILES:
+            found += rows_under(chance, flag, front, profile)
+        word = chance.choice(FORMATS)
+        form = numbers.format_of(word)
+        quantities = [quantity(chance, form) for _ in range(30)]
+        found.append((["encode", word], "\n".join(quantities).encode()))
+        codes = ["%04x" % chance.randrange(2**16) for _ in range(30)]
+        found.append((["decode", word], "\n".join(codes).encode()))
+    for _ in range(4 * count):
+        found.append((["decode", format_word(chance)], b"d300\n0001\n"))
+        table = profile_table(chance)
+        text = tables.text_of(table)
+        try:
+            profile = profiles.KNOWN[text] = tables.profile_of(table)
+        except numbers.Fault as fault:
+            profiles.FAULTS[text] = str(fault)
+            found.append((["check"], text))
+            continue
+        if profile.devices:
+            found += rows_under(chance, [], text + b"%%\n", profile)
+    return found
+
+
+def long_rows(chance):
+    """Rows that are longer than what the program reads at once."""
+    found = []
+    for flag, front, profile in PROFILES:
+        some = capture(chance, profile, 4000).encode()
+        found += [([task, *flag], front + some) for task in ("show", "check")]
+        drawn = [lines.line_of(transaction(chance, profile)) for _ in range(4000)]
+        found.append((["build", *flag], front + "\n".join(drawn).encode()))
+        asked = [request_line(chance, profile) for _ in range(4000)]
+        found.append((["run", *flag], front + "\n".join(asked).encode()))
+    quantities = [quantity(chance, ("linear11",)) for _ in range(4000)]
+    found.append((["encode", "linear11"], "\n".join(quantities).encode()))
+    codes = ["%04x" % chance.randrange(2**16) for _ in range(12000)]
+    found.append((["decode", "direct:7,-5,-9"], "\r\n".join(codes).encode()))
+    return found
+
+
+def format_word(chance):
+    """A FORMAT with one character changed, removed or doubled. None begins with a dash, since that
+    may be a flag."""
+    word = chance.choice(FORMATS + ["vout:0F", "ulinear16:127", "direct:32767,-32768,9"])
+    at = chance.randrange(1, len(word))
+    other = chance.choice(("", word[at] * 2, *"0123456789abfF:,.-+ x"))
+    return word[:at] + other + word[at + 1:]
+
+
+# Profiles
+
+def spoiled(chance, table, seldom=0.01):
+    """A table with a key too many, one too few, or a value of another type, now and then."""
+    table = {key: value for key, value in table.items() if value is not None}
+    if chance.random() < seldom:
+        table[chance.choice(("colour", "m", "code", "name", "address"))] = 1
+    for key in list(table):
+        if chance.random() < seldom:
+            table[key] = chance.choice((1.5, "x", True, 7, -1, 300, [], {}))
+        elif chance.random() < seldom / 3:
+            del table[key]
+    return table
+
+
+def often(chance, share, *values):
+    """One of the values, or None for a key that isn't there."""
+    return chance.choice(values) if chance.random() < share else None
+
+
+def profile_table(chance):
+    devices = [device_table(chance) for _ in range(chance.choice((1, 1, 2, 3)))]
+    if chance.random() < 0.02:
+        devices[-1] = 1
+    return spoiled(chance, {"device": devices})
+
+
+def device_table(chance):
+    return spoiled(chance, {
+        "address": chance.choice((*range(0x08, 0x78), 0x07, 0x0C, 0x78)),
+        "pec": chance.choice(("off", "on", "optional", "optional")),
+        "pages": often(chance, 0.5, 1, 2, 2, 2, 3, 3, 3, 32, chance.choice((0, 33, 2, 2))),
+        "vout_mode": often(chance, 0.5, 0x13, 0x1F, 0x0F, 0x40, 0x40, 0x97, 0x20, 0x60),
+        "standard": often(chance, 0.5, True, False),
+        "vout_direct": coefficients_table(chance) if chance.random() < 0.3 else None,
+        "command": [command_table(chance) for _ in range(chance.randrange(5))] or None,
+    })
+
+
+def coefficients_table(chance):
+    return spoiled(chance, {
+        "m": chance.choice((1, -1, 3, 6720, -32768, 32767, chance.choice((0, 32768, 5)))),
+        "b": chance.choice((0, 2, -5, 32767, -32768)),
+        "r": chance.choice((0, 1, -1, 3, -9, 9, chance.choice((10, 2)))),
+    })
+
+
+def command_table(chance):
+    """A standard command changed, or one of its own, most often with parts that go together."""
+    form = chance.choice(("one", "two", "two", "two", "four", "eight", "block"))
+    kind = "raw"
+    if form == "two":
+        kind = chance.choice(("linear11", "vout", "vout_signed", "direct", "status", "raw"))
+    size = {"four": 4, "eight": 8, "one": 1, "two": 2}.get(form, 3)
+    command = {
+        "code": chance.choice((*range(0xD0, 0xFF), chance.choice((0x00, 0x20, 0x21, 0x30, 0x7E)))),
+        "name": often(chance, 0.3, "RATIO", "X_9", "A" * 32, chance.choice(("A" * 33, "a", "B"))),
+        "write": chance.choice((form, form, "none", "zero", None)),
+        "read": chance.choice((form, form, form, "none", None)),
+        "call": often(chance, 0.2, "two", "block", "none"),
+        "kind": often(chance, 0.9, kind),
+        "exponent": often(chance, 0.3 if kind == "linear11" else 0.02, -3, 15, -16, 16),
+        "paged": often(chance, 0.5, True, False),
+        "initial": often(chance, 0.2, "41" * size, "fF" * size, "4" * size),
+    }
+    if kind == "direct":
+        command.update(coefficients_table(chance))
+    if chance.random() < 0.4:
+        del command["code"]
+        names = [entry.name for entry in profiles.STANDARD if entry.code in OFTEN]
+        command["name"] = chance.choice((*names, "VIN_ON", "READ_VOUT", "OPERATION", "MFR_IDS"))
+        for key in ("write", "read", "call", "kind", "paged", "exponent", "initial"):
+            if chance.random() < 0.8:
+                command[key] = None
+    return spoiled(chance, command)
+
+
+FORMATS = """linear11 linear11:-3 linear11:15 ulinear16:-9 slinear16:-16 vout:17 direct:3,2,1
+direct:-32768,32767,9 direct:7,-5,-9""".split()

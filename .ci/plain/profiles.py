@@ -1,0 +1,255 @@
+"""Profiles, by docs/profiles.md, whose tables of standard commands and status bits are read from
+that page. The profiles that rows are tried under stand here twice, as data and as texts. How TOML
+is read is not said here."""
+
+import os
+import re
+from typing import NamedTuple, Optional
+
+from .numbers import direct
+
+ROOT = os.path.dirname(os.path.dirname(os.path.dirname(os.path.abspath(__file__))))
+ALL_PAGES = 0xFF
+
+
+class Entry(NamedTuple):
+    code: int
+    name: str
+    write: Optional[str] = None
+    read: Optional[str] = None
+    call: Optional[str] = None
+    kind: str = "raw"
+    paged: bool = False
+    coefficients: Optional[tuple] = None
+    exponent: Optional[int] = None
+    initial: Optional[bytes] = None
+
+    def form_held(self):
+        """The form of the register, or None where there is none (docs/devices.md)."""
+        return self.read or (self.write if self.write != "zero" else None)
+
+
+class Device(NamedTuple):
+    address: int
+    pec: str
+    entries: dict  # by their codes, in their order
+    pages: int = 1
+    vout_mode: int = 0x17
+    vout_direct: Optional[tuple] = None
+
+    def entry(self, code):
+        return self.entries.get(code)
+
+
+class Profile(NamedTuple):
+    devices: tuple
+
+    def device(self, address):
+        return next((one for one in self.devices if one.address == address), None)
+
+
+# The page's tables
+
+with open(os.path.join(ROOT, "docs", "profiles.md"), encoding="utf-8") as page:
+    PAGE_TEXT = page.read()
+
+
+def rows_under(heading):
+    """The cells of the tables' rows in a section whose first cell is a code."""
+    section = PAGE_TEXT.split("\n## " + heading + "\n")[1].split("\n## ")[0]
+    rows = [line.strip("| ").split(" | ") for line in section.split("\n")]
+    return [row for row in rows if re.fullmatch("[0-9a-f]{2}", row[0]) and row[1].isidentifier()]
+
+
+def standard_entry(code, name, write, read, call, kind, paged):
+    forms = [None if form == "–" else form for form in (write, read, call)]
+    return Entry(int(code, 16), name, *forms, kind, paged == "yes")
+
+
+STANDARD = [standard_entry(*row) for row in rows_under("The standard commands")]
+BITS = {int(row[0], 16): row[2:] for row in rows_under("The bits of the status commands")}
+HIGH_BITS = "VOUT IOUT_POUT INPUT MFR_SPECIFIC POWER_GOOD_N FANS OTHER UNKNOWN".split()
+
+
+def bit_name(code, bit):
+    """The name of a bit of a status command, or None."""
+    if code == 0x79:
+        return HIGH_BITS[15 - bit] if bit > 7 else bit_name(0x78, bit)
+    name = BITS[code][7 - bit] if code in BITS and bit < 8 else "–"
+    return None if name == "–" else name
+
+
+# Profiles as data
+
+def standard(name, **changes):
+    """A standard command, changed."""
+    return next(entry for entry in STANDARD if entry.name == name)._replace(**changes)
+
+
+def device(address, pec, *commands, base=STANDARD, **others):
+    """A device with the commands of a base and its own: one takes the place of the one with its
+    code, a new one goes last."""
+    entries = {entry.code: entry for entry in base}
+    for command in commands:
+        entries[command.code] = command
+    return Device(address, pec, entries, **others)
+
+
+def example(path):
+    with open(os.path.join(ROOT, "examples", path), "rb") as file:
+        return file.read()
+
+
+SAMPLE_TEXT = PAGE_TEXT.split("`--sample` stands for this profile:\n\n```\n")[1]
+SAMPLE_TEXT = SAMPLE_TEXT.split("```")[0].encode()
+SAMPLE = Profile((
+    device(
+        0x58, "optional",
+        standard("READ_VIN", initial=b"\x00\xd3"),
+        Entry(0xD0, "RATIO", "two", "two", kind="direct", coefficients=direct(3, 2, 1)),
+        pages=2, vout_mode=0x17,
+    ),
+    device(0x59, "off"),
+    device(0x5A, "on"),
+))
+
+BOARD_TEXT = example("sessions/power_up.toml")
+BOARD = Profile((
+    device(
+        0x40, "optional",
+        standard("TON_DELAY", exponent=-2),
+        standard("TON_RISE", exponent=-2),
+        Entry(0xD7, "MFR_IOUT_PEAK", read="two", kind="linear11", paged=True),
+        pages=2, vout_mode=0x13,
+    ),
+    device(
+        0x10, "off",
+        standard("CLEAR_FAULTS"),
+        standard("READ_VIN", kind="direct", coefficients=direct(6720, 0, -1)),
+        base=(),
+    ),
+))
+
+LTC3880_TEXT = example("profiles/ltc3880.toml")
+LTC3880 = Profile((device(0x4F, "optional", pages=2, vout_mode=0x14),))
+
+PFE1100_TEXT = example("profiles/pfe1100.toml")
+PFE1100 = Profile((device(0x58, "optional"),))
+
+BENCH_TEXT = example("transactions/bench_setup.toml")
+BENCH = Profile((
+    device(0x4F, "optional", pages=2, vout_mode=0x14),
+    device(0x20, "off"),
+))
+
+# Commands of every form, with their own kinds and pages.
+ODD_TEXT = b"""
+[[device]]
+address = 0x10
+pec = "optional"
+pages = 3
+vout_mode = 0x40
+vout_direct = { m = -7, b = 5, r = -1 }
+command = [
+    { code = 0xe0, write = "four", read = "four" },
+    { code = 0xe1, read = "eight", initial = "0102030405060708", paged = true },
+    { name = "VOUT_MODE", paged = false },
+    { code = 0xe2, write = "zero", read = "two", kind = "linear11" },
+    { code = 0xe3, write = "two", call = "two", kind = "status" },
+    { code = 0xe4, write = "block", read = "block", call = "block", initial = "4142", paged=true },
+    { name = "STATUS_CML", paged = false },
+    { code = 0xe5, call = "two", paged = true },
+]
+
+[[device]]
+address = 0x11
+pec = "on"
+standard = false
+
+[[device.command]]
+name = "VIN_ON"
+exponent = -3
+
+[[device.command]]
+name = "COEFFICIENTS"
+
+[[device.command]]
+name = "READ_VOUT"
+initial = "0001"
+
+[[device]]
+address = 0x77
+pec = "off"
+command = [{ name = "PAGE", write = "none" }, { name = "STATUS_CML", read = "none" }]
+"""
+ODD = Profile((
+    device(
+        0x10, "optional",
+        Entry(0xE0, "CMD_e0", "four", "four"),
+        Entry(0xE1, "CMD_e1", read="eight", initial=bytes(range(1, 9)), paged=True),
+        standard("VOUT_MODE", paged=False),
+        Entry(0xE2, "CMD_e2", "zero", "two", kind="linear11"),
+        Entry(0xE3, "CMD_e3", "two", call="two", kind="status"),
+        Entry(0xE4, "CMD_e4", "block", "block", "block", initial=b"AB", paged=True),
+        standard("STATUS_CML", paged=False),
+        Entry(0xE5, "CMD_e5", call="two", paged=True),
+        pages=3, vout_mode=0x40, vout_direct=direct(-7, 5, -1),
+    ),
+    device(
+        0x11, "on",
+        standard("VIN_ON", exponent=-3),
+        standard("COEFFICIENTS"),
+        standard("READ_VOUT", initial=b"\x00\x01"),
+        base=(),
+    ),
+    device(
+        0x77, "off",
+        standard("PAGE", write=None),
+        standard("STATUS_CML", read=None),
+    ),
+))
+
+# A device on each of 17 addresses, so that a group can be too long.
+MANY_TEXT = b"".join(
+    b"[[device]]\naddress = %d\npec = 'off'\n" % address for address in range(0x10, 0x21)
+)
+MANY = Profile(tuple(device(address, "off") for address in range(0x10, 0x21)))
+
+KNOWN = {
+    SAMPLE_TEXT: SAMPLE, BOARD_TEXT: BOARD, LTC3880_TEXT: LTC3880, PFE1100_TEXT: PFE1100,
+    BENCH_TEXT: BENCH, ODD_TEXT: ODD, MANY_TEXT: MANY, b"device = []\n": Profile(()),
+}
+
+# Profiles with a mistake, and how it is told.
+ONE = b"[[device]]\naddress = 0x10\npec = 'off'\n"
+COMMAND = ONE + b"[[device.command]]\n"
+FAULTS = {
+    b"": "MissingKey",
+    b" " * 1048576: "MissingKey",
+    b" " * 1048575 + b"\n": "MissingKey",
+    SAMPLE_TEXT + b"%%": "NotToml",
+    SAMPLE_TEXT + b" %%\n": "NotToml",
+    SAMPLE_TEXT + b"%% \nS b0": "NotToml",
+    b"=": "NotToml",
+    b"x = 1": "UnknownKey",
+    b"device = 1": "WrongType",
+    b"[[device]]\naddress = 0x0c\npec = 'off'\n": "BadAddress in device 0",
+    ONE + ONE: "AddressTwice in device 1",
+    ONE + b"pages = 33\n": "BadPages in device 0",
+    b"[[device]]\naddress = 0x10\npec = 'maybe'\n": "BadValue in device 0",
+    ONE * 65: "TooManyDevices",
+    COMMAND + b"name = 'VOUT'\n": "UnknownName in device 0 command 0",
+    COMMAND + b"name = 'READ_VIN'\ninitial = '00'\n": "BadInitial in device 0 command 0",
+    COMMAND + b"code = 256\n": "BadValue in device 0 command 0",
+    COMMAND + b"code = 0xd0\nname = 'a'\nread = 'one'\n": "BadName in device 0 command 0",
+    COMMAND + b"code = 0xd0\n": "BadForm in device 0 command 0",
+    COMMAND + b"code = 0xd0\nwrite = 'word'\n": "BadForm in device 0 command 0",
+    COMMAND + b"code = 0xd0\nread = 'two'\nkind = 'direct'\nm = 0\nb = 0\nr = 0\n":
+        "BadCoefficients in device 0 command 0",
+    COMMAND + b"code = 0xd0\nread = 'two'\nkind = 'direct'\nb = 0\nr = 0\n":
+        "MissingKey in device 0 command 0",
+    COMMAND + b"code = 0xd0\nread = 'one'\n[[device.command]]\ncode = 0xd0\nread = 'one'\n":
+        "CodeTwice in device 0 command 1",
+    COMMAND + b"name = 'VIN_ON'\nexponent = 16\n": "BadValue in device 0 command 0",
+    COMMAND + b"name = 'MFR_ID'\nexponent = 0\n": "UnknownKey in device 0 command 0",
+}

@@ -1,0 +1,144 @@
+"""What the program does with its words and its input, by docs/text.md."""
+
+import re
+
+from . import devices, lines, notes, numbers, packets, profiles, reading
+from .numbers import Fault
+
+
+class Unknown(Exception):
+    """Nothing is said here of such words or of such a profile."""
+
+
+def program(words, given):
+    """The exit status, standard output and standard error."""
+    if len(words) == 2 and words[0] in ("encode", "decode"):
+        return convert(words[0], words[1], given)
+    tasks = {"show": show, "check": check, "build": build, "run": run}
+    if words == [words[0], "--sample"] and words[0] in tasks:
+        return tasks[words[0]](profiles.SAMPLE, given)
+    if len(words) == 1 and words[0] in tasks:
+        text, matter = front(given)
+        if len(text) > 1048576:
+            return 2, b"", b"pmb: profile too long\n"
+        if text in profiles.FAULTS:
+            return 2, b"", b"pmb: profile: %s\n" % profiles.FAULTS[text].encode()
+        if text not in profiles.KNOWN:
+            raise Unknown
+        return tasks[words[0]](profiles.KNOWN[text], matter)
+    raise Unknown
+
+
+def front(given):
+    """The profile in front, and what stands behind the first line %%."""
+    border = re.search(rb"^%%\r?\n", given, re.MULTILINE)
+    return (given[: border.start()], given[border.end():]) if border else (given, b"")
+
+
+def answered(answers, is_bad):
+    """The status and the output."""
+    output = "".join(answer + "\n" for answer in answers).encode()
+    return 1 if is_bad else 0, output, b""
+
+
+def read(profile, given):
+    """The outcomes of a capture: transactions, and lines for what is refused."""
+    events, bad_token = reading.spelled(given)
+    outcomes = list(reading.reading(profile, events, bad_token is None))
+    if bad_token is not None:
+        outcomes.append("# bad token at byte %d" % bad_token)
+    return outcomes
+
+
+def show(profile, given):
+    context = notes.Context(profile)
+    answers, is_bad = [], False
+    for outcome in read(profile, given):
+        if isinstance(outcome, str):
+            answers.append(outcome)
+            is_bad = True
+        else:
+            answers.append(lines.line_of(outcome) + " # " + notes.note(context, outcome))
+            context.observe(outcome)
+    return answered(answers, is_bad)
+
+
+def check(profile, given):
+    outcomes = read(profile, given)
+    refusals = [outcome for outcome in outcomes if isinstance(outcome, str)]
+    count = "packets %d refusals %d" % (len(outcomes) - len(refusals), len(refusals))
+    return answered(refusals + [count], refusals)
+
+
+def fault_line(number, fault):
+    return "# line %d: %s" % (number, fault)
+
+
+def build(profile, given):
+    answers, is_bad = [], False
+    for number, line in lines.numbered_lines(given):
+        try:
+            transaction = lines.parsed(lines.parse_transaction, line)
+            if transaction is None:
+                continue
+            fault = packets.check(profile, transaction)
+            if fault:
+                raise Fault(fault)
+            events = packets.events_of(profile, transaction)
+            answers.append(packets.events_text(events).rstrip("\n"))
+        except Fault as fault:
+            answers.append(fault_line(number, fault))
+            is_bad = True
+    return answered(answers, is_bad)
+
+
+def run(profile, given):
+    context = notes.Context(profile)
+    bench = devices.Bench(profile, context)
+    answers, is_bad = [], False
+    for number, line in lines.numbered_lines(given):
+        try:
+            request = lines.parsed(lines.parse_request, line)
+            if request is None:
+                continue
+            transaction, result = bench.make(request)
+            events = packets.events_of(profile, transaction)
+            answers.append(packets.events_text(events).rstrip("\n"))
+            answers.append("# " + result)
+            context.observe(transaction)
+            is_bad = is_bad or isinstance(transaction, packets.Refused)
+        except Fault as fault:
+            answers.append(fault_line(number, fault))
+            is_bad = True
+    return answered(answers, is_bad)
+
+
+def convert(task, word, given):
+    """`encode` and `decode`."""
+    try:
+        form = numbers.format_of(word)
+    except Fault as fault:
+        return 2, b"", b"pmb: format: %s\n" % str(fault).encode()
+    answers, is_bad = [], False
+    given_lines = given.split(b"\n")
+    last = given_lines.pop()
+    whole = [(line, line[:-1] if line.endswith(b"\r") else line) for line in given_lines]
+    if last:
+        whole.append((last, last))
+    for with_cr, line in whole:
+        try:
+            if len(with_cr) > 256:
+                raise Fault("TooLong")
+            answers.append(converted(task, form, line))
+        except Fault as fault:
+            answers.append("! %s" % fault)
+            is_bad = True
+    return answered(answers, is_bad)
+
+
+def converted(task, form, line):
+    if task == "encode":
+        return "%04x" % numbers.encode(form, numbers.parse(line))
+    if not re.fullmatch(rb"[0-9a-fA-F]{4}", line):
+        raise Fault("BadCode")
+    return numbers.text(numbers.decode(form, int(line, 16)))

@@ -1,0 +1,196 @@
+"""How a capture is read, by docs/packets.md: its packets and refusals, in order."""
+
+import re
+
+from .packets import (
+    ACK, ALERT, NACK, START, STOP,
+    Alert, Call, NoAlert, Part, Read, Refused, Write,
+    may_follow, missing, pec, read_form, unwired, write_body,
+)
+
+BYTES = set(range(256))
+KINDS = ((START, "Start"), (None, "Byte"), (ACK, "Ack"), (NACK, "Nack"), (STOP, "Stop"))
+
+
+def is_byte(event):
+    return isinstance(event, int)
+
+
+def part_of(profile, one_leg):
+    """The part that a whole leg is, or None."""
+    device = profile.device(one_leg[0] // 2)
+    written = device and one_leg[0] % 2 == 0 and write_body(device, one_leg[1:])
+    if not written:
+        return None
+    return Part(device.address, one_leg[1], *written)
+
+
+def reply_form(profile, legs):
+    """The form in which the first leg, if it stands alone, asks for a reply."""
+    device = profile.device(legs[0][0] // 2)
+    if len(legs) != 1 or device is None or legs[0][0] % 2 == 1:
+        return None
+    return read_form(device, legs[0][1:])
+
+
+def may_come(profile, legs, last):
+    """The events with which some packet goes on. `legs` has the bytes from each START, and `last`
+    is the last event; each byte before has its ACK."""
+    if last is None:
+        return {START}
+    if last == NACK:
+        return {STOP}
+    one_leg = legs[-1]
+    if not one_leg:
+        return address_may_come(profile, legs[:-1])
+    if one_leg[0] == ALERT:
+        return alert_may_go_on(one_leg, last)
+    if one_leg[0] % 2 == 1:
+        return reply_may_go_on(profile, legs, last)
+    return written_may_go_on(profile, legs, last)
+
+
+def address_may_come(profile, before):
+    """The first byte of a leg."""
+    if not before:
+        return {2 * address for address in range(128)} | {ALERT}
+    addresses = set()
+    parts = [part_of(profile, one_leg) for one_leg in before]
+    if all(parts) and len(parts) <= 15:
+        addresses |= {2 * address for address in range(128)}
+        addresses -= {2 * part.address for part in parts}
+    if reply_form(profile, before):
+        addresses.add(before[0][0] + 1)
+    return addresses
+
+
+def alert_may_go_on(one_leg, last):
+    """Behind START 19: the byte of a device, and perhaps its packet error code."""
+    if is_byte(last):
+        return {ACK, NACK} if len(one_leg) <= 2 else {NACK}
+    return BYTES if len(one_leg) == 1 else {pec(one_leg)}
+
+
+def reply_may_go_on(profile, legs, last):
+    """Behind an address for reading."""
+    device = profile.device(legs[0][0] // 2)
+    form = reply_form(profile, legs[:1])
+    reply = legs[1][1:]
+    rest = missing(form, reply)
+    if last == ACK:
+        return BYTES if rest > 0 else {pec(legs[0] + legs[1])}
+    if not reply:
+        return {ACK, NACK}
+    if rest > 0:
+        return {ACK}
+    if rest < 0:
+        return {NACK}
+    return {"off": {NACK}, "on": {ACK}, "optional": {ACK, NACK}}[device.pec]
+
+
+def written_may_go_on(profile, legs, last):
+    """Behind an address for writing."""
+    one_leg = legs[-1]
+    body = one_leg[1:]
+    is_first_leg = len(legs) == 1
+    device = profile.device(one_leg[0] // 2)
+    if is_byte(last):
+        # Any byte may be refused; it is taken where a body goes on with it.
+        is_taken = device and (
+            not body or body[-1] in may_follow(device, body[:-1], is_first_leg)
+        )
+        return {ACK, NACK} if is_taken else {NACK}
+    events = set()
+    if not body or may_follow(device, body, is_first_leg):
+        events |= BYTES
+    if write_body(device, body):
+        events.add(STOP)
+        if len(legs) <= 15:
+            events.add(START)
+    if reply_form(profile, legs):
+        events.add(START)
+    return events
+
+
+def transaction_of(profile, legs, last):
+    """What a whole packet says; `last` is the event before its STOP."""
+    first = legs[0]
+    if first[0] == ALERT:
+        return Alert(first[1], len(first) == 3) if len(first) > 1 else NoAlert()
+    parts = [part_of(profile, one_leg) for one_leg in legs]
+    if last == ACK:
+        return Write(tuple(parts))
+    if legs[-1][0] % 2 == 0:
+        return Refused(tuple(parts[:-1]), legs[-1][0] // 2, tuple(legs[-1][1:]), False)
+    address = first[0] // 2
+    if len(legs[1]) == 1:
+        return Refused((), address, tuple(first[1:]), True)
+    form = reply_form(profile, legs[:1])
+    reply = legs[1][1:]
+    with_pec = missing(form, reply) < 0
+    reply = unwired(form, reply[:-1] if with_pec else reply)
+    if len(first) == 2:
+        return Read(address, first[1], reply, with_pec)
+    return Call(address, first[1], unwired(form, first[2:]), reply, with_pec)
+
+
+def reason_of(legs, last, event, allowed):
+    """Why no packet goes on with an event."""
+    if is_byte(event) and any(is_byte(other) for other in allowed):
+        if legs[-1]:
+            return "BadPec"
+        return "ReadFirst" if len(legs) == 1 else "BadRestart"
+    if is_byte(last) and event == ACK and allowed == {NACK}:
+        if legs[-1][0] % 2 == 1:
+            return "TooLong"
+        return {1: "UnknownDevice", 2: "UnknownCommand"}.get(len(legs[-1]), "BadPec")
+    if is_byte(last) and event == NACK and allowed == {ACK} and legs[-1][0] % 2 == 1:
+        return "TooShort"
+    return "WrongEvent"
+
+
+def refusal_line(at, reason, allowed):
+    kinds = {None if is_byte(event) else event for event in allowed}
+    names = [name for kind, name in KINDS if kind in kinds]
+    return "# refusal at %d: %s, expected %s" % (at, reason, " or ".join(names))
+
+
+def reading(profile, events, ends):
+    """The packets' transactions and the refusals' lines, in order. Where the events end with the
+    capture, an end inside a packet is a refusal."""
+    legs, last, is_passing = [], None, False
+    for at, event in enumerate(events):
+        if is_passing:
+            is_passing = event != STOP
+            continue
+        allowed = may_come(profile, legs, last)
+        if event not in allowed:
+            yield refusal_line(at, reason_of(legs, last, event, allowed), allowed)
+            legs, last, is_passing = [], None, event != STOP
+        elif event == STOP:
+            yield transaction_of(profile, legs, last)
+            legs, last = [], None
+        else:
+            if event == START:
+                legs = legs + [[]]
+            if is_byte(event):
+                legs = legs[:-1] + [legs[-1] + [event]]
+            last = event
+    if ends and last is not None:
+        yield refusal_line(len(events), "Truncated", may_come(profile, legs, last))
+
+
+def spelled(text):
+    """The events of a capture's words (docs/text.md), up to the first word that is none, and the
+    place of that word or None."""
+    events = []
+    # A comment is made blank, so that places stay.
+    text = re.sub(rb"#[^\n]*", lambda comment: b" " * len(comment[0]), text)
+    for word in re.finditer(rb"[^ \t\r\n]+", text):
+        if word[0] in (b"S", b"P", b"A", b"N"):
+            events.append(word[0].decode())
+        elif re.fullmatch(rb"[0-9a-fA-F]{2}", word[0]):
+            events.append(int(word[0], 16))
+        else:
+            return events, word.start()
+    return events, None

@@ -1,0 +1,337 @@
+"""The rows that `.ci/rows` starts from: words and an input each, as the pages, the examples and
+the standards' tables have them."""
+
+from . import profiles
+from .profiles import example
+
+# Captures under the sample profile.
+CAPTURES = """
+S b0 A 21 A 00 A 18 A f8 A P
+S b0 A 21 A 00 A 18 A P
+S b0 A 88 A S b1 A 00 A d3 A f6 N P
+S b0 A 88 A S b1 A 00 A d3 A f7 N P
+S b0 A 88 A S b1 A 00 A d3 N P
+S b0 A 03 A 47 N P
+S b0 A 03 A 47 A P
+S b0 A 03 A 46 A P
+S b0 A 03 A S b2 A 03 A P
+S b0 A 03 A S b0 A 03 A P
+S b0 A 03 A S b4 A 03 A 12 A P
+S b4 A 03 A 12 A S b0 A 21 A 00 A 18 A S b2 A 99 A 02 A 41 A 42 A P
+S 40 N P
+S 40 A P
+S b0 A 99 A S b1 A 00 N P
+S b0 A 99 A S b1 A 00 A 51 N P
+S b0 A 99 A S b1 A 03 A 41 A 42 A 43 N P
+S b0 A 99 A 02 A 41 A 42 A P
+S b0 A 99 A 00 A P
+S b0 A 1b A 01 A 7a A P
+S b0 A 1b A 01 A 7a A S b1 A 01 A 10 N P
+S b0 A 1b A 01 A 7a A S b1 A 01 A 10 A 7a N P
+S b0 A 30 A 02 A d0 A 01 A S b1 A 05 A 03 A 00 A 02 A 00 A 01 N P
+S b0 A 06 A 01 A 01 A S b1 N P
+S b0 A 21 A S b1 N P
+S b0 A c8 N P
+S b0 A c8 A P
+S b0 A 00 A 05 N P
+S b0 A 03 A S b2 N P
+S b0 A 03 A S b2 A 47 N P
+S b0 A 03 A S 40 N P
+S b2 A 03 A 47 N P
+S b4 A 03 A P
+S b4 A 03 A 12 A P
+S b2 A 19 A S b3 A b0 N P
+S b2 A 19 A S b3 A b0 A P
+S b0 A 88 A S b1 A 00 N P
+S b0 A 88 A 00 N P
+S b0 A 88 A S 40 N P
+S b1 A 00 N P
+S b0 A P
+S b0 N A P
+S b0 N S P
+S S b0 P
+S 19 A b0 N P
+S 19 A b0 A f3 N P
+S 19 A b0 A f2 N P
+S 19 A b0 A f3 A P
+S 19 N P
+S 18 N P
+S 1b A 00 N P
+S b0 A 79 A S b1 A 40 A 88 N P
+S b0 A 7e A S b1 A 26 N P
+S b0 A 7a A S b1 A 00 N P
+S b0 A 22 A ff A ff A P
+S b0 A d0 A 32 A 00 A P
+S b0 A d0 A S b1 A 00 A 00 N P
+S b0 A 03 A 47 A P S b0 A 21 A 00 A 18 A f8 A P
+S b0 A 20 A 14 A P S b0 A 21 A 00 A 18 A P
+S b0 A 20 A 97 A P S b0 A 21 A 00 A 18 A P
+S b0 A 20 A 14 A P S b0 A 00 A ff A P S b0 A 21 A 00 A 18 A P
+S b0 A 00 A ff A P S b0 A 20 A S b1 A 1e N P S b0 A 8b A S b1 A 03 A 00 N P
+S b0 A 00 A 02 A P S b0 A 20 A 12 A P S b0 A 21 A 00 A 18 A P
+S b0 A 20 A 12 A S b2 A 01 A 80 N P S b0 A 21 A 00 A 18 A P
+S b0 X
+P N A 00
+b0c
+# none
+"""
+
+# Transaction lines under the sample profile.
+TRANSACTIONS = """
+write 58 21 00 18 pec
+write 58 21 00 18 # a comment
+write 58 03 + 59 03
+write 58 03 + 5a 03 pec
+write 58 9A ab
+write 58 99 02 41 42 pec + 59 99
+write 58 2
+write 58 88 00 00
+write 58 21 00
+write 58 c8
+write 20 03
+write 58 03 + 58 03
+write 58 03 + 58 c8
+write 59 21 00 18 pec
+write 59 21 00 pec
+write 5a 03
+write 58 03 pec pec
+write
+write # 58 03
+read 58 88 : 00 d3 pec
+read 58 99 :
+read 58 99 : 41 42 43
+read 58 88 00
+read 58 88 : 00
+read 58 03 :
+read f8 88 : 00 d3
+read 5a 88 : 00 d3
+call 58 1b 7a : 10
+call 58 1b 7a : 10 pec
+call 58 30 d0 01 : 03 00 02 00 01
+call 58 06 :
+call 58 88 :
+call 58 1b 7a
+refused 58 03 47
+refused 59 03 47
+refused 58 c8
+refused 58 c8 00
+refused 20
+refused 20 03
+refused f8
+refused 58 88 read
+refused 58 88 00
+refused 58 21 read
+refused 58 03 read
+refused 58 read
+refused 58 c8 read
+refused 20 88 read
+refused 58 06 01 01 read
+refused 59 03 + 20
+refused 59 03 + 58 88 00
+refused 59 03 + 58 88 read
+refused 59 03 + 59
+refused 5a 03 pec + 58 21 00 18 + 59 21 00
+refused 58 +
+refused 58 03 + 59 03 pec + 5a
+alert b0 pec
+alert b0
+alert none
+alert none pec
+alert
+scan 58
+"""
+
+# Requests under the sample profile, each group of them one run.
+REQUESTS = """
+write 58 00 ff; set 58 21 12; write 58 00 01; get 58 21; write 58 00 ff; get 58 21
+write 58 00 05; read 58 7e; write 58 7e 40; read 58 7e
+call 58 30 d0 01; set 58 d0 1; get 58 d0; set 58 21 128
+get 20 88; get 58 c8; set 58 88 12; get 58 99; get 5a 88
+write 58 00 01; write 58 20 14; write 58 00 ff; set 58 21 1
+write 58 20 97; set 58 21 1
+write 58 20 35; get 58 21
+write 58 20 40; get 58 21
+write 58 20 60; get 58 21
+call 58 06 01; read 58 7e; call 58 1a 21; call 58 1b 7a
+call 58 30 21 00; call 58 30 d0; read 58 7e pec
+set 58 21 x
+set 58 21 pec
+set 58 21 1/0 pec
+set 58 21 1 1
+set 58 21 -1/2; set 58 22 -1/2 pec; get 58 22
+set 58 21 3.3; get 58 21; read 58 88 pec
+write 58 00 02; read 58 7e; set 58 21 128
+write 58 99 41 42 + 59 21 00 18; read 58 99; read 59 21; get 59 21
+write 59 03 + 58 00 09 + 5a 03 pec; read 58 7e
+write 58 79 ff ff; write 58 03; read 58 79; read 58 99
+set 5a 35 -12.5 pec; get 5a 35 pec; get 5a 35; get 59 35 pec
+write 58 00 ff pec; write 58 46 00 d3; write 58 00 00; get 58 46; read 58 00
+alert b0
+refused 58 03
+"""
+
+# Quantities and codes under each FORMAT.
+QUANTITIES = """
+12 1 1023.5 33521664 33521665 -1024.75 -1025 -33554432 -33554433 1/131072 3/131072 1/16
+3/16 127.875 127.9 -128 -128.1 -1/3 0.1 0.50 -6/4 -0 00012 1. .5 +1 1e3 1/0 1/1024 3/1024
+127.998046875 128 -1 5 1/60 4611686018427387904 4611686018427387903 -4611686018427387904
+-4611686018427387903 -9223372036854775808/3 9223372036854775807/3 -9223372036854775807/2
+9223372036854775808/4 -9223372036854775808/4 9223372036854775807/7 4/9223372036854775808
+9223372036854775806/2 1/4611686018427387903 1/4611686018427387904 2/9223372036854775806
+0.000000000000000000000001 0.0000000000000000000000010 0.0000000000000000000000001
+0.000000059604644775390625 0.0000000298023223876953125 1/33554432 2047/2 65535 65536
+-32768 -32768.5
+""".split()
+CODES = """
+0000 0001 ba00 d300 8000 7bff 7c00 03ff 0400 0a00 0dff e801 ffff 7FFF 0032 12g4 123 12345
+""".split()
+FORMATS = """
+linear11 linear11:-3 linear11:0 linear11:15 linear11:-16 ulinear16:-9 ulinear16:15 slinear16:-9
+slinear16:-16 vout:17 vout:0F direct:3,2,1 direct:-1,0,-1 direct:6720,0,-1 direct:-32768,32767,9
+direct:7,-5,-9
+""".split()
+BAD_FORMATS = """
+linear11:16 linear11:x linear11:128 linear11: ulinear16:-17 ulinear16 slinear16:+1 vout:97 vout:20
+vout:60 vout:40 vout:a0 vout:1 direct:0,0,10 direct:1,0,10 direct:1,0 direct:32768,0,0
+direct:1,0,-129 float LINEAR11
+""".split()
+
+# Captures, lines and requests behind profiles that have commands of every form.
+ODD_CAPTURES = """
+S 20 A e0 A 01 A 02 A 03 A 04 A e3 A P
+S 20 A e1 A S 21 A 01 A 02 A 03 A 04 A 05 A 06 A 07 A 08 N P
+S 20 A e1 A S 21 A 01 A 02 A 03 A 04 A 05 A 06 A 07 N P
+S 20 A 03 A S 19 A b0 N P
+S 20 A 21 A 05 A 00 A P S 20 A 00 A 01 A P S 20 A 20 A 17 A P S 20 A 21 A 00 A 18 A P
+S 20 A e3 A 34 A 12 A P S 20 A e3 A 34 A 12 A S 21 A 56 A 78 N P
+S 20 A e4 A 01 A 41 A S 21 A 01 A 42 N P
+S 22 A 35 A 60 A e8 A 32 A P
+S ee A 00 A S ef A 07 N P S ee A 21 A 00 A 18 A P
+"""
+ODD_LINES = """
+write 10 e0 01 02 03 04 pec
+write 10 e0 01
+write 10 e2 + 77 21 00 18
+read 10 e1 : 01 02 03 04 05 06 07 08 pec
+call 10 e3 01 02 : 03 04
+call 10 e4 41 : 42 43
+refused 11 35 60 e8
+refused 10 e4 01 41 read
+write 77 00 00
+"""
+ODD_REQUESTS = """
+write 10 e0 01 02 03 04; read 10 e0; read 10 e1 pec
+set 11 35 12 pec; get 11 35 pec; set 11 35 128 pec
+set 10 e2 1; get 10 e2; read 10 7e; get 10 e3
+set 10 21 -5/7; get 10 21; set 10 22 3; call 10 30 21 00; call 10 30 88 00; call 10 30 22 00
+write 10 00 ff; call 10 e5 01 02; read 10 7e; call 10 30 22 00
+call 11 30 8b 00 pec; read 11 8b pec; get 11 8b pec
+call 10 e4 41; call 10 e3 01 02; read 10 7e; write 10 00 ff; call 10 e4 41; read 10 e4; read 10 7e
+write 10 00 01; write 10 20 17; get 10 21; write 10 00 02; get 10 21; read 10 20
+write 77 21 00 18; read 77 00; call 77 30 00 00; read 77 7e; write 77 7e ff
+write 10 00 03 + 77 03; read 10 7e; read 10 00
+"""
+
+
+def lines_of(text):
+    return [line.encode() for line in text.split("\n") if line]
+
+
+def rows():
+    """All rows."""
+    found = [(["show", "--sample"], b""), (["build", "--sample"], b"\n"), (["show"], b"")]
+    for capture in lines_of(CAPTURES):
+        found += [([task, "--sample"], capture) for task in ("show", "check")]
+    found += [(["build", "--sample"], line + b"\n") for line in lines_of(TRANSACTIONS)]
+    found.append((["build", "--sample"], TRANSACTIONS.encode()))
+    found.append((["build", "--sample"], b"write 58 03\r\nwrite 58 03\r\r\n\r\nwrite # 5\r"))
+    for requests in lines_of(REQUESTS):
+        found.append((["run", "--sample"], requests.replace(b"; ", b"\n") + b"\n"))
+    found += conversions() + long_rows() + rows_behind_profiles()
+    return found
+
+
+def conversions():
+    found = [(["encode", form], " ".join(QUANTITIES).encode()) for form in BAD_FORMATS]
+    for form in FORMATS:
+        found.append((["encode", form], "\n".join(QUANTITIES).encode()))
+        found.append((["decode", form], "\r\n".join(CODES).encode()))
+    found += [(["encode", "linear11"], one.encode() + b"\n") for one in QUANTITIES]
+    found += [(["decode", "direct:3,2,1"], one.encode() + b"\n") for one in CODES]
+    found.append((["encode", "vout:17"], b"\n\r\n1\r\n1\r\r\n1\r"))
+    found.append((["encode", "vout:17"], b"0" * 255 + b"1\n" + b"0" * 256 + b"\r\n1\n"))
+    found.append((["decode", "vout:17"], b"0" * 257))
+    found.append((["encode", "-1"], b"1"))
+    return found
+
+
+def long_rows():
+    """Rows at the limits of lists and lines."""
+    block = b" 41" * 255
+    sixteen = b" +".join(b" %02x 03" % address for address in range(0x10, 0x20))
+    legs = b" ".join(b"S %02x A 03 A" % (2 * address) for address in range(0x10, 0x20))
+    many = profiles.MANY_TEXT + b"%%\n"
+    refused = b"refused 58 99" + b" ff" * 256
+    return [
+        (["show", "--sample"], b"S b0 A 99 A S b1 A ff" + b" A 41" * 255 + b" N P"),
+        (["show", "--sample"], b"S b0 A 99 A ff" + b" A 41" * 255 + b" A P"),
+        (["build", "--sample"], b"write 58 99" + block + b" pec\n"),
+        (["build", "--sample"], b"write 58 99" + block + b" 41\n"),
+        (["build", "--sample"], b"write 58 99" + block + b" 4\n"),
+        (["build", "--sample"], b"read 58 99 :" + block + b" pec\n"),
+        (["build", "--sample"], b"read 58 99 :" + block + b" 41\n"),
+        (["build", "--sample"], b"call 58 06" + block + b" :" + block + b"\n"),
+        (["build", "--sample"], b"call 58 06" + block + b" 41 :\n"),
+        (["build", "--sample"], refused + b"\n"),
+        (["build", "--sample"], refused + b" 00\n"),
+        (["build", "--sample"], refused + b" 00 00\n"),
+        (["build", "--sample"], refused + b" 00 00 00\n"),
+        (["build", "--sample"], refused + b" + 59\n"),
+        (["build", "--sample"], b"refused 58 99" + block + b" pec + 59\n"),
+        (["build", "--sample"], b"refused 58 99" + block + b" 41 pec + 59\n"),
+        (["run", "--sample"], b"write 58 99" + block + b"\nread 58 99\n"),
+        (["run", "--sample"], b"call 58 06" + block + b"\n"),
+        (["run", "--sample"], b"call 58 06" + block + b" 41\n"),
+        (["build", "--sample"], b" " * 32768 + b"\n" + b" " * 32769 + b"\nwrite 58 03\n"),
+        (["run", "--sample"], b" " * 32767 + b"\r\n" + b" " * 32768 + b"\r\nwrite 58 03\n"),
+        (["build"], many + b"write" + sixteen + b"\n"),
+        (["build"], many + b"write" + sixteen + b" + 20 03\n"),
+        (["build"], many + b"write" + sixteen + b" + zz\n"),
+        (["run"], many + b"write" + sixteen + b" + 20 03\n"),
+        (["run"], many + b"write" + sixteen + b"\n"),
+        (["build"], many + b"refused" + sixteen + b"\n"),
+        (["build"], many + b"refused" + sixteen + b" + 20\n"),
+        (["build"], many + b"refused" + sixteen[: -len(b" + 1f 03")] + b" + 1f 03 00\n"),
+        (["show"], many + legs + b" P"),
+        (["show"], many + legs + b" S 40 A 03 A P"),
+        (["show"], many + legs[: -len(b"03 A")] + b"04 N P"),
+        (["show"], b" " * 1048575 + b"\n%%\n"),
+        (["show"], b" " * 1048576 + b"\n%%\n"),
+        (["show"], b" " * 1048577),
+    ]
+
+
+def rows_behind_profiles():
+    """Rows with a profile in front, and the whole examples."""
+    found = [([task], text) for text in profiles.FAULTS for task in ("show", "run")]
+    sample = profiles.SAMPLE_TEXT + b"%%\n"
+    odd = profiles.ODD_TEXT + b"%%\r\n"
+    found += [(["show"], sample + capture) for capture in lines_of(CAPTURES)[:12]]
+    found += [(["build"], sample + line) for line in lines_of(TRANSACTIONS)[:8]]
+    for capture in lines_of(ODD_CAPTURES):
+        found += [([task], odd + capture) for task in ("show", "check")]
+    found += [(["build"], odd + line) for line in lines_of(ODD_LINES)]
+    for requests in lines_of(ODD_REQUESTS):
+        found.append((["run"], odd + requests.replace(b"; ", b"\n")))
+    nobody = b"device = []\n%%\n"
+    found.append((["show"], nobody + b"S 40 N P S 19 A b0 N P S 40 A P"))
+    found.append((["build"], nobody + b"write 58 03\nrefused 58\nalert none\n"))
+    found.append((["show"], profiles.BOARD_TEXT + b"%%\n" + example("sessions/power_up.txt")))
+    found.append((["run"], profiles.BOARD_TEXT + b"%%\n" + example("requests/bring_up.txt")))
+    found.append((["show"], profiles.LTC3880_TEXT + b"%%\n" + example("profiles/ltc3880.txt")))
+    found.append((["show"], profiles.PFE1100_TEXT + b"%%\n" + example("profiles/pfe1100.txt")))
+    bench = profiles.BENCH_TEXT + b"%%\n"
+    found.append((["build"], bench + example("transactions/bench_setup.txt")))
+    for name in ("tour", "bench_session", "write_word"):
+        found.append((["show", "--sample"], example("captures/%s.txt" % name)))
+    return found

@@ -1,0 +1,188 @@
+"""What a profile's TOML table says, by docs/profiles.md: the profile, or its first fault with its
+place. A table is a dict here, an array a list; how TOML is read is not told."""
+
+import re
+
+from .numbers import Fault, direct
+from .packets import SIZES
+from .profiles import STANDARD, Device, Entry, Profile
+
+NAMED = {entry.name: entry for entry in STANDARD}
+CODED = {entry.code: entry for entry in STANDARD}
+WORDS = {
+    "write": ("none", "zero", "one", "two", "four", "eight", "block"),
+    "read": ("none", "one", "two", "four", "eight", "block"),
+    "call": ("none", "two", "block"),
+}
+KINDS = ("raw", "linear11", "vout", "vout_signed", "direct", "status")
+DEVICE_KEYS = ("address", "pec", "pages", "vout_mode", "standard", "vout_direct", "command")
+COMMAND_KEYS = ("code", "name", *WORDS, "kind", "m", "b", "r", "exponent", "paged", "initial")
+
+
+def need(holds, name):
+    if not holds:
+        raise Fault(name)
+
+
+def known_keys(table, keys):
+    need(isinstance(table, dict), "WrongType")
+    need(set(table) <= set(keys), "UnknownKey")
+
+
+def value_of(table, key, kind, otherwise=None):
+    """The value of a key, of the type that it asks for."""
+    need(key not in table or type(table[key]) is kind, "WrongType")
+    return table.get(key, otherwise)
+
+
+def profile_of(table):
+    """The profile. A fault is told with its place behind it."""
+    need(set(table) <= {"device"}, "UnknownKey")
+    need("device" in table, "MissingKey")
+    array = value_of(table, "device", list)
+    need(len(array) <= 64, "TooManyDevices")
+    devices = []
+    for i, one in enumerate(array):
+        place = "in device %d" % i
+        device = placed(place, device_of, one, devices)
+        for j, command in enumerate(one.get("command", [])):
+            device = placed("%s command %d" % (place, j), with_command, device, one, j, command)
+        devices.append(device)
+    return Profile(tuple(devices))
+
+
+def placed(place, rule, *given):
+    try:
+        return rule(*given)
+    except Fault as fault:
+        raise Fault("%s %s" % (fault, place)) from None
+
+
+def device_of(table, before):
+    """A device by its own keys, with the standard commands or none."""
+    known_keys(table, DEVICE_KEYS)
+    need("address" in table, "MissingKey")
+    address = value_of(table, "address", int)
+    need(0x08 <= address <= 0x77 and address != 0x0C, "BadAddress")
+    need(address not in [device.address for device in before], "AddressTwice")
+    need("pec" in table, "MissingKey")
+    pec = value_of(table, "pec", str)
+    need(pec in ("off", "on", "optional"), "BadValue")
+    pages = value_of(table, "pages", int, 1)
+    need(1 <= pages <= 32, "BadPages")
+    vout_mode = value_of(table, "vout_mode", int, 0x17)
+    need(0 <= vout_mode <= 255, "BadValue")
+    entries = CODED if value_of(table, "standard", bool, True) else {}
+    vout_direct = None
+    if "vout_direct" in table:
+        known_keys(table["vout_direct"], ("m", "b", "r"))
+        vout_direct = coefficients(table["vout_direct"])
+    value_of(table, "command", list)
+    return Device(address, pec, entries, pages, vout_mode, vout_direct)
+
+
+def coefficients(table):
+    numbers = []
+    for key, least, most in (("m", -32768, 32767), ("b", -32768, 32767), ("r", -9, 9)):
+        need(key in table, "MissingKey")
+        number = value_of(table, key, int)
+        need(least <= number <= most and (key, number) != ("m", 0), "BadCoefficients")
+        numbers.append(number)
+    return direct(*numbers)
+
+
+def with_command(device, device_table, place, table):
+    """The device with a command of the profile."""
+    entry = command_of(table)
+    before = [code_of(other) for other in device_table["command"][:place]]
+    need(entry.code not in before, "CodeTwice")
+    need(goes_together(entry), "BadForm")
+    if entry.initial is not None:
+        entry = entry._replace(initial=initial_of(entry))
+    return device._replace(entries={**device.entries, entry.code: entry})
+
+
+def code_of(table):
+    return table["code"] if "code" in table else NAMED[table["name"]].code
+
+
+def command_of(table):
+    """A command by its keys, one after the other."""
+    known_keys(table, COMMAND_KEYS)
+    code = value_of(table, "code", int)
+    need(code is None or 0 <= code <= 255, "BadValue")
+    need("code" in table or "name" in table, "MissingKey")
+    name = value_of(table, "name", str)
+    if code is None:
+        need(name in NAMED, "UnknownName")
+        entry = NAMED[name]
+    else:
+        need(name is None or re.fullmatch("[A-Z0-9_]{1,32}", name), "BadName")
+        entry = Entry(code, "CMD_%02x" % code if name is None else name)
+    for key, known in WORDS.items():
+        word = value_of(table, key, str)
+        need(word is None or word in known, "BadForm")
+        if word is not None:
+            entry = entry._replace(**{key: None if word == "none" else word})
+    kind = value_of(table, "kind", str, entry.kind)
+    need(kind in KINDS, "BadValue")
+    entry = entry._replace(kind=kind)
+    if kind == "direct":
+        entry = entry._replace(coefficients=coefficients(table))
+    for key in ("m", "b", "r"):
+        value_of(table, key, int)
+        need(key not in table or kind == "direct", "UnknownKey")
+    exponent = value_of(table, "exponent", int)
+    need(exponent is None or kind == "linear11", "UnknownKey")
+    need(exponent is None or -16 <= exponent <= 15, "BadValue")
+    paged = value_of(table, "paged", bool, entry.paged)
+    initial = value_of(table, "initial", str)
+    return entry._replace(exponent=exponent, paged=paged, initial=initial)
+
+
+def goes_together(entry):
+    """Whether the parts of a command go together."""
+    if not (entry.write or entry.read or entry.call):
+        return False
+    if entry.write not in (None, "zero", entry.read) and entry.read:
+        return False
+    if entry.code in (0x00, 0x03, 0x20, 0x30, 0x7E):
+        own = CODED[entry.code]
+        if entry.write not in (None, own.write) or entry.read not in (None, own.read):
+            return False
+        if entry.call not in (None, own.call):
+            return False
+    if entry.code in (0x00, 0x03, 0x20, 0x30) and entry.kind != "raw":
+        return False
+    if entry.code == 0x00 and entry.paged:
+        return False
+    form = entry.read or entry.write
+    if entry.kind == "status":
+        return form in ("one", "two")
+    return entry.kind == "raw" or form == "two"
+
+
+def initial_of(entry):
+    """The bytes that a command holds at first."""
+    form = entry.form_held()
+    need(entry.code not in (0x00, 0x20) and form, "BadInitial")
+    need(re.fullmatch("([0-9a-fA-F]{2})*", entry.initial), "BadInitial")
+    held = bytes.fromhex(entry.initial)
+    need(len(held) <= 255 if form == "block" else len(held) == SIZES[form], "BadInitial")
+    return held
+
+
+def toml(value):
+    """A value as TOML, on one line."""
+    if isinstance(value, bool):
+        return "true" if value else "false"
+    if isinstance(value, dict):
+        return "{ %s }" % ", ".join("%s = %s" % (key, toml(value[key])) for key in value)
+    if isinstance(value, list):
+        return "[ %s ]" % ", ".join(toml(one) for one in value)
+    return '"%s"' % value if isinstance(value, str) else str(value)
+
+
+def text_of(table):
+    """A whole table as a TOML text."""
+    return "".join("%s = %s\n" % (key, toml(table[key])) for key in table).encode()
