@@ -1,8 +1,8 @@
 -- A token in front of a piece of text, and its separator, taken at once.
-use Rattle.std.proofs.Common.{◌≡◌, ℕ, ◌+◌, ◌-◌, ◌*◌, ◌≤◌, inl, inr, true, false, Option, Some, None, IfSome, List, [], ◌∷◌, ◌++◌, length, take, drop, get_or, refl, sym, ap, subst, ◌∙◌, arith}
+use Rattle.std.proofs.Common.{◌≡◌, ◌↔◌, ℕ, ◌+◌, ◌-◌, ◌*◌, ◌≤◌, inl, inr, true, false, Option, Some, None, is_some, IsSome, IfSome, List, [], ◌∷◌, ◌++◌, length, take, drop, get_or, refl, sym, ap, subst, ◌∙◌, arith}
 use Rattle.std.proofs.lemmas.List.{append_assoc, take_at, length-append}
 use Rattle.std.proofs.lemmas.Bool.{cases_eq, ne_eqb}
-use Rattle.hex.specs.Hex.{hex_digit_value}
+use Rattle.hex.specs.Hex.{hex_digit_value, is_hex_digit}
 use Rattle.pmb_bus.specs.declared.event.Event.{Event}
 use Rattle.pmb_bus.specs.declared.event.Event.TheVariants.{Byte, Ack}
 use Rattle.pmb_bus.specs.declared.lexer.Place.{Place}
@@ -10,8 +10,8 @@ use Rattle.pmb_bus.specs.declared.lexer.Place.TheVariants as places
 use Rattle.pmb_bus.specs.declared.lexer.Lexer.{Lexer}
 use Rattle.pmb_bus.specs.Count.{capped}
 use Rattle.pmb_bus.specs.Event.{letter_event, byte_event, event_of}
-use Rattle.pmb_bus.specs.Text.{is_separator, ends_in_comment, open_word, EndedWordsSpell}
-use Rattle.pmb_bus.specs.Lexer.{EndsWord, FeedsAcked}
+use Rattle.pmb_bus.specs.Text.{is_separator, ends_in_comment, open_word, EndsBetween, EndedWordsSpell}
+use Rattle.pmb_bus.specs.Lexer.{EndsWord, BeginsAcked, FeedsAcked}
 use Rattle.pmb_bus.specs.machine.Bytes.{ends_word, starts_token, option_event, BeginsWithToken}
 use Rattle.pmb_bus.specs.machine.Standing.{IsPlace, LexerStandsAt}
 use Rattle.pmb_bus.specs.machine.Steps.{place_behind_word}
@@ -67,6 +67,43 @@ pub front_acked_found : (text : List ℕ) (found : Option ℕ) → 5 ≤ length 
 front_acked_found text None long token separates letter separates_again = tt
 front_acked_found text (Some byte) long token separates letter separates_again =
     front_digits_acked text byte long (sym token) separates letter separates_again
+
+-- the byte of two digits is there
+two_digits : (high low : Option ℕ) → is_some high ≡ true → is_some low ≡ true → None ≡ byte_event high low → ⊥
+two_digits (Some high) (Some low) first second none = cc none
+two_digits (Some high) None first second none = cc second
+two_digits None low first second none = cc first
+
+-- what is found of the digits is there exactly where the text begins so
+pub front_acked_exactly : (text : List ℕ) (found : Option ℕ) → 5 ≤ length text
+    → option_event found ≡ byte_event (hex_digit_value (get_or text 0 0)) (hex_digit_value (get_or text 1 0))
+    → get_or text 2 0 ≡ 32 → get_or text 3 0 ≡ 65 → get_or text 4 0 ≡ 32 → IsSome found ↔ BeginsAcked text
+front_acked_exactly [] found long token space letter last = absurd (omega arith)
+front_acked_exactly (a ∷ []) found long token space letter last = absurd (omega arith)
+front_acked_exactly (a ∷ b ∷ []) found long token space letter last = absurd (omega arith)
+front_acked_exactly (a ∷ b ∷ c ∷ []) found long token space letter last = absurd (omega arith)
+front_acked_exactly (a ∷ b ∷ c ∷ d ∷ []) found long token space letter last = absurd (omega arith)
+front_acked_exactly (a ∷ b ∷ c ∷ d ∷ e ∷ rest) (Some byte) long token space letter last =
+    let digits = digits_of (hex_digit_value a) (hex_digit_value b) (Byte byte) (sym token) in
+    let begins : BeginsAcked (a ∷ b ∷ c ∷ d ∷ e ∷ rest) = record {
+      high = a;
+      low = b;
+      rest = rest;
+      split = cc (space, letter, last);
+      high_digit = ap is_some digits.high_is;
+      low_digit = ap is_some digits.low_is;
+    } in
+    ((λ some. begins), (λ begun. refl))
+front_acked_exactly (a ∷ b ∷ c ∷ d ∷ e ∷ rest) None long token space letter last = (
+  (λ some. cc some),
+  (
+      λ begun.
+      let high : a ≡ begun.high = ap (λ (text : List ℕ). get_or text 0 0) begun.split in
+      let low : b ≡ begun.low = ap (λ (text : List ℕ). get_or text 1 0) begun.split in
+      absurd
+      (two_digits (hex_digit_value a) (hex_digit_value b) (ap is_hex_digit high ∙ begun.high_digit) (ap is_hex_digit low ∙ begun.low_digit) token)
+      ),
+)
 
 -- behind a separator is between words
 separator_behind : (b : ℕ) → is_separator b ≡ true → place_behind_word b ≡ places.Between
@@ -203,6 +240,23 @@ front_token_ends before after n text events piece used event stands between begi
         begins.separates split counted is
         )
     by_word (a ∷ b ∷ c ∷ more) split token counted = cc token
+
+-- A lexer that stands at a text between words is between words,
+pub between_there : (lexer : Lexer) (n : ℕ) (text : List ℕ) (events : List Event) → LexerStandsAt lexer n text events → EndsBetween text
+    → lexer.place ≡ places.Between
+between_there lexer n text events stands between = by_place lexer.place stands.place
+  where
+    by_place : (place : Place) → IsPlace place n text → place ≡ places.Between
+    by_place places.Between is = refl
+    by_place places.Comment is = cc (is.1, between.1)
+    by_place (places.One at first) is = cc (is.0, between.0)
+    by_place (places.Two at byte) is = cc (is.2, between.0)
+    by_place (places.Faulted fault) is = absurd is
+
+-- and stands at no other text then.
+pub ends_between : (lexer : Lexer) (n : ℕ) (text : List ℕ) (events : List Event) → LexerStandsAt lexer n text events
+    → lexer.place ≡ places.Between → EndsBetween text
+ends_between lexer n text events stands between = subst (λ (place : Place). IsPlace place n text) between stands.place
 
 -- A byte, ACK and a separator behind each in front of a piece: five steps are these two.
 pub front_acked_feeds : (before after : Lexer) (n : ℕ) (text : List ℕ) (events : List Event) (piece : List ℕ) (byte : ℕ)

@@ -5,7 +5,8 @@
 -- it, and some text that spells events begins so. The end of the input stands in `text` as a space,
 -- and doesn't count in n. `IsFaulted lexer fault` says that the lexer has met a fault. What both
 -- say of a lexer's own fields is in `machine`, and nothing here needs it to be understood.
-use Rattle.std.specs.Prelude.{◌≡◌, ℕ, ◌+◌, ◌-◌, ◌<◌, ◌≤◌, Option, Some, None, Result, Ok, Err, List, [], ◌∷◌, ◌++◌, length, take, drop, codes}
+use Rattle.std.specs.Prelude.{◌≡◌, ℕ, ◌+◌, ◌-◌, ◌<◌, ◌≤◌, true, Option, Some, None, Result, Ok, Err, List, [], ◌∷◌, ◌++◌, length, take, drop, codes}
+use Rattle.hex.specs.Hex.{is_hex_digit}
 use Rattle.pmb_bus.specs.declared.event.Event.{Event}
 use Rattle.pmb_bus.specs.declared.event.Event.TheVariants.{Byte, Ack}
 use Rattle.pmb_bus.specs.declared.lexer.LexFault.{LexFault}
@@ -43,6 +44,16 @@ abbrev pub Feeds : ℕ → List ℕ → List Event → List ℕ → ℕ → Step
 Feeds n text events piece used answers.Need after = NeedsMore n text events piece used after
 Feeds n text events piece used (answers.Event event) after = EndsWord n text events piece used after event
 Feeds n text events piece used (answers.Fault fault) after = Refuses n text events piece used after fault
+
+-- A piece begins with a byte and its ACK and a space behind each: two hexadecimal digits, a space,
+-- `A` and a space.
+pub record BeginsAcked (piece : List ℕ) : Type 0 where
+  pub high : ℕ
+  pub low : ℕ
+  pub rest : List ℕ
+  pub split : piece ≡ (high ∷ low ∷ codes " A ") ++ rest
+  pub high_digit : is_hex_digit high ≡ true
+  pub low_digit : is_hex_digit low ≡ true
 
 -- A byte and its ACK are in front of a piece, five bytes with what ends each word: what two calls of `feed` answer.
 pub record FeedsAcked (n : ℕ) (text : List ℕ) (events : List Event) (piece : List ℕ) (byte : ℕ) (after : Lexer) : Type 0 where

@@ -71,6 +71,10 @@ last_run (run ∷ next ∷ more) = last_run (next ∷ more)
 abbrev pub open_word : List ℕ → List ℕ
 open_word text = last_run (runs text)
 
+-- A text ends between words: no word is under way, and no comment.
+abbrev pub EndsBetween : List ℕ → Type 0
+EndsBetween text = (open_word text ≡ []) × (ends_in_comment text ≡ false)
+
 -- The word under way at the end of a text of n bytes has its first byte at `at`, counted from 0 and
 -- staying at the greatest u64.
 abbrev pub WordBeginsAt : ℕ → List ℕ → ℕ → Type 0
@@ -100,7 +104,7 @@ pub record FirstBadWord (text : List ℕ) (events : List Event) (place : ℕ) : 
   pub rest : List ℕ
   pub split : text ≡ front ++ rest
   pub at : length front ≡ place
-  pub between : (open_word front ≡ []) × (ends_in_comment front ≡ false)
+  pub between : EndsBetween front
   pub spells : Spells front events
   pub word : is_word (front_word rest) ≡ true
   pub no_token : event_of (front_word rest) ≡ None

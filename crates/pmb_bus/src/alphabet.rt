@@ -4,11 +4,12 @@
 //! are, 16 bytes a row, so that it is checked by looking at it; the proofs of `digit` and
 //! `is_separator` compute over the whole table that it is what the definitions say.
 
-ghost use Rattle.std.specs.Prelude.{◌≡◌, ℕ, ◌<◌, ◌≤◌, IfSome, None, drop, length};
+ghost use Rattle.std.specs.Prelude.{◌≡◌, ◌↔◌, ℕ, ◌<◌, ◌≤◌, IsSome, IfSome, None, drop, length};
 ghost use Rattle.pmb_bus.specs.declared.event.Event.{Event as BusEvent};
 ghost use Rattle.hex.specs.Hex.{hex_digit_value};
 ghost use Rattle.pmb_bus.specs.Event.{letter_event, byte_event};
 ghost use Rattle.pmb_bus.specs.Text.{is_separator};
+ghost use Rattle.pmb_bus.specs.Lexer.{BeginsAcked};
 ghost use Rattle.pmb_bus.specs.machine.Bytes.{ends_word, starts_token, option_event, BeginsWithToken};
 
 use crate::event::Event;
@@ -134,6 +135,7 @@ pub(crate) fn front_token(bytes: &[u8]) -> Option<FrontToken>
 pub(crate) fn front_acked(bytes: &[u8]) -> Option<u8>
     ensures tokens { IfSome result (λ byte. BeginsWithToken bytes.now (BusEvent.Byte byte) 3 × BeginsWithToken (drop 3 bytes.now) BusEvent.Ack 2) }
     ensures within { IfSome result (λ byte. 5 ≤ length bytes.now) }
+    ensures exactly { IsSome result ↔ BeginsAcked bytes.now }
 {
     let [first, second, behind, ack, last, ..] = bytes else {
         return None;

@@ -9,11 +9,11 @@
 //! once, where it and its separator lie in the next three bytes, and `feed_acked` a byte and its ACK,
 //! in five. All else goes byte by byte.
 
-ghost use Rattle.std.specs.Prelude.{◌≡◌, ◌+◌, ◌<◌, ◌≤◌, ℕ, IfSome, None, length, true, false, List, [], Err};
+ghost use Rattle.std.specs.Prelude.{◌≡◌, ◌↔◌, ◌+◌, ◌<◌, ◌≤◌, ℕ, IsSome, IfSome, None, length, true, false, List, [], Err};
 ghost use Rattle.pmb_bus.specs.declared.event.Event.{Event as BusEvent};
 ghost use Rattle.pmb_bus.specs.Count.{capped};
-ghost use Rattle.pmb_bus.specs.Text.{ends_in_comment};
-ghost use Rattle.pmb_bus.specs.Lexer.{LexerStandsAt, IsFaulted, Feeds, FeedsAcked, Finishes};
+ghost use Rattle.pmb_bus.specs.Text.{ends_in_comment, EndsBetween};
+ghost use Rattle.pmb_bus.specs.Lexer.{LexerStandsAt, IsFaulted, Feeds, BeginsAcked, FeedsAcked, Finishes};
 ghost use Rattle.pmb_bus.specs.machine.Bytes.{ends_word};
 ghost use Rattle.pmb_bus.specs.machine.Standing.{IsPlace};
 ghost use Rattle.pmb_bus.specs.machine.Steps.{Steps, OpenWordComesTo, Lengthens, place_behind_word};
@@ -175,11 +175,14 @@ impl Lexer {
     /// given to `feed`.
     ///
     /// Most words of a capture are bytes and their ACK. Those are taken so that have a space behind
-    /// each, where no word is under way.
+    /// each, where no word and no comment is under way.
     #[inline(always)]
     pub fn feed_acked(&mut self, bytes: &[u8]) -> Option<u8>
         ensures feeds { (n : ℕ) (text : List ℕ) (events : List BusEvent) → LexerStandsAt self.old n text events
             → IfSome result (λ byte. FeedsAcked n text events bytes.now byte self.new) }
+        // Between words it answers wherever the piece begins so, and only there.
+        ensures exactly { (n : ℕ) (text : List ℕ) (events : List BusEvent) → LexerStandsAt self.old n text events
+            → IsSome result ↔ (EndsBetween text × BeginsAcked bytes.now) }
         ensures within { IfSome result (λ byte. 5 ≤ length bytes.now) }
         ensures faulted { (fault : LexFault) → IsFaulted self.old fault → result ≡ None }
         ensures same { result ≡ None → self.new ≡ self.old }

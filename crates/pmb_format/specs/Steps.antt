@@ -1,4 +1,6 @@
--- How many steps an encoder takes. A step is a turn of a loop or a division.
+-- How many steps an encoder takes. A step is a turn of a loop or a division. The encoder's body
+-- counts them itself, by a tick in each turn and at each division: these definitions say how far the
+-- count is raised, and that no turn and no division lacks its tick is checked by reading the code.
 use Rattle.std.specs.Prelude.{◌≡◌, ℕ, zero, suc, ◌+◌, ◌-◌, ◌^◌, ◌≤◌, min}
 
 -- the most steps of an encoder

@@ -1,8 +1,8 @@
 //! The LINEAR11 format.
-ghost use Rattle.std.specs.Prelude.{◌≡◌, ◌↔◌, ◌*◌, ◌-◌, ◌%◌, ◌^◌, ◌<◌, ◌≤◌, ◌⊎◌, IsTrue, MatchBool, pos, negsuc, ◌+ℤ◌, ◌*ℤ◌, ◌≤ℤ◌, unsigned_abs};
+ghost use Rattle.std.specs.Prelude.{◌≡◌, ◌↔◌, ◌+◌, ◌*◌, ◌-◌, ◌%◌, ◌^◌, ◌<◌, ◌≤◌, ◌⊎◌, IsTrue, MatchBool, pos, negsuc, ◌+ℤ◌, ◌*ℤ◌, ◌≤ℤ◌, min, unsigned_abs};
 ghost use Rattle.pmb_format.specs.Coding.{IsInRange, IsNearest};
 ghost use Rattle.pmb_linear.specs.Linear.{exponent, mantissa, linear11, linear11_numerator};
-ghost use Rattle.pmb_format.specs.Steps.{TakesSteps};
+ghost use Rattle.pmb_format.specs.Steps.{TakesSteps, steps_counted};
 ghost use Rattle.pmb_linear.specs.machine.Fields.{Holds, IsFarther, Reaches, word_at};
 ghost use Rattle.pmb_format.specs.Written.{IsWritten};
 
@@ -78,14 +78,15 @@ fn nearest(quantity: &Quantity, steps: &mut Steps) -> u16
 }
 
 /// The least power of two at which the mantissas reach the target, from -1024 of the spacings to
-/// less than 1024. Each turn ticks.
+/// less than 1024. Each power that is compared is a turn, and ticks: all from 0 up to the result, but
+/// the greatest, which needs no comparison.
 fn least_power(target: i128, denominator: u128, steps: &mut Steps) -> u32
     requires denominator_is_small { denominator < 2 ^ 62 }
     requires in_range { Reaches target (denominator * 2 ^ 31) }
     ensures power { result ≤ 31 }
     ensures reaches { Reaches target (denominator * 2 ^ result) }
     ensures least { 0 < result → IsFarther target (denominator * 2 ^ (result - 1)) }
-    ensures steps { TakesSteps 0 31 steps.old steps.new }
+    ensures steps { steps.new ≡ steps_counted steps.old (min (result + 1) 31) }
 {
     for power in 0..GREATEST_POWER {
         steps.tick();

@@ -257,13 +257,19 @@ fn shows_each_row_under_its_profile(rt: HostRuntime) {
 }
 
 #[rattlefmt::skip]
-static CHECKED: [Row; 6] = [
+static CHECKED: [Row; 12] = [
     ("packets and a refusal", "[[device]]\naddress = 0x20\npec = \"off\"\n%%\nS 40 A 03 A P\nS 40 A 03 A 47", "# refusal at 11: WrongEvent, expected Start or Stop\npackets 1 refusals 1\n", "", 1),
     ("CR LF", "device = []\r\n%%\r\nS 19 N P\r\n", "packets 1 refusals 0\n", "", 0),
     ("an empty capture", "device = []\n%%\n", "packets 0 refusals 0\n", "", 0),
     ("no line `%%`", "device = []\n", "packets 0 refusals 0\n", "", 0),
     ("nothing", "", "", "pmb: profile: MissingKey\n", 2),
     ("a bad profile", "[[device]]\naddress = 0x20\npec = \"of\"\n%%\nS 19 N P\n", "", "pmb: profile: BadValue in device 0\n", 2),
+    ("sixty-five devices", "device = [{}, {}, {}, {}, {}, {}, {}, {}, {}, {}, {}, {}, {}, {}, {}, {}, {}, {}, {}, {}, {}, {}, {}, {}, {}, {}, {}, {}, {}, {}, {}, {}, {}, {}, {}, {}, {}, {}, {}, {}, {}, {}, {}, {}, {}, {}, {}, {}, {}, {}, {}, {}, {}, {}, {}, {}, {}, {}, {}, {}, {}, {}, {}, {}, {}]", "", "pmb: profile: TooManyDevices\n", 2),
+    ("no page", "[[device]]\naddress = 0x20\npec = \"off\"\npages = 0\n", "", "pmb: profile: BadPages in device 0\n", 2),
+    ("a slope of 0", "[[device]]\naddress = 0x20\npec = \"off\"\nvout_direct = { m = 0, b = 0, r = 0 }\n", "", "pmb: profile: BadCoefficients in device 0\n", 2),
+    ("a name in lower case", "[[device]]\naddress = 0x20\npec = \"off\"\n[[device.command]]\ncode = 0xd0\nname = \"a\"\nread = \"one\"\n", "", "pmb: profile: BadName in device 0 command 0\n", 2),
+    ("no form", "[[device]]\naddress = 0x20\npec = \"off\"\n[[device.command]]\ncode = 0xd0\n", "", "pmb: profile: BadForm in device 0 command 0\n", 2),
+    ("one initial byte of a word", "[[device]]\naddress = 0x20\npec = \"off\"\n[[device.command]]\nname = \"READ_VIN\"\ninitial = \"00\"\n", "", "pmb: profile: BadInitial in device 0 command 0\n", 2),
 ];
 
 #[test]

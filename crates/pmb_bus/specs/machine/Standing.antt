@@ -8,11 +8,11 @@ use Rattle.pmb_bus.specs.declared.lexer.Place.TheVariants as places
 use Rattle.pmb_bus.specs.declared.lexer.Lexer.{Lexer}
 use Rattle.pmb_bus.specs.Count.{capped}
 use Rattle.pmb_bus.specs.Event.{event_of}
-use Rattle.pmb_bus.specs.Text.{ends_in_comment, open_word, WordBeginsAt, EndedWordsSpell, BeginsText}
+use Rattle.pmb_bus.specs.Text.{ends_in_comment, open_word, EndsBetween, WordBeginsAt, EndedWordsSpell, BeginsText}
 
 -- what each place of a lexer says of the text
 abbrev pub IsPlace : Place → ℕ → List ℕ → Type 0
-IsPlace places.Between n text = (open_word text ≡ []) × (ends_in_comment text ≡ false)
+IsPlace places.Between n text = EndsBetween text
 IsPlace places.Comment n text = (open_word text ≡ []) × (ends_in_comment text ≡ true)
 IsPlace (places.One at first) n text = (open_word text ≡ first ∷ []) × (ends_in_comment text ≡ false) × WordBeginsAt n text at
 IsPlace (places.Two at byte) n text =

@@ -1,7 +1,7 @@
-use Rattle.std.proofs.Common.{◌≡◌, SFits, rules, arith}
+use Rattle.std.proofs.Common.{◌≡◌, ◌+◌, min, SFits, rules, arith}
 use Rattle.std.specs.Int.{w128}
 use Rattle.std.proofs.lemmas.Int.{ints, to_z-of_z}
-use Rattle.pmb_format.proofs.StepLemmas.{and_one}
+use Rattle.pmb_format.proofs.StepLemmas.{one_more}
 use Rattle.pmb_linear.proofs.Linear11Nearest.{greatest_reaches, IsPlaced, index_fits, index_large, has_room, placed_nearest}
 use Rattle.pmb_linear.proofs.linear11.nearest.Goals as goal
 
@@ -66,5 +66,10 @@ returns-clause-nearest c =
 
 pub returns-clause-steps : goal.returns-clause-steps
 returns-clause-steps c =
-    let taken = and_one 0 31 c.args.steps.now c.least_power-power.new.steps c.rounded_quotient-index.new.steps c.least_power-power.ensures.steps c.rounded_quotient-index.ensures.steps in
-    record { steps = taken.steps; at_least = omega (arith, taken.at_least); at_most = omega (arith, taken.at_most); count_is = taken.count_is }
+    let turns = min (c.least_power-power.result + 1) 31 in
+    record {
+      steps = turns + 1;
+      at_least = omega arith;
+      at_most = omega arith;
+      count_is = one_more c.args.steps.now turns c.least_power-power.new.steps c.rounded_quotient-index.new.steps c.least_power-power.ensures.steps c.rounded_quotient-index.ensures.steps;
+    }
