@@ -18,7 +18,7 @@ module _ {R W : Type 0} (reader_told : R → ReaderTold) (writer_told : W → Wr
     pub none_failed : status ≢ IoFailed → ((reader_told new.0).failures ≡ (reader_told old.0).failures) × ((writer_told new.1).failures ≡ (writer_told old.1).failures)
     pub io_failed : status ≡ IoFailed → (((reader_told new.0).failures ≡ raised (reader_told old.0).failures 1) × ((reader_told new.0).ended ≡ (reader_told old.0).ended))
         ⊎ (((writer_told new.1).failures ≡ raised (writer_told old.1).failures 1) ⊎ (ReadOften (reader_told old.0) (reader_told new.0) × ((reader_told new.0).ended ≡ (reader_told old.0).ended)))
-    -- The reads that gave bytes are those of `front` and of the work behind it at most.
+    -- The reads that neither failed nor were the end are those of `front` and of the work behind it at most.
     pub reads : MadeReadsInAll (reader_told old.0).reads (reader_told new.0).reads
 
 -- Of what was asked for, and of a writer.

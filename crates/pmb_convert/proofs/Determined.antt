@@ -30,7 +30,7 @@ use Rattle.pmb_convert.specs.Lines.{AnswersCounted, AnswersLines}
 
 -- ---- a quantity that is read has a denominator
 
-abbrev HasPositive : Result Fraction QuantityFault → Type 0
+abbrev pub HasPositive : Result Fraction QuantityFault → Type 0
 HasPositive (Ok q) = 0 < q.denominator
 HasPositive (Err fault) = Unit {0}
 
@@ -78,7 +78,7 @@ negated-positive : (r : Result Fraction QuantityFault) → HasPositive r → Has
 negated-positive (Ok q) positive = positive
 negated-positive (Err fault) positive = tt
 
-reading-positive : StaysPositive → (text : List ℕ) → HasPositive (reading text)
+pub reading-positive : StaysPositive → (text : List ℕ) → HasPositive (reading text)
 unfolding reading
 reading-positive stays [] = tt
 reading-positive stays (c ∷ cs) =
@@ -122,10 +122,10 @@ one_quantity f q code one is_code positive a b (above over a_is) (above over' b_
 
 -- ---- a text has one answer
 
-abbrev HasOneAnswer : Conversion → Type 0
+abbrev pub HasOneAnswer : Conversion → Type 0
 HasOneAnswer conversion = (text : List ℕ) (a b : Answer) → AnswersText conversion text a → AnswersText conversion text b → a ≡ b
 
-decode_one : (format : NumberFormat) → HasOneAnswer (Decode format)
+pub decode_one : (format : NumberFormat) → HasOneAnswer (Decode format)
 decode_one format text a b a_is b_is = a_is ∙ sym b_is
 
 encode_one : (format : NumberFormat) (code : ℕ) → StaysPositive → HasOneNearest (number_coding format) → (number_coding format).IsCode code → HasOneAnswer (Encode format)
@@ -153,7 +153,7 @@ each_one conversion one (line ∷ rest) (x ∷ xs) (y ∷ ys) left right =
     let tail = each_one conversion one rest xs ys left.1 right.1 in
     (λ i. head i ∷ tail i)
 
-one_text : (conversion : Conversion) → HasOneAnswer conversion → (given : List lines.TextLine) (text other : List ℕ) → AnswersLines conversion given text → AnswersLines conversion given other → text ≡ other
+pub one_text : (conversion : Conversion) → HasOneAnswer conversion → (given : List lines.TextLine) (text other : List ℕ) → AnswersLines conversion given text → AnswersLines conversion given other → text ≡ other
 one_text conversion one given text other left right =
     left.whole ∙ ap (flat_map answer_line) (each_one conversion one given left.answers right.answers left.each right.each) ∙ sym right.whole
 
@@ -165,23 +165,17 @@ one_tally conversion one given text other tally count left right =
     let refusals = left.counts.refusals_counted ∙ ap (λ xs. capped (count_by is_err xs)) same ∙ sym right.counts.refusals_counted in
     (λ i. record { packets = packets i; refusals = refusals i })
 
-determined : (conversion : Conversion) → HasOneAnswer conversion → IsDetermined conversion
+pub determined : (conversion : Conversion) → HasOneAnswer conversion → IsDetermined conversion
 determined conversion one = record {
   text = λ bytes text other tally count left right. one_text conversion one _ text other left.given right.given;
   tally = λ bytes text other tally count left right. one_tally conversion one _ text other tally count left right;
   ended = λ bytes text other left right. one_text conversion one _ text other left right;
 }
 
-pub decodes_one : (format : NumberFormat) → IsDetermined (Decode format)
-decodes_one format = determined (Decode format) (decode_one format)
-
-encodes_one : (format : NumberFormat) (code : ℕ) → StaysPositive → HasOneNearest (number_coding format) → (number_coding format).IsCode code → IsDetermined (Encode format)
-encodes_one format code stays one is_code = determined (Encode format) (encode_one format code stays one is_code)
-
 pub encodes : StaysPositive → HasOneNearest linear11 → ((e : ℤ) → IsExponent e → HasOneNearest (linear11_fixed e)) → ((e : ℤ) → IsExponent e → (code : ℕ) × (linear11_fixed e).IsCode code) → ((e : ℤ) → IsExponent e → HasOneNearest (ulinear16 e)) → ((e : ℤ) → IsExponent e → HasOneNearest (slinear16 e)) → ((d : Coefficients) → d.m ≢ pos 0 → HasOneNearest (direct d))
-    → (format : NumberFormat) → IsFormat format → IsDetermined (Encode format)
-encodes stays a fixed some_code b c d Linear11 is = encodes_one Linear11 0 stays a (omega arith)
-encodes stays a fixed some_code b c d (Linear11Fixed e) is = let code = some_code e is in encodes_one (Linear11Fixed e) code.0 stays (fixed e is) code.1
-encodes stays a fixed some_code b c d (Word (Unsigned e)) is = encodes_one (Word (Unsigned e)) 0 stays (b e is) (omega arith)
-encodes stays a fixed some_code b c d (Word (Signed e)) is = encodes_one (Word (Signed e)) 0 stays (c e is) (omega arith)
-encodes stays a fixed some_code b c d (Word (Direct k)) is = encodes_one (Word (Direct k)) 0 stays (d k is.0) (omega arith)
+    → (format : NumberFormat) → IsFormat format → HasOneAnswer (Encode format)
+encodes stays a fixed some_code b c d Linear11 is = encode_one Linear11 0 stays a (omega arith)
+encodes stays a fixed some_code b c d (Linear11Fixed e) is = let code = some_code e is in encode_one (Linear11Fixed e) code.0 stays (fixed e is) code.1
+encodes stays a fixed some_code b c d (Word (Unsigned e)) is = encode_one (Word (Unsigned e)) 0 stays (b e is) (omega arith)
+encodes stays a fixed some_code b c d (Word (Signed e)) is = encode_one (Word (Signed e)) 0 stays (c e is) (omega arith)
+encodes stays a fixed some_code b c d (Word (Direct k)) is = encode_one (Word (Direct k)) 0 stays (d k is.0) (omega arith)

@@ -6,3 +6,5 @@ pub mod Modes
 pub mod Sayings
 pub mod Determined
 pub mod Ranges
+pub mod Fronts
+pub mod SomeText

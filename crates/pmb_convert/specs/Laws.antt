@@ -1,5 +1,5 @@
 -- Laws over the definitions alone.
-use Rattle.std.specs.Prelude.{◌≡◌, ◌≢◌, ℕ, pos, negsuc, ◌≤ℤ◌, List}
+use Rattle.std.specs.Prelude.{◌≡◌, ◌≢◌, ℕ, pos, negsuc, ◌≤ℤ◌, List, ◌++◌}
 use Rattle.pmb_io.specs.declared.tally.Tally.{Tally}
 use Rattle.pmb_value.specs.Linear.{IsExponent}
 use Rattle.pmb_value.specs.declared.vout.VoutFormat.TheVariants.{Unsigned, Signed, Direct}
@@ -22,3 +22,14 @@ pub record IsDetermined (conversion : Conversion) : Type 0 where
   pub text : (bytes text other : List ℕ) (tally count : Tally) → AnswersInput conversion tally bytes text → AnswersInput conversion count bytes other → text ≡ other
   pub tally : (bytes text other : List ℕ) (tally count : Tally) → AnswersInput conversion tally bytes text → AnswersInput conversion count bytes other → tally ≡ count
   pub ended : (bytes text other : List ℕ) → AnswersEnded conversion bytes text → AnswersEnded conversion bytes other → text ≡ other
+
+-- The text that answers the lines that have ended in some bytes is one, and a front of the text that
+-- answers these bytes and whatever follows.
+pub record ComesFirst (conversion : Conversion) : Type 0 where
+  pub one : (bytes text other : List ℕ) → AnswersEnded conversion bytes text → AnswersEnded conversion bytes other → text ≡ other
+  pub front : (bytes more text whole : List ℕ) (tally : Tally) → AnswersEnded conversion bytes text → AnswersInput conversion tally (bytes ++ more) whole
+      → (rest : List ℕ) × (whole ≡ text ++ rest)
+
+-- some text and tally answer any input
+abbrev pub HasText : Conversion → Type 0
+HasText conversion = (bytes : List ℕ) → (tally : Tally) × (text : List ℕ) × AnswersInput conversion tally bytes text

@@ -1,16 +1,17 @@
 //! Laws over the definitions alone.
 
-ghost use Rattle.std.specs.Prelude.{◌≡◌, ℕ, List, Result, Ok};
+ghost use Rattle.std.specs.Prelude.{◌≡◌, ℕ, List, ◌++◌, Result, Ok};
 ghost use Rattle.pmb_convert.specs.declared.conversion.Conversion.TheVariants.{Encode, Decode};
 ghost use Rattle.pmb_convert.specs.declared.format_fault.FormatFault.{FormatFault};
 ghost use Rattle.pmb_value.specs.declared.number_format.NumberFormat.{NumberFormat};
-ghost use Rattle.pmb_convert.specs.Laws.{IsDetermined, IsFormat};
+ghost use Rattle.pmb_convert.specs.Laws.{ComesFirst, HasText, IsDetermined, IsFormat};
 ghost use Rattle.pmb_convert.specs.Spelling.{Names, Saying, SpellsFormat};
 
 use pmb_quantity::laws::lowest_terms;
 use pmb_value::laws::{
     direct_has_one_nearest, linear11_fixed_has_codes, linear11_fixed_has_one_nearest,
-    linear11_has_one_nearest, slinear16_has_one_nearest, ulinear16_has_one_nearest,
+    linear11_has_one_nearest, quantities_have_answers, slinear16_has_one_nearest,
+    ulinear16_has_one_nearest,
 };
 
 /// A text spells at most one FORMAT, so that it names one format or has one fault. The format's
@@ -33,4 +34,28 @@ pub fn one_text()
     ulinear16_has_one_nearest();
     slinear16_has_one_nearest();
     direct_has_one_nearest();
+}
+
+/// What is written for the lines that have ended in some bytes is a function of these bytes, and a
+/// front of what is written for them and whatever follows.
+pub fn ended_lines_come_first()
+    ensures encode { (format : NumberFormat) → IsFormat format → ComesFirst (Encode format) }
+    ensures decode { (format : NumberFormat) → ComesFirst (Decode format) }
+{
+    lowest_terms();
+    linear11_has_one_nearest();
+    linear11_fixed_has_one_nearest();
+    linear11_fixed_has_codes();
+    ulinear16_has_one_nearest();
+    slinear16_has_one_nearest();
+    direct_has_one_nearest();
+}
+
+/// Some text, with its tally, is what `encode_lines` and `decode_lines` write for any bytes.
+pub fn some_text()
+    ensures encode { (format : NumberFormat) → IsFormat format → HasText (Encode format) }
+    ensures decode { (format : NumberFormat) → HasText (Decode format) }
+{
+    lowest_terms();
+    quantities_have_answers();
 }

@@ -87,7 +87,7 @@ reads_no_more told old mid new read count reads gave counted none = record {
 
 -- ---- how often
 
--- so many reads at most gave bytes
+-- so many reads at most neither failed nor were the end
 abbrev pub FewReads : ℕ → ℕ → ℕ → Type 0
 FewReads most old new = (count : ℕ) × (count ≤ most) × (new ≡ raised old count)
 

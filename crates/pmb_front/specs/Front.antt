@@ -126,6 +126,6 @@ pub record ReadUndecided {R : Type 0} (told : R → ReaderTold) (old new : R) : 
   pub gave : Gave (told old) (told new) read
   pub undecided : Undecided read
 
--- how many reads gave bytes: each gave one or more, and the last came before the text could not fit
+-- how many reads neither failed nor were the end: each gave a byte or more, and the last came before the text could not fit
 abbrev pub MadeFrontReads : ℕ → ℕ → Type 0
 MadeFrontReads old new = (count : ℕ) × (count ≤ most_profile + 4) × (new ≡ raised old count)

@@ -54,7 +54,7 @@ pub fn front<R: Source>(alloc: Global, reader: &mut R) -> Result<Front, ToolFaul
     ensures read_not_ended { result ≡ Err ToolFault.Read → (R.told reader.new).ended ≡ (R.told reader.old).ended }
     ensures mark_not_ended { IfOk result (λ front. front.marked ≡ true → (R.told reader.new).ended ≡ (R.told reader.old).ended) }
 
-    // The reads that gave bytes are few, and it writes nothing.
+    // The reads that neither failed nor were the end are few, and it writes nothing.
     ensures reads { MadeFrontReads (R.told reader.old).reads (R.told reader.new).reads }
     ensures few_reads { result ≢ Err ToolFault.TooManyReads }
     ensures no_write { result ≢ Err ToolFault.Write }

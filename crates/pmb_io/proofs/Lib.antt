@@ -3,3 +3,4 @@ pub mod Running
 pub mod LineLemmas
 pub mod LineRuns
 pub mod RunLemmas
+pub mod LineFronts

@@ -1,11 +1,14 @@
 -- A run over a reader and a writer, piece by piece.
-use Rattle.std.proofs.Common.{◌≡◌, ℕ, ◌+◌, ◌<◌, ◌≤◌, ◌≢◌, min, Option, List, [], ◌++◌, length, length-take-le, take, inl, inr, sym, ◌∙◌, ap, subst, refl, append_assoc, append-nil, length-append, arith}
+use Rattle.std.proofs.Common.{◌≡◌, ℕ, ◌+◌, ◌<◌, ◌≤◌, ◌≢◌, min, Option, Ok, List, [], ◌++◌, length, length-take-le, take, inl, inr, sym, ◌∙◌, ap, subst, refl, append_assoc, append-nil, length-append, arith}
 use Rattle.std.specs.Io.KnownBytes.{Consumes}
+use Rattle.std.proofs.lemmas.Bool.Decides.{nat_tests}
+use Rattle.pmb_io.specs.Calls.{CountsRead}
 use Rattle.pmb_io.specs.Count.{raised}
 use Rattle.pmb_io.specs.Engines.{PutsOut, WritesOut}
 use Rattle.pmb_io.specs.Outgoing.{PutsText}
 use Rattle.pmb_io.specs.Runs.{Gave, OpenBefore, Stopped, Through, most_piece}
 use Rattle.pmb_io.specs.Told.{ReaderTold, Told, WriterTold, told_by}
+use Rattle.pmb_io.specs.declared.fault.IoFault.{IoFault}
 use Rattle.pmb_io.proofs.Writing.{appends_then, consumes_then, consumes_nothing, writes_then, writes_as, writes_all}
 
 -- a count raised twice
@@ -160,6 +163,10 @@ pub gave_no_more : (old mid new : ReaderTold) (read : List ℕ) → Gave old mid
 gave_no_more old mid new read first second = subst (λ (t : List ℕ). Gave old new t) (append-nil read) (gave_then old mid new read [] first second)
 
 -- ---- how often
+
+-- a read into a buffer with room counts where it gives bytes
+pub counts_piece : (old new : ReaderTold) (count : ℕ) (buffer : List ℕ) → CountsRead {F = IoFault} old new (Ok count) buffer → 0 < length buffer → new.reads ≡ raised old.reads (min count 1)
+counts_piece old new count buffer counted room = grind (arith, nat_tests, counted, room)
 
 -- a read that gives bytes is one
 pub one_read_given : (before after n : ℕ) → after ≡ raised before (min n 1) → n ≢ 0 → after ≡ raised before 1

@@ -1,5 +1,5 @@
 -- What calls of a reader and a writer tell of them.
-use Rattle.std.specs.Prelude.{◌≡◌, ℕ, ◌==◌, ◌||◌, ◌&&◌, min, nat_lt, Bool, Option, Result, Ok, Err, List, ◌++◌, length}
+use Rattle.std.specs.Prelude.{◌≡◌, ℕ, ◌==◌, ◌||◌, ◌&&◌, if◌then◌else◌, min, nat_lt, Bool, Option, Result, Ok, Err, List, ◌++◌, length, ◌⊎◌}
 use Rattle.std.specs.Io.KnownBytes.{Appends}
 use Rattle.pmb_io.specs.Count.{raised}
 use Rattle.pmb_io.specs.declared.fault.IoFault.{IoFault}
@@ -13,12 +13,21 @@ abbrev pub CountsFailure : {A : Type 0} → ℕ → ℕ → Result A IoFault →
 CountsFailure old new (Ok x) = new ≡ old
 CountsFailure old new (Err fault) = new ≡ raised old 1
 
--- so is a read that gives bytes, as one
-abbrev pub CountsRead : {F : Type 0} → ℕ → ℕ → Result ℕ F → Type 0
-CountsRead old new (Ok n) = new ≡ raised old (min n 1)
-CountsRead old new (Err fault) = new ≡ old
+-- A read of 0 bytes is the end, unless the buffer had no room and the reader had not ended before.
+abbrev pub is_end : Bool → ℕ → List ℕ → Bool
+is_end ended n buffer = n == 0 && (ended || nat_lt 0 (length buffer))
 
--- and so are the bytes that it gives
+-- A read that doesn't fail counts as one, also where it gave nothing, unless it is the end.
+abbrev pub CountsRead : {F : Type 0} → ReaderTold → ReaderTold → Result ℕ F → List ℕ → Type 0
+CountsRead old new (Ok n) buffer = new.reads ≡ (if is_end old.ended n buffer then old.reads else raised old.reads 1)
+CountsRead old new (Err fault) buffer = new.reads ≡ old.reads
+
+-- So a read into a buffer with room counts where it gave bytes.
+abbrev pub CountsPiece : {F : Type 0} → ReaderTold → ReaderTold → Result ℕ F → Type 0
+CountsPiece old new (Ok n) = new.reads ≡ raised old.reads (min n 1)
+CountsPiece old new (Err fault) = new.reads ≡ old.reads
+
+-- Its bytes count too.
 abbrev pub CountsBytes : {F : Type 0} → ℕ → ℕ → Result ℕ F → Type 0
 CountsBytes old new (Ok n) = new ≡ raised old n
 CountsBytes old new (Err fault) = new ≡ old
@@ -60,3 +69,11 @@ io_given io = io.given
 
 abbrev pub io_ended : {T : Type 0} → Io T → Bool
 io_ended io = io.ended
+
+abbrev pub io_idle : {T : Type 0} → Io T → ℕ
+io_idle io = io.idle
+
+-- A call of an `Io` that writes all of some bytes has the writer take none of them once at most, and then it fails.
+abbrev pub IsIdleOnce : {A : Type 0} → ℕ → ℕ → Result A IoFault → Type 0
+IsIdleOnce old new (Ok x) = new ≡ old
+IsIdleOnce old new (Err fault) = (new ≡ old) ⊎ (new ≡ raised old 1)

@@ -60,7 +60,7 @@ OpenBefore told IsOpen first old new read =
 
 -- ---- how often
 
--- how many reads gave bytes
+-- how many reads were made that neither failed nor were the end
 abbrev pub MadeReads : ℕ → ℕ → Type 0
 MadeReads old new = (count : ℕ) × (count ≤ most_reads) × (new ≡ raised old count)
 

@@ -4,7 +4,7 @@ use Rattle.std.specs.Prelude.{ℕ, Bool, Option, List}
 pub record ReaderTold : Type 0 where
   -- the bytes that it has left, where it tells them
   pub left : Option (List ℕ)
-  -- how many bytes its reads gave, and how many reads gave bytes
+  -- how many bytes its reads gave, and how many reads neither failed nor were the end
   pub given : ℕ
   pub reads : ℕ
   -- how many reads failed

@@ -103,7 +103,7 @@ impl<T: Source> Source for Failing<T> {
         ensures within { IfOk result (λ n. n ≤ length buffer.new) }
         ensures bytes { ReadConsumes (T.told (failing_inner self.old)).left (T.told (failing_inner self.new)).left result buffer.new }
         ensures failed { CountsFailure (failing_failures self.old) (failing_failures self.new) result }
-        ensures read { CountsRead (T.told (failing_inner self.old)).reads (T.told (failing_inner self.new)).reads result }
+        ensures read { CountsRead (T.told (failing_inner self.old)) (T.told (failing_inner self.new)) result buffer.new }
         ensures given { CountsBytes (T.told (failing_inner self.old)).given (T.told (failing_inner self.new)).given result }
         ensures ended { TellsEnd (T.told (failing_inner self.old)).ended (T.told (failing_inner self.new)).ended result buffer.new }
         ensures at_most { IfOk result (λ n. n ≤ failing_most self.old) }

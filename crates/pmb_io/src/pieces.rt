@@ -1,8 +1,8 @@
 //! The loop over what a reader gives.
 
-ghost use Rattle.std.specs.Prelude.{◌≡◌, ◌≤◌, ℕ, List, length, [], ◌++◌, IfOk, OnOk};
+ghost use Rattle.std.specs.Prelude.{◌≡◌, ◌≤◌, ◌<◌, ℕ, List, length, [], ◌++◌, IfOk, OnOk};
 ghost use Rattle.std.specs.Io.KnownBytes.{ReadConsumes};
-ghost use Rattle.pmb_io.specs.Calls.{CountsBytes, CountsRead, ReaderTells, TellsEnd, WriterTells};
+ghost use Rattle.pmb_io.specs.Calls.{CountsBytes, CountsPiece, ReaderTells, TellsEnd, WriterTells};
 ghost use Rattle.pmb_io.specs.Engines.{Either, WritesOut, engine_job};
 ghost use Rattle.pmb_io.specs.Runs.{Ran};
 
@@ -15,7 +15,7 @@ use crate::source::Source;
 /// How many bytes one read asks for.
 const PIECE: usize = 65536;
 
-/// How many reads may give bytes before it is given up.
+/// How many reads are made before it is given up.
 const MOST_READS: u64 = 1 << 32;
 
 /// Hands `first` and then each piece that the reader gives to an engine, up to the end, or until the
@@ -57,10 +57,11 @@ pub fn each_piece<E: Engine, R: Source, W: Sink>(
 
 /// Reads once, and answers how many bytes that gave; 0 is the end.
 fn next_piece<R: Source>(reader: &mut R, piece: &mut [u8]) -> Result<usize, RunFault>
+    requires room { 0 < length piece.old }
     ensures within { IfOk result (λ n. n ≤ length piece.new) }
     ensures bytes { ReadConsumes (R.told reader.old).left (R.told reader.new).left result piece.new }
     ensures failed { ReaderTells (R.told reader.old) (R.told reader.new) result }
-    ensures read { CountsRead (R.told reader.old).reads (R.told reader.new).reads result }
+    ensures read { CountsPiece (R.told reader.old) (R.told reader.new) result }
     ensures given { CountsBytes (R.told reader.old).given (R.told reader.new).given result }
     ensures ended { TellsEnd (R.told reader.old).ended (R.told reader.new).ended result piece.new }
 {

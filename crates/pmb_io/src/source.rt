@@ -18,7 +18,7 @@ pub trait Source {
         ensures within { IfOk result (λ n. n ≤ length buffer.new) }
         ensures bytes { ReadConsumes (told self.old).left (told self.new).left result buffer.new }
         ensures failed { CountsFailure (told self.old).failures (told self.new).failures result }
-        ensures read { CountsRead (told self.old).reads (told self.new).reads result }
+        ensures read { CountsRead (told self.old) (told self.new) result buffer.new }
         ensures given { CountsBytes (told self.old).given (told self.new).given result }
         ensures ended { TellsEnd (told self.old).ended (told self.new).ended result buffer.new };
 }

@@ -51,7 +51,7 @@ abbrev pub run_status : Result Tally ToolFault → Status
 run_status (Ok tally) = if tally.refusals == 0 then Done else Refusals
 run_status (Err fault) = status_of fault
 
--- a reader gave bytes in 2^32 reads or more, and so as many bytes
+-- 2^32 reads or more neither failed nor were the end, and gave as many bytes
 pub record ReadOften (old new : ReaderTold) : Type 0 where
   pub count : ℕ
   pub often : most_reads ≤ count

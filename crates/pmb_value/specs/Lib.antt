@@ -9,3 +9,4 @@ pub use Rattle.pmb_format.specs.Steps
 pub use Rattle.pmb_linear.specs.Linear
 pub mod Vout
 pub mod NumberFormat
+pub mod Answers

@@ -5,6 +5,7 @@ ghost use Rattle.pmb_coefficients.specs.Coefficients.{Coefficients};
 ghost use Rattle.pmb_format.specs.Direct.{direct};
 ghost use Rattle.pmb_format.specs.Laws.{HasOneNearest, KeepsValues};
 ghost use Rattle.pmb_linear.specs.Linear.{IsExponent, linear11, linear11_fixed, ulinear16, slinear16};
+ghost use Rattle.pmb_value.specs.Answers.{HasAnswers};
 
 /// LINEAR11: a code nearest to the value of a code has that value.
 pub fn linear11_keeps_values()
@@ -63,3 +64,15 @@ pub fn slinear16_has_one_nearest()
 pub fn direct_has_one_nearest()
     ensures { (d : Coefficients) → d.m ≢ pos 0 → HasOneNearest (direct d) }
 {}
+
+/// In each format, at every exponent from -16 to 15 and with every slope but 0, a quantity is in
+/// range and has a nearest code, or it is below or above all values.
+pub fn quantities_have_answers()
+    ensures linear11 { HasAnswers linear11 }
+    ensures fixed { (exponent : ℤ) → IsExponent exponent → HasAnswers (linear11_fixed exponent) }
+    ensures unsigned { (exponent : ℤ) → IsExponent exponent → HasAnswers (ulinear16 exponent) }
+    ensures signed { (exponent : ℤ) → IsExponent exponent → HasAnswers (slinear16 exponent) }
+    ensures direct { (d : Coefficients) → d.m ≢ pos 0 → HasAnswers (direct d) }
+{
+    linear11_fixed_has_codes();
+}

@@ -1,6 +1,7 @@
 use Rattle.std.proofs.Common.{◌≡◌, ◌≢◌, ◌∙◌, ◌+◌, ◌≤◌, ◌<◌, ◌++◌, List, ℕ, ap, length, length-append, min, take, drop, inl, sym, subst, length-take-le, refl, arith}
 use Rattle.std.proofs.lemmas.Bool.Decides.{nat_tests}
 use Rattle.pmb_io.specs.Runs.{most_piece}
+use Rattle.pmb_io.proofs.Running.{counts_piece}
 use Rattle.pmb_io.proofs.Writing.{told_end, told_no_end}
 use Rattle.pmb_front.specs.Front.{FirstMark, MayFit, NoMark, Reads, most_profile}
 use Rattle.pmb_front.specs.machine.Front.{NoneEndsWithin}
@@ -45,11 +46,12 @@ returns-in-Err-clause-reads g c =
 
 pub returns-then-count-eq0-clause-ok : goal.returns-then-count-eq0-clause-ok
 returns-then-count-eq0-clause-ok g c =
+    let counted = counts_piece (g.R.Source.told c.loop-piece.reader) (g.R.Source.told c.read.new.self) c.in-Ok.count c.read.new.buffer c.in-Ok.ensures.read (omega arith) in
     let read = c.loop-piece.bytes.items in
     let none : NoMark read = c.loop-piece.invariant.none in
     let fit : MayFit read = subst MayFit c.as_slice.ensures.value (c.may_fit.ensures.0 c.loop-piece-test.true) in
     let no_more = reads_no_more g.R.Source.told c.args.reader.now c.loop-piece.reader c.read.new.self read c.in-Ok.count c.loop-piece.invariant.reads
-    (gave_none (g.R.Source.told c.loop-piece.reader) (g.R.Source.told c.read.new.self) c.in-Ok.count c.read.new.buffer c.if-count-eq0.true c.in-Ok.ensures.bytes.0 c.in-Ok.ensures.given) c.in-Ok.ensures.read c.if-count-eq0.true in
+    (gave_none (g.R.Source.told c.loop-piece.reader) (g.R.Source.told c.read.new.self) c.in-Ok.count c.read.new.buffer c.if-count-eq0.true c.in-Ok.ensures.bytes.0 c.in-Ok.ensures.given) counted c.if-count-eq0.true in
     let is_ended = told_end _ _ c.in-Ok.count c.read.new.buffer c.in-Ok.ensures.ended c.if-count-eq0.true (omega arith) in
     let at_end = c.in-Ok.ensures.bytes.1 c.if-count-eq0.true (omega arith) in
     all_within c.all.result g.R.Source.told c.args.reader.now c.read.new.self read no_more none is_ended at_end c.all.ensures.profile c.all.ensures.rest c.all.ensures.unmarked c.all.ensures.within
@@ -59,22 +61,25 @@ returns-then-count-eq0-clause-mark_not_ended g c = unmarked_not c.all.result _ c
 
 pub returns-then-count-eq0-clause-too_long : goal.returns-then-count-eq0-clause-too_long
 returns-then-count-eq0-clause-too_long g c is =
+    let counted = counts_piece (g.R.Source.told c.loop-piece.reader) (g.R.Source.told c.read.new.self) c.in-Ok.count c.read.new.buffer c.in-Ok.ensures.read (omega arith) in
     let read = c.loop-piece.bytes.items in
     let none : NoMark read = c.loop-piece.invariant.none in
     let fit : MayFit read = subst MayFit c.as_slice.ensures.value (c.may_fit.ensures.0 c.loop-piece-test.true) in
     let no_more = reads_no_more g.R.Source.told c.args.reader.now c.loop-piece.reader c.read.new.self read c.in-Ok.count c.loop-piece.invariant.reads
-    (gave_none (g.R.Source.told c.loop-piece.reader) (g.R.Source.told c.read.new.self) c.in-Ok.count c.read.new.buffer c.if-count-eq0.true c.in-Ok.ensures.bytes.0 c.in-Ok.ensures.given) c.in-Ok.ensures.read c.if-count-eq0.true in
+    (gave_none (g.R.Source.told c.loop-piece.reader) (g.R.Source.told c.read.new.self) c.in-Ok.count c.read.new.buffer c.if-count-eq0.true c.in-Ok.ensures.bytes.0 c.in-Ok.ensures.given) counted c.if-count-eq0.true in
     let is_ended = told_end _ _ c.in-Ok.count c.read.new.buffer c.in-Ok.ensures.ended c.if-count-eq0.true (omega arith) in
     let at_end = c.in-Ok.ensures.bytes.1 c.if-count-eq0.true (omega arith) in
     all_past_limit c.all.result g.R.Source.told c.args.reader.now c.read.new.self read no_more none is_ended at_end c.all.ensures.long is
 
 pub returns-then-count-eq0-clause-reads : goal.returns-then-count-eq0-clause-reads
 returns-then-count-eq0-clause-reads g c =
+    let counted = counts_piece (g.R.Source.told c.loop-piece.reader) (g.R.Source.told c.read.new.self) c.in-Ok.count c.read.new.buffer c.in-Ok.ensures.read (omega arith) in
     let read = c.loop-piece.bytes.items in
-    none_more (min (length read) (most_profile + 4)) (most_profile + 4) _ _ _ c.in-Ok.count c.loop-piece.invariant.few c.in-Ok.ensures.read c.if-count-eq0.true (omega arith)
+    none_more (min (length read) (most_profile + 4)) (most_profile + 4) _ _ _ c.in-Ok.count c.loop-piece.invariant.few counted c.if-count-eq0.true (omega arith)
 
 pub returns-then-is_err-clause-before_memory : goal.returns-then-is_err-clause-before_memory
 returns-then-is_err-clause-before_memory g c is =
+    let counted = counts_piece (g.R.Source.told c.loop-piece.reader) (g.R.Source.told c.read.new.self) c.in-Ok.count c.read.new.buffer c.in-Ok.ensures.read (omega arith) in
     let read = c.loop-piece.bytes.items in
     let none : NoMark read = c.loop-piece.invariant.none in
     let fit : MayFit read = subst MayFit c.as_slice.ensures.value (c.may_fit.ensures.0 c.loop-piece-test.true) in
@@ -82,17 +87,18 @@ returns-then-is_err-clause-before_memory g c is =
     let piece = take c.in-Ok.count c.read.new.buffer in
     let room : length c.read.new.buffer ≤ most_piece = omega arith in
     let reads = reads_piece g.R.Source.told c.args.reader.now c.loop-piece.reader c.read.new.self
-    read c.in-Ok.count c.read.new.buffer c.loop-piece.invariant.reads none fit c.in-Ok.ensures.within room some c.in-Ok.ensures.bytes.0 c.in-Ok.ensures.given c.in-Ok.ensures.read in
+    read c.in-Ok.count c.read.new.buffer c.loop-piece.invariant.reads none fit c.in-Ok.ensures.within room some c.in-Ok.ensures.bytes.0 c.in-Ok.ensures.given counted in
     record { read = read ++ piece; reads = reads }
 
 pub returns-then-is_err-clause-reads : goal.returns-then-is_err-clause-reads
 returns-then-is_err-clause-reads g c =
+    let counted = counts_piece (g.R.Source.told c.loop-piece.reader) (g.R.Source.told c.read.new.self) c.in-Ok.count c.read.new.buffer c.in-Ok.ensures.read (omega arith) in
     let read = c.loop-piece.bytes.items in
     let none : NoMark read = c.loop-piece.invariant.none in
     let fit : MayFit read = subst MayFit c.as_slice.ensures.value (c.may_fit.ensures.0 c.loop-piece-test.true) in
     let short : length read < most_profile + 4 = fit_is_short read none fit in
     let some : c.in-Ok.count ≢ 0 = grind (arith, nat_tests, c.if-count-eq0.false) in
-    one_more (min (length read) (most_profile + 4)) (most_profile + 4) _ _ _ c.in-Ok.count c.loop-piece.invariant.few c.in-Ok.ensures.read some (omega (arith, short))
+    one_more (min (length read) (most_profile + 4)) (most_profile + 4) _ _ _ c.in-Ok.count c.loop-piece.invariant.few counted some (omega (arith, short))
 
 pub find_mark-requires-clause-none_before : goal.find_mark-requires-clause-none_before
 find_mark-requires-clause-none_before g c =
@@ -106,6 +112,7 @@ find_mark-requires-clause-none_before g c =
 
 pub returns-in-Some-clause-ok : goal.returns-in-Some-clause-ok
 returns-in-Some-clause-ok g c =
+    let counted = counts_piece (g.R.Source.told c.loop-piece.reader) (g.R.Source.told c.read.new.self) c.in-Ok.count c.read.new.buffer c.in-Ok.ensures.read (omega arith) in
     let read = c.loop-piece.bytes.items in
     let none : NoMark read = c.loop-piece.invariant.none in
     let fit : MayFit read = subst MayFit c.as_slice.ensures.value (c.may_fit.ensures.0 c.loop-piece-test.true) in
@@ -113,7 +120,7 @@ returns-in-Some-clause-ok g c =
     let piece = take c.in-Ok.count c.read.new.buffer in
     let room : length c.read.new.buffer ≤ most_piece = omega arith in
     let reads = reads_piece g.R.Source.told c.args.reader.now c.loop-piece.reader c.read.new.self
-    read c.in-Ok.count c.read.new.buffer c.loop-piece.invariant.reads none fit c.in-Ok.ensures.within room some c.in-Ok.ensures.bytes.0 c.in-Ok.ensures.given c.in-Ok.ensures.read in
+    read c.in-Ok.count c.read.new.buffer c.loop-piece.invariant.reads none fit c.in-Ok.ensures.within room some c.in-Ok.ensures.bytes.0 c.in-Ok.ensures.given counted in
     let items = c.extend_from_slice.new.self.items in
     let items_are : items ≡ read ++ piece = grown c.extend_from_slice.result c.is_err.result items read piece c.is_err.ensures.value c.if-is_err.false c.extend_from_slice.ensures.items in
     let all_reads = subst (λ (t : List ℕ). Reads g.R.Source.told c.args.reader.now c.read.new.self t) (sym items_are) reads in
@@ -131,6 +138,7 @@ returns-in-Some-clause-mark_not_ended g c =
 
 pub returns-in-Some-clause-too_long : goal.returns-in-Some-clause-too_long
 returns-in-Some-clause-too_long g c is =
+    let counted = counts_piece (g.R.Source.told c.loop-piece.reader) (g.R.Source.told c.read.new.self) c.in-Ok.count c.read.new.buffer c.in-Ok.ensures.read (omega arith) in
     let read = c.loop-piece.bytes.items in
     let none : NoMark read = c.loop-piece.invariant.none in
     let fit : MayFit read = subst MayFit c.as_slice.ensures.value (c.may_fit.ensures.0 c.loop-piece-test.true) in
@@ -138,7 +146,7 @@ returns-in-Some-clause-too_long g c is =
     let piece = take c.in-Ok.count c.read.new.buffer in
     let room : length c.read.new.buffer ≤ most_piece = omega arith in
     let reads = reads_piece g.R.Source.told c.args.reader.now c.loop-piece.reader c.read.new.self
-    read c.in-Ok.count c.read.new.buffer c.loop-piece.invariant.reads none fit c.in-Ok.ensures.within room some c.in-Ok.ensures.bytes.0 c.in-Ok.ensures.given c.in-Ok.ensures.read in
+    read c.in-Ok.count c.read.new.buffer c.loop-piece.invariant.reads none fit c.in-Ok.ensures.within room some c.in-Ok.ensures.bytes.0 c.in-Ok.ensures.given counted in
     let items = c.extend_from_slice.new.self.items in
     let items_are : items ≡ read ++ piece = grown c.extend_from_slice.result c.is_err.result items read piece c.is_err.ensures.value c.if-is_err.false c.extend_from_slice.ensures.items in
     let all_reads = subst (λ (t : List ℕ). Reads g.R.Source.told c.args.reader.now c.read.new.self t) (sym items_are) reads in
@@ -151,12 +159,13 @@ returns-in-Some-clause-too_long g c is =
 
 pub returns-in-Some-clause-reads : goal.returns-in-Some-clause-reads
 returns-in-Some-clause-reads g c =
+    let counted = counts_piece (g.R.Source.told c.loop-piece.reader) (g.R.Source.told c.read.new.self) c.in-Ok.count c.read.new.buffer c.in-Ok.ensures.read (omega arith) in
     let read = c.loop-piece.bytes.items in
     let none : NoMark read = c.loop-piece.invariant.none in
     let fit : MayFit read = subst MayFit c.as_slice.ensures.value (c.may_fit.ensures.0 c.loop-piece-test.true) in
     let short : length read < most_profile + 4 = fit_is_short read none fit in
     let some : c.in-Ok.count ≢ 0 = grind (arith, nat_tests, c.if-count-eq0.false) in
-    one_more (min (length read) (most_profile + 4)) (most_profile + 4) _ _ _ c.in-Ok.count c.loop-piece.invariant.few c.in-Ok.ensures.read some (omega (arith, short))
+    one_more (min (length read) (most_profile + 4)) (most_profile + 4) _ _ _ c.in-Ok.count c.loop-piece.invariant.few counted some (omega (arith, short))
 
 pub loop-piece-smaller : goal.loop-piece-smaller
 loop-piece-smaller g c =
@@ -174,6 +183,7 @@ loop-piece-smaller g c =
 
 pub loop-piece-preserved : goal.loop-piece-preserved
 loop-piece-preserved g c =
+    let counted = counts_piece (g.R.Source.told c.loop-piece.reader) (g.R.Source.told c.read.new.self) c.in-Ok.count c.read.new.buffer c.in-Ok.ensures.read (omega arith) in
     let read = c.loop-piece.bytes.items in
     let none : NoMark read = c.loop-piece.invariant.none in
     let fit : MayFit read = subst MayFit c.as_slice.ensures.value (c.may_fit.ensures.0 c.loop-piece-test.true) in
@@ -182,7 +192,7 @@ loop-piece-preserved g c =
     let piece = take c.in-Ok.count c.read.new.buffer in
     let room : length c.read.new.buffer ≤ most_piece = omega arith in
     let reads = reads_piece g.R.Source.told c.args.reader.now c.loop-piece.reader c.read.new.self
-    read c.in-Ok.count c.read.new.buffer c.loop-piece.invariant.reads none fit c.in-Ok.ensures.within room some c.in-Ok.ensures.bytes.0 c.in-Ok.ensures.given c.in-Ok.ensures.read in
+    read c.in-Ok.count c.read.new.buffer c.loop-piece.invariant.reads none fit c.in-Ok.ensures.within room some c.in-Ok.ensures.bytes.0 c.in-Ok.ensures.given counted in
     let items = c.extend_from_slice.new.self.items in
     let items_are : items ≡ read ++ piece = grown c.extend_from_slice.result c.is_err.result items read piece c.is_err.ensures.value c.if-is_err.false c.extend_from_slice.ensures.items in
     let longer : length items ≡ length read + c.in-Ok.count =
@@ -192,7 +202,7 @@ loop-piece-preserved g c =
       failures = c.in-Ok.ensures.failed ∙ c.loop-piece.invariant.failures;
       not_ended = told_no_end _ _ c.in-Ok.count c.read.new.buffer c.in-Ok.ensures.ended some ∙ c.loop-piece.invariant.not_ended;
       counted = sym c.as_slice-in-loop-piece.ensures.len ∙ ap length c.as_slice-in-loop-piece.ensures.value;
-      few = one_more (min (length read) (most_profile + 4)) (min (length items) (most_profile + 4)) _ _ _ c.in-Ok.count c.loop-piece.invariant.few c.in-Ok.ensures.read some (omega (arith, short, some, longer));
+      few = one_more (min (length read) (most_profile + 4)) (min (length items) (most_profile + 4)) _ _ _ c.in-Ok.count c.loop-piece.invariant.few counted some (omega (arith, short, some, longer));
       reads = all_reads;
       none = subst NoMark c.as_slice-in-loop-piece.ensures.value c.in_default.ensures.none;
     }

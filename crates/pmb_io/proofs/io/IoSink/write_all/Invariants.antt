@@ -6,5 +6,6 @@ use Rattle.pmb_io.proofs.io.IoSink.write_all.Given as goal
 abbrev pub invariant-loop : goal.invariant-loop
 invariant-loop g l = record {
   failures : l.self.failures ≡ l.fn.self.failures;
+  idle : l.self.idle ≡ l.fn.self.idle;
   so_far : WritesUpTo (g.T.Write.contents l.fn.self.inner) (g.T.Write.contents l.self.inner) l.fn.bytes l.rest;
 }
