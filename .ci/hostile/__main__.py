@@ -1,0 +1,74 @@
+"""Tries the built program under hostile conditions, as `python3 .ci/hostile PROGRAM`: memory that is
+refused, streams that fail or stand in odd places, senseless input, hostile profiles. A shim
+(`../failing.c`), which the C compiler makes in a temporary folder, lets the calls fail. Prints a
+line for each subject and each failure; the status is 1 where anything failed."""
+
+import os
+import shutil
+import subprocess
+import sys
+import tempfile
+
+sys.dont_write_bytecode = True
+
+from program import Program, Report  # noqa: E402
+import memory  # noqa: E402
+import streams  # noqa: E402
+import places  # noqa: E402
+import senseless  # noqa: E402
+import profiles  # noqa: E402
+
+SUBJECTS = [
+    memory.faulty_profiles,
+    memory.refuse_memory,
+    streams.small_reads,
+    streams.small_writes,
+    streams.interruptions,
+    streams.large_streams,
+    streams.failing_standard_error,
+    places.odd_places,
+    senseless.senseless_inputs,
+    profiles.hostile_profiles,
+]
+
+
+def compiled_shim(folder):
+    """Compiles the shim; returns its path, or None where that fails."""
+    source = os.path.join(os.path.dirname(os.path.dirname(os.path.abspath(__file__))), "failing.c")
+    shim = os.path.join(folder, "failing.so")
+    compiler = shutil.which("cc") or shutil.which("gcc")
+    if compiler is None:
+        print("hostile: there is no C compiler (cc), so nothing was tried")
+        return None
+    built = subprocess.run([compiler, "-O1", "-shared", "-fPIC", "-o", shim, source])
+    if built.returncode != 0:
+        print("hostile: the C compiler refuses .ci/failing.c, so nothing was tried")
+        return None
+    return shim
+
+
+def processor_seconds():
+    """What this and the programs that it ran have used."""
+    return sum(os.times()[:4])
+
+
+def main(words):
+    if len(words) != 1 or not os.access(words[0], os.X_OK):
+        print("usage: python3 .ci/hostile PROGRAM")
+        return 2
+    report = Report()
+    with tempfile.TemporaryDirectory() as folder:
+        shim = compiled_shim(folder)
+        if shim is None:
+            return 1
+        program = Program(words[0], shim, folder)
+        for subject in SUBJECTS:
+            begun = processor_seconds()
+            line, *figures = subject(program, report).split("\n")
+            taken = f"({processor_seconds() - begun:.0f} s of processor time)"
+            print("\n".join([f"{line} {taken}", *figures]), flush=True)
+    print(f"hostile: {report.passed} passed, {report.failed} failed")
+    return 1 if report.failed else 0
+
+
+sys.exit(main(sys.argv[1:]))

@@ -1,0 +1,85 @@
+"""Refused memory: each allocation of a run is refused in turn."""
+
+import collections
+
+from inputs import BAD_WORDS, BEHIND_A_PROFILE, CONVERSIONS, FAULTY, FRONT, HELP, UNDER_SAMPLE
+from program import name_of, told
+
+NO_MEMORY = b"pmb: no memory\n"
+# One run: its words and input, how long the profile in front is, whether a front of its output may
+# be out where it wants memory, and what else it is run under.
+Case = collections.namedtuple("Case", "words text front may_tell faults")
+
+
+def cases():
+    for words, rows in UNDER_SAMPLE + CONVERSIONS:
+        yield Case(words, b"".join(rows), 0, False, {})
+    for words, rows in BEHIND_A_PROFILE:
+        # Read byte by byte, so that what was read beyond the profile shows.
+        yield Case(words, FRONT + b"".join(rows), len(FRONT), False, {"move_at_most": 1})
+    for text, _ in FAULTY:
+        for words, _ in BEHIND_A_PROFILE:
+            yield Case(words, text, len(text), False, {})
+    for words in HELP:
+        yield Case(words, b"", 0, True, {})
+    for words in BAD_WORDS:
+        yield Case(words, b"", 0, False, {})
+
+
+def wants_memory(case, answer, ordinary):
+    """Whether an answer is the one for want of memory, with nothing done before it."""
+    may_be_out = ordinary.out.startswith(answer.out) if case.may_tell else answer.out == b""
+    is_unread = answer.counts.bytes_read <= case.front and (case.front or answer.counts.reads == 0)
+    return answer.status == 4 and answer.err == NO_MEMORY and may_be_out and is_unread
+
+
+def refuse_each(program, report, case, ordinary, later):
+    """Refuses the first allocation, then the second, until a run meets none; returns how many were
+    refused, and how many runs did without."""
+    without, at = 0, 1
+    while True:
+        faults = {**case.faults, "fail_allocation": at, **later}
+        answer = program.run(case.words, case.text, **faults)
+        is_ordinary = told(answer) == told(ordinary)
+        met = answer.counts.allocations >= at
+        report.holds(is_ordinary or met and wants_memory(case, answer, ordinary),
+                     name_of(case.words, faults),
+                     "the ordinary answer, or status 4, 'pmb: no memory', nothing written or read",
+                     (told(answer), answer.counts))
+        if not met:
+            return at - 1, without
+        without += is_ordinary
+        at += 1
+
+
+def refuse_memory(program, report):
+    figures, refusals = [], 0
+    for case in cases():
+        ordinary = program.run(case.words, case.text, **case.faults)
+        name = name_of(case.words)
+        report.holds(ordinary.counts.allocations > 0, name, "an allocation", ordinary.counts)
+        for later in ({}, {"fail_later": 1}):
+            refused, without = refuse_each(program, report, case, ordinary, later)
+            report.same(name + " after refused memory", told(ordinary),
+                        told(program.run(case.words, case.text, **case.faults)))
+            refusals += refused
+            if not later:
+                figures.append(f"    {ordinary.counts.allocations} allocations, {without} of them "
+                               f"dispensable: {describe(case)}")
+    return "\n".join([f"refused memory: {len(figures)} runs, {refusals} allocations refused, each "
+                      "alone and with all later ones", *figures])
+
+
+def describe(case):
+    behind = " with a profile" if case.front else ""
+    is_faulty = [text for text, _ in FAULTY].count(case.text) > 0
+    return name_of(case.words) + (" with a faulty profile" if is_faulty else behind)
+
+
+def faulty_profiles(program, report):
+    """The ordinary answers to the faulty profiles, to which those under refused memory are held."""
+    for text, fault in FAULTY:
+        for words, _ in BEHIND_A_PROFILE:
+            report.same(name_of(words) + " with a faulty profile", (2, b"", fault),
+                        told(program.run(words, text)))
+    return f"faulty profiles: {len(FAULTY)}, each by its name"
