@@ -1,6 +1,6 @@
 //! What a table of a profile says of one command.
 
-ghost use Rattle.std.specs.Prelude.{◌≡◌, ◌⊎◌, Ok, Err, IfOk, IfSome, not, option_map, map, codes, nat_eq};
+ghost use Rattle.std.specs.Prelude.{◌≡◌, ◌≢◌, ◌⊎◌, ◌%◌, Ok, Err, IfOk, IfErr, IfSome, length, not, option_map, map, codes, nat_eq};
 ghost use Rattle.std.specs.List.{list_any};
 ghost use Rattle.toml.specs.Data.{as_bool};
 ghost use Rattle.toml.specs.View.{view, table_view};
@@ -107,6 +107,7 @@ fn initial_of(
     text: Option<&str>,
 ) -> Result<Option<Vec<u8>>, FaultKind>
     ensures read { (result ≡ Err FaultKind.OutOfMemory) ⊎ (bind result (λ o. Ok (option_map (λ v. v.items) o)) ≡ initial_of (entry_parts entry.now) (option_map (λ t. t.now) text.entry)) }
+    ensures odd { IfSome (option_map (λ t. t.now) text.entry) (λ digits. length digits % 2 ≡ 1 → result ≡ Err FaultKind.BadInitial) }
     ensures fits { IfOk result (λ o. IfSome (option_map (λ v. v.items) o) (IsInitial (entry_parts entry.now))) }
 {
     match text {
@@ -115,9 +116,12 @@ fn initial_of(
     }
 }
 
-/// The command of a value, where earlier commands of the device have the codes `taken`.
+/// The command of a value, where earlier commands of the device have the codes `taken`. Memory is
+/// taken for `initial` alone, after all other rules: where it is refused, each fault but `BadInitial`
+/// is told nonetheless.
 pub fn read_command(alloc: Global, value: &Value, taken: &[u8]) -> Result<Command, FaultKind>
     ensures read { (result ≡ Err FaultKind.OutOfMemory) ⊎ (bind result (λ c. Ok (command_parts c)) ≡ command_of taken.now (view value.now)) }
+    ensures told { IfErr (command_of taken.now (view value.now)) (λ what. what ≢ FaultKind.BadInitial → result ≡ Err what) }
     ensures accepted { IfOk result (λ c. IsCommand (command_parts c)) }
     ensures own_code { IfOk result (λ c. IsNew c.entry.code taken.now) }
 {

@@ -1,6 +1,6 @@
 //! The bytes that a register begins with.
 
-ghost use Rattle.std.specs.Prelude.{◌≡◌, ◌⊎◌, Ok, Err, IfOk};
+ghost use Rattle.std.specs.Prelude.{◌≡◌, ◌≢◌, ◌⊎◌, ◌%◌, ◌↔◌, length, Ok, Err, IfOk};
 ghost use Rattle.pmb_command.specs.Bus.{IsInitial};
 ghost use Rattle.pmb_command.specs.Entry.{entry_parts};
 ghost use Rattle.pmb_keys.specs.Rules.{bind, or_fault};
@@ -12,20 +12,36 @@ use hex::FromHexError;
 use pmb_command::{Entry, is_length, register_form};
 use std::alloc::Global;
 
-/// The bytes that a text of hexadecimal digits spells.
+/// Why a text of digits could not be read: there was no memory for its bytes, or it is not pairs of
+/// hexadecimal digits.
+fn fault_of(error: FromHexError) -> FaultKind
+    ensures memory { (result ≡ FaultKind.OutOfMemory) ↔ (error ≡ FromHexError.OutOfMemory) }
+    ensures digits { (result ≡ FaultKind.BadInitial) ↔ (error ≢ FromHexError.OutOfMemory) }
+{
+    match error {
+        FromHexError::OutOfMemory => FaultKind::OutOfMemory,
+        FromHexError::InvalidHexCharacter { .. } => FaultKind::BadInitial,
+        FromHexError::OddLength => FaultKind::BadInitial,
+        FromHexError::InvalidStringLength => FaultKind::BadInitial,
+    }
+}
+
+/// The bytes that a text of hexadecimal digits spells. An odd number of digits is refused without
+/// memory.
 fn hex_bytes(alloc: Global, text: &str) -> Result<Vec<u8>, FaultKind>
-    ensures { (result ≡ Err FaultKind.OutOfMemory) ⊎ (bind result (λ v. Ok v.items) ≡ or_fault FaultKind.BadInitial (hex_bytes text.now)) }
+    ensures read { (result ≡ Err FaultKind.OutOfMemory) ⊎ (bind result (λ v. Ok v.items) ≡ or_fault FaultKind.BadInitial (hex_bytes text.now)) }
+    ensures odd { length text.now % 2 ≡ 1 → result ≡ Err FaultKind.BadInitial }
 {
     match hex::decode(alloc, text) {
         Ok(bytes) => Ok(bytes),
-        Err(FromHexError::OutOfMemory) => Err(FaultKind::OutOfMemory),
-        Err(_) => Err(FaultKind::BadInitial),
+        Err(error) => Err(fault_of(error)),
     }
 }
 
 /// The bytes that a command's register begins with; PAGE and VOUT_MODE begin as the device says.
 pub(crate) fn initial_bytes(alloc: Global, entry: &Entry, text: &str) -> Result<Vec<u8>, FaultKind>
     ensures read { (result ≡ Err FaultKind.OutOfMemory) ⊎ (bind result (λ v. Ok v.items) ≡ initial_bytes (entry_parts entry.now) text.now) }
+    ensures odd { length text.now % 2 ≡ 1 → result ≡ Err FaultKind.BadInitial }
     ensures fits { IfOk result (λ v. IsInitial (entry_parts entry.now) v.items) }
 {
     if entry.code == 0x00 || entry.code == 0x20 {

@@ -86,8 +86,12 @@ profile_of ms = bind (placed at_top (device_items ms)) (λ ds. devices_after [] 
 abbrev pub IsDocument : List ℕ → Members → Type 0
 IsDocument text ms = IsUtf8 text × (parse_document text ≡ Some ms)
 
+-- a text is no TOML document
+abbrev pub HasNoDocument : List ℕ → Type 0
+HasNoDocument text = (ms : Members) → IsDocument text ms → ⊥
+
 -- What a text says as a profile: that of its table, or NotToml where it is no document.
 abbrev pub Says : List ℕ → Result (List DeviceParts) ProfileFault → Type 0
 Says text answer =
     ((ms : Members) × IsDocument text ms × (answer ≡ profile_of ms))
-    ⊎ (((ms : Members) → IsDocument text ms → ⊥) × (answer ≡ Err (at_top faults.NotToml)))
+    ⊎ (HasNoDocument text × (answer ≡ Err (at_top faults.NotToml)))

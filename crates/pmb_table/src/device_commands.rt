@@ -99,7 +99,7 @@ fn read_next(
     taken.push(code);
     match commands.put(command) {
         Ok(()) => Ok(()),
-        Err(_) => Err(place::outside(FaultKind::OutOfMemory)),
+        Err(error) => Err(place::no_memory(error)),
     }
 }
 

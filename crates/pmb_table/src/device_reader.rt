@@ -1,13 +1,15 @@
 //! The devices of a profile, as its tables tell of them.
 
-ghost use Rattle.std.specs.Prelude.{◌≡◌, ◌⊎◌, ◌<◌, ◌≤◌, [], map, length, Ok, Err, IfOk};
+ghost use Rattle.std.specs.Prelude.{◌≡◌, ◌⊎◌, ◌<◌, ◌≤◌, [], map, length, Ok, Err, IfOk, IfErr};
 ghost use Rattle.std.specs.List.{AllByRecursion};
 ghost use Rattle.toml.specs.View.{view, items_view};
 ghost use Rattle.pmb_command.specs.Bus.{IsDevice};
 ghost use Rattle.pmb_command.specs.Parts.{HaveOwnAddresses};
 ghost use Rattle.pmb_command.specs.Parts.{IsNew};
-ghost use Rattle.pmb_table.specs.Profile.{at_top, device_of, devices_after};
-ghost use Rattle.pmb_keys.specs.Rules.{bind};
+ghost use Rattle.pmb_table.specs.Profile.{at_device, at_top, device_of, devices_after};
+ghost use Rattle.toml.specs.Data.{as_table};
+ghost use Rattle.pmb_keys.specs.DeviceKeys.{device_keys};
+ghost use Rattle.pmb_keys.specs.Rules.{bind, typed};
 
 use crate::device_commands::{first_commands, read_commands};
 use crate::device_profile::DeviceProfile;
@@ -30,7 +32,8 @@ fn addresses_of(devices: &[DeviceProfile]) -> ArrayVec<u8, 64>
     addresses
 }
 
-/// Reads the device of a value that comes after other devices.
+/// Reads the device of a value that comes after other devices. A fault of its keys is told before
+/// memory is taken.
 fn read_device(
     alloc: Global,
     before: &[DeviceProfile],
@@ -38,6 +41,7 @@ fn read_device(
 ) -> Result<DeviceProfile, ProfileFault>
     requires { length before.now ≤ 64 }
     ensures read { (result ≡ Err (at_top FaultKind.OutOfMemory)) ⊎ (result ≡ device_of before.now (view value.now)) }
+    ensures keys { IfErr (bind (typed as_table (view value.now)) (device_keys (map (λ x. x.address) before.now))) (λ what. result ≡ Err (at_device (length before.now) what)) }
     ensures device { IfOk result IsDevice }
     ensures own_address { IfOk result (λ d. IsNew d.address (map (λ x. x.address) before.now)) }
 {
@@ -49,7 +53,7 @@ fn read_device(
     };
     let first = match first_commands(alloc, keys.standard) {
         Ok(first) => first,
-        Err(_) => return Err(place::outside(FaultKind::OutOfMemory)),
+        Err(error) => return Err(place::no_memory(error)),
     };
     match read_commands(alloc, number, first, keys.commands) {
         Ok(commands) => Ok(DeviceProfile::new(&keys, commands)),
@@ -76,7 +80,7 @@ pub(crate) fn read_devices(
         };
         match devices.push(device) {
             Ok(()) => {}
-            Err(_) => return Err(place::outside(FaultKind::OutOfMemory)),
+            Err(failed) => return Err(place::no_memory(failed.into())),
         }
     }
     Ok(devices)

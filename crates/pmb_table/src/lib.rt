@@ -18,6 +18,7 @@ mod command_map;
 mod device_commands;
 mod device_profile;
 mod device_reader;
+mod document;
 mod fault;
 pub mod laws;
 mod place;

@@ -5,6 +5,7 @@ ghost use Rattle.pmb_table.specs.Profile.{at_top, at_device, at_command};
 
 use crate::fault::ProfileFault;
 use pmb_keys::FaultKind;
+use std::alloc::AllocError;
 
 /// A fault outside of all devices.
 pub(crate) fn outside(what: FaultKind) -> ProfileFault
@@ -15,6 +16,13 @@ pub(crate) fn outside(what: FaultKind) -> ProfileFault
         device: None,
         command: None,
     }
+}
+
+/// The want of memory that an allocation met. It has no place.
+pub(crate) fn no_memory(_error: AllocError) -> ProfileFault
+    ensures { result ≡ at_top FaultKind.OutOfMemory }
+{
+    outside(FaultKind::OutOfMemory)
 }
 
 /// A fault in a device, outside of its commands.

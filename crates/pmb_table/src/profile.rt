@@ -1,6 +1,6 @@
 //! The devices of a bus, as a profile describes them.
 
-ghost use Rattle.std.specs.Prelude.{◌≡◌, ◌⊎◌, ◌≤◌, length, option_map, slice_get, Ok, Err, IfOk, IfSome};
+ghost use Rattle.std.specs.Prelude.{◌≡◌, ◌⊎◌, ◌≤◌, length, option_map, slice_get, Ok, Err, IfOk, IfErr, IfSome, IsUtf8};
 ghost use Rattle.std.specs.List.{AllByRecursion};
 ghost use Rattle.toml.specs.View.{view, items_view, table_view};
 ghost use Rattle.pmb_command.specs.Parts.{device_with};
@@ -11,6 +11,7 @@ ghost use Rattle.pmb_command.specs.Parts.{HaveOwnAddresses};
 
 use crate::device_profile::DeviceProfile;
 use crate::device_reader::read_devices;
+use crate::document::read_table;
 use crate::fault::ProfileFault;
 use crate::place;
 use pmb_keys::{FaultKind, array_of, only, present};
@@ -61,9 +62,10 @@ fn device_values(table: &Table) -> Result<&[Value], FaultKind>
     array_rule(present(table, "device")?)
 }
 
-/// Reads the devices of a document's table.
+/// Reads the devices of a document's table. A fault at its top is told before memory is taken.
 fn read_profile(alloc: Global, table: &Table) -> Result<Profile, ProfileFault>
-    ensures { (result ≡ Err (at_top FaultKind.OutOfMemory)) ⊎ (result ≡ profile_of (table_view table.now)) }
+    ensures read { (result ≡ Err (at_top FaultKind.OutOfMemory)) ⊎ (result ≡ profile_of (table_view table.now)) }
+    ensures top { IfErr (device_items (table_view table.now)) (λ what. result ≡ Err (at_top what)) }
 {
     let values = match device_values(table) {
         Ok(values) => values,
@@ -79,19 +81,14 @@ impl Profile {
     /// Reads a profile, a TOML document in UTF-8. Where several things are wrong with it, the fault
     /// is the first one in the order of the rules, with the device and the command that it lies in.
     /// Where memory is refused before any fault is found, the answer is `OutOfMemory`, without a
-    /// place.
+    /// place; a text that is not UTF-8 is `NotToml` whatever memory there is.
     pub fn from_toml(alloc: Global, text: &[u8]) -> Result<Profile, ProfileFault>
         ensures says { (result ≡ Err (at_top FaultKind.OutOfMemory)) ⊎ Says text.now result }
+        ensures utf8 { ¬ IsUtf8 text.now → result ≡ Err (at_top FaultKind.NotToml) }
     {
-        match toml::table_from_slice(alloc, text) {
+        match read_table(alloc, text) {
             Ok(table) => read_profile(alloc, &table),
-            Err(error) => {
-                if error.is_memory() {
-                    Err(place::outside(FaultKind::OutOfMemory))
-                } else {
-                    Err(place::outside(FaultKind::NotToml))
-                }
-            }
+            Err(what) => Err(place::outside(what)),
         }
     }
 

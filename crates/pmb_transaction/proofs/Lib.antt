@@ -11,7 +11,7 @@ pub mod Fronts
 pub mod Addresses
 pub mod Beginnings
 pub mod Completions
-pub mod Rows
+pub mod WorkedRows
 pub mod Readings
 pub mod Turns
 pub mod Ends

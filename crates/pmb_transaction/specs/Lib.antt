@@ -5,5 +5,6 @@ pub mod Capture
 pub mod Viable
 pub mod Following
 pub mod Reason
+pub mod Rows
 pub mod Reading
 pub mod Turns

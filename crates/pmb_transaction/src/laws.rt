@@ -26,6 +26,7 @@ pub use crate::reading::{
     captures_go_on, captures_read_as_written, each_list_has_a_reading, fronts_read_as_fronts,
     one_reading,
 };
+pub use crate::rows::reasons_of_rows;
 pub use crate::viability::{
     bytes_follow_inside_a_body, bytes_may_be_refused, bytes_taken_begin_a_body, events_take_turns,
     fronts_are_viable, packets_begin_with_start, packets_go_no_further, viability_is_decided,

@@ -21,6 +21,7 @@ pub mod laws;
 mod part;
 mod reading;
 mod reason;
+mod rows;
 mod transaction;
 mod viability;
 

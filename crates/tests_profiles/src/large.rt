@@ -1,7 +1,7 @@
 //! Large profiles.
-use crate::rows::Answer::{Devices, Top};
+use crate::rows::Answer::{Device, Devices, Top};
 use crate::rows::{Answer, check_text};
-use pmb_table::FaultKind::{MissingKey, WrongType};
+use pmb_table::FaultKind::{MissingKey, NotToml, WrongType};
 use pmb_table::{Entry, Profile};
 use std::alloc::{AllocError, Global};
 use std::process::Abort;
@@ -64,6 +64,35 @@ fn all_devices_with_all_commands(rt: HostRuntime) -> Result<(), Fail> {
         check_entry(&rt, name, last.entry(code), code);
     }
     assert!(rt; last.entry_at(256).is_none());
+    Ok(())
+}
+
+/// Arrays, one in another, so many deep.
+fn nested(alloc: Global, deep: usize) -> Result<String, AllocError> {
+    let mut text = String::new(alloc);
+    text.push_str("device = ")?;
+    for _ in 0..deep {
+        text.push_str("[")?;
+    }
+    for _ in 0..deep {
+        text.push_str("]")?;
+    }
+    Ok(text)
+}
+
+/// How deep arrays are nested, and what that is answered with.
+static NESTED: [(usize, Answer); 3] = [
+    (80, Device(0, WrongType)),
+    (81, Top(NotToml)),
+    (524_283, Top(NotToml)),
+];
+
+#[test]
+fn arrays_in_arrays(rt: HostRuntime) -> Result<(), Fail> {
+    for &(deep, answer) in &NESTED {
+        let text = nested(rt.alloc(), deep)?;
+        check_text(&rt, rt.alloc(), "arrays", text.as_bytes(), answer);
+    }
     Ok(())
 }
 

@@ -7,7 +7,7 @@ use pmb_table::FaultKind::{
 };
 
 /// The name of a row, a text, and what it is answered with.
-static TEXTS: [(&str, &str, Answer); 53] = [
+static TEXTS: [(&str, &str, Answer); 54] = [
     ("no devices", "device = []", Devices(0)),
     (
         "a comment, and no devices",
@@ -56,6 +56,7 @@ static TEXTS: [(&str, &str, Answer); 53] = [
         Top(NotToml),
     ),
     ("a key twice", "device = []\ndevice = []", Top(NotToml)),
+    ("a float too large", "device = 1e999", Top(NotToml)),
     (
         "an end within a text",
         "device = [{ address = 0x10, pec = 'off",
