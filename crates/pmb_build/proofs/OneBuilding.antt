@@ -1,13 +1,13 @@
 -- What is built of bytes is one text and one tally.
-use Rattle.std.proofs.Common.{◌≡◌, ℕ, ◌+◌, true, false, cond, eqb, List, [], ◌∷◌, ◌++◌, map, refl, sym, ◌∙◌, ap, subst, append_assoc}
+use Rattle.std.proofs.Common.{◌≡◌, ℕ, ◌+◌, List, [], ◌∷◌, ◌++◌, refl, sym, ◌∙◌, ap, subst, append_assoc}
 use Rattle.std.specs.Prelude.{count_by}
-use Rattle.std.proofs.lemmas.List.{map-append}
 use Rattle.pmb_bus.specs.declared.event.Event.{Event}
 use Rattle.pmb_command.specs.Parts.{DeviceParts}
 use Rattle.pmb_io.specs.Count.{capped}
-use Rattle.pmb_io.specs.Lines.{TextLine, cut, ended_line, ended_lines, last_lines, line_feed, lines_of, longer}
+use Rattle.pmb_io.specs.Lines.{TextLine, ended_lines}
 use Rattle.pmb_io.specs.Lines as lines
 use Rattle.pmb_io.specs.declared.tally.Tally.{Tally}
+use Rattle.pmb_io.proofs.LineFronts.{ended_lines_go_on}
 use Rattle.pmb_transaction.specs.Packet.{Packet}
 use Rattle.pmb_transaction.specs.Transaction.{TransactionData}
 use Rattle.pmb_line.specs.LineFault.{IsLineFault, Parses}
@@ -95,32 +95,7 @@ module _ (profile : List DeviceParts) (one_transaction : (ws : List (List ℕ)) 
       let same : answers_behind 0 f.front ≡ a = ap (answers_behind 0) (same_each given f.front x.answers f.each x.each) ∙ sym x.whole in
       (on.0, y.whole ∙ ap (answers_behind 0) f.split ∙ on.1 ∙ ap (λ text. text ++ on.0) same)
 
-  -- ---- the lines of a text and of a longer one
-
-  -- the lines of a cut begin with some
-  abbrev LinesGoOn : List (List ℕ) → List (List ℕ) → Type 0
-  LinesGoOn front all = (others : List (List ℕ)) × (all ≡ front ++ others)
-
-  longer_goes_on : (byte : ℕ) (front others all : List (List ℕ)) (rest more : List ℕ) → all ≡ front ++ others → LinesGoOn (longer byte front rest).ended (longer byte all more).ended
-  longer_goes_on byte [] others all rest more is = ((longer byte all more).ended, refl)
-  longer_goes_on byte (line ∷ front) others all rest more is = (others, ap (λ ls. (longer byte ls more).ended) is)
-
-  cut_goes_on : (bytes more : List ℕ) → LinesGoOn (cut bytes).ended (cut (bytes ++ more)).ended
-  unfolding cut
-  cut_goes_on [] more = ((cut more).ended, refl)
-  cut_goes_on (byte ∷ bytes) more =
-      let on = cut_goes_on bytes more in
-      elim (eqb byte line_feed) as (λ v. LinesGoOn (cond v (record { ended = [] ∷ (cut bytes).ended; rest = (cut bytes).rest }) (longer byte (cut bytes).ended (cut bytes).rest)).ended
-      (cond v (record { ended = [] ∷ (cut (bytes ++ more)).ended; rest = (cut (bytes ++ more)).rest }) (longer byte (cut (bytes ++ more)).ended (cut (bytes ++ more)).rest)).ended) [
-        | true ↦ (on.0, ap (λ ls. [] ∷ ls) on.1)
-        | false ↦ longer_goes_on byte (cut bytes).ended on.0 (cut (bytes ++ more)).ended (cut bytes).rest (cut (bytes ++ more)).rest on.1
-      ]
-
   pub ended_first : (bytes more a b : List ℕ) (tally : Tally) → BuildsEnded profile bytes a → BuildsInput profile tally (bytes ++ more) b → GoesOn a b
   ended_first bytes more a b tally x y =
-      let on = cut_goes_on bytes more in
-      let last = last_lines most_build_line (cut (bytes ++ more)).rest in
-      let split : lines_of most_build_line (bytes ++ more) ≡ ended_lines most_build_line bytes ++ (map (ended_line most_build_line) on.0 ++ last) =
-      ap (λ ls. map (ended_line most_build_line) ls ++ last) on.1 ∙ ap (λ ls. ls ++ last) (map-append (ended_line most_build_line) (cut bytes).ended on.0)
-      ∙ append_assoc (ended_lines most_build_line bytes) (map (ended_line most_build_line) on.0) last in
-      built_first (ended_lines most_build_line bytes) (map (ended_line most_build_line) on.0 ++ last) a b x (subst (λ ls. BuildsLines profile ls b) split y.given)
+      let on = ended_lines_go_on most_build_line bytes more in
+      built_first (ended_lines most_build_line bytes) on.0 a b x (subst (λ ls. BuildsLines profile ls b) on.1 y.given)
