@@ -7,3 +7,4 @@ pub mod Taking
 pub mod Putting
 pub mod Running
 pub mod Shown
+pub mod SomeText

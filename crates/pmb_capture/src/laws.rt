@@ -12,8 +12,8 @@ ghost use Rattle.pmb_transaction.specs.Transaction.{TransactionData};
 ghost use Rattle.pmb_capture.specs.Check.{Checks};
 ghost use Rattle.pmb_capture.specs.Show.{Shows, noted_lines};
 
-use pmb_bus::laws::{one_bad_word, one_spelling, spelled_has_no_bad_word};
-use pmb_transaction::laws::{captures_read_as_written, one_reading};
+use pmb_bus::laws::{ended_words_lead_on, one_bad_word, one_spelling, spelled_has_no_bad_word};
+use pmb_transaction::laws::{captures_read_as_written, each_list_has_a_reading, one_reading};
 
 /// What is shown of bytes, and its tally, is a function of the bytes under a profile that is accepted.
 pub fn one_showing()
@@ -35,6 +35,24 @@ pub fn one_check()
     one_spelling();
     one_bad_word();
     spelled_has_no_bad_word();
+}
+
+/// Something is shown of any bytes, with a tally, under a profile that is accepted.
+pub fn some_showing()
+    ensures { (profile : List DeviceParts) (bytes : List ℕ) → IsBus profile
+        → (text : List ℕ) × (tally : Tally) × Shows profile bytes text tally }
+{
+    each_list_has_a_reading();
+    ended_words_lead_on();
+}
+
+/// And something is written of them in a check.
+pub fn some_check()
+    ensures { (profile : List DeviceParts) (bytes : List ℕ) → IsBus profile
+        → (text : List ℕ) × (tally : Tally) × Checks profile bytes text tally }
+{
+    each_list_has_a_reading();
+    ended_words_lead_on();
 }
 
 /// The capture of transactions, however it is spelled, is shown as their lines, each with its note
