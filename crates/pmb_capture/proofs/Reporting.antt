@@ -90,7 +90,7 @@ module _ (profile : List DeviceParts) where
       → Reports standing event [] after
   reports_more (Open n events) event after reading takes = (
     Open n (events ++ event ∷ []),
-    takes,
+    takes.1,
     record {
       reading = tt;
       whole = refl;

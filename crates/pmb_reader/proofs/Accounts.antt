@@ -141,7 +141,7 @@ module _ (profile : List DeviceParts) where
       → IsDue due (event ∷ []) → Account events due outcomes standing → ReaderTakes profile standing event took.More after
       → HasRead profile after (events ++ event ∷ []) AnyEvent outcomes
   goes_on_at after events due outcomes event (Open n front) is account takes =
-      has_read after (events ++ event ∷ []) AnyEvent outcomes (Open n (front ++ event ∷ [])) takes
+      has_read after (events ++ event ∷ []) AnyEvent outcomes (Open n (front ++ event ∷ [])) takes.1
       (open_goes_on events due outcomes n front (event ∷ []) account)
   goes_on_at after events due outcomes event (Held n refusal) is account takes = absurd takes
   goes_on_at after events due outcomes event (Passing n) is account takes =

@@ -15,7 +15,7 @@ use Rattle.pmb_reader.specs.declared.reader.Took.TheVariants as answers
 use Rattle.pmb_reader.specs.declared.refusal.Refusal.{Refusal}
 use Rattle.pmb_reader.specs.Refusal.{refusal_data}
 use Rattle.pmb_reader.specs.Reader.{Standing, Open, Held, Passing, ReaderStandsAt, IsHeldAt, ReaderTakes, behind_passed, last_read}
-use Rattle.pmb_reader.specs.Feed.{Leads, ReaderNeedsMore, EndsPacket, ReaderRefuses, AnswersAgain}
+use Rattle.pmb_reader.specs.Feed.{IsUnderWayAt, Leads, ReaderNeedsMore, EndsPacket, ReaderRefuses, AnswersAgain}
 use Rattle.pmb_reader.proofs.Stopless.{no_stop_in_none, no_stop_in_more}
 
 -- ---- one event more
@@ -64,7 +64,7 @@ module _ (profile : List DeviceParts) where
       subst (λ (s : Standing). ReaderTakes profile s event answers.More after) leads takes in record {
         behind = Open n ((events ++ piece) ++ event ∷ []);
         leads = ap (λ (es : List Event). Open n es) (append_assoc events piece (event ∷ []));
-        stands = took;
+        stands = took.1;
       }
   led_on (Held n refusal) behind piece event after leads takes =
       absurd (subst (λ (s : Standing). ReaderTakes profile s event answers.More after) leads.1 takes)
@@ -82,7 +82,7 @@ module _ (profile : List DeviceParts) where
           ap (λ (es : List Event). es ++ event ∷ []) leads.3 ∙ append_assoc leads.0 (Stop ∷ leads.1) (event ∷ []),
           refl,
         );
-        stands = took;
+        stands = took.1;
       }
 
 -- ---- a loop over a piece
@@ -186,6 +186,12 @@ module _ (before now : Reader) (piece : List Event) (i : ℕ) (d : Event) (fed :
 not_held : (standing : Standing) → IsHeldAt standing None → (n : ℕ) (refusal : RefusalData) → standing ≡ Held n refusal → ⊥
 not_held standing none n refusal is = subst (λ (s : Standing). IsHeldAt s None) is none
 
+-- what some packet begins with, where a reader reads one
+under_way_at : (profile : List DeviceParts) (reader : Reader) (standing : Standing) → ReaderStandsAt profile reader standing → IsUnderWayAt profile standing
+under_way_at profile reader (Open n events) stands = stands.inside.goes
+under_way_at profile reader (Held n refusal) stands = tt
+under_way_at profile reader (Passing n) stands = tt
+
 pub fed_all : (before now : Reader) (piece : List Event) (i : ℕ) → FedTo before piece i now → i ≡ length piece
     → (profile : List DeviceParts) (standing : Standing) → ReaderStandsAt profile before standing → ReaderNeedsMore profile standing piece (length piece) now
 fed_all before now piece i fed last profile standing at =
@@ -195,6 +201,7 @@ fed_all before now piece i fed last profile standing at =
       all = refl;
       behind = here.behind;
       leads = subst (λ (front : List Event). Leads standing front here.behind) whole here.leads;
+      under_way = under_way_at profile now here.behind here.stands;
       stands = here.stands;
     }
 

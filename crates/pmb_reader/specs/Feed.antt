@@ -22,12 +22,19 @@ Leads (Passing n) piece behind =
     (HasNoStop piece × (behind ≡ Passing (n + length piece)))
     ⊎ ((passed : List Event) × (rest : List Event) × HasNoStop passed × (piece ≡ passed ++ Stop ∷ rest) × (behind ≡ Open (n + length passed + 1) rest))
 
+-- where a packet is read, some packet begins with its events so far, and they hold no whole one
+abbrev pub IsUnderWayAt : List DeviceParts → Standing → Type 0
+IsUnderWayAt profile (Open n events) = IsUnderWay profile events
+IsUnderWayAt profile (Held n refusal) = Unit {0}
+IsUnderWayAt profile (Passing n) = Unit {0}
+
 -- The piece is used whole.
 pub record ReaderNeedsMore (profile : List DeviceParts) (standing : Standing) (piece : List Event) (used : ℕ) (after : Reader) : Type 0 where
   pub not_held : (n : ℕ) (refusal : RefusalData) → standing ≡ Held n refusal → ⊥
   pub all : used ≡ length piece
   pub behind : Standing
   pub leads : Leads standing piece behind
+  pub under_way : IsUnderWayAt profile behind
   pub stands : ReaderStandsAt profile after behind
 
 -- The last event used ends the packet of a transaction, and no event before it ended one.

@@ -12,7 +12,7 @@ use Rattle.pmb_bus.specs.declared.event.Event.TheVariants.{Start, Byte, Ack, Nac
 use Rattle.pmb_command.specs.Parts.{DeviceParts}
 use Rattle.pmb_transaction.specs.Packet.{Packet}
 use Rattle.pmb_transaction.specs.Capture.{MayFollow}
-use Rattle.pmb_transaction.specs.Reading.{RefusedAt, TruncatedAt}
+use Rattle.pmb_transaction.specs.Reading.{IsUnderWay, RefusedAt, TruncatedAt}
 use Rattle.pmb_reader.specs.declared.reader.Took.{Took}
 use Rattle.pmb_reader.specs.declared.reader.Took.TheVariants as answers
 use Rattle.pmb_reader.specs.declared.reader.Reader.{Reader}
@@ -35,10 +35,12 @@ behind_resync (Open n events) = Open n events
 behind_resync (Held n refusal) = Passing n
 behind_resync (Passing n) = Passing n
 
--- What one event comes to. Of a packet: it goes on, it ends, or no packet goes on so. A refusal that
--- is held is answered again. What is passed over is passed over.
+-- What one event comes to. Of a packet: it goes on, so that some packet begins with the events so
+-- far, and they hold no whole one; it ends; or no packet goes on so. A refusal that is held is
+-- answered again. What is passed over is passed over.
 abbrev pub ReaderTakes : List DeviceParts → Standing → Event → Took → Reader → Type 0
-ReaderTakes profile (Open n events) event answers.More after = ReaderStandsAt profile after (Open n (events ++ event ∷ []))
+ReaderTakes profile (Open n events) event answers.More after =
+    IsUnderWay profile (events ++ event ∷ []) × ReaderStandsAt profile after (Open n (events ++ event ∷ []))
 ReaderTakes profile (Open n events) event answers.Packet after =
     Packet profile (last_read after) (events ++ event ∷ []) × ReaderStandsAt profile after (Open (n + length events + 1) [])
 ReaderTakes profile (Open n events) event (answers.Refused refusal) after =

@@ -4,7 +4,7 @@
 //! to the next STOP. The packet under way is an [`UnderWay`], which alone knows what a packet is; here
 //! events are counted and refusals are kept.
 
-ghost use Rattle.std.specs.Prelude.{◌≡◌, ◌+◌, ℕ, List, [], length};
+ghost use Rattle.std.specs.Prelude.{◌≡◌, ◌+◌, ℕ, None, List, [], length};
 ghost use Rattle.pmb_bus.specs.declared.event.Event.{Event as BusEvent};
 ghost use Rattle.pmb_bus.specs.Kinds.{AreKindsOf};
 ghost use Rattle.pmb_command.specs.Parts.{DeviceParts};
@@ -152,8 +152,11 @@ impl<'p> Reader<'p> {
     /// Goes on behind a refusal: the events up to and with the next STOP, the refused one among
     /// them, are passed over. Where no refusal is held nothing changes.
     pub fn resync(&mut self)
-        ensures { (profile : List DeviceParts) (standing : Standing) → ReaderStandsAt profile self.old standing
+        ensures resumes { (profile : List DeviceParts) (standing : Standing) → ReaderStandsAt profile self.old standing
             → ReaderStandsAt profile self.new (behind_resync standing) }
+        ensures idle { (profile : List DeviceParts) (standing : Standing) → ReaderStandsAt profile self.old standing
+            → IsHeldAt standing None → self.new ≡ self.old }
+        ensures lent { last_read self.new ≡ last_read self.old }
     {
         if let Mode::Held(_) = self.mode {
             self.mode = Mode::Passing;

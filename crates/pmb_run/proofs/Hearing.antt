@@ -53,8 +53,8 @@ module _ (bench : Bench) (reader : Reader) (ts : List TransactionData) (n : ℕ)
   other_read under_way answers.More [] other takes seen packet =
       let events = before ++ event ∷ [] in
       let whole : Packet (bench_profile bench) t events = subst (λ (es : List Event). Packet (bench_profile bench) t es) (append-nil events) packet in
-      absurd ((under_way (bench_profile bench) reader n events takes).no_packet events [] (sym (append-nil events)) (t, whole))
-  other_read under_way answers.More (next ∷ rest) other takes seen packet = (takes, seen)
+      absurd ((under_way (bench_profile bench) reader n events takes.1).no_packet events [] (sym (append-nil events)) (t, whole))
+  other_read under_way answers.More (next ∷ rest) other takes seen packet = (takes.1, seen)
   other_read under_way answers.Packet rest other takes seen packet = absurd (other refl)
   other_read under_way (answers.Refused refusal) rest other takes seen packet = absurd (takes.0.refused (inr (rest, (t, packet))))
 

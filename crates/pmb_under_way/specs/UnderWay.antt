@@ -5,7 +5,7 @@
 -- `laws::some_packet_is_under_way` has it. `packet_of u` is the transaction whose packet ended last:
 -- it is said directly behind the event that ended it. What this says of the fields is in `machine`,
 -- and nothing here needs it to be understood.
-use Rattle.std.specs.Prelude.{List, [], ◌∷◌, ◌++◌}
+use Rattle.std.specs.Prelude.{◌≡◌, List, [], ◌∷◌, ◌++◌}
 use Rattle.pmb_bus.specs.declared.event.Event.{Event}
 use Rattle.pmb_command.specs.Parts.{DeviceParts}
 use Rattle.pmb_transaction.specs.Packet.{Packet}
@@ -15,8 +15,9 @@ use Rattle.pmb_under_way.specs.declared.under_way.Move.TheVariants as moves
 use Rattle.pmb_under_way.specs.declared.under_way.UnderWay.{UnderWay}
 pub use Rattle.pmb_under_way.specs.machine.UnderWay.{StandsIn, packet_of}
 
--- what an event comes to: the packet goes on, it ends, or no packet goes on so
-abbrev pub Moves : List DeviceParts → List Event → Event → Move → UnderWay → Type 0
-Moves profile events event moves.On after = StandsIn profile after (events ++ event ∷ [])
-Moves profile events event moves.Packet after = Packet profile (packet_of after) (events ++ event ∷ []) × StandsIn profile after []
-Moves profile events event moves.No after = (MayFollow profile events event → ⊥) × StandsIn profile after events
+-- What an event comes to: the packet goes on, it ends, or no packet goes on so. Then nothing changes,
+-- also not the transaction that is kept.
+abbrev pub Moves : List DeviceParts → UnderWay → List Event → Event → Move → UnderWay → Type 0
+Moves profile before events event moves.On after = StandsIn profile after (events ++ event ∷ [])
+Moves profile before events event moves.Packet after = Packet profile (packet_of after) (events ++ event ∷ []) × StandsIn profile after []
+Moves profile before events event moves.No after = (MayFollow profile events event → ⊥) × (after ≡ before)

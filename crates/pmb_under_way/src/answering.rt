@@ -22,7 +22,7 @@ impl<'p> UnderWay<'p> {
     /// Behind the address byte of a leg that is read.
     pub(crate) fn behind_read_address(&mut self, source: Source, event: Event) -> Move
         ensures { (profile : List DeviceParts) (events : List BusEvent) → self.old.place ≡ Place.ReadAddress source
-            → StandsIn profile self.old events → Moves profile events event result self.new }
+            → StandsIn profile self.old events → Moves profile self.old events event result self.new }
     {
         match event {
             Event::Ack => match source {
@@ -44,7 +44,7 @@ impl<'p> UnderWay<'p> {
     #[inline(never)]
     fn read_device_on(&mut self) -> Move
         ensures { (profile : List DeviceParts) (events : List BusEvent) → self.old.place ≡ Place.ReadAddress Source.Device
-            → StandsIn profile self.old events → Moves profile events BusEvent.Ack result self.new }
+            → StandsIn profile self.old events → Moves profile self.old events BusEvent.Ack result self.new }
     {
         accepted_bus(self.profile);
         reads_may_be_taken();
@@ -64,7 +64,7 @@ impl<'p> UnderWay<'p> {
     #[inline(never)]
     fn read_alert_on(&mut self) -> Move
         ensures { (profile : List DeviceParts) (events : List BusEvent) → self.old.place ≡ Place.ReadAddress Source.Alert
-            → StandsIn profile self.old events → Moves profile events BusEvent.Ack result self.new }
+            → StandsIn profile self.old events → Moves profile self.old events BusEvent.Ack result self.new }
     {
         accepted_bus(self.profile);
         alerts_may_be_taken();
@@ -78,7 +78,7 @@ impl<'p> UnderWay<'p> {
     #[inline(never)]
     fn refuse_read(&mut self) -> Move
         ensures { (profile : List DeviceParts) (events : List BusEvent) → self.old.place ≡ Place.ReadAddress Source.Device
-            → StandsIn profile self.old events → Moves profile events BusEvent.Nack result self.new }
+            → StandsIn profile self.old events → Moves profile self.old events BusEvent.Nack result self.new }
     {
         accepted_bus(self.profile);
         reads_may_be_refused();
@@ -100,7 +100,7 @@ impl<'p> UnderWay<'p> {
     #[inline(never)]
     fn refuse_alert(&mut self) -> Move
         ensures { (profile : List DeviceParts) (events : List BusEvent) → self.old.place ≡ Place.ReadAddress Source.Alert
-            → StandsIn profile self.old events → Moves profile events BusEvent.Nack result self.new }
+            → StandsIn profile self.old events → Moves profile self.old events BusEvent.Nack result self.new }
     {
         alerts_may_be_refused();
         packets_go_on();
@@ -113,7 +113,7 @@ impl<'p> UnderWay<'p> {
     #[inline(always)]
     pub(crate) fn in_answer(&mut self, source: Source, event: Event) -> Move
         ensures { (profile : List DeviceParts) (events : List BusEvent) → self.old.place ≡ Place.Answer source
-            → StandsIn profile self.old events → Moves profile events event result self.new }
+            → StandsIn profile self.old events → Moves profile self.old events event result self.new }
     {
         accepted_bus(self.profile);
         bytes_alone_follow_in_an_answer();
@@ -135,7 +135,7 @@ impl<'p> UnderWay<'p> {
     #[inline]
     pub(crate) fn behind_answer_byte(&mut self, source: Source, event: Event) -> Move
         ensures { (profile : List DeviceParts) (events : List BusEvent) → self.old.place ≡ Place.AnswerByte source
-            → StandsIn profile self.old events → Moves profile events event result self.new }
+            → StandsIn profile self.old events → Moves profile self.old events event result self.new }
     {
         match event {
             Event::Ack => self.answer_on(source),
@@ -154,7 +154,7 @@ impl<'p> UnderWay<'p> {
     #[inline(always)]
     pub(crate) fn answer_on(&mut self, source: Source) -> Move
         ensures { (profile : List DeviceParts) (events : List BusEvent) → self.old.place ≡ Place.AnswerByte source
-            → StandsIn profile self.old events → Moves profile events BusEvent.Ack result self.new }
+            → StandsIn profile self.old events → Moves profile self.old events BusEvent.Ack result self.new }
     {
         accepted_bus(self.profile);
         replies_go_on();
@@ -171,7 +171,7 @@ impl<'p> UnderWay<'p> {
     #[inline(never)]
     fn end_reply(&mut self) -> Move
         ensures { (profile : List DeviceParts) (events : List BusEvent) → self.old.place ≡ Place.AnswerByte Source.Device
-            → StandsIn profile self.old events → Moves profile events BusEvent.Nack result self.new }
+            → StandsIn profile self.old events → Moves profile self.old events BusEvent.Nack result self.new }
     {
         accepted_bus(self.profile);
         replies_end();
@@ -206,7 +206,7 @@ impl<'p> UnderWay<'p> {
     #[inline(never)]
     fn end_alert(&mut self) -> Move
         ensures { (profile : List DeviceParts) (events : List BusEvent) → self.old.place ≡ Place.AnswerByte Source.Alert
-            → StandsIn profile self.old events → Moves profile events BusEvent.Nack result self.new }
+            → StandsIn profile self.old events → Moves profile self.old events BusEvent.Nack result self.new }
     {
         accepted_bus(self.profile);
         replies_end();
@@ -228,7 +228,7 @@ impl<'p> UnderWay<'p> {
     #[inline]
     pub(crate) fn at_end(&mut self, event: Event) -> Move
         ensures { (profile : List DeviceParts) (events : List BusEvent) → self.old.place ≡ Place.End
-            → StandsIn profile self.old events → Moves profile events event result self.new }
+            → StandsIn profile self.old events → Moves profile self.old events event result self.new }
     {
         events_take_turns();
         packet_is_not_empty();

@@ -133,7 +133,7 @@ impl<'p> UnderWay<'p> {
     #[inline(always)]
     pub fn step(&mut self, event: Event) -> Move
         ensures { (profile : List DeviceParts) (events : List BusEvent) → StandsIn profile self.old events
-            → Moves profile events event result self.new }
+            → Moves profile self.old events event result self.new }
     {
         match event {
             Event::Byte(byte) => match self.place {
@@ -154,7 +154,7 @@ impl<'p> UnderWay<'p> {
     #[inline(never)]
     fn step_by_place(&mut self, event: Event) -> Move
         ensures { (profile : List DeviceParts) (events : List BusEvent) → StandsIn profile self.old events
-            → Moves profile events event result self.new }
+            → Moves profile self.old events event result self.new }
     {
         match self.place {
             Place::Between => self.begin(event),

@@ -28,7 +28,7 @@ impl<'p> UnderWay<'p> {
     #[inline]
     pub(crate) fn begin(&mut self, event: Event) -> Move
         ensures { (profile : List DeviceParts) (events : List BusEvent) → self.old.place ≡ Place.Between
-            → StandsIn profile self.old events → Moves profile events event result self.new }
+            → StandsIn profile self.old events → Moves profile self.old events event result self.new }
     {
         accepted_bus(self.profile);
         packets_begin_with_start();
@@ -45,7 +45,7 @@ impl<'p> UnderWay<'p> {
     #[inline]
     pub(crate) fn at_start(&mut self, event: Event) -> Move
         ensures { (profile : List DeviceParts) (events : List BusEvent) → self.old.place ≡ Place.Start
-            → StandsIn profile self.old events → Moves profile events event result self.new }
+            → StandsIn profile self.old events → Moves profile self.old events event result self.new }
     {
         accepted_bus(self.profile);
         events_take_turns();
@@ -69,7 +69,7 @@ impl<'p> UnderWay<'p> {
     #[inline]
     pub(crate) fn behind_address(&mut self, addr: u8, event: Event) -> Move
         ensures { (profile : List DeviceParts) (events : List BusEvent) → self.old.place ≡ Place.Address addr
-            → StandsIn profile self.old events → Moves profile events event result self.new }
+            → StandsIn profile self.old events → Moves profile self.old events event result self.new }
     {
         match event {
             Event::Ack => self.take_address(addr),
@@ -85,7 +85,7 @@ impl<'p> UnderWay<'p> {
     #[inline(never)]
     fn take_address(&mut self, addr: u8) -> Move
         ensures { (profile : List DeviceParts) (events : List BusEvent) → self.old.place ≡ Place.Address addr
-            → StandsIn profile self.old events → Moves profile events BusEvent.Ack result self.new }
+            → StandsIn profile self.old events → Moves profile self.old events BusEvent.Ack result self.new }
     {
         accepted_bus(self.profile);
         addresses_taken_are_known();
@@ -114,7 +114,7 @@ impl<'p> UnderWay<'p> {
     #[inline(never)]
     fn refuse_address(&mut self, addr: u8) -> Move
         ensures { (profile : List DeviceParts) (events : List BusEvent) → self.old.place ≡ Place.Address addr
-            → StandsIn profile self.old events → Moves profile events BusEvent.Nack result self.new }
+            → StandsIn profile self.old events → Moves profile self.old events BusEvent.Nack result self.new }
     {
         accepted_bus(self.profile);
         addresses_may_be_refused();
@@ -132,7 +132,7 @@ impl<'p> UnderWay<'p> {
     #[inline]
     pub(crate) fn in_leg(&mut self, event: Event) -> Move
         ensures { (profile : List DeviceParts) (events : List BusEvent) → self.old.place ≡ Place.Leg
-            → StandsIn profile self.old events → Moves profile events event result self.new }
+            → StandsIn profile self.old events → Moves profile self.old events event result self.new }
     {
         match event {
             Event::Byte(byte) => self.send_byte(byte),
@@ -149,7 +149,7 @@ impl<'p> UnderWay<'p> {
     #[inline(always)]
     pub(crate) fn send_byte(&mut self, byte: u8) -> Move
         ensures { (profile : List DeviceParts) (events : List BusEvent) → self.old.place ≡ Place.Leg
-            → StandsIn profile self.old events → Moves profile events (BusEvent.Byte byte) result self.new }
+            → StandsIn profile self.old events → Moves profile self.old events (BusEvent.Byte byte) result self.new }
     {
         accepted_bus(self.profile);
         bytes_follow_inside_a_body();
@@ -168,7 +168,7 @@ impl<'p> UnderWay<'p> {
     #[inline(never)]
     fn end_leg(&mut self) -> Move
         ensures { (profile : List DeviceParts) (events : List BusEvent) → self.old.place ≡ Place.Leg
-            → StandsIn profile self.old events → Moves profile events BusEvent.Start result self.new }
+            → StandsIn profile self.old events → Moves profile self.old events BusEvent.Start result self.new }
     {
         accepted_bus(self.profile);
         legs_follow_whole_bodies();
@@ -187,7 +187,7 @@ impl<'p> UnderWay<'p> {
     #[inline(never)]
     fn end_write(&mut self) -> Move
         ensures { (profile : List DeviceParts) (events : List BusEvent) → self.old.place ≡ Place.Leg
-            → StandsIn profile self.old events → Moves profile events BusEvent.Stop result self.new }
+            → StandsIn profile self.old events → Moves profile self.old events BusEvent.Stop result self.new }
     {
         accepted_bus(self.profile);
         writes_end_with_stop();
@@ -226,7 +226,7 @@ impl<'p> UnderWay<'p> {
     #[inline]
     pub(crate) fn behind_leg_byte(&mut self, byte: u8, event: Event) -> Move
         ensures { (profile : List DeviceParts) (events : List BusEvent) → self.old.place ≡ Place.LegByte byte
-            → StandsIn profile self.old events → Moves profile events event result self.new }
+            → StandsIn profile self.old events → Moves profile self.old events event result self.new }
     {
         match event {
             Event::Ack => self.take_byte(byte),
@@ -242,7 +242,7 @@ impl<'p> UnderWay<'p> {
     #[inline(always)]
     pub(crate) fn take_byte(&mut self, byte: u8) -> Move
         ensures { (profile : List DeviceParts) (events : List BusEvent) → self.old.place ≡ Place.LegByte byte
-            → StandsIn profile self.old events → Moves profile events BusEvent.Ack result self.new }
+            → StandsIn profile self.old events → Moves profile self.old events BusEvent.Ack result self.new }
     {
         accepted_bus(self.profile);
         bytes_taken_begin_a_body();
@@ -261,7 +261,7 @@ impl<'p> UnderWay<'p> {
     #[inline(never)]
     fn refuse_byte(&mut self, byte: u8) -> Move
         ensures { (profile : List DeviceParts) (events : List BusEvent) → self.old.place ≡ Place.LegByte byte
-            → StandsIn profile self.old events → Moves profile events BusEvent.Nack result self.new }
+            → StandsIn profile self.old events → Moves profile self.old events BusEvent.Nack result self.new }
     {
         accepted_bus(self.profile);
         bytes_may_be_refused();
@@ -285,7 +285,7 @@ impl<'p> UnderWay<'p> {
     /// Behind a later START.
     pub(crate) fn at_restart(&mut self, event: Event) -> Move
         ensures { (profile : List DeviceParts) (events : List BusEvent) → self.old.place ≡ Place.Restart
-            → StandsIn profile self.old events → Moves profile events event result self.new }
+            → StandsIn profile self.old events → Moves profile self.old events event result self.new }
     {
         match event {
             Event::Byte(byte) => {
@@ -307,7 +307,7 @@ impl<'p> UnderWay<'p> {
     fn begin_part(&mut self, addr: u8) -> Move
         requires { addr < 128 }
         ensures { (profile : List DeviceParts) (events : List BusEvent) → self.old.place ≡ Place.Restart
-            → StandsIn profile self.old events → Moves profile events (BusEvent.Byte (2 * addr)) result self.new }
+            → StandsIn profile self.old events → Moves profile self.old events (BusEvent.Byte (2 * addr)) result self.new }
     {
         accepted_bus(self.profile);
         later_addresses();
@@ -342,7 +342,7 @@ impl<'p> UnderWay<'p> {
     fn read_device(&mut self, addr: u8) -> Move
         requires { addr < 128 }
         ensures { (profile : List DeviceParts) (events : List BusEvent) → self.old.place ≡ Place.Restart
-            → StandsIn profile self.old events → Moves profile events (BusEvent.Byte (2 * addr + 1)) result self.new }
+            → StandsIn profile self.old events → Moves profile self.old events (BusEvent.Byte (2 * addr + 1)) result self.new }
     {
         accepted_bus(self.profile);
         later_addresses();

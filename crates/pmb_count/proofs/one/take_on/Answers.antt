@@ -31,7 +31,7 @@ returns-in-Refused c = λ profile events outcomes read.
     c.reading_refuses.ensures profile c.args.reader.now c.take.new.self events outcomes c.args.event refusal read (c.in-Refused.ensures profile) in
     let resumed =
     c.reading_resumes.ensures profile c.take.new.self c.resync.new.self events (HeldEvent c.args.event) (outcomes ++ added) held
-    (c.resync.ensures profile) in (
+    (c.resync.ensures.resumes profile) in (
       added,
       refl,
       passed c.reading_goes_on.ensures profile c.resync.new.self c.take-in-Refused.new.self events (outcomes ++ added) c.args.event

@@ -1,12 +1,18 @@
+use Rattle.std.proofs.Common.{sym, subst}
+use Rattle.pmb_under_way.specs.UnderWay.{StandsIn}
 use Rattle.pmb_reader.proofs.Modes.{one_event_more, one_packet_more, still_open}
 use Rattle.pmb_reader.proofs.reader.Reader.read.Goals as goal
 
 pub returns-in-On : goal.returns-in-On
-returns-in-On c = λ profile n events stands. record {
-  mode = still_open _ _ _ _ _ stands.mode;
-  counted = one_event_more _ _ n events c.args.event stands.counted c.saturating_add-self.ensures;
-  inside = c.in-On.ensures profile events stands.inside;
-}
+returns-in-On c = λ profile n events stands.
+    let inside = c.in-On.ensures profile events stands.inside in (
+      inside.goes,
+      record {
+        mode = still_open _ _ _ _ _ stands.mode;
+        counted = one_event_more _ _ n events c.args.event stands.counted c.saturating_add-self.ensures;
+        inside = inside;
+      },
+    )
 
 pub returns-in-Packet : goal.returns-in-Packet
 returns-in-Packet c = λ profile n events stands.
@@ -22,4 +28,5 @@ returns-in-Packet c = λ profile n events stands.
 pub returns-in-No : goal.returns-in-No
 returns-in-No c = λ profile n events stands.
     let moved = c.in-No.ensures profile events stands.inside in
-    c.refuse.ensures profile n events (record { mode = stands.mode; counted = stands.counted; inside = moved.1 }) moved.0
+    let inside = subst (λ u. StandsIn profile u events) (sym moved.1) stands.inside in
+    c.refuse.ensures profile n events (record { mode = stands.mode; counted = stands.counted; inside = inside }) moved.0

@@ -24,7 +24,7 @@ returns-then-not-goes_on c = λ profile events at stands.
           let inside = law.0 (subst (λ (es : List Event). MayFollow profile es Ack) here.spelled follows) in
           let kept = subst (λ (bs : List ℕ). IsInsideAnswer (IsReply c.args.self.now.answer.expected) bs) (sym here.last) inside in
           cc (c.goes_on.ensures.1 kept, c.if-not-goes_on.true),
-      stands,
+      refl,
     )
 
 pub returns : goal.returns

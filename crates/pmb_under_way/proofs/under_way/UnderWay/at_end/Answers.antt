@@ -11,7 +11,7 @@ returns-in_default c = λ profile events at stands.
     let here = at_place profile c.args.self.now events places.End at stands in (
       not_its_turn c.events_take_turns.ensures profile events Nack c.args.event (record { front = here.front; split = here.spelled })
           (other_than_stop c.args.event c.in_default.not-Stop),
-      stands,
+      refl,
     )
 
 pub returns : goal.returns

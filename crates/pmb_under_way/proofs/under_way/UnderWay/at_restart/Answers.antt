@@ -1,3 +1,4 @@
+use Rattle.std.proofs.Common.{refl}
 use Rattle.pmb_bus.specs.declared.event.Event.TheVariants.{Start}
 use Rattle.pmb_under_way.specs.declared.under_way.Place.TheVariants as places
 use Rattle.pmb_under_way.proofs.Steps.{at_place, no_byte_here, not_its_turn}
@@ -9,5 +10,5 @@ returns-in-Start c = λ profile events at stands.
     let here = at_place profile c.args.self.now events places.Restart at stands in (
       not_its_turn c.events_take_turns.ensures profile events Start c.args.event
           (start_ends profile c.args.self.now events here) (no_byte_here c.args.event c.in-Start.is),
-      stands,
+      refl,
     )

@@ -16,7 +16,7 @@ returns-in_default c = λ profile events at stands.
     let here = at_place profile c.args.self.now events places.Start at stands in (
       not_its_turn c.events_take_turns.ensures profile events Start c.args.event (record { front = []; split = here.0 })
           (other_than_byte c.args.event c.in_default.not-Byte),
-      stands,
+      refl,
     )
 
 pub returns-then-byte-eq0 : goal.returns-then-byte-eq0
@@ -66,5 +66,5 @@ returns-else-byte-read_address c = λ profile events at stands.
           (subst (λ (e : Event). MayFollow profile events e) c.in-Byte.is follows)
           )
           ),
-      stands,
+      refl,
     )

@@ -1,4 +1,4 @@
-use Rattle.std.proofs.Common.{◌≡◌, List, [], ◌∷◌, ◌++◌, ap, subst, sym, ◌∙◌}
+use Rattle.std.proofs.Common.{◌≡◌, List, [], ◌∷◌, ◌++◌, ap, subst, sym, ◌∙◌, refl}
 use Rattle.pmb_bus.specs.declared.event.Event.{Event}
 use Rattle.pmb_bus.specs.declared.event.Event.TheVariants.{Start}
 use Rattle.pmb_command.specs.Bus.{IsBus}
@@ -11,7 +11,7 @@ pub returns-in_default : goal.returns-in_default
 returns-in_default c = λ profile events at stands.
     let bus = subst IsBus stands.known c.accepted_bus.ensures in
     let none = at_place profile c.args.self.now events places.Between at stands in
-    (λ follows. c.in_default.not-Start ((c.packets_begin_with_start.ensures profile c.args.event bus).0 (subst (λ es. MayFollow profile es c.args.event) none follows)), stands)
+    (λ follows. c.in_default.not-Start ((c.packets_begin_with_start.ensures profile c.args.event bus).0 (subst (λ es. MayFollow profile es c.args.event) none follows)), refl)
 
 pub returns : goal.returns
 returns c = λ profile events at stands.

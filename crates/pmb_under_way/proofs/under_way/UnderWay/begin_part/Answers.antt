@@ -5,7 +5,6 @@ use Rattle.pmb_command.specs.Parts.{IsNew}
 use Rattle.pmb_transaction.specs.Transaction.{PartData}
 use Rattle.pmb_transaction.specs.Packet.{addresses}
 use Rattle.pmb_under_way.specs.declared.under_way.Place.TheVariants as places
-use Rattle.pmb_under_way.specs.machine.UnderWay.{StandsIn}
 use Rattle.pmb_transaction.specs.Following.{IsNextAddress, next_leg}
 use Rattle.pmb_under_way.proofs.Steps.{at_place, moves_on}
 use Rattle.pmb_under_way.proofs.WrittenLegs.{NextPart, is_next_part, kept_start, part_begins, tail_law}
@@ -22,7 +21,7 @@ returns-then-part_count-ge-MOST_BEFORE c = λ profile events at stands.
       λ follows.
           let next : NextPart here.written.device here.parts here.written.device.address here.written.bytes c.args.addr = is_next_part _ _ _ _ _ (law.0 follows) in
           omega (arith, count, next.few, c.part_count.ensures, c.if-part_count-ge-MOST_BEFORE.true),
-      stands,
+      refl,
     )
 
 pub returns-then-has_leg_to : goal.returns-then-has_leg_to
@@ -36,7 +35,7 @@ returns-then-has_leg_to c = λ profile events at stands.
           let next : NextPart here.written.device here.parts here.written.device.address here.written.bytes c.args.addr = is_next_part _ _ _ _ _ (law.0 follows) in
           let new = subst (λ (ps : List PartData). IsNew c.args.addr (here.written.device.address ∷ addresses ps)) (sym here.leg.has.same) next.new in
           cc (new, c.has_leg_to.ensures here.written here.is, c.if-has_leg_to.true),
-      stands,
+      refl,
     )
 
 pub returns-then-not-push_part : goal.returns-then-not-push_part
@@ -50,7 +49,7 @@ returns-then-not-push_part c = λ profile events at stands.
       λ follows.
           let next : NextPart here.written.device here.parts here.written.device.address here.written.bytes c.args.addr = is_next_part _ _ _ _ _ (law.0 follows) in
           c.push_part.ensures.none c.if-not-push_part.true few here.written here.is next.body,
-      subst (λ u. StandsIn profile u events) (sym (c.push_part.ensures.same c.if-not-push_part.true)) stands,
+      c.push_part.ensures.same c.if-not-push_part.true,
     )
 
 pub returns : goal.returns

@@ -1,3 +1,4 @@
+use Rattle.std.proofs.Common.{refl}
 use Rattle.pmb_bus.specs.declared.event.Event.TheVariants.{Byte}
 use Rattle.pmb_under_way.specs.declared.under_way.Place.TheVariants as places
 use Rattle.pmb_under_way.proofs.Steps.{at_place, no_answer_here, not_its_turn}
@@ -9,5 +10,5 @@ returns-in-Start c = λ profile events at stands.
     let here = at_place profile c.args.self.now events (places.LegByte c.args.byte) at stands in (
       not_its_turn c.events_take_turns.ensures profile events (Byte c.args.byte) c.args.event
           (byte_ends profile c.args.self.now c.args.byte events here) (no_answer_here c.args.event c.in-Start.is),
-      stands,
+      refl,
     )

@@ -1,3 +1,4 @@
+use Rattle.std.proofs.Common.{refl}
 use Rattle.pmb_bus.specs.declared.event.Event.TheVariants.{Byte}
 use Rattle.pmb_bus.specs.Address.{read_address}
 use Rattle.pmb_under_way.specs.declared.under_way.Place.TheVariants as places
@@ -10,5 +11,5 @@ returns-in-Start c = λ profile events at stands.
     let here = at_place profile c.args.self.now events (places.ReadAddress c.args.source) at stands in (
       not_its_turn c.events_take_turns.ensures profile events (Byte (read_address here.addr)) c.args.event
           (read_address_ends profile c.args.self.now c.args.source events here) (no_answer_here c.args.event c.in-Start.is),
-      stands,
+      refl,
     )

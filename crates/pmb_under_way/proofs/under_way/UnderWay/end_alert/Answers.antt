@@ -25,7 +25,7 @@ returns-in_default c = λ profile events at stands.
           let whole = law.0 (subst (λ (es : List Event). MayFollow profile es Nack) here.spelled follows) in
           let kept = subst (IsReply c.args.self.now.answer.expected) (sym here.last) whole in
           cc (c.in_default.ensures.some.1 kept),
-      stands,
+      refl,
     )
 
 pub returns : goal.returns

@@ -18,7 +18,7 @@ returns-then-not-leg_may_follow c = λ profile events at stands.
     (c.legs_follow_whole_bodies.ensures profile) in
     let count = ap (λ (ps : List PartData). length ps) (sym leg.1.has.same) ∙ sym c.part_count.ensures in
     let may = c.leg_may_follow.ensures leg.0 count leg.1.place in
-    (λ follows. cc (may.1 (law.0 follows), c.if-not-leg_may_follow.true), stands)
+    (λ follows. cc (may.1 (law.0 follows), c.if-not-leg_may_follow.true), refl)
 
 pub returns : goal.returns
 returns c = λ profile events at stands.

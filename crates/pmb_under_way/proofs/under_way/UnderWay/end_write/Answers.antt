@@ -4,7 +4,6 @@ use Rattle.pmb_command.specs.Bus.{IsBus}
 use Rattle.pmb_transaction.specs.Transaction.{PartData, Write}
 use Rattle.pmb_transaction.specs.Packet.{Packet}
 use Rattle.pmb_under_way.specs.declared.under_way.Place.TheVariants as places
-use Rattle.pmb_under_way.specs.machine.UnderWay.{StandsIn}
 use Rattle.pmb_transaction.specs.Body.{IsWriteBody}
 use Rattle.pmb_under_way.proofs.Steps.{at_place, restarts}
 use Rattle.pmb_under_way.proofs.WrittenLegs.{kept_leg, leg_law, write_ends}
@@ -28,5 +27,5 @@ returns-else-push_part c = λ profile events at stands.
     let law = leg_law profile bus c.args.self.now.kept here.written here.parts events here.leg Stop (λ device parts addr bytes. IsWriteBody device bytes) (c.writes_end_with_stop.ensures profile) in
     let few = subst (λ (ps : List PartData). length ps ≤ 15) (sym here.leg.has.same) here.leg.has.few in (
       λ follows. c.push_part.ensures.none c.if-push_part.false few here.written here.is (law.0 follows),
-      subst (λ u. StandsIn profile u events) (sym (c.push_part.ensures.same c.if-push_part.false)) stands,
+      c.push_part.ensures.same c.if-push_part.false,
     )

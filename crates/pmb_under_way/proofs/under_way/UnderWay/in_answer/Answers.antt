@@ -19,7 +19,7 @@ returns-in_default c = λ profile events at stands.
           let turn = c.bytes_alone_follow_in_an_answer.ensures profile here.front here.addr c.args.self.now.answer.bytes c.args.event bus
           (subst (λ (es : List Event). MayFollow profile es c.args.event) here.spelled follows) in
           cc (turn, other_than_byte c.args.event c.in_default.not-Byte),
-      stands,
+      refl,
     )
 
 pub returns-then-not-begins : goal.returns-then-not-begins
@@ -34,7 +34,7 @@ returns-then-not-begins c = λ profile events at stands.
       λ follows.
           let begins = law.0 (subst (λ (es : List Event). MayFollow profile es (Byte c.in-Byte.byte)) here.spelled (subst (λ (e : Event). MayFollow profile events e) c.in-Byte.is follows)) in
           cc (c.begins.ensures.1 begins, c.if-not-begins.true),
-      stands,
+      refl,
     )
 
 pub returns : goal.returns

@@ -1,4 +1,4 @@
-use Rattle.std.proofs.Common.{◌≡◌, ◌+◌, ◌*◌, ℕ, [], ◌∷◌, ap, subst, sym, ◌∙◌}
+use Rattle.std.proofs.Common.{◌≡◌, ◌+◌, ◌*◌, ℕ, [], ◌∷◌, ap, subst, sym, ◌∙◌, refl}
 use Rattle.pmb_bus.specs.declared.event.Event.TheVariants.{Start, Byte}
 use Rattle.pmb_command.specs.Bus.{IsBus}
 use Rattle.pmb_under_way.specs.declared.under_way.Place.TheVariants as places
@@ -19,7 +19,7 @@ returns-then-address-addr c = λ profile events at stands.
       λ follows.
           let asked : AskedLeg c.in-Some.leg.device leg.0 c.in-Some.leg.device.address c.in-Some.leg.bytes c.args.addr = is_asked_leg _ _ _ _ _ (law.0 follows) in
           c.if-address-addr.true (c.address.ensures ∙ sym asked.at),
-      stands,
+      refl,
     )
 
 pub returns-then-not-is_asking : goal.returns-then-not-is_asking
@@ -33,7 +33,7 @@ returns-then-not-is_asking c = λ profile events at stands.
       λ follows.
           let asked : AskedLeg c.in-Some.leg.device leg.0 c.in-Some.leg.device.address c.in-Some.leg.bytes c.args.addr = is_asked_leg _ _ _ _ _ (law.0 follows) in
           cc (c.is_asking.ensures.1 (first_leg_asked leg.0 c.in-Some.leg leg.2.place asked.alone, asked.request), c.if-not-is_asking.true),
-      stands,
+      refl,
     )
 
 pub returns : goal.returns

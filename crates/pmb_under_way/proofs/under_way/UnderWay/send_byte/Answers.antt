@@ -17,7 +17,7 @@ returns-then-not-goes_on c = λ profile events at stands.
     leg_law profile bus c.args.self.now.kept c.in-Some.leg leg.0 events leg.1 (Byte c.args.byte) (λ device parts addr bytes. IsInsideBody device parts bytes × IsByte c.args.byte)
     (λ parts legs addr device bytes. c.bytes_follow_inside_a_body.ensures profile parts legs addr device bytes c.args.byte) in
     let inside = c.goes_on.ensures.inside leg.0 leg.1.place in
-    (λ follows. cc (inside.1 (law.0 follows).0, c.if-not-goes_on.true), stands)
+    (λ follows. cc (inside.1 (law.0 follows).0, c.if-not-goes_on.true), refl)
 
 pub returns : goal.returns
 returns c = λ profile events at stands.

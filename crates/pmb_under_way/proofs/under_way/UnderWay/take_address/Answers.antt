@@ -1,4 +1,4 @@
-use Rattle.std.proofs.Common.{◌≡◌, Some, subst, sym, ◌∙◌}
+use Rattle.std.proofs.Common.{◌≡◌, Some, subst, sym, ◌∙◌, refl}
 use Rattle.pmb_bus.specs.declared.event.Event.TheVariants.{Ack}
 use Rattle.pmb_command.specs.Bus.{IsBus}
 use Rattle.pmb_under_way.specs.declared.under_way.Place.TheVariants as places
@@ -16,7 +16,7 @@ returns-in_default c = λ profile events at stands.
       λ follows.
           let device = law.0 follows in
           no_device profile c.args.self.now.profile.now c.args.addr c.device.result device.0 stands.known c.device.ensures.device c.in_default.is device.1,
-      stands,
+      refl,
     )
 
 pub returns : goal.returns

@@ -3,7 +3,6 @@ use Rattle.pmb_bus.specs.declared.event.Event.TheVariants.{Byte, Ack}
 use Rattle.pmb_command.specs.Bus.{IsBus}
 use Rattle.pmb_under_way.specs.declared.under_way.Place.TheVariants as places
 use Rattle.pmb_transaction.specs.Viable.{BeginsBody}
-use Rattle.pmb_under_way.specs.machine.UnderWay.{StandsIn}
 use Rattle.pmb_under_way.proofs.Steps.{at_place, moves_on}
 use Rattle.pmb_under_way.proofs.WrittenLegs.{kept_byte, leg_goes_on, tail_law}
 use Rattle.pmb_under_way.proofs.under_way.UnderWay.take_byte.Goals as goal
@@ -19,7 +18,7 @@ returns-then-not-take c = λ profile events at stands.
     let begins = c.take.ensures.begins leg.0 leg.2.place in
     let same = c.take.ensures.refused c.if-not-take.true in (
       λ follows. cc (begins.1 (law.0 follows), c.if-not-take.true),
-      subst (λ l. StandsIn profile (record c.args.self.now { leg = l }) events) (c.in-Some.is ∙ ap (λ w. Some w) (sym same)) stands,
+      ap (λ l. record c.args.self.now { leg = l }) (ap (λ w. Some w) same ∙ sym c.in-Some.is),
     )
 
 pub returns : goal.returns
