@@ -1,3 +1,4 @@
 pub mod Sums
 pub mod Passed
 pub mod Refused
+pub mod Fronts

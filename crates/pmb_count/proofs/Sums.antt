@@ -1,5 +1,5 @@
 -- Counts of outcomes, one by one.
-use Rattle.std.proofs.Common.{◌≡◌, ◌+◌, ◌-◌, ◌^◌, min, List, [], ◌∷◌, ◌++◌, sym, ap, ◌∙◌, subst, arith}
+use Rattle.std.proofs.Common.{◌≡◌, ◌+◌, ◌-◌, ◌^◌, min, List, [], ◌∷◌, ◌++◌, length, map, refl, sym, ap, ◌∙◌, subst, arith}
 use Rattle.std.proofs.lemmas.List.{append-nil}
 use Rattle.pmb_transaction.specs.Transaction.{TransactionData}
 use Rattle.pmb_transaction.specs.Reading.{Accepted, Outcome, Refusal, RefusalData}
@@ -45,3 +45,12 @@ refusal_more count after outcomes added refusal is one same counted =
     let packets_before : count.packets ≡ min (packets outcomes) (2 ^ 64 - 1) = is.packets_are in
     let refusals_before : count.refusals ≡ min (refusals outcomes) (2 ^ 64 - 1) = is.refusals_are in
     record { packets_are = omega (arith, p, packets_before, same); refusals_are = omega (arith, r, refusals_before, counted) }
+
+-- transactions that are read are as many packets, and no refusals
+pub packets_written : (ts : List TransactionData) → packets (map Accepted ts) ≡ length ts
+packets_written [] = refl
+packets_written (t ∷ ts) = let later : packets (map Accepted ts) ≡ length ts = packets_written ts in omega (arith, later)
+
+pub refusals_written : (ts : List TransactionData) → refusals (map Accepted ts) ≡ 0
+refusals_written [] = refl
+refusals_written (t ∷ ts) = refusals_written ts

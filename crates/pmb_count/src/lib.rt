@@ -1,8 +1,9 @@
 //! Packets and refusals of a capture, counted.
 //!
-//! The whole of a capture is given at once, and read on behind each refusal. What is counted is what
-//! the capture reads as, with a packet that is truncated at its end among the refusals. In the
-//! capture of transactions nothing is refused.
+//! The whole of a capture is given at once, event by event ([`count`]), or in pieces, cut anywhere
+//! ([`Counter`]), and read on behind each refusal. What is counted is what the capture reads as, with
+//! a packet that is truncated at its end among the refusals. In the capture of transactions nothing
+//! is refused.
 //!
 //! ```rust
 //! let profile = Profile::from_toml(rt.alloc(), SAMPLE.as_bytes())?;
@@ -13,6 +14,8 @@
 
 pub mod laws;
 mod one;
+mod pieces;
 mod whole;
 
+pub use pieces::Counter;
 pub use whole::{Counts, count};

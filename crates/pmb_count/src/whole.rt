@@ -21,7 +21,7 @@ pub struct Counts {
 
 impl Counts {
     // One outcome more, or none.
-    fn add(self, took: Took) -> Counts
+    pub(crate) fn add(self, took: Took) -> Counts
         ensures { (outcomes added : List Outcome) → IsCountOf self outcomes → IsAdded took added → IsCountOf result (outcomes ++ added) }
     {
         match took {
