@@ -1,11 +1,9 @@
 //! Captures, and how many packets and refusals they read as, counted by hand; and the program of
 //! `pmb_count`'s documentation.
 
-ghost use Rattle.std.specs.Prelude.{◌<◌, length};
-
 use plain_packets::events;
 use pmb_bus::Event;
-use pmb_count::{Counter, Counts, count, laws};
+use pmb_count::{Counts, count, laws};
 use pmb_table::{Profile, SAMPLE};
 use std::alloc::Global;
 use std::process::Abort;
@@ -25,30 +23,12 @@ static ROWS: [Row; 8] = [
     ("P P", 0, 2),
 ];
 
-// counts a capture that comes in two pieces
-fn count_cut(profile: &Profile, events: &[Event], cut: usize) -> Counts
-    requires { cut < length events.now }
-{
-    let mut counter = Counter::new(profile);
-    counter.feed(&events[..cut]);
-    counter.feed(&events[cut..]);
-    counter.finish()
-}
-
 fn counts<R: Abort>(rt: &R, alloc: Global, profile: &Profile, rows: &[Row]) -> Result<(), Fail> {
     for row in rows {
         let (capture, packets, refusals) = *row;
         let events = events(alloc, capture)?;
         let counted = count(profile, events.as_slice());
         assert_eq!(rt; counted, Counts { packets, refusals }, "{capture}");
-        for cut in 0..events.len() {
-            let counted = count_cut(profile, events.as_slice(), cut);
-            assert_eq!(rt;
-                counted,
-                Counts { packets, refusals },
-                "{capture}, cut at {cut}"
-            );
-        }
     }
     Ok(())
 }
