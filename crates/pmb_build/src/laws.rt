@@ -6,7 +6,7 @@ ghost use Rattle.pmb_command.specs.Parts.{DeviceParts};
 ghost use Rattle.pmb_io.specs.declared.tally.Tally.{Tally};
 ghost use Rattle.pmb_build.specs.Lines.{BuildsEnded, BuildsInput};
 
-use pmb_line::laws::{no_parse_with_a_fault, one_line_fault, one_transaction};
+use pmb_line::laws::{no_parse_with_a_fault, one_line_fault, one_transaction, parse_or_fault};
 use pmb_transaction::laws::one_packet;
 
 /// What is built of bytes, and its tally, is a function of the bytes under a profile that is accepted.
@@ -18,6 +18,13 @@ pub fn one_building()
     one_packet();
     one_line_fault();
     no_parse_with_a_fault();
+}
+
+/// Some text, with its tally, is what is built of any bytes, under any profile.
+pub fn some_building()
+    ensures { (profile : List DeviceParts) (bytes : List ℕ) → (text : List ℕ) × (tally : Tally) × BuildsInput profile tally bytes text }
+{
+    parse_or_fault();
 }
 
 /// What is built of the lines that have ended in some bytes is a function of these bytes, and a front

@@ -14,3 +14,4 @@ pub mod Setting
 pub mod Runs
 pub mod Steps
 pub mod OneExchange
+pub mod SomeExchange

@@ -1,14 +1,18 @@
 //! Laws on what a host does on a bus of simulated devices: each function is its contract, and does
 //! nothing.
 
-ghost use Rattle.std.specs.Prelude.{◌≡◌, List, map};
+ghost use Rattle.std.specs.Prelude.{◌≡◌, ℕ, Option, List, map};
 ghost use Rattle.pmb_command.specs.Bus.{IsBus};
 ghost use Rattle.pmb_command.specs.Parts.{DeviceParts};
 ghost use Rattle.pmb_transaction.specs.Transaction.{TransactionData};
 ghost use Rattle.pmb_registers.specs.State.{InState};
 ghost use Rattle.pmb_devices.specs.Bus.{AnsweredSignal};
+ghost use Rattle.pmb_value.specs.declared.number_format.NumberFormat.{NumberFormat};
+ghost use Rattle.pmb_request.specs.Request.{RequestData};
 ghost use Rattle.pmb_host.specs.declared.step.HostStep.{HostStep};
 ghost use Rattle.pmb_host.specs.Host.{Job};
+ghost use Rattle.pmb_host.specs.Rules.{IsAllowed};
+ghost use Rattle.pmb_host.specs.Task.{task_of};
 ghost use Rattle.pmb_exchange.specs.Exchange.{Exchanges};
 ghost use Rattle.pmb_exchange.specs.Run.{HasRun, IsExchanged};
 
@@ -24,4 +28,11 @@ pub fn runs_are_exchanges()
 pub fn an_exchange_is_one()
     ensures { (profile : List DeviceParts) (members : List InState) (task a b : TransactionData) → IsBus profile
         → map (λ m. m.device) members ≡ profile → Exchanges members task a → Exchanges members task b → a ≡ b }
+{}
+
+/// What an allowed request asks for comes to some transaction on the devices of an accepted bus.
+pub fn some_exchange()
+    ensures { (profile : List DeviceParts) (members : List InState) (request : RequestData) (word : ℕ) (number : Option NumberFormat) → IsBus profile
+        → map (λ m. m.device) members ≡ profile → IsAllowed profile request word number
+        → (done : TransactionData) × Exchanges members (task_of request word) done }
 {}

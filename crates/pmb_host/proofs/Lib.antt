@@ -18,3 +18,4 @@ pub mod Exact
 pub mod Checked
 pub mod Runs
 pub mod OneNearest
+pub mod SomeHost

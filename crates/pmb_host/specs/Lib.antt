@@ -1,4 +1,5 @@
 pub mod Number
+pub mod Requests
 pub mod Rules
 pub mod Signals
 pub mod Standing

@@ -1,6 +1,6 @@
 //! Laws over the definitions that the contracts cite: each function is its contract, and does nothing.
 
-ghost use Rattle.std.specs.Prelude.{◌≡◌, ◌↔◌, ◌≤◌, ℕ, IfSome, List, Option, length};
+ghost use Rattle.std.specs.Prelude.{◌≡◌, ◌↔◌, ◌≤◌, ◌⊎◌, ℕ, IfSome, List, Option, length};
 ghost use Rattle.pmb_command.specs.Bus.{IsBus};
 ghost use Rattle.pmb_command.specs.Parts.{DeviceParts};
 ghost use Rattle.pmb_command.specs.Wire.{Fits};
@@ -11,9 +11,15 @@ ghost use Rattle.pmb_request.specs.Request.{CallBytes, Command, ReadBytes, Reque
 ghost use Rattle.pmb_value.specs.declared.number_format.NumberFormat.{NumberFormat};
 ghost use Rattle.pmb_host.specs.declared.step.HostFault.{HostFault};
 ghost use Rattle.pmb_host.specs.declared.step.HostFault.TheVariants as faults;
+ghost use Rattle.pmb_host.specs.Requests.{IsSound, MakeFormats};
 ghost use Rattle.pmb_host.specs.Rules.{IsAllowed, IsFault};
 ghost use Rattle.pmb_host.specs.Signals.{AreRead, legs_of, reply_form, reply_has_pec, signals};
 ghost use Rattle.pmb_host.specs.Task.{replied, task_of};
+
+use pmb_value::laws::{
+    direct_has_one_nearest, linear11_fixed_has_one_nearest, linear11_has_one_nearest,
+    quantities_have_answers, slinear16_has_one_nearest, ulinear16_has_one_nearest,
+};
 
 /// A request that is allowed has no fault, so a host is made exactly where there is none.
 pub fn allowed_requests_have_no_fault()
@@ -26,6 +32,20 @@ pub fn one_first_fault()
     ensures { (profile : List DeviceParts) (request : RequestData) (a b : HostFault)
         → IsBus profile → IsFault profile request a → IsFault profile request b → a ≡ b }
 {}
+
+/// A request is allowed, or has a first fault, under an accepted profile whose coefficients make
+/// formats.
+pub fn allowed_or_fault()
+    ensures { (profile : List DeviceParts) (request : RequestData) → IsBus profile → MakeFormats profile → IsSound request
+        → ((word : ℕ) × (number : Option NumberFormat) × IsAllowed profile request word number) ⊎ ((fault : HostFault) × IsFault profile request fault) }
+{
+    quantities_have_answers();
+    linear11_has_one_nearest();
+    linear11_fixed_has_one_nearest();
+    ulinear16_has_one_nearest();
+    slinear16_has_one_nearest();
+    direct_has_one_nearest();
+}
 
 /// A read or a call is `Invalid` where a transaction with a reply that fits would be, and for that reason
 /// ([`check`](pmb_writer::check)).

@@ -28,7 +28,7 @@ is_none : (o : Option ℕ) (value : ℕ) → ((v : ℕ) → o ≡ Some v → v <
 is_none (Some v) value small same big = let below : v < 16 = small v refl in absurd (omega arith)
 is_none None value small same big = refl
 
-digit_value_small : (b v : ℕ) → hex_digit_value b ≡ Some v → v < 16
+pub digit_value_small : (b v : ℕ) → hex_digit_value b ≡ Some v → v < 16
 digit_value_small b v digit = grind (arith)
 
 -- a digit, by the table

@@ -15,6 +15,7 @@ pub mod Writings
 pub mod Uniqueness
 pub mod PacketsWithin
 pub mod OneFault
+pub mod SomeReading
 pub mod Lines
 pub mod Lengths
 pub mod Packets

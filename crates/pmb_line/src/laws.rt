@@ -1,6 +1,6 @@
 //! Laws over the definitions of lines. Each function ensures one, and does nothing.
 
-ghost use Rattle.std.specs.Prelude.{◌≡◌, ◌≢◌, ◌≤◌, ℕ, List, ◌++◌, codes, length};
+ghost use Rattle.std.specs.Prelude.{◌≡◌, ◌≢◌, ◌≤◌, ◌⊎◌, ℕ, List, ◌++◌, codes, length};
 ghost use Rattle.std.specs.List.{All};
 ghost use Rattle.pmb_bus.specs.declared.event.Event.{Event};
 ghost use Rattle.pmb_bus.specs.Event.{character};
@@ -12,6 +12,8 @@ ghost use Rattle.pmb_line.specs.declared.line_fault.LineFault.{LineFault};
 ghost use Rattle.pmb_line.specs.LineFault.{IsLineFault, Parses};
 ghost use Rattle.pmb_line.specs.Words.{texts, line_words};
 ghost use Rattle.pmb_line.specs.Spelling.{HasBytes, HasLine, SpellsTransaction, line};
+
+use pmb_writer::laws::packet_or_fault;
 
 /// Words spell one transaction at most.
 pub fn one_transaction()
@@ -55,3 +57,10 @@ pub fn no_parse_with_a_fault()
     ensures { (profile : List DeviceParts) (line : List ℕ) (fault : LineFault) (t : TransactionData) → IsBus profile → IsLineFault profile line fault
         → Parses profile line t → ⊥ }
 {}
+
+/// A line spells a transaction that has a packet, or has a first fault, under any profile.
+pub fn parse_or_fault()
+    ensures { (profile : List DeviceParts) (line : List ℕ) → ((t : TransactionData) × Parses profile line t) ⊎ ((fault : LineFault) × IsLineFault profile line fault) }
+{
+    packet_or_fault();
+}

@@ -7,3 +7,4 @@ pub mod Standing
 pub mod WholeLines
 pub mod Writes
 pub mod OneFault
+pub mod SomeRequest

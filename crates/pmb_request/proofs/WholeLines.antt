@@ -54,7 +54,7 @@ faulted line end (Err fault) same is = faulty line fault (subst (λ n. IsRequest
 -- ---- the first word
 
 -- it is no `write`
-first_word : (token : Option Token) (word : List ℕ) → (token ≡ Some said.Write → ⊥) → on_first token word ≡ begins (verb_of token word)
+pub first_word : (token : Option Token) (word : List ℕ) → (token ≡ Some said.Write → ⊥) → on_first token word ≡ begins (verb_of token word)
 first_word (Some said.Write) word not = absurd (not refl)
 first_word _ word not = refl
 

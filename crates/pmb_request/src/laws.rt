@@ -1,6 +1,6 @@
 //! Laws over the definitions of request lines. Each function ensures one, and does nothing.
 
-ghost use Rattle.std.specs.Prelude.{◌≡◌, ℕ, Option, List};
+ghost use Rattle.std.specs.Prelude.{◌≡◌, ◌⊎◌, ℕ, Option, List};
 ghost use Rattle.pmb_request.specs.declared.request_fault.RequestFault.{RequestFault};
 ghost use Rattle.pmb_request.specs.Request.{RequestData};
 ghost use Rattle.pmb_request.specs.RequestFault.{IsRequestFault, SpellsRequest};
@@ -23,4 +23,9 @@ pub fn one_request_fault()
 pub fn no_request_with_a_fault()
     ensures { (mode : ℕ → Option ℕ) (line : List ℕ) (request : RequestData) (fault : RequestFault) → SpellsRequest mode line request
         → IsRequestFault line fault → ⊥ }
+{}
+
+/// A line spells a request, or has a first fault, whatever modes the devices have.
+pub fn request_or_fault()
+    ensures { (mode : ℕ → Option ℕ) (line : List ℕ) → ((request : RequestData) × SpellsRequest mode line request) ⊎ ((fault : RequestFault) × IsRequestFault line fault) }
 {}

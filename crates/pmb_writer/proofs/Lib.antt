@@ -1,4 +1,5 @@
 pub mod Bodies
+pub mod Decisions
 pub mod LegBytes
 pub mod Packets
 pub mod RefusedLegs

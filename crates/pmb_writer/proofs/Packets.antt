@@ -6,7 +6,7 @@ use Rattle.std.proofs.lemmas.Map.Keys.{IsDistinct-push}
 use Rattle.std.proofs.lemmas.Bool.{eqb-true, eqb-false, or_from}
 use Rattle.std.proofs.lemmas.List.{append-nil}
 use Rattle.pmb_writer.specs.declared.invalid.Invalid.{Invalid}
-use Rattle.pmb_writer.specs.machine.Typed.{IsTyped}
+use Rattle.pmb_writer.specs.Typed.{IsTyped}
 use Rattle.pmb_writer.proofs.Rules.{kept_all, kept_parts, not_both}
 use Rattle.pmb_bus.specs.declared.event.Event.{Event}
 use Rattle.pmb_bus.specs.declared.event.Event.TheVariants.{Start, Byte, Nack, Stop}

@@ -1,2 +1,3 @@
 pub mod Invalid
+pub mod Typed
 pub mod machine

@@ -1,4 +1,3 @@
 -- What the code counts with.
 pub mod Lengths
 pub mod Legs
-pub mod Typed

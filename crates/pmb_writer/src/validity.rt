@@ -6,7 +6,7 @@ ghost use Rattle.pmb_command.specs.Wire.{AreByteValues};
 ghost use Rattle.pmb_transaction.specs.Transaction.{part_data, transaction_data};
 ghost use Rattle.pmb_transaction.specs.Packet.{addresses};
 ghost use Rattle.pmb_writer.specs.Invalid.{AnswersRules, HasPacket, IsFirstFault, part_rules, parts_rules, write_rules, read_rules, call_rules, refused_address_rules, refused_rules, transaction_rules};
-ghost use Rattle.pmb_writer.specs.machine.Typed.{IsTyped};
+ghost use Rattle.pmb_writer.specs.Typed.{IsTyped};
 
 use crate::commands::forms_of;
 use crate::invalid::Invalid;
