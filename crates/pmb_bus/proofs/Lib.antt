@@ -3,6 +3,7 @@ pub mod Words
 pub mod Tokens
 pub mod Fronts
 pub mod Spelling
+pub mod Joins
 pub mod Canonical
 pub mod Stands
 pub mod Finishes

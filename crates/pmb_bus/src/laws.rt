@@ -3,13 +3,13 @@
 //! [`pec_next`](crate::pec_next) and [`pec_of`](crate::pec_of) do; and that [`Kinds`](crate::Kinds)
 //! are told by the events whose kinds they are. Each function is its contract, and does nothing.
 
-ghost use Rattle.std.specs.Prelude.{◌≡◌, ◌<◌, ◌⊎◌, ◌↔◌, ℕ, List, [], ◌∷◌, ◌++◌, bit_xor, codes};
+ghost use Rattle.std.specs.Prelude.{◌≡◌, ◌+◌, ◌<◌, ◌⊎◌, ◌↔◌, ℕ, List, [], ◌∷◌, ◌++◌, bit_xor, codes, length};
 ghost use Rattle.pmb_bus.specs.declared.event.Event.{Event};
 ghost use Rattle.pmb_bus.specs.declared.kinds.Kinds.{Kinds};
-ghost use Rattle.pmb_bus.specs.Event.{AreBytes, canonical_text};
+ghost use Rattle.pmb_bus.specs.Event.{AreBytes, canonical_text, character};
 ghost use Rattle.pmb_bus.specs.Kinds.{bits, holds};
 ghost use Rattle.pmb_bus.specs.Pec.{bits_of, message, pec, IsRemainder};
-ghost use Rattle.pmb_bus.specs.Text.{Spells, EndedWordsSpell, FirstBadWord};
+ghost use Rattle.pmb_bus.specs.Text.{Spells, EndsBetween, EndedWordsSpell, FirstBadWord};
 
 /// The canonical text of events spells them.
 pub fn canonical_text_spells()
@@ -38,6 +38,17 @@ pub fn one_bad_word()
 /// A text that spells events has no bad word.
 pub fn spelled_has_no_bad_word()
     ensures { (text : List ℕ) (a b : List Event) (i : ℕ) → Spells text a → FirstBadWord text b i → ⊥ }
+{}
+
+/// Where the first of two texts ends between words, both, one behind the other, spell the events of
+/// the first and then those of the second; the first bad word of the second is that of both. A text
+/// that ends with LF ends between words.
+pub fn texts_may_be_cut_between_words()
+    ensures spelled { (front back : List ℕ) (events more : List Event) → EndsBetween front → Spells front events → Spells back more
+        → Spells (front ++ back) (events ++ more) }
+    ensures bad { (front back : List ℕ) (events more : List Event) (place : ℕ) → EndsBetween front → Spells front events
+        → FirstBadWord back more place → FirstBadWord (front ++ back) (events ++ more) (length front + place) }
+    ensures lines { (text : List ℕ) → EndsBetween (text ++ character "\n" ∷ []) }
 {}
 
 /// A packet error code is a byte.

@@ -8,3 +8,4 @@ pub mod Putting
 pub mod Running
 pub mod Shown
 pub mod SomeText
+pub mod Cuts

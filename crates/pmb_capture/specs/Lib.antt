@@ -3,4 +3,5 @@ pub mod Output
 pub mod Written
 pub mod Show
 pub mod Check
+pub mod Cut
 pub mod machine

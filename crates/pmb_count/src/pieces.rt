@@ -89,10 +89,11 @@ impl<'p> Counter<'p> {
         }
     }
 
-    /// The next piece of the capture, of any length.
+    /// The next piece of the capture, of any length. Another one may follow.
     pub fn feed(&mut self, piece: &[Event])
         requires { IsCounting self.old }
-        ensures { (profile : List DeviceParts) (events : List BusEvent) → HasCounted profile self.old events
+        ensures counting { IsCounting self.new }
+        ensures counted { (profile : List DeviceParts) (events : List BusEvent) → HasCounted profile self.old events
             → HasCounted profile self.new (events ++ piece.now) }
     {
         let mut at = 0;

@@ -37,3 +37,4 @@ pub mod KindSets
 pub mod SomeReading
 pub mod ReadFronts
 pub mod Onwards
+pub mod Cuts

@@ -7,4 +7,5 @@ pub mod Following
 pub mod Reason
 pub mod Rows
 pub mod Reading
+pub mod Cut
 pub mod Turns

@@ -23,8 +23,8 @@ pub use crate::following::{
     writes_end_with_stop,
 };
 pub use crate::reading::{
-    captures_go_on, captures_read_as_written, each_list_has_a_reading, fronts_read_as_fronts,
-    one_reading,
+    captures_go_on, captures_may_be_cut_behind_stop, captures_read_as_written,
+    each_list_has_a_reading, fronts_read_as_fronts, one_reading,
 };
 pub use crate::rows::reasons_of_rows;
 pub use crate::viability::{

@@ -1,12 +1,14 @@
 //! Laws on what events read as: each function is its contract, and does nothing.
 
-ghost use Rattle.std.specs.Prelude.{◌≡◌, ◌↔◌, ℕ, List, ◌∷◌, ◌++◌, map};
+ghost use Rattle.std.specs.Prelude.{◌≡◌, ◌↔◌, ℕ, List, ◌∷◌, ◌++◌, length, map};
+ghost use Rattle.std.specs.List.{All};
 ghost use Rattle.pmb_bus.specs.declared.event.Event.{Event};
 ghost use Rattle.pmb_command.specs.Parts.{DeviceParts};
 ghost use Rattle.pmb_command.specs.Bus.{IsBus};
 ghost use Rattle.pmb_transaction.specs.Transaction.{TransactionData};
 ghost use Rattle.pmb_transaction.specs.Capture.{Capture, MayFollow};
 ghost use Rattle.pmb_transaction.specs.Reading.{Accepted, IsUnderWay, Outcome, Reading, ReadsAsFront, ReadsFrom};
+ghost use Rattle.pmb_transaction.specs.Cut.{EndsWithStop, IsNotTruncated, moved};
 
 use pmb_bus::laws::{kinds_are_told_by_events, pec_is_a_byte};
 
@@ -54,3 +56,22 @@ pub fn captures_go_on()
         (more : List Event) → Capture profile ts (whole ++ (front ++ event ∷ more)) → Capture profile done whole
         → IsUnderWay profile front → MayFollow profile front event }
 {}
+
+/// A capture may be cut behind any STOP: where the first of two lists of events ends with STOP, both,
+/// one behind the other, read as the first does and then as the second, with its places moved by the
+/// number of events of the first; and as nothing else, under a profile that is accepted. No packet is
+/// truncated at the cut.
+pub fn captures_may_be_cut_behind_stop()
+    ensures joined { (profile : List DeviceParts) (first second : List Event) (outcomes others : List Outcome)
+        → EndsWithStop first → Reading profile first outcomes → Reading profile second others
+        → Reading profile (first ++ second) (outcomes ++ moved (length first) others) }
+    ensures cut { (profile : List DeviceParts) (first second : List Event) (both : List Outcome) → IsBus profile
+        → EndsWithStop first → Reading profile (first ++ second) both
+        → ((outcomes : List Outcome) × (others : List Outcome) × Reading profile first outcomes × Reading profile second others
+        × (both ≡ outcomes ++ moved (length first) others)) }
+    ensures whole { (profile : List DeviceParts) (first : List Event) (outcomes : List Outcome)
+        → EndsWithStop first → Reading profile first outcomes → All IsNotTruncated outcomes }
+{
+    kinds_are_told_by_events();
+    pec_is_a_byte();
+}

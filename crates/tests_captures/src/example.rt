@@ -50,4 +50,5 @@ fn calls_each_law() {
     laws::one_showing();
     laws::one_check();
     laws::captures_are_shown();
+    laws::counts_add_up();
 }

@@ -1,5 +1,6 @@
 //! Captures, and what is shown of them under a profile.
 
+use crate::cuts::CUTS;
 use crate::notes::{FIXED_EXPONENTS, NOTES, PAGES};
 use crate::packets::{LATER_FORMS, PACKETS};
 use crate::refusals::{ENDS, PASSED_OVER, REFUSALS};
@@ -15,7 +16,7 @@ pub(crate) struct Row {
 }
 
 /// All rows, a table a subject.
-pub(crate) fn tables() -> [&'static [Row]; 10] {
+pub(crate) fn tables() -> [&'static [Row]; 11] {
     [
         &SPELLINGS,
         &PACKETS,
@@ -27,5 +28,6 @@ pub(crate) fn tables() -> [&'static [Row]; 10] {
         &NOTES,
         &PAGES,
         &FIXED_EXPONENTS,
+        &CUTS,
     ]
 }

@@ -3,7 +3,7 @@
 
 use plain_packets::events;
 use pmb_bus::Event;
-use pmb_count::{Counts, count, laws};
+use pmb_count::{Counter, Counts, count, laws};
 use pmb_table::{Profile, SAMPLE};
 use std::alloc::Global;
 use std::process::Abort;
@@ -23,12 +23,29 @@ static ROWS: [Row; 8] = [
     ("P P", 0, 2),
 ];
 
+// counts a capture that comes in two pieces
+fn count_in_two(profile: &Profile, first: &[Event], rest: &[Event]) -> Counts {
+    let mut counter = Counter::new(profile);
+    counter.feed(first);
+    counter.feed(rest);
+    counter.finish()
+}
+
 fn counts<R: Abort>(rt: &R, alloc: Global, profile: &Profile, rows: &[Row]) -> Result<(), Fail> {
     for row in rows {
         let (capture, packets, refusals) = *row;
         let events = events(alloc, capture)?;
         let counted = count(profile, events.as_slice());
         assert_eq!(rt; counted, Counts { packets, refusals }, "{capture}");
+        for cut in 0..=events.len() {
+            let (first, rest) = events.as_slice().split_at(cut);
+            let counted = count_in_two(profile, first, rest);
+            assert_eq!(rt;
+                counted,
+                Counts { packets, refusals },
+                "{capture}, cut at {cut}"
+            );
+        }
     }
     Ok(())
 }

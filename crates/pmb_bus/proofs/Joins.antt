@@ -1,0 +1,45 @@
+-- Two texts end to end, of which the first ends between words.
+use Rattle.std.proofs.Common.{◌≡◌, ℕ, ◌+◌, Bool, false, List, [], ◌∷◌, ◌++◌, length, refl, sym, ap, subst, ◌∙◌}
+use Rattle.std.proofs.lemmas.List.{append_assoc, length-append}
+use Rattle.pmb_bus.specs.declared.event.Event.{Event}
+use Rattle.pmb_bus.specs.Text.{AreTokens, EndsBetween, FirstBadWord, Spells, ends_in_comment, ends_in_comment_from, last_run, open_word}
+use Rattle.pmb_bus.proofs.Fronts.{words_between}
+use Rattle.pmb_bus.proofs.Splits.{glue, glue-nil}
+use Rattle.pmb_bus.proofs.Tokens.{AreTokens-append}
+use Rattle.pmb_bus.proofs.Words.{cut_by, ends_in_comment_by, ends_in_comment_from-append, open_word-append, runs_from}
+
+-- the events of both
+pub spelled : (front back : List ℕ) (events more : List Event) → EndsBetween front → Spells front events → Spells back more
+    → Spells (front ++ back) (events ++ more)
+spelled front back events more between first second =
+    subst (λ (ws : List (List ℕ)). AreTokens ws (events ++ more)) (sym (words_between front back between.0 between.1))
+    (AreTokens-append _ _ events more first second)
+
+-- both end between words where the second does
+between_behind : (front back : List ℕ) → EndsBetween front → EndsBetween back → EndsBetween (front ++ back)
+between_behind front back first second = (
+  open_word-append front back
+      ∙ ap (λ (word : List ℕ). last_run (glue word (runs_from (ends_in_comment front) back))) first.0
+      ∙ ap (λ (inside : Bool). last_run (glue [] (runs_from inside back))) first.1
+      ∙ ap last_run (glue-nil (runs_from false back))
+      ∙ second.0,
+  ends_in_comment_from-append false front back ∙ ap (λ (inside : Bool). ends_in_comment_from inside back) first.1 ∙ second.1,
+)
+
+-- the first bad word of the second
+pub bad : (front back : List ℕ) (events more : List Event) (place : ℕ) → EndsBetween front → Spells front events
+    → FirstBadWord back more place → FirstBadWord (front ++ back) (events ++ more) (length front + place)
+bad front back events more place between first word = record {
+  front = front ++ word.front;
+  rest = word.rest;
+  split = ap (λ (all : List ℕ). front ++ all) word.split ∙ sym (append_assoc front word.front word.rest);
+  at = length-append front word.front ∙ ap (λ (n : ℕ). length front + n) word.at;
+  between = between_behind front word.front between word.between;
+  spells = spelled front word.front events more between first word.spells;
+  word = word.word;
+  no_token = word.no_token;
+}
+
+-- LF ends a word, and a comment
+pub lines : (text : List ℕ) → EndsBetween (text ++ 10 ∷ [])
+lines text = ((cut_by text 10 refl).opened, ends_in_comment_by text 10)

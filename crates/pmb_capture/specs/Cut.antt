@@ -1,0 +1,19 @@
+-- A capture's text that is cut behind a STOP.
+use Rattle.std.specs.Prelude.{ℕ, ◌+◌, List}
+use Rattle.pmb_bus.specs.declared.event.Event.{Event}
+use Rattle.pmb_bus.specs.Text.{EndsBetween, Spells}
+use Rattle.pmb_io.specs.Count.{capped}
+use Rattle.pmb_io.specs.declared.tally.Tally.{Tally}
+use Rattle.pmb_transaction.specs.Cut.{EndsWithStop}
+
+-- A text that spells events of which the last is STOP, and at whose end no word and no comment goes
+-- on. One that spells such events and ends with LF is so.
+pub record EndsAtCut (text : List ℕ) : Type 0 where
+  pub events : List Event
+  pub spells : Spells text events
+  pub stop : EndsWithStop events
+  pub between : EndsBetween text
+
+-- the sums of the counts of two tallies, which stay at the greatest u64
+abbrev pub sum_of : Tally → Tally → Tally
+sum_of s t = record { packets = capped (s.packets + t.packets); refusals = capped (s.refusals + t.refusals) }
