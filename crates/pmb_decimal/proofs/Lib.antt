@@ -1,0 +1,9 @@
+pub mod HalfEven
+pub mod Products
+pub mod Nearest
+pub mod OneNearest
+pub mod DigitLemmas
+pub mod Text
+pub mod Numbers
+pub mod Exact
+pub mod ReadBack

@@ -1,0 +1,5 @@
+pub mod Agreeing
+pub mod Telling
+pub mod Cutting
+pub mod Full
+pub mod Standings

@@ -1,0 +1,4 @@
+pub mod Known
+pub mod Late
+pub mod Certain
+pub mod machine

@@ -1,0 +1,26 @@
+//! What is known of PAGE and VOUT_MODE of each device where a capture begins in the middle.
+//!
+//! A [`Late`] follows the transactions on a bus as a `pmb_note::Context` does. Where that takes PAGE
+//! and VOUT_MODE for their first values, they are unknown here until the transactions tell them. What
+//! is known holds for each VOUT_MODE and each PAGE that a device can have where the capture begins: one
+//! of its pages, or ffh. [`Start`] says what is known at first.
+//!
+//! ```rust
+//! let profile = Profile::from_toml(rt.alloc(), SAMPLE.as_bytes())?;
+//! let mut late = Late::new(&profile, Start::Late);
+//! assert_eq!(rt; late.mode(0x59), KnownMode::Unknown);
+//! late.observe(&parse_line(&profile, b"write 59 20 14")?);
+//! assert_eq!(rt; late.mode(0x59), KnownMode::Known(0x14));
+//! assert_eq!(rt; late.page(0x59), None);
+//! ```
+#![tactic(auto)]
+
+mod known;
+mod late;
+pub mod laws;
+mod mode;
+mod start;
+
+pub use late::Late;
+pub use mode::KnownMode;
+pub use start::Start;

@@ -1,0 +1,10 @@
+pub mod Plain
+pub mod Pieces
+pub mod Grammar
+pub mod InLine
+pub mod OneSpelling
+pub mod Decimals
+pub mod ReadNumbers
+pub mod ReadStrings
+pub mod ReadBack
+pub mod Distinct

@@ -1,0 +1,4 @@
+pub mod Json
+pub mod Spelling
+pub mod Member
+pub mod ReadBack

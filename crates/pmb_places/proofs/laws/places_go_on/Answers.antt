@@ -1,0 +1,6 @@
+use Rattle.std.proofs.Common.{[]}
+use Rattle.pmb_places.proofs.Bytes.{places_from-append}
+use Rattle.pmb_places.proofs.laws.places_go_on.Goals as goal
+
+pub returns : goal.returns
+returns c = places_from-append []

@@ -1,0 +1,134 @@
+//! Where words stand.
+//!
+//! `Places` keeps the places of three bytes and whether the last byte was one of a word or of a
+//! comment, and nothing else of the text.
+
+ghost use Rattle.std.specs.Prelude.{◌≡◌, ◌++◌, ◌∷◌, [], ℕ, List, true, false};
+ghost use Rattle.pmb_bus.specs.Text.{is_separator};
+ghost use Rattle.pmb_places.specs.Places.{PlacesStandAt, end_of_last_word, place_after, place_behind, place_of_last_word};
+ghost use Rattle.pmb_places.specs.machine.Standing.{after_byte, inside_behind};
+
+/// The place of a byte in a text. A line ends with LF. Both numbers count from 1, and stay at the
+/// greatest `u64`.
+#[derive(Clone, Copy, Debug, PartialEq, Eq)]
+pub struct Place {
+    pub line: u64,
+    /// In bytes.
+    pub column: u64,
+}
+
+impl Place {
+    // The place of the byte behind a byte that stands here.
+    #[inline]
+    fn after(self, byte: u8) -> Place
+        ensures { result ≡ place_after self byte }
+    {
+        if byte == b'\n' {
+            Place {
+                line: self.line.saturating_add(1),
+                column: 1,
+            }
+        } else {
+            Place {
+                line: self.line,
+                column: self.column.saturating_add(1),
+            }
+        }
+    }
+}
+
+/// What the last byte stands in.
+#[derive(Clone, Copy)]
+enum Inside {
+    /// Neither a word nor a comment, or no byte came.
+    Between,
+    Word,
+    Comment,
+}
+
+impl Inside {
+    // What a byte stands in, behind one that stands in this.
+    #[inline]
+    fn behind(self, byte: u8) -> Inside
+        ensures { result ≡ inside_behind self byte }
+    {
+        match (self, byte) {
+            (Inside::Comment, b'\n') => Inside::Between,
+            (Inside::Comment, _) | (_, b'#') => Inside::Comment,
+            (_, b' ' | b'\t' | b'\n' | b'\r') => Inside::Between,
+            _ => Inside::Word,
+        }
+    }
+}
+
+/// Where the words of a text stand.
+#[derive(Clone, Copy)]
+pub struct Places {
+    /// Of the next byte.
+    here: Place,
+    /// Of the first byte of the last word, and of the byte behind its last one.
+    word: Place,
+    end: Place,
+    inside: Inside,
+}
+
+impl Places {
+    /// At the start of a text.
+    pub fn new() -> Places
+        ensures { PlacesStandAt result [] }
+    {
+        let first = Place { line: 1, column: 1 };
+        Places {
+            here: first,
+            word: first,
+            end: first,
+            inside: Inside::Between,
+        }
+    }
+
+    /// The place of the next byte.
+    pub fn here(&self) -> Place
+        ensures { (text : List ℕ) → PlacesStandAt self.now text → result ≡ place_behind text }
+    {
+        self.here
+    }
+
+    /// Where the last word began, also where it goes on; line 1, column 1 before all words.
+    pub fn word(&self) -> Place
+        ensures { (text : List ℕ) → PlacesStandAt self.now text → result ≡ place_of_last_word text }
+    {
+        self.word
+    }
+
+    /// The place behind the last word; line 1, column 1 before all words.
+    pub fn end(&self) -> Place
+        ensures { (text : List ℕ) → PlacesStandAt self.now text → result ≡ end_of_last_word text }
+    {
+        self.end
+    }
+
+    /// Takes the next bytes of the text.
+    pub fn take(&mut self, bytes: &[u8])
+        ensures { (text : List ℕ) → PlacesStandAt self.old text → PlacesStandAt self.new (text ++ bytes.now) }
+    {
+        for byte in bytes {
+            self.take_byte(*byte);
+        }
+    }
+
+    #[inline]
+    fn take_byte(&mut self, byte: u8)
+        ensures { self.new ≡ after_byte self.old byte }
+    {
+        let here = self.here.after(byte);
+        let inside = self.inside.behind(byte);
+        if let Inside::Word = inside {
+            if let Inside::Between | Inside::Comment = self.inside {
+                self.word = self.here;
+            }
+            self.end = here;
+        }
+        self.here = here;
+        self.inside = inside;
+    }
+}

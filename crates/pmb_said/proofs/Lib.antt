@@ -1,0 +1,5 @@
+pub mod Onwards
+pub mod ShortLegs
+pub mod Answers
+pub mod Stands
+pub mod Room

@@ -1,0 +1,12 @@
+//! Laws over the definitions. Each function is its contract, and does nothing.
+
+ghost use Rattle.std.specs.Prelude.{List};
+ghost use Rattle.pmb_bus.specs.declared.event.Event.{Event};
+ghost use Rattle.pmb_command.specs.Parts.{DeviceParts};
+ghost use Rattle.pmb_transaction.specs.Capture.{Viable};
+ghost use Rattle.pmb_said.specs.Said.{LegsAreShort};
+
+/// In events that some packet begins with, no leg has more than 258 bytes behind its address.
+pub fn legs_are_short()
+    ensures { (profile : List DeviceParts) (events : List Event) → Viable profile events → LegsAreShort events }
+{}

@@ -1,0 +1,238 @@
+-- The spans of a capture that is cut behind a STOP are those of its pieces.
+use Rattle.std.proofs.Common.{◌≡◌, ℕ, ◌+◌, ◌⊎◌, ◌↔◌, inl, inr, true, List, [], ◌∷◌, ◌++◌, length, refl, sym, ap, ◌∙◌, subst, append_assoc, arith}
+use Rattle.std.specs.List.{All}
+use Rattle.std.proofs.lemmas.List.{length-append}
+use Rattle.std.proofs.lemmas.List.Elements.{All-cons, All-nil}
+use Rattle.pmb_bus.specs.Count.{capped}
+use Rattle.pmb_bus.specs.declared.event.Event.{Event}
+use Rattle.pmb_bus.specs.declared.event.Event.TheVariants.{Stop}
+use Rattle.pmb_command.specs.Parts.{DeviceParts}
+use Rattle.pmb_transaction.specs.Capture.{HasNoStop, Viable}
+use Rattle.pmb_transaction.specs.Cut.{EndsWithStop}
+use Rattle.pmb_transaction.specs.Reading.{BehindStop, IsUnderWay, RefusalData, RefusedAt, TruncatedAt}
+use Rattle.pmb_transaction.proofs.Fronts.{Beyond, Within, cut}
+use Rattle.pmb_spans.specs.Spans.{ReadSpan, RefusedSpan, Span, SpansFrom, TruncatedSpan, is_whole, moved_refusal, moved_spans}
+
+-- a span that is whole
+abbrev IsWhole : Span → Type 0
+IsWhole span = is_whole span ≡ true
+
+-- ---- ends
+
+none_behind : (front rest : List Event) → front ++ rest ≡ [] → rest ≡ []
+none_behind [] rest none = none
+none_behind (event ∷ front) rest none = absurd (cc none)
+
+-- What is left of the events, wherever they are cut, has a STOP or is nothing.
+abbrev EndsOn : List Event → Type 0
+EndsOn events = (front rest : List Event) → events ≡ front ++ rest → HasNoStop rest → rest ≡ []
+
+stop_within : (between rest : List Event) → HasNoStop rest → Stop ∷ [] ≡ between ++ rest → rest ≡ []
+stop_within [] rest none same = absurd (none [] [] (sym same))
+stop_within (event ∷ between) rest none same = none_behind between rest (sym (cc same))
+
+stop_behind : (before front rest : List Event) → HasNoStop rest
+    → Within before (Stop ∷ []) front rest ⊎ Beyond before (Stop ∷ []) front rest → rest ≡ []
+stop_behind before front rest none (inl w) = stop_within w.rest rest none w.second
+stop_behind before front rest none (inr w) = absurd (none (w.event ∷ w.rest) [] w.second)
+
+-- so it is of what ends with STOP
+ends_on : (events : List Event) → EndsWithStop events → EndsOn events
+ends_on events ends front rest split none =
+    stop_behind ends.front front rest none (cut ends.front (Stop ∷ []) front rest (sym ends.split ∙ split))
+
+-- and of what is left of it
+rest_ends_on : (front rest events : List Event) → EndsOn events → events ≡ front ++ rest → EndsOn rest
+rest_ends_on front rest events ends split before last other none =
+    ends (front ++ before) last (split ∙ ap (λ (es : List Event). front ++ es) other ∙ sym (append_assoc front before last)) none
+
+-- also behind the STOP up to which events are passed over
+passed_ends_on : (front passed rest events behind : List Event) → EndsOn events → events ≡ front ++ behind → behind ≡ passed ++ Stop ∷ rest
+    → EndsOn rest
+passed_ends_on front passed rest events behind ends split other =
+    rest_ends_on (passed ++ Stop ∷ []) rest behind (rest_ends_on front behind events ends split)
+    (other ∙ sym (append_assoc passed (Stop ∷ []) rest))
+
+-- ---- further on
+
+-- a place that stays at the greatest u64 stays there further on
+moved_place : (n m : ℕ) → capped (n + capped m) ≡ capped (n + m)
+moved_place n m = omega arith
+
+module _ (profile : List DeviceParts) where
+  refused_moved : (n m : ℕ) (front : List Event) (event : Event) (refusal : RefusalData) → RefusedAt profile m front event refusal
+      → RefusedAt profile (n + m) front event (moved_refusal n refusal)
+  refused_moved n m front event refusal refused =
+      let counted : n + (m + length front) ≡ (n + m) + length front = omega arith in record {
+        under_way = refused.under_way;
+        refused = refused.refused;
+        at = ap (λ (k : ℕ). capped (n + k)) refused.at ∙ moved_place n (m + length front) ∙ ap capped counted;
+        reason = refused.reason;
+        expected = refused.expected;
+      }
+
+  truncated_moved : (n m : ℕ) (events : List Event) (refusal : RefusalData) → TruncatedAt profile m events refusal
+      → TruncatedAt profile (n + m) events (moved_refusal n refusal)
+  truncated_moved n m events refusal truncated =
+      let counted : n + (m + length events) ≡ (n + m) + length events = omega arith in record {
+        some = truncated.some;
+        under_way = truncated.under_way;
+        at = ap (λ (k : ℕ). capped (n + k)) truncated.at ∙ moved_place n (m + length events) ∙ ap capped counted;
+        reason = truncated.reason;
+        expected = truncated.expected;
+      }
+
+  moved_behind : (n m : ℕ) (more : List Span) (events : List Event)
+      → ((k : ℕ) (rest : List Event) → SpansFrom profile k rest more → SpansFrom profile (n + k) rest (moved_spans n more))
+      → BehindStop (λ k behind. SpansFrom profile k behind more) (more ≡ []) m events
+      → BehindStop (λ k behind. SpansFrom profile k behind (moved_spans n more)) (moved_spans n more ≡ []) (n + m) events
+  moved_behind n m more events later (inl w) = inl (w.0, ap (moved_spans n) w.1)
+  moved_behind n m more events later (inr w) =
+      let counted : n + (m + length w.0 + 1) ≡ (n + m) + length w.0 + 1 = omega arith in
+      inr (
+        w.0,
+        w.1,
+        w.2,
+        w.3,
+        subst (λ (k : ℕ). SpansFrom profile k w.1 (moved_spans n more)) counted (later (m + length w.0 + 1) w.1 w.4),
+      )
+
+  -- behind n more events the spans are the same, moved
+  pub spans_move : (n : ℕ) (spans : List Span) (m : ℕ) (events : List Event) → SpansFrom profile m events spans
+      → SpansFrom profile (n + m) events (moved_spans n spans)
+  spans_move n [] m events w = w
+  spans_move n (ReadSpan i front t ∷ more) m events w =
+      let counted : n + (m + length front) ≡ (n + m) + length front = omega arith in
+      let later = spans_move n more (m + length front) w.1 w.4 in (
+        ap (λ (k : ℕ). n + k) w.0,
+        w.1,
+        w.2,
+        w.3,
+        subst (λ (k : ℕ). SpansFrom profile k w.1 (moved_spans n more)) counted later,
+      )
+  spans_move n (RefusedSpan i front event refusal ∷ more) m events w =
+      let counted : n + (m + length front) ≡ (n + m) + length front = omega arith in
+      let behind = moved_behind n (m + length front) more (event ∷ w.1) (λ k rest. spans_move n more k rest) w.4 in (
+        ap (λ (k : ℕ). n + k) w.0,
+        w.1,
+        w.2,
+        refused_moved n m front event refusal w.3,
+        subst
+            (λ (k : ℕ). BehindStop (λ j behind. SpansFrom profile j behind (moved_spans n more)) (moved_spans n more ≡ []) k (event ∷ w.1))
+            counted behind,
+      )
+  spans_move n (TruncatedSpan i front refusal ∷ more) m events w =
+      (ap (λ (k : ℕ). n + k) w.0, w.1, truncated_moved n m front refusal w.2, ap (moved_spans n) w.3)
+
+  -- ---- no truncation
+
+  -- a packet under way has no STOP
+  module _ (under_way : (events : List Event) → Viable profile events → IsUnderWay profile events ↔ HasNoStop events) where
+    not_truncated : (n : ℕ) (events front : List Event) (refusal : RefusalData) → EndsOn events → events ≡ front
+        → TruncatedAt profile n front refusal → ⊥
+    not_truncated n events front refusal ends same truncated =
+        let going = truncated.under_way in
+        truncated.some (ends [] front same ((under_way front going.viable).0 going))
+
+    whole_behind : (more : List Span) (n : ℕ) (events : List Event) → EndsOn events
+        → ((k : ℕ) (rest : List Event) → EndsOn rest → SpansFrom profile k rest more → All IsWhole more)
+        → BehindStop (λ k behind. SpansFrom profile k behind more) (more ≡ []) n events → All IsWhole more
+    whole_behind more n events ends later (inl w) = subst (All IsWhole) (sym w.1) (All-nil IsWhole)
+    whole_behind more n events ends later (inr w) =
+        later (n + length w.0 + 1) w.1 (passed_ends_on [] w.0 w.1 events events ends refl w.3) w.4
+
+    whole_from : (spans : List Span) (n : ℕ) (events : List Event) → EndsOn events → SpansFrom profile n events spans → All IsWhole spans
+    whole_from [] n events ends w = All-nil IsWhole
+    whole_from (ReadSpan m front t ∷ more) n events ends w =
+        All-cons IsWhole (ReadSpan m front t) more refl
+        (whole_from more (n + length front) w.1 (rest_ends_on front w.1 events ends w.2) w.4)
+    whole_from (RefusedSpan m front event refusal ∷ more) n events ends w =
+        All-cons IsWhole (RefusedSpan m front event refusal) more refl
+        (
+        whole_behind more (n + length front) (event ∷ w.1) (rest_ends_on front (event ∷ w.1) events ends w.2)
+        (λ k rest. whole_from more k rest) w.4
+        )
+    whole_from (TruncatedSpan m front refusal ∷ more) n events ends w = absurd (not_truncated n events front refusal ends w.1 w.2)
+
+    pub whole : (first : List Event) (spans : List Span) → EndsWithStop first → SpansFrom profile 0 first spans → All IsWhole spans
+    whole first spans ends w = whole_from spans 0 first (ends_on first ends) w
+
+    -- ---- both
+
+    joined_behind : (more others : List Span) (n : ℕ) (event : Event) (events second : List Event) → EndsOn (event ∷ events)
+        → ((k : ℕ) (rest : List Event) → EndsOn rest → SpansFrom profile k rest more → SpansFrom profile (k + length rest) second others
+        → SpansFrom profile k (rest ++ second) (more ++ others))
+        → BehindStop (λ k behind. SpansFrom profile k behind more) (more ≡ []) n (event ∷ events)
+        → SpansFrom profile (n + length (event ∷ events)) second others
+        → BehindStop (λ k behind. SpansFrom profile k behind (more ++ others)) (more ++ others ≡ []) n (event ∷ events ++ second)
+    joined_behind more others n event events second ends later (inl w) w2 = absurd (cc (ends [] (event ∷ events) refl w.0))
+    joined_behind more others n event events second ends later (inr w) w2 =
+        let all = event ∷ events in
+        let passed = w.0 in
+        let rest = w.1 in
+        let split : all ≡ passed ++ Stop ∷ rest = w.3 in
+        let lengths : length all ≡ length passed + length (Stop ∷ rest) = ap length split ∙ length-append passed (Stop ∷ rest) in
+        let counted : n + length all ≡ (n + length passed + 1) + length rest = omega (arith, lengths) in
+        inr (
+          passed,
+          rest ++ second,
+          w.2,
+          ap (λ (es : List Event). es ++ second) split ∙ append_assoc passed (Stop ∷ rest) second,
+          later (n + length passed + 1) rest (passed_ends_on [] passed rest all all ends refl split) w.4
+              (subst (λ (k : ℕ). SpansFrom profile k second others) counted w2),
+        )
+
+    joined_from : (spans others : List Span) (n : ℕ) (first second : List Event) → EndsOn first → SpansFrom profile n first spans
+        → SpansFrom profile (n + length first) second others → SpansFrom profile n (first ++ second) (spans ++ others)
+    joined_from [] others n first second ends none behind =
+        let nothing : n + length {A = Event} [] ≡ n = omega arith in
+        let counted : n + length first ≡ n = ap (λ (es : List Event). n + length es) none ∙ nothing in
+        subst (λ (es : List Event). SpansFrom profile n (es ++ second) others) (sym none)
+        (subst (λ (k : ℕ). SpansFrom profile k second others) counted behind)
+    joined_from (ReadSpan m front t ∷ more) others n first second ends w behind =
+        let split : first ≡ front ++ w.1 = w.2 in
+        let lengths : length first ≡ length front + length w.1 = ap length split ∙ length-append front w.1 in
+        let counted : n + length first ≡ (n + length front) + length w.1 = omega (arith, lengths) in (
+          w.0,
+          w.1 ++ second,
+          ap (λ (es : List Event). es ++ second) split ∙ append_assoc front w.1 second,
+          w.3,
+          joined_from more others (n + length front) w.1 second (rest_ends_on front w.1 first ends split) w.4
+              (subst (λ (k : ℕ). SpansFrom profile k second others) counted behind),
+        )
+    joined_from (RefusedSpan m front event refusal ∷ more) others n first second ends w behind =
+        let onwards = event ∷ w.1 in
+        let split : first ≡ front ++ onwards = w.2 in
+        let lengths : length first ≡ length front + length onwards = ap length split ∙ length-append front onwards in
+        let counted : n + length first ≡ (n + length front) + length onwards = omega (arith, lengths) in (
+          w.0,
+          w.1 ++ second,
+          ap (λ (es : List Event). es ++ second) split ∙ append_assoc front onwards second,
+          w.3,
+          joined_behind more others (n + length front) event w.1 second (rest_ends_on front onwards first ends split)
+              (λ k rest. joined_from more others k rest second) w.4
+              (subst (λ (k : ℕ). SpansFrom profile k second others) counted behind),
+        )
+    joined_from (TruncatedSpan m front refusal ∷ more) others n first second ends w behind =
+        absurd (not_truncated n first front refusal ends w.1 w.2)
+
+    pub joined : (first second : List Event) (spans others : List Span) → EndsWithStop first → SpansFrom profile 0 first spans
+        → SpansFrom profile 0 second others → SpansFrom profile 0 (first ++ second) (spans ++ moved_spans (length first) others)
+    joined first second spans others ends w behind =
+        let n = length first in
+        let counted : n + 0 ≡ 0 + n = omega arith in
+        joined_from spans (moved_spans n others) 0 first second (ends_on first ends) w
+        (subst (λ (k : ℕ). SpansFrom profile k second (moved_spans n others)) counted (spans_move n others 0 second behind))
+
+    -- ---- in pieces
+
+    module _ (some_spans : (n : ℕ) (events : List Event) → (spans : List Span) × SpansFrom profile n events spans)
+        (one_list : (n : ℕ) (events : List Event) (a b : List Span) → SpansFrom profile n events a → SpansFrom profile n events b → a ≡ b) where
+      pub in_pieces : (first second : List Event) (both : List Span) → EndsWithStop first → SpansFrom profile 0 (first ++ second) both
+          → (spans : List Span) × (others : List Span) × SpansFrom profile 0 first spans × SpansFrom profile 0 second others
+          × (both ≡ spans ++ moved_spans (length first) others)
+      in_pieces first second both ends w =
+          let a = some_spans 0 first in
+          let b = some_spans 0 second in
+          let all = a.0 ++ moved_spans (length first) b.0 in
+          (a.0, b.0, a.1, b.1, one_list 0 (first ++ second) both all w (joined first second a.0 b.0 ends a.1 b.1))

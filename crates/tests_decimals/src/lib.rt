@@ -1,0 +1,11 @@
+//! Rows of quantities and their nearest decimals, and a comparison with a slow definition.
+//!
+//! Each subject is one loop over a table; a row that fails prints its name.
+#![tactic(auto)]
+
+#[cfg(test)]
+mod compared;
+#[cfg(test)]
+mod example;
+#[cfg(test)]
+mod rows;

@@ -1,0 +1,7 @@
+//! Tests of `pmb_places`.
+#![tactic(auto)]
+
+#[cfg(test)]
+mod example;
+#[cfg(test)]
+mod rows;

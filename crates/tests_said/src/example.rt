@@ -1,0 +1,64 @@
+//! The program of `pmb_said`'s documentation, its law, and a leg as long as one can be.
+
+use pmb_bus::Event;
+use pmb_said::{Said, laws};
+use pmb_transaction::Reason;
+
+static READ: [Event; 12] = [
+    Event::Start,
+    Event::Byte(0xb0),
+    Event::Ack,
+    Event::Byte(0x88),
+    Event::Ack,
+    Event::Start,
+    Event::Byte(0xb1),
+    Event::Ack,
+    Event::Byte(0x00),
+    Event::Ack,
+    Event::Byte(0xd3),
+    Event::Ack,
+];
+
+#[test]
+fn tells_what_was_said(rt: HostRuntime) {
+    let mut said = Said::new();
+    for event in &READ {
+        said.take(*event);
+    }
+    assert_eq!(rt; said.device(), Some(0x58));
+    assert_eq!(rt; said.written_to(), Some(0x58));
+    assert_eq!(rt; said.sent(), Some(&[0x88u8][..]));
+    assert_eq!(rt; said.reply(), Some(&[0x00u8, 0xd3][..]));
+    assert_eq!(rt;
+        said.right_pec(Reason::BadPec, Event::Byte(0xf7)),
+        Some(0xf6)
+    );
+    assert_eq!(rt; said.right_pec(Reason::WrongEvent, Event::Byte(0xf7)), None);
+    said.begin();
+    assert_eq!(rt; said.device(), None);
+    assert_eq!(rt; said.written_to(), None);
+    assert_eq!(rt; said.sent(), None);
+    assert_eq!(rt; said.reply(), None);
+}
+
+#[test]
+fn keeps_a_leg_of_258_bytes(rt: HostRuntime) {
+    let mut said = Said::new();
+    said.take(Event::Start);
+    said.take(Event::Byte(0xb0));
+    for _ in 0..257u16 {
+        said.take(Event::Ack);
+        said.take(Event::Byte(0x00));
+    }
+    said.take(Event::Byte(0xff));
+    assert_eq!(rt; said.sent().map(|bytes| bytes.len()), Some(258));
+    assert_eq!(rt;
+        said.sent().and_then(|bytes| bytes.last().copied()),
+        Some(0xff)
+    );
+}
+
+#[test]
+fn calls_the_law() {
+    laws::legs_are_short();
+}
