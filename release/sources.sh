@@ -83,11 +83,11 @@ built() {
     echo "$root/release/out/$1/pmb"
 }
 
-# Keeps what stands in crates/pmb/out as the program built from the sources with the digest: whole,
-# or not at all. Those of other sources go.
+# Keeps the program that stands in crates/pmb/out, linked for older C libraries too, as the one built
+# from the sources with the digest: whole, or not at all. Those of other sources go.
 keep() {
     new=$root/release/out/new.$$
-    mkdir -p "$root/release/out/$1" && cp "$root/crates/pmb/out/pmb" "$new" && chmod 755 "$new" &&
+    mkdir -p "$root/release/out/$1" && "$root/release/link" "$new" && chmod 755 "$new" &&
         mv -f "$new" "$(built "$1")" || return
     for other in "$root"/release/out/*/; do
         [ "$other" = "$root/release/out/$1/" ] || rm -rf "$other"

@@ -128,38 +128,30 @@ def large_reads(program, report, words, text, ordinary):
     return ordinary.counts.reads
 
 
-def chosen(count):
-    """The first and the last of so many calls, and some between, always the same."""
-    return sorted({at for at in range(1, count + 1) if at <= 8 or at > count - 2 or at % 16 == 0})
-
-
 def large_writes(program, report, words, text, ordinary):
-    """Some writes of a large output fail, one a run."""
-    places = chosen(ordinary.counts.writes)
-    for at in places:
+    """Each write of a large output fails."""
+    for at in range(1, ordinary.counts.writes + 1):
         faults = {"fail_write": at}
         answer = program.run(words, text, **faults)
         failed_write_holds(report, name_of(words, faults) + " on 3 MB", answer, ordinary)
-    return len(places)
+    return ordinary.counts.writes
 
 
 def large_streams(program, report):
     runs = large_inputs(program)
-    reads = writes = made = 0
+    reads = writes = 0
     for words, text in runs:
         ordinary = program.run(words, text)
         report.holds(ordinary.status in (0, 1) and ordinary.err == b"" and len(ordinary.out) > 100,
                      name_of(words) + " on 3 MB", "an ordinary answer", (ordinary.status, ordinary.err))
         reads += large_reads(program, report, words, text, ordinary)
         writes += large_writes(program, report, words, text, ordinary)
-        made += ordinary.counts.writes
         interrupted = [{kind: at, "fail_error": errno.EINTR}
                        for kind in ("fail_read", "fail_write") for at in INTERRUPTED]
         for faults in [RANDOM_MOVES[-1], *interrupted]:
             answer = program.run(words, text, **faults)
             report.same(name_of(words, faults) + " on 3 MB", told(ordinary), told(answer))
-    return (f"failing streams of 3 MB: {len(runs)} inputs, each of {reads} reads, and {writes} of "
-            f"{made} writes")
+    return f"failing streams of 3 MB: {len(runs)} inputs, each of {reads} reads and {writes} writes"
 
 
 def failing_standard_error(program, report):
