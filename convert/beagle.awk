@@ -5,13 +5,13 @@
 #
 # The line that names the columns begins with `Level,Index` (or with `# Level,Index`); these are read:
 # the time (m:s.ms.us), S/P, Addr, Record, Data. A row is a transaction: the address in seven bits,
-# `Write Transaction` or `Read Transaction`, and its bytes; `*` behind the address or a byte is a
+# `Write Transaction` or `Read Transaction`, and its bytes; `*` after the address or a byte is a
 # NACK. S in the column S/P is a START and P a STOP, so that a row with S alone goes on in the next
-# one with a repeated START. A comment behind each packet has the time of its first row.
+# one with a repeated START. A comment after each packet has the time of its first row.
 #
 # Rows of other records, as those that tell when the capture started and stopped, are passed over.
 
-# A row that makes no sense: the packet under way is not written, and what is behind it not read.
+# A row that makes no sense: the unfinished packet is not written, and nothing after it is read.
 function fail(why) {
     print "beagle.awk: line " NR ": " why > "/dev/stderr"
     failed = 1
@@ -39,7 +39,7 @@ function addressed(text, direction) {
     return sprintf("%02x", 32 * digit(substr(text, 1, 1)) + 2 * digit(substr(text, 2, 1)) + direction)
 }
 
-# A word, and its answer: NACK where there is a `*` behind it.
+# A word, and its answer: NACK if there is a `*` after it.
 function answered(word, is_nack) {
     return " " word (is_nack ? " N" : " A")
 }
@@ -75,5 +75,5 @@ record != "Write Transaction" && record != "Read Transaction" { next }
     }
 }
 
-# A packet that is still under way is written as far as it goes: `pmb` tells that it is truncated.
+# A packet that is not finished is written as far as it goes: `pmb` reports it as truncated.
 END { if (!failed && packet != "") end_packet() }

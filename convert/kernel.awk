@@ -5,7 +5,7 @@
 #   awk -f convert/kernel.awk trace.txt        (or: trace-cmd report | awk -f convert/kernel.awk)
 #
 # It reads i2c_write, i2c_read, i2c_reply and i2c_result, and passes over other events. With more
-# than one bus in the trace say -v bus=NUMBER; else it is that of the first event. A comment behind
+# than one bus in the trace say -v bus=NUMBER; else it is that of the first event. A comment after
 # each packet has the time stamp of its first event.
 #
 # What the kernel can't tell, and how it is settled:
@@ -13,12 +13,12 @@
 #   each message but the first, and STOP at the end.
 # - ACK and NACK. A transfer whose result is the number of its messages went through: so each byte is
 #   taken as acknowledged, but for the last one read, which gets the host's NACK.
-# - Where a transfer failed. The kernel tells that it did, and not at which byte: it becomes a comment
+# - Where a transfer failed. The kernel says that it did, but not at which byte: it becomes a comment
 #   with its messages and its error, and no packet.
-# - SMBus transfers that the adapter makes by itself are told by other events (smbus_write and so on),
+# - SMBus transfers that the adapter makes by itself have other events (smbus_write and so on),
 #   which have no bytes as on the wire. They are counted on standard error.
 
-# A line that makes no sense: nothing of the transfer under way is written, and what is behind it not
+# A line that makes no sense: nothing of the unfinished transfer is written, and nothing after it is
 # read.
 function fail(why) {
     print "kernel.awk: line " NR ": " why > "/dev/stderr"
@@ -30,7 +30,7 @@ function digit(letter) {
     return index("0123456789abcdef", tolower(letter)) - 1
 }
 
-# What stands behind `name=` in the event.
+# What comes after `name=` in the event.
 function field(name) {
     if (!match(event, " " name "=[^ ]+")) fail("the event has no " name "=")
     return substr(event, RSTART + length(name) + 2, RLENGTH - length(name) - 2)

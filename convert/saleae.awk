@@ -4,12 +4,12 @@
 #   awk -f convert/saleae.awk i2c.csv
 #
 # The first line names the columns, in any order; these are read: name, type, start_time, ack,
-# address (seven bits), read, data. A comment behind each packet has the start_time of its START.
+# address (seven bits), read, data. A comment after each packet has the start_time of its START.
 # With more than one analyzer in the table say -v analyzer=NAME; else it is that of the first row.
 #
-# The source tells all that a capture has.
+# The source has all that a capture has.
 
-# A row that makes no sense: the packet under way is not written, and what is behind it not read.
+# A row that makes no sense: the unfinished packet is not written, and nothing after it is read.
 function fail(why) {
     print "saleae.awk: line " NR ": " why > "/dev/stderr"
     failed = 1
@@ -79,5 +79,5 @@ type == "data" { put(byte(column("data"))); put(acknowledge(column("ack"))); nex
 type == "stop" { put("P"); end_packet(); next }
 { fail("`" type "' is none of start, address, data and stop") }
 
-# A packet that is still under way is written as far as it goes: `pmb` tells that it is truncated.
+# A packet that is not finished is written as far as it goes: `pmb` reports it as truncated.
 END { if (!failed && packet != "") end_packet() }

@@ -8,10 +8,10 @@
 # with -v rate=SAMPLES_PER_SECOND, its time in seconds. Addresses have seven bits, as the decoder
 # writes them at first; with its option address_format=unshifted say -v unshifted=1 here.
 #
-# The source tells all that a capture has. Its lines of single bits, `Read` and `Write` say nothing
+# The source has all that a capture has. Its lines of single bits, `Read` and `Write` say nothing
 # more, and are passed over.
 
-# A line that makes no sense: the packet under way is not written, and what is behind it not read.
+# A line that makes no sense: the unfinished packet is not written, and nothing after it is read.
 function fail(why) {
     print "sigrok.awk: line " NR ": " why > "/dev/stderr"
     failed = 1
@@ -76,5 +76,5 @@ sub(/^Data (write|read): /, "", text) { put(byte(text)); next }
 text == "Read" || text == "Write" || text ~ /^[01]$/ { next }
 { fail("`" text "' is nothing that the decoder says of a bus") }
 
-# A packet that is still under way is written as far as it goes: `pmb` tells that it is truncated.
+# A packet that is not finished is written as far as it goes: `pmb` reports it as truncated.
 END { if (!failed && packet != "") end_packet() }
