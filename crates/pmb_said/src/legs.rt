@@ -3,7 +3,7 @@
 //! Two legs are kept: the last one that is written, and the last one of all where it is read. A leg
 //! of a packet has at most 258 bytes behind its address, and there is room for no more.
 
-ghost use Rattle.std.specs.Prelude.{◌≡◌, ◌++◌, ◌∷◌, [], None, take};
+ghost use Rattle.std.specs.Prelude.{◌≡◌, ◌≤◌, ◌++◌, ◌∷◌, [], None, length, take};
 ghost use Rattle.pmb_said.specs.machine.Legs.{after_address, after_byte, after_start};
 
 use arrayvec::ArrayVec;
@@ -105,14 +105,16 @@ impl Legs {
 
     #[inline]
     pub(crate) fn written(&self) -> &[u8]
-        ensures { result.now ≡ self.now.written }
+        ensures bytes { result.now ≡ self.now.written }
+        ensures short { length result.now ≤ 258 }
     {
         self.written.as_slice()
     }
 
     #[inline]
     pub(crate) fn reply(&self) -> &[u8]
-        ensures { result.now ≡ self.now.reply }
+        ensures bytes { result.now ≡ self.now.reply }
+        ensures short { length result.now ≤ 258 }
     {
         self.reply.as_slice()
     }

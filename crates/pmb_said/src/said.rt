@@ -1,6 +1,6 @@
 //! What a packet under way has said.
 
-ghost use Rattle.std.specs.Prelude.{◌≡◌, ◌++◌, ◌∷◌, [], List, option_map};
+ghost use Rattle.std.specs.Prelude.{◌≡◌, ◌≤◌, ◌++◌, ◌∷◌, [], List, IfSome, length, option_map};
 ghost use Rattle.pmb_bus.specs.declared.event.Event.{Event as BusEvent};
 ghost use Rattle.pmb_command.specs.Parts.{DeviceParts};
 ghost use Rattle.pmb_transaction.specs.Capture.{Viable};
@@ -106,8 +106,9 @@ impl Said {
     /// All bytes behind the address in the last written leg, where there is one. This holds of events
     /// that some packet begins with.
     pub fn sent(&self) -> Option<&[u8]>
-        ensures { (profile : List DeviceParts) (events : List BusEvent) → Viable profile events → SaidStandsAt self.now events
+        ensures bytes { (profile : List DeviceParts) (events : List BusEvent) → Viable profile events → SaidStandsAt self.now events
             → option_map (λ bytes. bytes.now) result ≡ sent events }
+        ensures short { IfSome result (λ bytes. length bytes.now ≤ 258) }
     {
         match self.legs.written_address() {
             Some(_) => Some(self.legs.written()),
@@ -118,8 +119,9 @@ impl Said {
     /// All bytes behind the address in the last leg, where that is read. This holds of events that
     /// some packet begins with.
     pub fn reply(&self) -> Option<&[u8]>
-        ensures { (profile : List DeviceParts) (events : List BusEvent) → Viable profile events → SaidStandsAt self.now events
+        ensures bytes { (profile : List DeviceParts) (events : List BusEvent) → Viable profile events → SaidStandsAt self.now events
             → option_map (λ bytes. bytes.now) result ≡ reply events }
+        ensures short { IfSome result (λ bytes. length bytes.now ≤ 258) }
     {
         match self.legs.last() {
             LastLeg::Read => Some(self.legs.reply()),

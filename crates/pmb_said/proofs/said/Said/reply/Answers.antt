@@ -4,8 +4,8 @@ use Rattle.pmb_said.proofs.Answers.{reply_is, short_backwards}
 use Rattle.pmb_said.proofs.ShortLegs.{legs_are_short}
 use Rattle.pmb_said.proofs.said.Said.reply.Goals as goal
 
-pub returns-in-Read : goal.returns-in-Read
-returns-in-Read c = λ profile events viable stands.
-    ap (λ (bs : List ℕ). Some bs) c.reply.ensures
+pub returns-in-Read-clause-bytes : goal.returns-in-Read-clause-bytes
+returns-in-Read-clause-bytes c = λ profile events viable stands.
+    ap (λ (bs : List ℕ). Some bs) c.reply.ensures.bytes
     ∙ reply_is c.args.self.now.legs (reverse (legs events)) stands.legs (short_backwards (legs events) (legs_are_short profile events viable))
     (sym c.last.ensures ∙ c.in-Read.is)

@@ -1,0 +1,9 @@
+pub mod Names
+pub mod Seen
+pub mod Sees
+pub mod Members
+pub mod Refusals
+pub mod Counts
+pub mod BadToken
+pub mod Object
+pub mod machine

@@ -1,0 +1,34 @@
+//! Objects of a capture, each put into a line of JSON.
+//!
+//! A function for each sort of object appends its line to bytes that the caller has, and takes no
+//! memory: [`refusal_line`], [`bad_token_line`] of a word that is no token, and at the end
+//! [`device_line`] of how often a device came and [`end_line`] of the totals, which [`Counts`] has
+//! counted. [`is_wanted`] tells which objects are wanted. A line has at most [`OBJECT`] bytes.
+//!
+//! ```rust
+//! let place = Place { line: 2, column: 7 };
+//! let mut out = ArrayVec::<u8, OBJECT>::new();
+//! bad_token_line(&mut out, 5, place, b"b\"");
+//! let line = b"{\"at\":5,\"line\":2,\"column\":7,\"kind\":\"bad_token\",\"word\":\"b\\u0022\"}\n";
+//! assert_eq!(rt; out.as_slice(), &line[..]);
+//! ```
+#![tactic(auto)]
+
+mod bad_token;
+mod counts;
+mod last;
+mod members;
+mod names;
+mod refusal;
+mod seen;
+mod wanted;
+
+pub use bad_token::{WORD, bad_token_line};
+pub use counts::{Counts, DeviceCounts};
+pub use last::{device_line, end_line};
+pub use refusal::refusal_line;
+pub use seen::Seen;
+pub use wanted::is_wanted;
+
+/// The most bytes of an object with its LF.
+pub const OBJECT: usize = 4096;

@@ -1,0 +1,94 @@
+//! The names of reasons and of events.
+
+ghost use Rattle.std.specs.Prelude.{◌≡◌, ◌==◌, ◌+◌, ◌*◌, ◌≤◌, ◌++◌, ◌∷◌, [], List, ℕ, bit_and, codes, length, map};
+ghost use Rattle.pmb_bus.specs.Kinds.{bits};
+ghost use Rattle.pmb_object.specs.Json.{string};
+ghost use Rattle.pmb_object.specs.declared.place.Place.TheVariants.{Later};
+ghost use Rattle.pmb_object.specs.Member.{array_of, items_text, members_text, named};
+ghost use Rattle.pmb_objects.specs.Names.{got_value, kind_names, reason_name as reason_text, with_name};
+
+use crate::members::append_byte;
+use arrayvec::ArrayVec;
+use pmb_bus::{Event, Kinds};
+use pmb_object::{
+    ARRAY_MEMBER, NULL_MEMBER, Place as MemberPlace, TEXT_ITEM, TEXT_MEMBER, begin_array,
+    end_array, null_member, text_item, text_member,
+};
+use pmb_transaction::Reason;
+
+/// The most bytes of the names of kinds.
+pub(crate) const KINDS_MEMBER: usize = ARRAY_MEMBER + 5 * (TEXT_ITEM + 6 * 5) + 1;
+
+/// The most bytes of the refused event.
+pub(crate) const GOT_MEMBER: usize = TEXT_MEMBER + 6 * 5;
+
+/// The name of a reason.
+pub(crate) fn reason_name(reason: Reason) -> &'static [u8]
+    ensures name { result.now ≡ reason_text reason }
+    ensures short { length result.now ≤ 14 }
+{
+    match reason {
+        Reason::ReadFirst => b"ReadFirst",
+        Reason::BadRestart => b"BadRestart",
+        Reason::BadPec => b"BadPec",
+        Reason::UnknownDevice => b"UnknownDevice",
+        Reason::UnknownCommand => b"UnknownCommand",
+        Reason::TooLong => b"TooLong",
+        Reason::TooShort => b"TooShort",
+        Reason::WrongEvent => b"WrongEvent",
+        Reason::Truncated => b"Truncated",
+    }
+}
+
+/// Appends the names of the kinds that were expected.
+pub(crate) fn append_kinds<const N: usize>(out: &mut ArrayVec<u8, N>, kinds: Kinds)
+    requires room { length out.old.items + KINDS_MEMBER ≤ N }
+    ensures member { out.new.items ≡ out.old.items ++ members_text Later (named (codes "expected") (array_of (map string (kind_names kinds))) ∷ []) }
+    ensures short { length out.new.items ≤ length out.old.items + KINDS_MEMBER }
+{
+    begin_array(out, MemberPlace::Later, "expected");
+    let place = append_kind(out, MemberPlace::First, kinds, Kinds::START, b"Start");
+    let place = append_kind(out, place, kinds, Kinds::BYTE, b"Byte");
+    let place = append_kind(out, place, kinds, Kinds::ACK, b"Ack");
+    let place = append_kind(out, place, kinds, Kinds::NACK, b"Nack");
+    append_kind(out, place, kinds, Kinds::STOP, b"Stop");
+    end_array(out);
+}
+
+/// Appends the name of a kind, where it is one of these kinds, and returns the place of the next
+/// one.
+fn append_kind<const N: usize>(
+    out: &mut ArrayVec<u8, N>,
+    place: MemberPlace,
+    kinds: Kinds,
+    kind: Kinds,
+    name: &[u8],
+) -> MemberPlace
+    requires room { length out.old.items + (TEXT_ITEM + 6 * 5) ≤ N }
+    requires name { length name.now ≤ 5 }
+    ensures items { (rest : List (List ℕ))
+        → out.new.items ++ items_text result (map string rest) ≡ out.old.items ++ items_text place (map string (with_name (bit_and (bits kinds) (bits kind) == bits kind) name.now rest)) }
+    ensures short { length out.new.items ≤ length out.old.items + (TEXT_ITEM + 6 * 5) }
+{
+    if !kinds.contains(kind) {
+        return place;
+    }
+    text_item(out, place, name);
+    MemberPlace::Later
+}
+
+/// Appends the refused event; `None` is the end of the events.
+pub(crate) fn append_got<const N: usize>(out: &mut ArrayVec<u8, N>, event: Option<Event>)
+    requires room { length out.old.items + GOT_MEMBER ≤ N }
+    ensures member { out.new.items ≡ out.old.items ++ members_text Later (named (codes "got") (got_value event) ∷ []) }
+    ensures short { length out.new.items ≤ length out.old.items + GOT_MEMBER }
+{
+    match event {
+        None => null_member(out, MemberPlace::Later, "got"),
+        Some(Event::Byte(byte)) => append_byte(out, "got", byte),
+        Some(Event::Start) => text_member(out, MemberPlace::Later, "got", b"Start"),
+        Some(Event::Ack) => text_member(out, MemberPlace::Later, "got", b"Ack"),
+        Some(Event::Nack) => text_member(out, MemberPlace::Later, "got", b"Nack"),
+        Some(Event::Stop) => text_member(out, MemberPlace::Later, "got", b"Stop"),
+    }
+}

@@ -1,0 +1,39 @@
+//! What is known where a packet begins.
+
+ghost use Rattle.std.specs.Prelude.{◌≡◌, option_map};
+ghost use Rattle.pmb_command.specs.Entry.{entry_parts};
+ghost use Rattle.pmb_objects.specs.Seen.{SeenData, entry_at, page_at};
+ghost use Rattle.pmb_objects.specs.Sees.{Sees};
+
+use pmb_command::Entry;
+use pmb_decimal::Digits;
+use pmb_late::Late;
+use pmb_table::Profile;
+
+/// What is known where a packet begins: the devices, and what the transactions before have told of
+/// PAGE and VOUT_MODE. Numbers get that many digits after the point.
+#[derive(Clone, Copy)]
+pub struct Seen<'s> {
+    pub digits: Digits,
+    pub profile: &'s Profile,
+    pub late: &'s Late<'s>,
+}
+
+impl<'s> Seen<'s> {
+    /// The command with a code of the device with an address.
+    pub(crate) fn entry(&self, addr: u8, code: u8) -> Option<&Entry>
+        ensures { (known : SeenData) → Sees self.now known → option_map (λ e. entry_parts e.now) result ≡ entry_at known addr code }
+    {
+        match self.profile.device(addr) {
+            Some(device) => device.entry(code),
+            None => None,
+        }
+    }
+
+    /// PAGE of the device with an address, where it is known.
+    pub(crate) fn page(&self, addr: u8) -> Option<u8>
+        ensures { (known : SeenData) → Sees self.now known → result ≡ page_at known addr }
+    {
+        self.late.page(addr)
+    }
+}
