@@ -1,4 +1,4 @@
--- What `pmb show`, `pmb check`, `pmb build` and `pmb run` write of what they read.
+-- What `pmb show`, `pmb check`, `pmb build`, `pmb run` and `pmb profile` write of what they read.
 use Rattle.std.specs.Prelude.{◌≡◌, ◌⊎◌, ℕ, true, List, []}
 use Rattle.std.specs.Io.KnownBytes.{IsAtEnd}
 use Rattle.pmb_build.specs.Lines.{building}
@@ -7,12 +7,28 @@ use Rattle.pmb_capture.specs.Show.{showing}
 use Rattle.pmb_command.specs.Parts.{DeviceParts}
 use Rattle.pmb_io.specs.Runs.{Done, Job, OpenBefore, PartDone}
 use Rattle.pmb_io.specs.Told.{ReaderTold, WriterTold, told_by}
+use Rattle.pmb_io.specs.Tally.{IsTallyOf}
 use Rattle.pmb_io.specs.declared.tally.Tally.{Tally}
 use Rattle.pmb_front.specs.Front.{FirstMark, Undecided}
 use Rattle.pmb_run.specs.Lines.{running}
+use Rattle.pmb_describe.specs.Table.{bus_text}
 use Rattle.pmb_cli.specs.Matter.{Behind, PartBehind, UnderSample}
 use Rattle.pmb_words.specs.declared.work.Work.{Work}
-use Rattle.pmb_words.specs.declared.work.Work.TheVariants.{Show, Check, Build, Run}
+use Rattle.pmb_words.specs.declared.work.Work.TheVariants.{Show, Check, Build, Run, Describe}
+
+-- The text of the bus was written, and nothing was counted.
+pub record IsDescribed (bus : List DeviceParts) (tally : Tally) (text : List ℕ) : Type 0 where
+  pub whole : text ≡ bus_text bus
+  pub counts : IsTallyOf 0 0 tally
+
+-- What `profile` is to write: the text of the bus, whatever stands behind its profile. Of that nothing is wanted.
+abbrev pub describing : List DeviceParts → Job Tally
+describing bus = record {
+  Whole = λ tally bytes text. IsDescribed bus tally text;
+  Stops = λ tally bytes text. IsDescribed bus tally text;
+  Front = λ bytes text. ⊥;
+  IsOpen = λ bytes. ⊥;
+}
 
 -- what each work is to write under a profile
 abbrev pub working : Work → List DeviceParts → Job Tally
@@ -20,6 +36,7 @@ working Show profile = showing profile
 working Check profile = checking profile
 working Build profile = building profile
 working Run profile = running profile
+working Describe profile = describing profile
 
 -- What was read but for a last piece left something open: nothing was decided of the profile, or the job wants more of what
 -- stands behind it.

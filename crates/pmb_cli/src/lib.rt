@@ -2,6 +2,7 @@
 //! names of the crates that it stands on.
 #![tactic(auto)]
 
+mod bus;
 mod doing;
 pub mod laws;
 mod lines;
@@ -11,6 +12,7 @@ mod traffic;
 pub use pmb_build::build;
 pub use pmb_capture::{check_capture, show};
 pub use pmb_convert::{FormatFault, NumberFormat, decode_lines, encode_lines, parse_format};
+pub use pmb_describe::describe;
 pub use pmb_front::{Front, front};
 pub use pmb_io::{Failing, Io, IoFault, Sink, Source, Tally, ToolFault};
 pub use pmb_run::run;

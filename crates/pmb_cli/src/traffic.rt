@@ -1,5 +1,5 @@
-//! `pmb show`, `pmb check`, `pmb build` and `pmb run`: what stands behind a profile, a capture or lines,
-//! under the sample profile or under the one in front of it.
+//! `pmb show`, `pmb check`, `pmb build`, `pmb run` and `pmb profile`: what stands behind a profile, a
+//! capture or lines, or the bus itself, under the sample profile or under the one in front.
 
 ghost use Rattle.std.specs.Prelude.{◌≡◌, ◌≢◌, true, false};
 ghost use Rattle.pmb_io.specs.Runs.{AsTool, Ran};
@@ -13,6 +13,7 @@ ghost use Rattle.pmb_status.specs.Status.{EndedWell, Failed, IsTold};
 ghost use Rattle.pmb_words.specs.Asked.{Traffic};
 ghost use Rattle.pmb_words.specs.declared.work.Work.TheVariants.{Run};
 
+use crate::bus::describe_bus;
 use pmb_build::build;
 use pmb_capture::{check_capture, show};
 use pmb_front::{front, sample_profile, tell_profile};
@@ -46,6 +47,7 @@ fn do_work<R: Source, W: Sink>(
         Work::Check => check_capture(profile, first, reader, out),
         Work::Build => build(profile, first, reader, out),
         Work::Run => run(alloc, profile, first, reader, out),
+        Work::Describe => describe_bus(profile, first, reader, out),
     }
 }
 

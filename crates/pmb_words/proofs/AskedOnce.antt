@@ -6,7 +6,7 @@ use Rattle.pmb_status.specs.declared.status.Status.{Status}
 use Rattle.pmb_status.specs.declared.status.Status.TheVariants.{Done, BadWords, IoFailed, NoMemory}
 use Rattle.pmb_words.specs.Asked.{AskFor, Asking, SubcommandAsks, Decode, Encode, HasBadFormat, NamesNone, Traffic, format_in, has_sample, name_of}
 use Rattle.pmb_words.specs.declared.work.Work.{Work}
-use Rattle.pmb_words.specs.declared.work.Work.TheVariants.{Show, Check, Build, Run}
+use Rattle.pmb_words.specs.declared.work.Work.TheVariants.{Show, Check, Build, Run, Describe}
 use Rattle.clap.specs.declared.error.kind.ErrorKind.TheVariants.{DisplayHelp, DisplayVersion, OutOfMemory}
 use Rattle.pmb_words.specs.Words.{AskToTell, IsTelling, help, version, faults_of, pmb_app}
 
@@ -19,12 +19,13 @@ rows_in : Option (Text × List Row) → List Row
 rows_in None = []
 rows_in (Some met) = met.1
 
--- the letters that tell `show`, `check`, `build`, `run`, `encode` and `decode` apart
+-- the letters that tell `show`, `check`, `build`, `run`, `profile`, `encode` and `decode` apart
 abbrev letter_of : Work → ℕ
 letter_of Show = 115
 letter_of Check = 99
 letter_of Build = 98
 letter_of Run = 114
+letter_of Describe = 112
 
 abbrev pub letter : Asking → ℕ
 letter (Traffic work sample) = letter_of work
@@ -39,6 +40,7 @@ begins Show = refl
 begins Check = refl
 begins Build = refl
 begins Run = refl
+begins Describe = refl
 
 is_letter : (found : Option (Text × List Row)) (asking : Asking) → SubcommandAsks found asking → first_of found ≡ letter asking
 unfolding first_of name_in
@@ -52,30 +54,41 @@ no_encode Show is = omega (arith, is)
 no_encode Check is = omega (arith, is)
 no_encode Build is = omega (arith, is)
 no_encode Run is = omega (arith, is)
+no_encode Describe is = omega (arith, is)
 
 no_decode : (work : Work) → letter_of work ≡ 100 → ⊥
 no_decode Show is = omega (arith, is)
 no_decode Check is = omega (arith, is)
 no_decode Build is = omega (arith, is)
 no_decode Run is = omega (arith, is)
+no_decode Describe is = omega (arith, is)
 
 one_work : (a b : Work) → letter_of a ≡ letter_of b → a ≡ b
 one_work Show Show is = refl
 one_work Show Check is = absurd (omega (arith, is))
 one_work Show Build is = absurd (omega (arith, is))
 one_work Show Run is = absurd (omega (arith, is))
+one_work Show Describe is = absurd (omega (arith, is))
 one_work Check Show is = absurd (omega (arith, is))
 one_work Check Check is = refl
 one_work Check Build is = absurd (omega (arith, is))
 one_work Check Run is = absurd (omega (arith, is))
+one_work Check Describe is = absurd (omega (arith, is))
 one_work Build Show is = absurd (omega (arith, is))
 one_work Build Check is = absurd (omega (arith, is))
 one_work Build Build is = refl
 one_work Build Run is = absurd (omega (arith, is))
+one_work Build Describe is = absurd (omega (arith, is))
 one_work Run Show is = absurd (omega (arith, is))
 one_work Run Check is = absurd (omega (arith, is))
 one_work Run Build is = absurd (omega (arith, is))
 one_work Run Run is = refl
+one_work Run Describe is = absurd (omega (arith, is))
+one_work Describe Show is = absurd (omega (arith, is))
+one_work Describe Check is = absurd (omega (arith, is))
+one_work Describe Build is = absurd (omega (arith, is))
+one_work Describe Run is = absurd (omega (arith, is))
+one_work Describe Describe is = refl
 
 -- the same rows
 one_rows : (found wanted : Option (Text × List Row)) (name : Text) (rows others : List Row) → found ≡ wanted → found ≡ Some (name, rows) → wanted ≡ Some (name, others) → rows ≡ others

@@ -1,4 +1,4 @@
--- What `clap` finds in the words `pmb show`, `pmb check`, `pmb build`, `pmb run`, `pmb encode FORMAT` and `pmb decode FORMAT`.
+-- What `clap` finds in the words `pmb show`, `pmb check`, `pmb build`, `pmb run`, `pmb profile`, `pmb encode FORMAT` and `pmb decode FORMAT`.
 use Rattle.std.proofs.Common.{◌≡◌, ◌≢◌, ℕ, true, false, eqb, Option, Some, None, List, [], ◌∷◌, codes, refl, sym, ap, ap₂, ◌∙◌}
 use Rattle.std.specs.Str.{bytes_eq}
 use Rattle.std.proofs.lemmas.Bool.{ne_eqb}
@@ -11,7 +11,7 @@ use Rattle.clap.specs.Words.{Kinds, Row, Rule, Shape, Text, subcommand_of}
 use Rattle.clap.proofs.OnLiterals.{clap_on_literals}
 use Rattle.pmb_words.specs.Asked.{AskFor, Decode, Encode, Traffic, format_in, has_sample, name_of}
 use Rattle.pmb_words.specs.declared.work.Work.{Work}
-use Rattle.pmb_words.specs.declared.work.Work.TheVariants.{Show, Check, Build, Run}
+use Rattle.pmb_words.specs.declared.work.Work.TheVariants.{Show, Check, Build, Run, Describe}
 use Rattle.clap.specs.declared.error.kind.ErrorKind.TheVariants.{DisplayHelp, DisplayVersion, InvalidSubcommand}
 use Rattle.pmb_words.specs.Words.{AskToTell, IsFlag, help, version, faults_of, lines_app, pmb_app}
 
@@ -139,7 +139,7 @@ asks_to_decode name format no_hyphen =
       );
     }
 
--- ---- `pmb show`, `pmb check`, `pmb build` and `pmb run`, with the flag or without it
+-- ---- `pmb show`, `pmb check`, `pmb build`, `pmb run` and `pmb profile`, with the flag or without it
 
 abbrev rows_in : Option (Text × List Row) → List Row
 rows_in None = []
@@ -158,6 +158,7 @@ sampled_fault Show name = refl
 sampled_fault Check name = refl
 sampled_fault Build name = refl
 sampled_fault Run name = refl
+sampled_fault Describe name = refl
 
 sampled_rows : (work : Work) (name : Text) → subcommand_of pmb_app (sampled work name) ≡ Some (name_of work, rows_in (subcommand_of pmb_app (sampled work name)))
 unfolding clap_on_literals
@@ -165,6 +166,7 @@ sampled_rows Show name = refl
 sampled_rows Check name = refl
 sampled_rows Build name = refl
 sampled_rows Run name = refl
+sampled_rows Describe name = refl
 
 sampled_has : (work : Work) (name : Text) → true ≡ has_sample (rows_in (subcommand_of pmb_app (sampled work name)))
 unfolding clap_on_literals
@@ -172,6 +174,7 @@ sampled_has Show name = refl
 sampled_has Check name = refl
 sampled_has Build name = refl
 sampled_has Run name = refl
+sampled_has Describe name = refl
 
 unsampled_fault : (work : Work) (name : Text) → faults_of (unsampled work name) ≡ []
 unfolding clap_on_literals
@@ -179,6 +182,7 @@ unsampled_fault Show name = refl
 unsampled_fault Check name = refl
 unsampled_fault Build name = refl
 unsampled_fault Run name = refl
+unsampled_fault Describe name = refl
 
 unsampled_rows : (work : Work) (name : Text) → subcommand_of pmb_app (unsampled work name) ≡ Some (name_of work, rows_in (subcommand_of pmb_app (unsampled work name)))
 unfolding clap_on_literals
@@ -186,6 +190,7 @@ unsampled_rows Show name = refl
 unsampled_rows Check name = refl
 unsampled_rows Build name = refl
 unsampled_rows Run name = refl
+unsampled_rows Describe name = refl
 
 unsampled_has : (work : Work) (name : Text) → false ≡ has_sample (rows_in (subcommand_of pmb_app (unsampled work name)))
 unfolding clap_on_literals
@@ -193,6 +198,7 @@ unsampled_has Show name = refl
 unsampled_has Check name = refl
 unsampled_has Build name = refl
 unsampled_has Run name = refl
+unsampled_has Describe name = refl
 
 pub asks_sampled : (work : Work) (name : Text) → AskFor (sampled work name) (Traffic work true)
 asks_sampled work name = record { no_fault = sampled_fault work name; asks = (_, sampled_rows work name, sampled_has work name) }

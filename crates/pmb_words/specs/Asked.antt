@@ -7,11 +7,11 @@ use Rattle.pmb_convert.specs.declared.format_fault.FormatFault.{FormatFault}
 use Rattle.pmb_words.specs.declared.tasks.Task.{Task}
 use Rattle.pmb_words.specs.declared.tasks.Task.TheVariants as asks
 use Rattle.pmb_words.specs.declared.work.Work.{Work}
-use Rattle.pmb_words.specs.declared.work.Work.TheVariants.{Show, Check, Build, Run}
+use Rattle.pmb_words.specs.declared.work.Work.TheVariants.{Show, Check, Build, Run, Describe}
 use Rattle.pmb_words.specs.Words.{faults_of, pmb_app}
 
--- A capture is to be shown or checked, lines are to be built or requests to be run, under the sample profile or else under the
--- one in front; or lines are to be encoded or decoded, in the format that a text names.
+-- A capture is to be shown or checked, lines are to be built, requests to be run, or the bus to be described, under the sample
+-- profile or else under the one in front; or lines are to be encoded or decoded, in the format that a text names.
 pub data Asking : Type 0 where
   Traffic : (work : Work) → (sample : Bool) → Asking
   Encode : (format : Text) → Asking
@@ -29,6 +29,7 @@ name_of Show = codes "show"
 name_of Check = codes "check"
 name_of Build = codes "build"
 name_of Run = codes "run"
+name_of Describe = codes "profile"
 
 -- the flag `--sample` among a subcommand's matches
 abbrev pub has_sample : List Row → Bool

@@ -1,5 +1,5 @@
--- The words that `pmb` takes, after its own name: `show`, `check`, `build` and `run`, each with or without `--sample`, `encode
--- FORMAT` and `decode FORMAT`.
+-- The words that `pmb` takes, after its own name: `show`, `check`, `build`, `run` and `profile`, each with or without
+-- `--sample`, `encode FORMAT` and `decode FORMAT`.
 use Rattle.std.specs.Prelude.{◌≡◌, ◌≢◌, ◌⊎◌, ◌++◌, true, Some, List, [], ◌∷◌, codes}
 use Rattle.clap.specs.Words.{App, IsAmong, Kinds, Rule, Text, fault_of, new_app, new_rule, with_rule, with_subcommand}
 use Rattle.clap.specs.declared.builder.action.ArgAction.TheVariants.{Set, SetTrue}
@@ -10,7 +10,7 @@ use Rattle.clap.specs.declared.error.kind.ErrorKind.TheVariants.{DisplayHelp, Di
 abbrev pub sample : Rule
 sample = record (new_rule (codes "sample")) { long = Some (codes "sample"); action = Some SetTrue }
 
--- `show`, `check`, `build` or `run` with its flag
+-- `show`, `check`, `build`, `run` or `profile` with its flag
 abbrev pub sampled_app : Text → App
 sampled_app name = with_rule (new_app name) sample
 
@@ -29,9 +29,9 @@ top_app a = record a { top = record a.top { subcommand_required = true; arg_requ
 -- `pmb` with its subcommands
 abbrev pub pmb_app : App
 pmb_app =
-    with_subcommand (with_subcommand (with_subcommand (with_subcommand (with_subcommand (with_subcommand (top_app (new_app (codes "pmb")))
+    with_subcommand (with_subcommand (with_subcommand (with_subcommand (with_subcommand (with_subcommand (with_subcommand (top_app (new_app (codes "pmb")))
     (sampled_app (codes "show")).top) (sampled_app (codes "check")).top) (sampled_app (codes "build")).top) (sampled_app (codes "run")).top)
-    (lines_app (codes "encode")).top) (lines_app (codes "decode")).top
+    (sampled_app (codes "profile")).top) (lines_app (codes "encode")).top) (lines_app (codes "decode")).top
 
 -- the kinds of fault that `clap` may find in the words; a call for help or for the version counts as one
 abbrev pub faults_of : List Text → Kinds

@@ -5,10 +5,10 @@ ghost use Rattle.clap.specs.Words.{Text};
 ghost use Rattle.pmb_words.specs.Asked.{AskFor, AskForNothing, Asking, Decode, Encode, HasBadFormat, NamesNone, Traffic};
 ghost use Rattle.clap.specs.declared.error.kind.ErrorKind.TheVariants.{DisplayHelp, InvalidSubcommand};
 ghost use Rattle.pmb_words.specs.Words.{AreRefused, AskToTell, IsFlag, faults_of};
-ghost use Rattle.pmb_words.specs.declared.work.Work.TheVariants.{Show, Check, Build, Run};
+ghost use Rattle.pmb_words.specs.declared.work.Work.TheVariants.{Show, Check, Build, Run, Describe};
 
-/// The words `pmb show`, `pmb check`, `pmb build` and `pmb run`, each with `--sample` or without it,
-/// `pmb encode FORMAT` and `pmb decode FORMAT` have no fault of `clap`'s and ask for just that, where
+/// The words `pmb show`, `pmb check`, `pmb build`, `pmb run` and `pmb profile`, each with `--sample` or
+/// without it, `pmb encode FORMAT` and `pmb decode FORMAT` have no fault of `clap`'s and ask for just that, where
 /// FORMAT does not begin with `-`; `pmb --help` and `pmb --version` ask to be told about it. Of `pmb
 /// help` and whatever words behind it `clap`'s definition says that they may ask for help or be refused.
 pub fn words_ask()
@@ -20,6 +20,8 @@ pub fn words_ask()
     ensures build { (name : Text) → AskFor (name ∷ codes "build" ∷ []) (Traffic Build false) }
     ensures run_sample { (name : Text) → AskFor (name ∷ codes "run" ∷ codes "--sample" ∷ []) (Traffic Run true) }
     ensures run { (name : Text) → AskFor (name ∷ codes "run" ∷ []) (Traffic Run false) }
+    ensures profile_sample { (name : Text) → AskFor (name ∷ codes "profile" ∷ codes "--sample" ∷ []) (Traffic Describe true) }
+    ensures profile { (name : Text) → AskFor (name ∷ codes "profile" ∷ []) (Traffic Describe false) }
     ensures encode { (name format : Text) → (IsFlag format → ⊥) → AskFor (name ∷ codes "encode" ∷ format ∷ []) (Encode format) }
     ensures decode { (name format : Text) → (IsFlag format → ⊥) → AskFor (name ∷ codes "decode" ∷ format ∷ []) (Decode format) }
     ensures help { (name : Text) → AskToTell (name ∷ codes "--help" ∷ []) }

@@ -19,8 +19,8 @@ use std::convert::AsStr;
 /// What is to be done.
 #[derive(Clone, Copy)]
 pub enum Task<'a> {
-    /// What is done with a capture or lines, and whether it is done under the sample profile, or else
-    /// under the one in front of them.
+    /// What is done with a capture, with lines or with the bus itself, and whether it is done under the
+    /// sample profile, or else under the one in front.
     Traffic(Work, bool),
     /// Lines are encoded in the format that a text names.
     Encode(&'a str),
@@ -86,6 +86,8 @@ fn task_of<'a>(matches: &ArgMatches<'a>) -> Option<Task<'a>>
         Some(Task::Traffic(Work::Build, has_sample(arguments)))
     } else if name == "run" {
         Some(Task::Traffic(Work::Run, has_sample(arguments)))
+    } else if name == "profile" {
+        Some(Task::Traffic(Work::Describe, has_sample(arguments)))
     } else if name == "encode" {
         Some(Task::Encode(arguments.get_str("FORMAT").unwrap_or("")))
     } else if name == "decode" {

@@ -28,9 +28,17 @@ pub(crate) fn parse<'a, S: AsStr>(alloc: Global, words: &'a [S]) -> Result<ArgMa
 fn pmb_command<'a>(alloc: Global) -> Result<Command<'a>, AllocError>
     ensures { IfOk result (λ command. app_of command ≡ pmb_app) }
 {
-    let encoding = with_lines(
+    let describing = with_sampled(
         alloc,
         traffic_command(alloc)?,
+        "profile",
+        "Shows the bus that a profile makes: its devices and their commands",
+        "Standard input is the profile, up to a line '%%' or to its end.\n\n\
+         Example:\n  ./pmb profile < examples/profiles/ltc3880.toml",
+    )?;
+    let encoding = with_lines(
+        alloc,
+        describing,
         "encode",
         "Writes the code of each quantity, one a line",
         "The quantities come on standard input, one a line.\n\n\
@@ -57,7 +65,7 @@ fn traffic_command<'a>(alloc: Global) -> Result<Command<'a>, AllocError>
         "show",
         "Shows the transactions of a capture, one a line",
         "Standard input is a profile, a line '%%' and the capture, or with --sample the capture \
-         alone.\n\n\
+         alone. 'pmb profile' shows what a profile makes.\n\n\
          Example:\n  echo 'S b0 A 21 A 00 A 18 A P' | ./pmb show --sample",
     )?;
     let checking = with_sampled(
@@ -66,7 +74,7 @@ fn traffic_command<'a>(alloc: Global) -> Result<Command<'a>, AllocError>
         "check",
         "Tells the refusals of a capture, one a line, and the number of packets",
         "Standard input is a profile, a line '%%' and the capture, or with --sample the capture \
-         alone.\n\n\
+         alone. 'pmb profile' shows what a profile makes.\n\n\
          Example:\n  echo 'S b0 A 03 A 47 A P' | ./pmb check --sample",
     )?;
     let building = with_sampled(
@@ -75,7 +83,7 @@ fn traffic_command<'a>(alloc: Global) -> Result<Command<'a>, AllocError>
         "build",
         "Writes the bus events of transaction lines, a packet a line",
         "Standard input is a profile, a line '%%' and transaction lines, or with --sample the lines \
-         alone.\n\n\
+         alone. 'pmb profile' shows what a profile makes.\n\n\
          Example:\n  echo 'write 58 21 00 18 pec' | ./pmb build --sample",
     )?;
     with_sampled(
@@ -84,7 +92,7 @@ fn traffic_command<'a>(alloc: Global) -> Result<Command<'a>, AllocError>
         "run",
         "Runs requests on simulated devices: a packet and its result for each",
         "Standard input is a profile, a line '%%' and request lines, or with --sample the lines \
-         alone.\n\n\
+         alone. 'pmb profile' shows what a profile makes.\n\n\
          Example:\n  echo 'set 58 21 12' | ./pmb run --sample",
     )
 }
@@ -117,7 +125,7 @@ fn with_lines<'a>(
     command.subcommand(lines_command(alloc, name, about, example)?)
 }
 
-// A command with `show`, `check`, `build` or `run` as one more subcommand.
+// A command with `show`, `check`, `build`, `run` or `profile` as one more subcommand.
 fn with_sampled<'a>(
     alloc: Global,
     command: Command<'a>,
@@ -130,7 +138,7 @@ fn with_sampled<'a>(
     command.subcommand(sampled_command(alloc, name, about, example)?)
 }
 
-// `show`, `check`, `build` or `run` with its flag.
+// `show`, `check`, `build`, `run` or `profile` with its flag.
 fn sampled_command<'a>(
     alloc: Global,
     name: &'a str,

@@ -1,6 +1,6 @@
-//! What may be done with a capture or lines.
+//! What may be done under a profile.
 
-/// What is done with what stands behind a profile.
+/// What is done under a profile, mostly with what stands behind it.
 #[derive(Clone, Copy)]
 pub enum Work {
     /// A capture is shown.
@@ -11,4 +11,6 @@ pub enum Work {
     Build,
     /// Requests are run against simulated devices.
     Run,
+    /// The bus is described: its devices and their commands.
+    Describe,
 }

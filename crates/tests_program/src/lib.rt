@@ -6,6 +6,8 @@
 #[cfg(test)]
 mod builds;
 #[cfg(test)]
+mod buses;
+#[cfg(test)]
 mod captures;
 #[cfg(test)]
 mod formats;

@@ -6,7 +6,7 @@ use std::io::ErrorKind;
 use std::process::Abort;
 
 /// A name, words that are no command, and what is told of them first.
-static REFUSED: [(&str, &[&str], &str); 11] = [
+static REFUSED: [(&str, &[&str], &str); 12] = [
     (
         "no words",
         &[],
@@ -58,6 +58,11 @@ static REFUSED: [(&str, &[&str], &str); 11] = [
         "error: unexpected argument '--dry' found\n",
     ),
     (
+        "a file of profile",
+        &["pmb", "profile", "bus.toml"],
+        "error: unexpected argument 'bus.toml' found\n",
+    ),
+    (
         "the flag twice",
         &["pmb", "build", "--sample", "--sample"],
         "error: the argument '--sample' cannot be used multiple times\n",
@@ -75,12 +80,13 @@ fn refuses_words_that_are_no_command(rt: HostRuntime) {
 const ABOUT: &str = "Reads and writes PMBus traffic, and converts between codes and quantities\n\n\
     Usage: pmb <COMMAND>\n\n\
     Commands:\n\
-    \x20 show    Shows the transactions of a capture, one a line\n\
-    \x20 check   Tells the refusals of a capture, one a line, and the number of packets\n\
-    \x20 build   Writes the bus events of transaction lines, a packet a line\n\
-    \x20 run     Runs requests on simulated devices: a packet and its result for each\n\
-    \x20 encode  Writes the code of each quantity, one a line\n\
-    \x20 decode  Writes the quantity of each code, one a line\n";
+    \x20 show     Shows the transactions of a capture, one a line\n\
+    \x20 check    Tells the refusals of a capture, one a line, and the number of packets\n\
+    \x20 build    Writes the bus events of transaction lines, a packet a line\n\
+    \x20 run      Runs requests on simulated devices: a packet and its result for each\n\
+    \x20 profile  Shows the bus that a profile makes: its devices and their commands\n\
+    \x20 encode   Writes the code of each quantity, one a line\n\
+    \x20 decode   Writes the quantity of each code, one a line\n";
 
 const SHOW_EXAMPLE: &str = "Example:\n  echo 'S b0 A 21 A 00 A 18 A P' | ./pmb show --sample\n";
 
@@ -90,7 +96,7 @@ const RUN_ABOUT: &str =
 const RUN_EXAMPLE: &str = "Example:\n  echo 'set 58 21 12' | ./pmb run --sample\n";
 
 /// A name, words that ask to be told of the program, and what is printed first and last.
-static ASKING: [(&str, &[&str], &str, &str); 10] = [
+static ASKING: [(&str, &[&str], &str, &str); 11] = [
     ("help", &["pmb", "--help"], ABOUT, SHOW_EXAMPLE),
     ("the subcommand help", &["pmb", "help"], ABOUT, SHOW_EXAMPLE),
     (
@@ -122,6 +128,12 @@ static ASKING: [(&str, &[&str], &str, &str); 10] = [
         &["pmb", "help", "run"],
         RUN_ABOUT,
         RUN_EXAMPLE,
+    ),
+    (
+        "help on profile",
+        &["pmb", "profile", "--help"],
+        "Shows the bus that a profile makes: its devices and their commands\n\nUsage: pmb profile [OPTIONS]\n",
+        "Example:\n  ./pmb profile < examples/profiles/ltc3880.toml\n",
     ),
     (
         "help on encode",

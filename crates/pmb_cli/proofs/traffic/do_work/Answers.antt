@@ -3,7 +3,7 @@ use Rattle.pmb_io.specs.Runs.{AsTool, Ran}
 use Rattle.pmb_run.specs.Lines.{OrNoMemory}
 use Rattle.pmb_cli.specs.Traffic.{working}
 use Rattle.pmb_words.specs.declared.work.Work.{Work}
-use Rattle.pmb_words.specs.declared.work.Work.TheVariants.{Show, Check, Build, Run}
+use Rattle.pmb_words.specs.declared.work.Work.TheVariants.{Show, Check, Build, Run, Describe}
 use Rattle.pmb_cli.proofs.Working.{work_with_memory, work_without_memory}
 use Rattle.pmb_cli.proofs.traffic.do_work.Goals as goal
 
@@ -25,6 +25,12 @@ returns-in-Build g c =
     subst (λ (work : Work). OrNoMemory ((work ≡ Run) × (c.build.new.reader ≡ c.args.reader.now) × (c.build.new.writer ≡ c.args.out.now))
     (AsTool (Ran g.R.Source.told g.W.Sink.told (working work c.args.profile.now) c.args.first.now (c.args.reader.now, c.args.out.now) (c.build.new.reader, c.build.new.writer))) c.build.result) (sym c.in-Build.is)
     (work_without_memory g.R.Source.told g.W.Sink.told (Build ≡ Run) (working Build c.args.profile.now) c.args.first.now c.args.reader.now _ c.args.out.now _ c.build.result c.build.ensures)
+
+pub returns-in-Describe : goal.returns-in-Describe
+returns-in-Describe g c =
+    subst (λ (work : Work). OrNoMemory ((work ≡ Run) × (c.describe_bus.new._reader ≡ c.args.reader.now) × (c.describe_bus.new.out ≡ c.args.out.now))
+    (AsTool (Ran g.R.Source.told g.W.Sink.told (working work c.args.profile.now) c.args.first.now (c.args.reader.now, c.args.out.now) (c.describe_bus.new._reader, c.describe_bus.new.out))) c.describe_bus.result) (sym c.in-Describe.is)
+    (work_without_memory g.R.Source.told g.W.Sink.told (Describe ≡ Run) (working Describe c.args.profile.now) c.args.first.now c.args.reader.now _ c.args.out.now _ c.describe_bus.result c.describe_bus.ensures)
 
 -- `run` may lack memory.
 pub returns-in-Run : goal.returns-in-Run

@@ -1,4 +1,4 @@
-use Rattle.pmb_words.specs.declared.work.Work.TheVariants.{Show, Check, Build, Run}
+use Rattle.pmb_words.specs.declared.work.Work.TheVariants.{Show, Check, Build, Run, Describe}
 use Rattle.pmb_words.proofs.AskedWords.{asks_sampled, asks_unsampled, asks_to_decode, asks_to_encode, asks_for_help, asks_for_version, has_help_fault}
 use Rattle.pmb_words.proofs.laws.words_ask.Goals as goal
 
@@ -26,6 +26,12 @@ returns-clause-run_sample c = asks_sampled Run
 
 pub returns-clause-run : goal.returns-clause-run
 returns-clause-run c = asks_unsampled Run
+
+pub returns-clause-profile_sample : goal.returns-clause-profile_sample
+returns-clause-profile_sample c = asks_sampled Describe
+
+pub returns-clause-profile : goal.returns-clause-profile
+returns-clause-profile c = asks_unsampled Describe
 
 pub returns-clause-encode : goal.returns-clause-encode
 returns-clause-encode c = asks_to_encode

@@ -32,24 +32,31 @@ returns-then-eq-4 c =
     let met = entered_rows _ c.in_ok-name.name.now rows c.in_ok-name.ensures.name c.in_ok-name.ensures.rows in
     (rows, met ∙ ap (λ n. Some (n, rows)) (is_text c.in_ok-name.name.now (codes "run") c.eq-else-eq-3.result c.eq-else-eq-3.ensures c.if-eq-4.true), c.has_sample-then-eq-4.ensures)
 
--- `encode`
+-- `profile`
 pub returns-then-eq-5 : goal.returns-then-eq-5
 returns-then-eq-5 c =
     let rows = rows_of (found_of c.in_ok-name.arguments.now) in
     let met = entered_rows _ c.in_ok-name.name.now rows c.in_ok-name.ensures.name c.in_ok-name.ensures.rows in
-    let format = text_or_none c.get_str.result c.unwrap_or.result _ (first_of (codes "FORMAT") rows) (c.get_str.ensures ∙ first_value-rows (found_of c.in_ok-name.arguments.now) (codes "FORMAT")) c.unwrap_or.ensures refl in (
-      rows,
-      met ∙ ap (λ n. Some (n, rows)) (is_text c.in_ok-name.name.now (codes "encode") c.eq-else-eq-4.result c.eq-else-eq-4.ensures c.if-eq-5.true),
-      format,
-    )
+    (rows, met ∙ ap (λ n. Some (n, rows)) (is_text c.in_ok-name.name.now (codes "profile") c.eq-else-eq-4.result c.eq-else-eq-4.ensures c.if-eq-5.true), c.has_sample-then-eq-5.ensures)
 
--- `decode`
+-- `encode`
 pub returns-then-eq-6 : goal.returns-then-eq-6
 returns-then-eq-6 c =
     let rows = rows_of (found_of c.in_ok-name.arguments.now) in
     let met = entered_rows _ c.in_ok-name.name.now rows c.in_ok-name.ensures.name c.in_ok-name.ensures.rows in
-    let format = text_or_none c.get_str-then-eq-6.result c.unwrap_or-then-eq-6.result _ (first_of (codes "FORMAT") rows) (c.get_str-then-eq-6.ensures ∙ first_value-rows (found_of c.in_ok-name.arguments.now) (codes "FORMAT")) c.unwrap_or-then-eq-6.ensures refl in (
+    let format = text_or_none c.get_str.result c.unwrap_or.result _ (first_of (codes "FORMAT") rows) (c.get_str.ensures ∙ first_value-rows (found_of c.in_ok-name.arguments.now) (codes "FORMAT")) c.unwrap_or.ensures refl in (
       rows,
-      met ∙ ap (λ n. Some (n, rows)) (is_text c.in_ok-name.name.now (codes "decode") c.eq-else-eq-5.result c.eq-else-eq-5.ensures c.if-eq-6.true),
+      met ∙ ap (λ n. Some (n, rows)) (is_text c.in_ok-name.name.now (codes "encode") c.eq-else-eq-5.result c.eq-else-eq-5.ensures c.if-eq-6.true),
+      format,
+    )
+
+-- `decode`
+pub returns-then-eq-7 : goal.returns-then-eq-7
+returns-then-eq-7 c =
+    let rows = rows_of (found_of c.in_ok-name.arguments.now) in
+    let met = entered_rows _ c.in_ok-name.name.now rows c.in_ok-name.ensures.name c.in_ok-name.ensures.rows in
+    let format = text_or_none c.get_str-then-eq-7.result c.unwrap_or-then-eq-7.result _ (first_of (codes "FORMAT") rows) (c.get_str-then-eq-7.ensures ∙ first_value-rows (found_of c.in_ok-name.arguments.now) (codes "FORMAT")) c.unwrap_or-then-eq-7.ensures refl in (
+      rows,
+      met ∙ ap (λ n. Some (n, rows)) (is_text c.in_ok-name.name.now (codes "decode") c.eq-else-eq-6.result c.eq-else-eq-6.ensures c.if-eq-7.true),
       format,
     )

@@ -1,0 +1,28 @@
+//! `pmb profile`: the bus that a profile makes.
+
+ghost use Rattle.std.specs.Prelude.{◌≡◌, ℕ, List};
+ghost use Rattle.pmb_cli.specs.Traffic.{describing};
+ghost use Rattle.pmb_io.specs.Runs.{AsTool, Ran};
+
+use pmb_describe::describe;
+use pmb_io::{Sink, Source, Tally, ToolFault};
+use pmb_table::Profile;
+
+/// Writes the bus that a profile makes, and reads nothing.
+///
+/// # Errors
+///
+/// `Write` where the writer failed.
+pub(crate) fn describe_bus<R: Source, W: Sink>(
+    profile: &Profile,
+    _first: &[u8],
+    _reader: &mut R,
+    out: &mut W,
+) -> Result<Tally, ToolFault>
+    ensures { AsTool (Ran R.told W.told (describing profile.now) _first.now (_reader.old, out.old) (_reader.new, out.new)) result }
+{
+    match describe(profile, out) {
+        Ok(()) => Ok(Tally::new()),
+        Err(_) => Err(ToolFault::Write),
+    }
+}
