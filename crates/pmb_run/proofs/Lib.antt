@@ -1,7 +1,13 @@
+pub mod Exchanged
 pub mod Hearing
 pub mod Hosts
+pub mod KeptParts
+pub mod Members
 pub mod OneRequest
 pub mod OneRunning
+pub mod Replies
 pub mod RequestLines
+pub mod SomeText
+pub mod States
 pub mod Tasks
 pub mod Tellings

@@ -1,3 +1,4 @@
 pub mod Answer
+pub mod Kept
 pub mod Lines
 pub mod machine

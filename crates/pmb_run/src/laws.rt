@@ -6,9 +6,19 @@ ghost use Rattle.pmb_command.specs.Parts.{DeviceParts};
 ghost use Rattle.pmb_io.specs.declared.tally.Tally.{Tally};
 ghost use Rattle.pmb_run.specs.Lines.{RunsEnded, RunsInput};
 
-use pmb_exchange::laws::an_exchange_is_one;
-use pmb_host::laws::{allowed_requests_have_no_fault, one_first_fault};
-use pmb_request::laws::{no_request_with_a_fault, one_request, one_request_fault};
+use crate::kept::profile_is_kept;
+use pmb_devices::laws_on_replies::states_fit;
+use pmb_exchange::laws::{an_exchange_is_one, some_exchange};
+use pmb_host::laws::{
+    allowed_or_fault, allowed_requests_have_no_fault, allowed_requests_have_packets,
+    one_first_fault,
+};
+use pmb_quantity::laws::lowest_terms;
+use pmb_request::laws::{
+    no_request_with_a_fault, one_request, one_request_fault, request_or_fault,
+};
+use pmb_table::Profile;
+use pmb_table::laws::accepted_bus;
 use pmb_transaction::laws::one_packet;
 
 /// What is run of bytes, and its tally, is a function of the bytes under a profile that is accepted.
@@ -23,6 +33,21 @@ pub fn one_running()
     allowed_requests_have_no_fault();
     an_exchange_is_one();
     one_packet();
+}
+
+/// Some text, with its tally, is what is run of any bytes, under a profile that is accepted. The profile
+/// is only read, for what the types of its parts say of coefficients and bytes.
+pub fn some_running(profile: &Profile)
+    ensures { (bytes : List ℕ) → (text : List ℕ) × (tally : Tally) × RunsInput profile.now tally bytes text }
+{
+    profile_is_kept(profile);
+    accepted_bus(profile);
+    states_fit();
+    request_or_fault();
+    lowest_terms();
+    allowed_or_fault();
+    some_exchange();
+    allowed_requests_have_packets();
 }
 
 /// What is run of the lines that have ended in some bytes is a function of these bytes, and a front

@@ -16,6 +16,7 @@
 
 mod bench;
 mod fault;
+mod kept;
 pub mod laws;
 mod lines;
 mod result;

@@ -1,0 +1,8 @@
+use Rattle.std.proofs.Common.{ℕ, ◌<◌}
+use Rattle.std.specs.Prelude.{slice_get, IfSome}
+use Rattle.pmb_run.specs.Kept.{IsKeptDevice}
+use Rattle.pmb_run.proofs.kept.profile_is_kept.Given as goal
+
+-- so far each device is kept
+abbrev pub invariant-loop-index : goal.invariant-loop-index
+invariant-loop-index l = (k : ℕ) → k < l.index → IfSome (slice_get l.profile k) IsKeptDevice

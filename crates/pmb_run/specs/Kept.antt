@@ -1,0 +1,22 @@
+-- What the types of a profile's parts say of them, beyond what was tested when it was accepted.
+use Rattle.std.specs.Prelude.{IfSome, List}
+use Rattle.std.specs.List.{AllByRecursion}
+use Rattle.pmb_coefficients.specs.Coefficients.{MakeFormat}
+use Rattle.pmb_command.specs.Parts.{CommandParts, DeviceParts}
+use Rattle.pmb_command.specs.Wire.{AreByteValues}
+use Rattle.pmb_host.specs.Requests.{KindMakesFormat}
+
+-- The coefficients of a command in DIRECT make a format (PMBus Part II 1.3 section 7.4), and the values
+-- that the profile gives its register are bytes.
+pub record IsKeptCommand (command : CommandParts) : Type 0 where
+  pub kind : KindMakesFormat command.entry.kind
+  pub initial : IfSome command.initial AreByteValues
+
+-- So it is with each command of a device, and the coefficients of its output voltage make a format.
+pub record IsKeptDevice (device : DeviceParts) : Type 0 where
+  pub vout : IfSome device.vout_direct MakeFormat
+  pub commands : AllByRecursion IsKeptCommand device.commands
+
+-- and with each device of a profile
+abbrev pub AreKeptDevices : List DeviceParts → Type 0
+AreKeptDevices profile = AllByRecursion IsKeptDevice profile
