@@ -53,7 +53,14 @@ static ROWS: [Row; 9] = [
 #[test]
 fn describes_each_row(rt: HostRuntime) {
     for &(name, input, printed, told, status) in &ROWS {
-        check_text(&rt, rt.alloc(), &PROFILE, name, input, (printed, told, status));
+        check_text(
+            &rt,
+            rt.alloc(),
+            &PROFILE,
+            name,
+            input,
+            (printed, told, status),
+        );
     }
 }
 
@@ -101,7 +108,8 @@ fn tells_each_call_that_fails(rt: HostRuntime) {
 #[test]
 fn reads_nothing_for_the_sample(rt: HostRuntime) {
     let ran = run(rt.alloc(), &SAMPLED, &mut unreadable());
-    let first = "devices     3\n\ndevice      0\naddress     58, as a byte b0 to write and b1 to read\n";
+    let first =
+        "devices     3\n\ndevice      0\naddress     58, as a byte b0 to write and b1 to read\n";
     let found = (
         ran.status,
         ran.printed.as_slice().starts_with(first.as_bytes()),

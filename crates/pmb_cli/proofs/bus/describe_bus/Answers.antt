@@ -1,4 +1,4 @@
-use Rattle.std.proofs.Common.{◌≡◌, ◌∙◌, ℕ, inl, inr, refl, sym, ap, arith, []}
+use Rattle.std.proofs.Common.{inl, inr, refl, sym, ap, arith, []}
 use Rattle.pmb_io.proofs.Running.{raised_by_none}
 use Rattle.pmb_io.proofs.Writing.{consumes_nothing}
 use Rattle.pmb_io.specs.declared.tally.Tally.{Tally}

@@ -1,4 +1,4 @@
-use Rattle.std.proofs.Common.{◌≡◌, ◌∙◌, ℕ, List, [], ◌++◌, ap, sym, subst, append-nil}
+use Rattle.std.proofs.Common.{ℕ, List, [], ◌++◌, subst, append-nil}
 use Rattle.pmb_io.specs.Outgoing.{PutsText}
 use Rattle.pmb_io.proofs.Writing.{on_ok_both, writes_all, writes_as, writes_then}
 use Rattle.pmb_describe.specs.Table.{bus_text}

@@ -1,4 +1,4 @@
-use Rattle.std.proofs.Common.{◌≡◌, ◌∙◌, ap, sym}
+use Rattle.std.proofs.Common.{◌∙◌}
 use Rattle.pmb_io.proofs.Writing.{writes_then}
 use Rattle.pmb_describe.specs.Table.{bus_head, devices_text}
 use Rattle.pmb_describe.proofs.Texts.{on_ok, puts_as}

@@ -1,4 +1,4 @@
-use Rattle.std.proofs.Common.{◌≡◌, ◌∙◌, ℕ, List, Some, OnOk, option_map, ap, sym, subst}
+use Rattle.std.proofs.Common.{◌≡◌, ◌∙◌, ℕ, List, Some, OnOk, option_map, ap, subst}
 use Rattle.pmb_command.specs.Entry.{EntryParts, entry_parts}
 use Rattle.pmb_command.specs.Parts.{CommandParts, command_with}
 use Rattle.pmb_io.specs.Outgoing.{PutsText}

@@ -1,6 +1,5 @@
-use Rattle.std.proofs.Common.{◌≡◌, ◌∙◌, ◌≤◌, ◌<◌, ℕ, List, length, take, ap, sym, refl, arith}
+use Rattle.std.proofs.Common.{◌∙◌, ◌≤◌, ◌<◌, length, take, ap, refl, arith}
 use Rattle.pmb_io.proofs.Writing.{writes_nothing, writes_then}
-use Rattle.pmb_command.specs.Parts.{CommandParts}
 use Rattle.pmb_describe.specs.Table.{command_row, command_table}
 use Rattle.pmb_describe.proofs.Commands.{some_at}
 use Rattle.pmb_describe.proofs.Texts.{all_taken, puts_as, text_more}

@@ -1,4 +1,4 @@
-use Rattle.std.proofs.Common.{◌≡◌, ◌∙◌, ◌≤◌, ◌<◌, ℕ, List, length, take, ap, sym, refl, arith}
+use Rattle.std.proofs.Common.{◌∙◌, ◌≤◌, ◌<◌, length, take, ap, refl, arith}
 use Rattle.pmb_io.proofs.Writing.{writes_nothing, writes_then}
 use Rattle.pmb_describe.specs.Table.{device_text, devices_text}
 use Rattle.pmb_describe.proofs.Commands.{some_at}

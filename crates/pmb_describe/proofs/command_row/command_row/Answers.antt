@@ -1,8 +1,8 @@
-use Rattle.std.proofs.Common.{◌≡◌, ◌∙◌, ◌++◌, ℕ, List, Option, Some, [], ap, codes, sym}
+use Rattle.std.proofs.Common.{◌≡◌, ◌∙◌, ◌++◌, ℕ, List, [], ap, codes, sym}
 use Rattle.pmb_command.specs.Entry.{EntryParts, entry_parts}
 use Rattle.pmb_command.specs.Fitting.{register_form}
-use Rattle.pmb_command.specs.Parts.{CommandParts, DeviceParts, command_with}
-use Rattle.pmb_describe.specs.Table.{cell, command_row, first_word, row_text}
+use Rattle.pmb_command.specs.Parts.{CommandParts, DeviceParts}
+use Rattle.pmb_describe.specs.Table.{cell, command_row, first_word}
 use Rattle.pmb_describe.specs.Words.{digits, form_word, kind_word, paged_word}
 use Rattle.pmb_describe.proofs.Texts.{then}
 use Rattle.pmb_describe.proofs.command_row.command_row.Goals as goal
