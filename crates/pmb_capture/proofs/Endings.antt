@@ -1,11 +1,11 @@
 -- What is written where a text ends, or a word of it is no token.
-use Rattle.std.proofs.Common.{◌≡◌, ℕ, ◌+◌, Option, None, Result, Ok, Err, OnOk, List, [], ◌++◌, length, inl, sym, ◌∙◌, ap, subst, refl, append_assoc, arith}
+use Rattle.std.proofs.Common.{◌≡◌, ℕ, ◌+◌, Option, Some, None, Result, Ok, Err, OnOk, List, [], ◌∷◌, ◌++◌, length, map, append-nil, inl, inr, sym, ◌∙◌, ap, subst, refl, append_assoc, arith}
+use Rattle.std.proofs.lemmas.List.{map-append}
 use Rattle.std.proofs.lemmas.Result.{on_ok_weaker}
-use Rattle.pmb_bus.specs.declared.event.Event.{Event}
 use Rattle.pmb_bus.specs.declared.lexer.LexFault.{LexFault}
 use Rattle.pmb_bus.specs.declared.lexer.LexFault.TheVariants.{BadToken}
 use Rattle.pmb_bus.specs.Lexer.{IsFaultOf, OpenWordIsBad}
-use Rattle.pmb_bus.specs.Text.{Spells}
+use Rattle.pmb_bus.specs.Text.{BeginsText, EndedWordsSpell, Spells}
 use Rattle.pmb_command.specs.Parts.{DeviceParts}
 use Rattle.pmb_io.specs.declared.tally.Tally.{Tally}
 use Rattle.pmb_io.specs.declared.fault.RunFault.{RunFault}
@@ -14,16 +14,23 @@ use Rattle.pmb_io.specs.Count.{capped}
 use Rattle.pmb_io.specs.Outgoing.{PutsText}
 use Rattle.pmb_io.specs.Tally.{with_refusal}
 use Rattle.pmb_io.proofs.Writing.{writes_then}
-use Rattle.pmb_transaction.specs.Reading.{Outcome}
+use Rattle.pmb_reader.specs.declared.refusal.Refusal.{Refusal as HeldRefusal}
+use Rattle.pmb_reader.specs.Refusal.{refusal_data}
+use Rattle.pmb_scan.specs.Reached.{Reached, EndsWith}
+use Rattle.pmb_scan.specs.Scan.{Truncates, end_spans}
+use Rattle.pmb_spans.specs.Spans.{Span, outcome}
+use Rattle.pmb_transaction.specs.Reading.{Outcome, Refusal, Reading}
 use Rattle.pmb_transaction.specs.Transaction.{TransactionData}
+use Rattle.pmb_capture.specs.declared.account.Account.{Account}
 use Rattle.pmb_capture.specs.declared.capture.Capture.{Capture}
-use Rattle.pmb_capture.specs.Lines.{bad_token_line}
-use Rattle.pmb_capture.specs.Output.{OutputText, accepted_in, but_truncation, packets_in, refusals_in, text_behind, outcomes_text}
-use Rattle.pmb_capture.specs.Written.{WritesUpToBadWord, WritesSoFar, WritesFront}
-use Rattle.pmb_capture.specs.machine.Reported.{CanEnd}
-use Rattle.pmb_capture.specs.machine.Capture.{CaptureReads, CaptureStands, EndsEvents, EndsText}
-use Rattle.pmb_capture.proofs.Outcomes.{reads_end, refusal_counted}
-use Rattle.pmb_capture.proofs.Texts.{left_out, text_append}
+use Rattle.pmb_capture.specs.Lines.{bad_token_line, refusal_line}
+use Rattle.pmb_capture.specs.Output.{OutputText, but_truncation, packets_in, refusals_in, outcomes_text}
+use Rattle.pmb_capture.specs.Written.{Writes, WritesFront, WritesUpToBadWord}
+use Rattle.pmb_capture.specs.machine.Account.{AccountStands}
+use Rattle.pmb_capture.specs.machine.Capture.{EndsEvents, HasEnded, HasStopped, HasWritten, capture_profile}
+use Rattle.pmb_capture.proofs.Outcomes.{adds_refusal, counts_both, refusal_counted}
+use Rattle.pmb_capture.proofs.Spans.{all_but_the_end, no_end, one_end, reads_as}
+use Rattle.pmb_capture.proofs.Texts.{text_append}
 
 -- the text of a fault, and of the end behind it
 abbrev pub fault_text : OutputText → Tally → LexFault → List ℕ
@@ -51,69 +58,121 @@ never_fails (Err fault) tells holds = absurd (omega (arith, tells.1))
 same_place : (a b word whole : ℕ) → a + word ≡ whole → b + word ≡ whole → a ≡ b
 same_place a b open_length whole h k = omega arith
 
-module _ {O : Type 0} (TextOf : O → OutputText) (StandsBehind : O → List TransactionData → Type 0) (output : OutputText) (profile : List DeviceParts) where
-  -- what is written of the words that have ended
-  pub writes_so_far : (capture : Capture O) (bytes : List ℕ) (outcomes : List Outcome) → CanEnd capture.reader
-      → CaptureStands TextOf StandsBehind output profile capture bytes outcomes → WritesSoFar output profile bytes (outcomes_text output outcomes)
-  writes_so_far capture bytes outcomes can_end stands =
-      let reads = stands.reads in
-      let end = can_end profile reads.standing reads.reader reads.reading in record {
-        events = stands.events;
-        outcomes = outcomes ++ end.0;
-        begins = stands.lexer.begins;
-        spells = stands.lexer.ended;
-        reads = reads_end TextOf StandsBehind output profile capture stands.events outcomes end.0 reads end.1;
-        lines = ap (outcomes_text output) (sym (left_out outcomes end.0 reads.whole end.1.inside));
-      }
-
+module _ {O : Type 0} (TextOf : O → OutputText) (StandsBehind : O → List TransactionData → Type 0) where
   -- the word under way is no token
-  pub writes_bad : (capture : Capture O) (after : Tally) (events : List Event) (outcomes : List Outcome) (used bytes : List ℕ) (fault : LexFault)
-      → CanEnd capture.reader → CaptureReads TextOf StandsBehind output profile capture events outcomes → OpenWordIsBad used bytes events → IsFaultOf (length used) used fault
-      → after ≡ with_refusal capture.tally → WritesUpToBadWord output profile bytes (outcomes_text output outcomes ++ fault_text output after fault) after
-  writes_bad capture after events outcomes used bytes (BadToken at) can_end reads bad fault_is refused =
-      let end = can_end profile reads.standing reads.reader reads.reading in
-      let left = left_out outcomes end.0 reads.whole end.1.inside in
+  pub writes_bad : (start now : Account O) (reached : Reached) (last : List Span) (profile : List DeviceParts) (after : Tally) (text bytes : List ℕ) (fault : LexFault)
+      → reached.profile ≡ profile → EndsWith reached last → AccountStands TextOf StandsBehind start now (map outcome reached.spans) text
+      → OpenWordIsBad reached.text bytes reached.events → IsFaultOf (length reached.text) reached.text fault → after ≡ with_refusal now.tally
+      → WritesUpToBadWord (TextOf start.output) profile bytes (text ++ fault_text (TextOf start.output) after fault) after
+  writes_bad start now reached last profile after text bytes (BadToken at) under end stands bad fault_is refused =
+      let output = TextOf start.output in
+      let outcomes = map outcome (reached.spans ++ last) in
+      let left = all_but_the_end reached last end in
       let at_is : at ≡ capped bad.0 = fault_is.2 ∙ ap capped (same_place fault_is.0 bad.0 _ _ fault_is.1 bad.1) in record {
-        events = events;
-        outcomes = outcomes ++ end.0;
+        events = reached.events;
+        outcomes = outcomes;
         place = bad.0;
         bad = bad.2;
-        reads = reads_end TextOf StandsBehind output profile capture events outcomes end.0 reads end.1;
-        lines = ap (λ l. outcomes_text output l ++ (bad_token_line at ++ output.at_end after)) (sym left)
-            ∙ ap (λ (k : ℕ). outcomes_text output (but_truncation (outcomes ++ end.0)) ++ (bad_token_line k ++ output.at_end after)) at_is;
-        counts = rw left (refusal_counted capture.tally after (packets_in outcomes) (refusals_in outcomes) refused reads.counts);
+        reads = subst (λ (p : List DeviceParts). Reading p reached.events outcomes) under (reads_as reached last end);
+        lines = ap (λ t. t ++ (bad_token_line at ++ output.at_end after)) (stands.lines ∙ ap (outcomes_text output) (sym left))
+            ∙ ap (λ (k : ℕ). outcomes_text output (but_truncation outcomes) ++ (bad_token_line k ++ output.at_end after)) at_is;
+        counts = rw left (refusal_counted now.tally after (packets_in (map outcome reached.spans)) (refusals_in (map outcome reached.spans)) refused stands.counts);
       }
 
-  -- the text ends between words, perhaps with a last event: what it reads as is written
-  pub ends_text : (after : Capture O) (bytes : List ℕ) (events : List Event) (outcomes more : List Outcome) (h0 h1 h2 : Option (List ℕ)) (w0 w1 w2 : List ℕ)
-      → Spells bytes events → PutsText h0 w0 h1 w1 (text_behind output (accepted_in outcomes) more)
-      → EndsEvents TextOf StandsBehind output profile events (outcomes ++ more) h1 w1 h2 w2 after
-      → EndsText TextOf StandsBehind output profile bytes outcomes h0 w0 h2 w2 after
-  ends_text after bytes events outcomes more h0 h1 h2 w0 w1 w2 spells puts ends =
-      let end_text = text_behind output (accepted_in (outcomes ++ more)) ends.last in
-      let more_text = text_behind output (accepted_in outcomes) more in record {
-        text = more_text ++ (end_text ++ output.at_end after.tally);
-        puts = writes_then h0 h1 h2 w0 w1 w2 more_text (end_text ++ output.at_end after.tally) puts ends.puts;
-        writes = inl (record {
-          events = events;
-          outcomes = (outcomes ++ more) ++ ends.last;
-          spells = spells;
-          reads = ends.reads;
-          lines = sym (append_assoc (outcomes_text output outcomes) more_text (end_text ++ output.at_end after.tally))
-              ∙ (ap (λ l. l ++ (end_text ++ output.at_end after.tally)) (sym (text_append output [] outcomes more))
-              ∙ (sym (append_assoc (outcomes_text output (outcomes ++ more)) end_text (output.at_end after.tally))
-              ∙ ap (λ l. l ++ output.at_end after.tally) (sym (text_append output [] (outcomes ++ more) ends.last))));
-          counts = ends.counts;
-        });
+  -- the events end between packets, and while events are passed over
+  pub ends_in_none : (start now : Account O) (reached : Reached) (text last : List ℕ) → Truncates reached None → AccountStands TextOf StandsBehind start now (map outcome reached.spans) text
+      → last ≡ (TextOf start.output).at_end now.tally → EndsEvents (TextOf start.output) reached now.tally (text ++ last)
+  ends_in_none start now reached text last end stands same = record {
+    outcomes = map outcome reached.spans;
+    reads = subst (λ (l : List Span). Reading reached.profile reached.events (map outcome l)) (ap (λ l. reached.spans ++ l) (no_end reached.standing) ∙ append-nil reached.spans)
+        (reads_as reached (end_spans reached.standing None) end);
+    lines = ap (λ t. t ++ last) stands.lines ∙ ap (λ l. outcomes_text (TextOf start.output) (map outcome reached.spans) ++ l) same;
+    counts = stands.counts;
+  }
+
+  -- they end inside a packet
+  pub ends_in_refusal : (start old : Account O) (reached : Reached) (after : Tally) (refusal : HeldRefusal) (text last : List ℕ) → Truncates reached (Some refusal)
+      → AccountStands TextOf StandsBehind start old (map outcome reached.spans) text → after ≡ with_refusal old.tally
+      → last ≡ (TextOf start.output).at_end after → EndsEvents (TextOf start.output) reached after (text ++ (refusal_line (refusal_data refusal) ++ last))
+  ends_in_refusal start old reached after refusal text last end stands refused same =
+      let output = TextOf start.output in
+      let before = map outcome reached.spans in
+      let line = refusal_line (refusal_data refusal) in
+      let more = Refusal (refusal_data refusal) ∷ [] in
+      let outcomes_are : map outcome (reached.spans ++ end_spans reached.standing (Some refusal)) ≡ before ++ more =
+      map-append outcome reached.spans (end_spans reached.standing (Some refusal)) ∙ ap (λ l. before ++ l) (one_end reached.standing refusal) in record {
+        outcomes = before ++ more;
+        reads = subst (λ (l : List Outcome). Reading reached.profile reached.events l) outcomes_are (reads_as reached (end_spans reached.standing (Some refusal)) end);
+        lines = sym (append_assoc text line last)
+            ∙ (ap (λ t. (t ++ line) ++ last) stands.lines
+            ∙ (ap (λ t. t ++ last) (ap (λ l. outcomes_text output before ++ l) (sym (append-nil line)) ∙ sym (text_append output [] before more))
+            ∙ ap (λ l. outcomes_text output (before ++ more) ++ l) same));
+        counts = counts_both after before more (adds_refusal old.tally after (refusal_data refusal) refused (packets_in before) (refusals_in before) stands.counts);
+      }
+
+  -- ---- of a whole capture
+
+  -- the bytes end, and spell the events
+  pub ends_whole : (start now : Capture O) (bytes text a b : List ℕ) (reached there : Reached) → reached.profile ≡ capture_profile start → reached.text ≡ bytes → BeginsText reached.text
+      → there.profile ≡ reached.profile → Spells reached.text there.events → EndsEvents (TextOf start.account.output) there now.account.tally ((text ++ a) ++ b)
+      → HasEnded TextOf StandsBehind start now bytes (text ++ (a ++ b))
+  ends_whole start now bytes text a b reached there under is_text begins same spells ends = record {
+    begins = subst (λ (l : List ℕ). BeginsText l) is_text begins;
+    writes = inl (record {
+      events = there.events;
+      outcomes = ends.outcomes;
+      spells = subst (λ (l : List ℕ). Spells l there.events) is_text spells;
+      reads = subst (λ (p : List DeviceParts). Reading p there.events ends.outcomes) (same ∙ under) ends.reads;
+      lines = sym (append_assoc text a b) ∙ ends.lines;
+      counts = ends.counts;
+    });
+  }
+
+  -- they end in a word that is no token
+  pub ends_bad : (start now : Capture O) (account : Account O) (bytes text a : List ℕ) (reached : Reached) (last : List Span) (fault : LexFault) → reached.profile ≡ capture_profile start → reached.text ≡ bytes
+      → BeginsText reached.text → EndsWith reached last → AccountStands TextOf StandsBehind start.account account (map outcome reached.spans) (text ++ a)
+      → OpenWordIsBad reached.text reached.text reached.events → IsFaultOf (length reached.text) reached.text fault → now.account.tally ≡ with_refusal account.tally
+      → HasEnded TextOf StandsBehind start now bytes (text ++ (a ++ fault_text (TextOf start.account.output) now.account.tally fault))
+  ends_bad start now account bytes text a reached last fault under is_text begins end stands bad fault_is refused =
+      let output = TextOf start.account.output in
+      let last_text = fault_text output now.account.tally fault in record {
+        begins = subst (λ (l : List ℕ). BeginsText l) is_text begins;
+        writes = inr (subst (λ (b : List ℕ). WritesUpToBadWord output (capture_profile start) b (text ++ (a ++ last_text)) now.account.tally) is_text
+            (subst (λ (t : List ℕ). WritesUpToBadWord output (capture_profile start) reached.text t now.account.tally) (append_assoc text a last_text)
+            (writes_bad start.account account reached last (capture_profile start) now.account.tally (text ++ a) reached.text fault under end stands bad fault_is refused)));
+      }
+
+  -- a piece has a word that is no token
+  pub stops_bad : (start now : Capture O) (account : Account O) (bytes piece text a : List ℕ) (reached there : Reached) (last : List Span) (fault : LexFault) → reached.profile ≡ capture_profile start → reached.text ≡ bytes
+      → there.profile ≡ reached.profile → EndsWith there last → AccountStands TextOf StandsBehind start.account account (map outcome there.spans) (text ++ a)
+      → ((more : List ℕ) → OpenWordIsBad there.text ((reached.text ++ piece) ++ more) there.events) → IsFaultOf (length there.text) there.text fault → now.account.tally ≡ with_refusal account.tally
+      → HasStopped TextOf StandsBehind start now (bytes ++ piece) (text ++ (a ++ fault_text (TextOf start.account.output) now.account.tally fault))
+  stops_bad start now account bytes piece text a reached there last fault under is_text same end stands bad fault_is refused =
+      let output = TextOf start.account.output in
+      let last_text = fault_text output now.account.tally fault in
+      let follows : (more : List ℕ) → WritesUpToBadWord output (capture_profile start) ((bytes ++ piece) ++ more) (text ++ (a ++ last_text)) now.account.tally =
+      λ more. subst (λ (b : List ℕ). WritesUpToBadWord output (capture_profile start) ((b ++ piece) ++ more) (text ++ (a ++ last_text)) now.account.tally) is_text
+      (subst (λ (t : List ℕ). WritesUpToBadWord output (capture_profile start) ((reached.text ++ piece) ++ more) t now.account.tally) (append_assoc text a last_text)
+      (writes_bad start.account account there last (capture_profile start) now.account.tally (text ++ a) ((reached.text ++ piece) ++ more) fault (same ∙ under) end stands (bad more) fault_is refused)) in record {
+        writes = subst (λ (b : List ℕ). WritesUpToBadWord output (capture_profile start) b (text ++ (a ++ last_text)) now.account.tally) (append-nil (bytes ++ piece)) (follows []);
+        whatever_follows = follows;
       }
 
   -- what came so far, and whatever it comes to
-  pub writes_front : (capture after : Capture O) (bytes : List ℕ) (outcomes : List Outcome) (h0 h1 : Option (List ℕ)) (w0 w1 : List ℕ) → CanEnd capture.reader
-      → CaptureStands TextOf StandsBehind output profile capture bytes outcomes → EndsText TextOf StandsBehind output profile bytes outcomes h0 w0 h1 w1 after
-      → WritesFront output profile bytes (outcomes_text output outcomes)
-  writes_front capture after bytes outcomes h0 h1 w0 w1 can_end stands ends = record {
-    rest = ends.text;
-    tally = after.tally;
-    so_far = writes_so_far capture bytes outcomes can_end stands;
-    writes = ends.writes;
-  }
+  pub writes_front : (start now : Capture O) (bytes text rest : List ℕ) (tally : Tally) (last : List Span) → (written : HasWritten TextOf StandsBehind start now bytes text)
+      → EndsWith written.reached last → Writes (TextOf start.account.output) (capture_profile start) bytes (text ++ rest) tally
+      → WritesFront (TextOf start.account.output) (capture_profile start) bytes text
+  writes_front start now bytes text rest tally last written end writes =
+      let reached = written.reached in record {
+        rest = rest;
+        tally = tally;
+        so_far = record {
+          events = reached.events;
+          outcomes = map outcome (reached.spans ++ last);
+          begins = subst (λ (l : List ℕ). BeginsText l) written.is_text written.stands.lexer.begins;
+          spells = subst (λ (l : List ℕ). EndedWordsSpell l reached.events) written.is_text written.stands.lexer.ended;
+          reads = subst (λ (p : List DeviceParts). Reading p reached.events (map outcome (reached.spans ++ last))) written.profile (reads_as reached last end);
+          lines = written.written.lines ∙ ap (outcomes_text (TextOf start.account.output)) (sym (all_but_the_end reached last end));
+        };
+        writes = writes;
+      }

@@ -1,10 +1,7 @@
-pub mod Passing
-pub mod Reporting
 pub mod Texts
+pub mod Spans
 pub mod Outcomes
 pub mod Endings
-pub mod Taking
-pub mod Putting
 pub mod Running
 pub mod Shown
 pub mod SomeText

@@ -13,6 +13,7 @@
 //! ```
 #![tactic(auto)]
 
+mod account;
 mod capture;
 mod commands;
 pub mod laws;
@@ -20,7 +21,6 @@ mod lines;
 mod nowhere;
 mod output;
 mod packet_lines;
-mod reported;
 mod tally_alone;
 
 pub use commands::check_capture::check_capture;

@@ -1,9 +1,9 @@
-use Rattle.pmb_capture.specs.machine.Reported.{end_outcomes}
+use Rattle.pmb_scan.specs.Scan.{end_spans}
 use Rattle.pmb_capture.proofs.Endings.{never_fails, writes_front}
 use Rattle.pmb_capture.proofs.capture.Capture.leave.Goals as goal
 
 pub returns : goal.returns
-returns g c output profile bytes outcomes stands =
-    writes_front g.O.Output.text g.O.Output.Stands output profile c.args.self.now c.take_end.new.self bytes outcomes _ _ _ _
-    (λ under standing there reading. (end_outcomes c.report_end.result, c.report_end.ensures under standing there reading)) stands
-    (never_fails c.take_end.result c.take_end.ensures.failed (c.take_end.ensures.ends output profile bytes outcomes stands))
+returns g c start bytes text written =
+    let ended = never_fails c.end.result c.end.ensures.failed (c.end.ensures.ends start bytes text written) in
+    writes_front g.O.Output.text g.O.Output.Stands start c.args.self.now bytes text ended.text c.end.new.self.account.tally (end_spans written.reached.standing c.truncation.result) written
+    (c.truncation.ensures written.reached written.stands.reader) ended.holds.writes

@@ -1,0 +1,3 @@
+pub mod Passing
+pub mod Reporting
+pub mod Taking

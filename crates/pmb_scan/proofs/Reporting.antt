@@ -1,0 +1,171 @@
+-- What one event more comes to, from what a reader answers to it where it stands.
+use Rattle.std.proofs.Common.{◌≡◌, ℕ, ◌+◌, Result, Ok, Err, List, [], ◌∷◌, ◌++◌, filter, length, inl, refl, sym, ap, ◌∙◌, subst, arith, append_assoc, append-nil}
+use Rattle.std.specs.Result.{result_err}
+use Rattle.std.proofs.lemmas.List.{length_push}
+use Rattle.std.proofs.lemmas.List.Elements.{filter-append}
+use Rattle.pmb_bus.specs.declared.event.Event.{Event}
+use Rattle.pmb_bus.specs.declared.event.Event.TheVariants.{Start, Byte, Ack, Nack, Stop}
+use Rattle.pmb_command.specs.Parts.{DeviceParts}
+use Rattle.pmb_reader.specs.declared.reader.Reader.{Reader}
+use Rattle.pmb_reader.specs.declared.reader.Took.{Took}
+use Rattle.pmb_reader.specs.declared.reader.Took.TheVariants as answers
+use Rattle.pmb_reader.specs.declared.refusal.Refusal.{Refusal}
+use Rattle.pmb_reader.specs.Reader.{Standing, Open, Held, Passing, ReaderStandsAt, ReaderTakes, ReaderFinishes, behind_passed, last_read}
+use Rattle.pmb_reader.specs.Refusal.{refusal_data}
+use Rattle.pmb_transaction.specs.Reading.{RefusalData}
+use Rattle.pmb_spans.specs.Spans.{Span, ReadSpan, RefusedSpan, TruncatedSpan, Spans, SpansFrom, is_whole}
+use Rattle.pmb_scan.specs.Reached.{Reached, IsReading, LeadsOn, EndsWith, SpansBehind, behind_bytes, behind_event, stands_behind}
+use Rattle.pmb_scan.specs.Scan.{end_spans}
+use Rattle.pmb_scan.specs.machine.Standing.{ReaderReached}
+use Rattle.pmb_scan.specs.machine.Reported.{ReportsAs, EndsPacket, IsRefused}
+use Rattle.pmb_scan.proofs.Passing.{behind_event as passed_event, behind_stop, no_stop_none}
+
+-- ---- events that are passed over
+
+passed_leads : (profile : List DeviceParts) (n : ℕ) (event : Event) (rest : List Event) (others : List Span) → SpansBehind profile (behind_passed n event) rest others
+    → SpansBehind profile (Passing n) (event ∷ rest) others
+passed_leads profile n Start rest others reads = passed_event (λ m behind. SpansFrom profile m behind others) (others ≡ []) n Start rest (λ is. cc) reads
+passed_leads profile n (Byte b) rest others reads = passed_event (λ m behind. SpansFrom profile m behind others) (others ≡ []) n (Byte b) rest (λ is. cc) reads
+passed_leads profile n Ack rest others reads = passed_event (λ m behind. SpansFrom profile m behind others) (others ≡ []) n Ack rest (λ is. cc) reads
+passed_leads profile n Nack rest others reads = passed_event (λ m behind. SpansFrom profile m behind others) (others ≡ []) n Nack rest (λ is. cc) reads
+passed_leads profile n Stop rest others reads = behind_stop (λ m behind. SpansFrom profile m behind others) (others ≡ []) n rest reads
+
+passed_reading : (n : ℕ) (event : Event) → IsReading (behind_passed n event)
+passed_reading n Start = tt
+passed_reading n (Byte b) = tt
+passed_reading n Ack = tt
+passed_reading n Nack = tt
+passed_reading n Stop = tt
+
+-- A reader that passes over stands behind the event.
+pub passed : (profile : List DeviceParts) (n : ℕ) (event : Event) (took : Took) (after : Reader) → ReaderTakes profile (Passing n) event took after → ReaderStandsAt profile after (behind_passed n event)
+passed profile n event answers.More after takes = takes
+passed profile n event answers.Packet after takes = absurd takes
+passed profile n event (answers.Refused refusal) after takes = absurd takes
+
+-- ---- spans so far, and more
+
+-- a span more that is no end inside a packet
+whole_more : (spans : List Span) (span : Span) → filter is_whole spans ≡ spans → filter is_whole (span ∷ []) ≡ span ∷ [] → filter is_whole (spans ++ span ∷ []) ≡ spans ++ span ∷ []
+whole_more spans span whole one = filter-append is_whole spans (span ∷ []) ∙ (ap (λ l. l ++ filter is_whole (span ∷ [])) whole ∙ ap (λ l. spans ++ l) one)
+
+-- an event in front of what follows, and a span in front of those of what follows it
+spans_then : (profile : List DeviceParts) (events rest : List Event) (event : Event) (spans others : List Span) (span : Span)
+    → Spans profile (events ++ event ∷ rest) (spans ++ span ∷ others) → Spans profile ((events ++ event ∷ []) ++ rest) ((spans ++ span ∷ []) ++ others)
+spans_then profile events rest event spans others span reads =
+    subst (λ (es : List Event). Spans profile es ((spans ++ span ∷ []) ++ others)) (sym (append_assoc events (event ∷ []) rest))
+    (subst (λ (l : List Span). Spans profile (events ++ event ∷ rest) l) (sym (append_assoc spans (span ∷ []) others)) reads)
+
+-- ---- an event more
+
+-- it goes on
+reads_more : (reached : Reached) (standing : Standing) (event : Event) (after : Reader) → reached.standing ≡ standing → LeadsOn reached
+    → ReaderTakes reached.profile standing event answers.More after
+    → ReaderStandsAt reached.profile after (stands_behind standing event) × IsReading (stands_behind standing event)
+    × ((rest : List Event) (others : List Span) → SpansBehind reached.profile (stands_behind standing event) rest others → SpansBehind reached.profile standing (event ∷ rest) others)
+reads_more reached (Open n events) event after same on takes =
+    (takes.1, tt, λ rest others reads. subst (λ (es : List Event). SpansFrom reached.profile n es others) (append_assoc events (event ∷ []) rest) reads)
+reads_more reached (Held n refusal) event after same on takes = absurd takes
+reads_more reached (Passing n) event after same on takes = (takes, passed_reading n event, passed_leads reached.profile n event)
+
+reports_more : (reached : Reached) (event : Event) (after : Reader) → LeadsOn reached → ReaderTakes reached.profile reached.standing event answers.More after
+    → ReaderReached after (behind_event reached event)
+reports_more reached event after on takes =
+    let step = reads_more reached reached.standing event after refl on takes in record {
+      stands = step.0;
+      reads = record {
+        reading = step.1;
+        leads = λ rest others reads. subst (λ (es : List Event). Spans reached.profile es (reached.spans ++ others)) (sym (append_assoc reached.events (event ∷ []) rest))
+            (on.leads (event ∷ rest) others (step.2 rest others reads));
+        whole = on.whole;
+      };
+    }
+
+-- it ends a packet
+reports_packet : (reached : Reached) (standing : Standing) (event : Event) (after : Reader) → reached.standing ≡ standing → LeadsOn reached
+    → ReaderTakes reached.profile standing event answers.Packet after → EndsPacket reached event (last_read after) after
+reports_packet reached (Open n events) event after same on takes =
+    let packet = events ++ event ∷ [] in record {
+      n = n;
+      front = events;
+      standing = same;
+      packet = takes.0;
+      reads = record {
+        stands = takes.1;
+        reads = record {
+          reading = tt;
+          leads = λ rest others reads. spans_then reached.profile reached.events rest event reached.spans others (ReadSpan n packet (last_read after))
+              (on.leads (event ∷ rest) (ReadSpan n packet (last_read after) ∷ others)
+              (subst (λ (s : Standing). SpansBehind reached.profile s (event ∷ rest) (ReadSpan n packet (last_read after) ∷ others)) (sym same)
+              (refl, rest, sym (append_assoc events (event ∷ []) rest), takes.0, subst (λ k. SpansFrom reached.profile k rest others) (omega (arith, length_push events event)) reads)));
+          whole = whole_more reached.spans (ReadSpan n packet (last_read after)) on.whole refl;
+        };
+      };
+    }
+reports_packet reached (Held n refusal) event after same on takes = absurd takes
+reports_packet reached (Passing n) event after same on takes = absurd takes
+
+-- It is refused, and then passed over.
+pub reports_refusal : (reached : Reached) (standing : Standing) (event : Event) (refusal : Refusal) (held after : Reader) → reached.standing ≡ standing → LeadsOn reached
+    → ReaderTakes reached.profile standing event (answers.Refused refusal) held
+    → ((n : ℕ) (kept : RefusalData) → ReaderStandsAt reached.profile held (Held n kept) → ReaderStandsAt reached.profile after (behind_passed n event))
+    → IsRefused reached event (refusal_data refusal) after
+reports_refusal reached (Open n events) event refusal held after same on takes passes =
+    let m = n + length events in
+    let span = RefusedSpan n events event (refusal_data refusal) in record {
+      n = n;
+      front = events;
+      standing = same;
+      refused = takes.0;
+      reads = record {
+        stands = passes m (refusal_data refusal) takes.1;
+        reads = record {
+          reading = passed_reading m event;
+          leads = λ rest others reads. spans_then reached.profile reached.events rest event reached.spans others span
+              (on.leads (event ∷ rest) (span ∷ others)
+              (subst (λ (s : Standing). SpansBehind reached.profile s (event ∷ rest) (span ∷ others)) (sym same)
+              (refl, rest, refl, takes.0, passed_leads reached.profile m event rest others reads)));
+          whole = whole_more reached.spans span on.whole refl;
+        };
+      };
+    }
+reports_refusal reached (Held n kept) event refusal held after same on takes passes = absurd (subst IsReading same on.reading)
+reports_refusal reached (Passing n) event refusal held after same on takes passes = absurd takes
+
+-- It is used, whichever it does.
+pub reports_used : (reached : Reached) (event : Event) (took : Took) (after : Reader) → LeadsOn reached → ((refusal : Refusal) → took ≡ answers.Refused refusal → ⊥)
+    → ReaderTakes reached.profile reached.standing event took after → ReportsAs reached event took after
+reports_used reached event answers.More after on used takes = reports_more reached event after on takes
+reports_used reached event answers.Packet after on used takes = reports_packet reached reached.standing event after refl on takes
+reports_used reached event (answers.Refused refusal) after on used takes = absurd (used refusal refl)
+
+-- ---- the end
+
+-- nothing follows
+ends_so : (reached : Reached) (last : List Span) → LeadsOn reached → SpansBehind reached.profile reached.standing [] last → filter is_whole last ≡ [] → EndsWith reached last
+ends_so reached last on reads inside = record {
+  spans = subst (λ (es : List Event). Spans reached.profile es (reached.spans ++ last)) (append-nil reached.events) (on.leads [] last reads);
+  whole = on.whole;
+  inside = inside;
+}
+
+pub ends : (reached : Reached) (standing : Standing) (result : Result Unit Refusal) → reached.standing ≡ standing → LeadsOn reached
+    → ReaderFinishes reached.profile standing result → EndsWith reached (end_spans standing (result_err result))
+ends reached (Open n events) (Ok done) same on finishes =
+    ends_so reached [] on (subst (λ (s : Standing). SpansBehind reached.profile s [] []) (sym same) (append-nil events ∙ finishes)) refl
+ends reached (Open n events) (Err refusal) same on finishes =
+    let span = TruncatedSpan n events (refusal_data refusal) in
+    ends_so reached (span ∷ []) on (subst (λ (s : Standing). SpansBehind reached.profile s [] (span ∷ [])) (sym same) (refl, append-nil events, finishes, refl)) refl
+ends reached (Held n kept) result same on finishes = absurd (subst IsReading same on.reading)
+ends reached (Passing n) (Ok done) same on finishes =
+    ends_so reached [] on (subst (λ (s : Standing). SpansBehind reached.profile s [] []) (sym same) (inl (no_stop_none, refl))) refl
+ends reached (Passing n) (Err refusal) same on finishes = absurd finishes
+
+-- ---- bytes more
+
+-- they are no matter of the reader's
+pub reads_on : (reader : Reader) (reached : Reached) (bytes : List ℕ) → ReaderReached reader reached → ReaderReached reader (behind_bytes reached bytes)
+reads_on reader reached bytes read = record {
+  stands = read.stands;
+  reads = record { reading = read.reads.reading; leads = read.reads.leads; whole = read.reads.whole };
+}

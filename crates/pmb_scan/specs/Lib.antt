@@ -1,0 +1,3 @@
+pub mod Reached
+pub mod Scan
+pub mod machine

@@ -1,0 +1,86 @@
+-- How far a capture was scanned, and what each visit adds.
+use Rattle.std.specs.Prelude.{◌≡◌, ℕ, ◌+◌, List, [], ◌∷◌, ◌++◌, filter, length}
+use Rattle.pmb_bus.specs.declared.event.Event.{Event}
+use Rattle.pmb_command.specs.Parts.{DeviceParts}
+use Rattle.pmb_reader.specs.Reader.{Standing, Open, Held, Passing, behind_passed}
+use Rattle.pmb_spans.specs.Spans.{Span, ReadSpan, RefusedSpan, Spans, SpansFrom, is_whole}
+use Rattle.pmb_transaction.specs.Reading.{BehindStop, RefusalData}
+use Rattle.pmb_transaction.specs.Transaction.{TransactionData}
+
+-- Under a profile these bytes were used, the words that have ended in them are the tokens of these
+-- events, and these are the packets that ended and the refusals that came. It stands inside a packet
+-- or between two (`Open`), or behind a refusal, and passes over what comes up to the next STOP
+-- (`Passing`).
+pub record Reached : Type 0 where
+  pub profile : List DeviceParts
+  pub text : List ℕ
+  pub events : List Event
+  pub spans : List Span
+  pub standing : Standing
+
+-- nothing was given yet
+abbrev pub at_start : List DeviceParts → Reached
+at_start profile = record { profile = profile; text = []; events = []; spans = []; standing = Open 0 [] }
+
+-- ---- what each visit adds
+
+-- bytes more
+abbrev pub behind_bytes : Reached → List ℕ → Reached
+behind_bytes reached bytes = record reached { text = reached.text ++ bytes }
+
+-- where it stands behind an event that ends no packet and is not refused
+abbrev pub stands_behind : Standing → Event → Standing
+stands_behind (Open n events) event = Open n (events ++ event ∷ [])
+stands_behind (Held n refusal) event = Held n refusal
+stands_behind (Passing n) event = behind_passed n event
+
+-- such an event
+abbrev pub behind_event : Reached → Event → Reached
+behind_event reached event = record reached { events = reached.events ++ event ∷ []; standing = stands_behind reached.standing event }
+
+-- An event that ends a packet, which began behind n events, with these.
+abbrev pub behind_packet : Reached → ℕ → List Event → Event → TransactionData → Reached
+behind_packet reached n front event t = record reached {
+  events = reached.events ++ event ∷ [];
+  spans = reached.spans ++ ReadSpan n (front ++ event ∷ []) t ∷ [];
+  standing = Open (n + length front + 1) [];
+}
+
+-- An event that is refused, behind those of a packet that began behind n events.
+abbrev pub behind_refusal : Reached → ℕ → List Event → Event → RefusalData → Reached
+behind_refusal reached n front event refusal = record reached {
+  events = reached.events ++ event ∷ [];
+  spans = reached.spans ++ RefusedSpan n front event refusal ∷ [];
+  standing = behind_passed (n + length front) event;
+}
+
+-- ---- what the whole capture reads as
+
+-- no refusal is held
+abbrev pub IsReading : Standing → Type 0
+IsReading (Open n events) = Unit {0}
+IsReading (Held n refusal) = ⊥
+IsReading (Passing n) = Unit {0}
+
+module _ (profile : List DeviceParts) where
+  -- The spans of the events that follow from there: the packet under way is read with them, from
+  -- where it began; what is passed over is read from behind the first STOP.
+  abbrev pub SpansBehind : Standing → List Event → List Span → Type 0
+  SpansBehind (Open n events) rest spans = SpansFrom profile n (events ++ rest) spans
+  SpansBehind (Held n refusal) rest spans = ⊥
+  SpansBehind (Passing n) rest spans = BehindStop (λ m behind. SpansFrom profile m behind spans) (spans ≡ []) n rest
+
+-- What was reached is a front of what the capture reads as: whatever follows, its spans are those
+-- reached, and then those of what follows. None of those reached is an end inside a packet.
+pub record LeadsOn (reached : Reached) : Type 0 where
+  pub reading : IsReading reached.standing
+  pub leads : (rest : List Event) (others : List Span) → SpansBehind reached.profile reached.standing rest others
+      → Spans reached.profile (reached.events ++ rest) (reached.spans ++ others)
+  pub whole : filter is_whole reached.spans ≡ reached.spans
+
+-- Nothing follows: the spans are those reached and then these, which are an end inside a packet or
+-- none. None of those reached is one.
+pub record EndsWith (reached : Reached) (last : List Span) : Type 0 where
+  pub spans : Spans reached.profile reached.events (reached.spans ++ last)
+  pub whole : filter is_whole reached.spans ≡ reached.spans
+  pub inside : filter is_whole last ≡ []

@@ -1,0 +1,199 @@
+//! From the text of a capture to what comes of it.
+//!
+//! Most events complete nothing, so what a packet or a refusal wants is done in functions of their
+//! own, which are not inlined: an event pays for none of it. `take_words` takes one word, or a byte and
+//! its ACK, in a turn. A way to take the text of a whole packet at once, between two packets, belongs
+//! in front of these.
+
+ghost use Rattle.std.specs.Prelude.{◌≡◌, ◌++◌, ◌∷◌, [], ◌≤◌, ℕ, List, OnOk, IfOk, length, drop};
+ghost use Rattle.pmb_bus.specs.declared.event.Event.{Event as BusEvent};
+ghost use Rattle.pmb_bus.specs.declared.event.Event.TheVariants.{Ack, Byte};
+ghost use Rattle.pmb_io.specs.Calls.{WriterTells};
+ghost use Rattle.pmb_io.specs.Engines.{PutsOut};
+ghost use Rattle.pmb_reader.specs.Reader.{Open, last_read};
+ghost use Rattle.pmb_reader.specs.Refusal.{refusal_data};
+ghost use Rattle.pmb_scan.specs.Reached.{Reached, at_start, behind_packet, behind_refusal};
+ghost use Rattle.pmb_scan.specs.Scan.{HasRead, ScanStandsAt, TakesEnd, TakesEvent, TakesPiece, Truncates};
+ghost use Rattle.pmb_transaction.specs.Packet.{Packet};
+ghost use Rattle.pmb_transaction.specs.Reading.{RefusedAt};
+
+use crate::reported::report;
+use crate::visitor::Visitor;
+use pmb_bus::{Event, LexFault, Lexer, Step};
+use pmb_io::{RunFault, Sink, Waiting};
+use pmb_reader::{Reader, Refusal, Took};
+use pmb_table::Profile;
+
+/// How far a piece of a text was taken.
+#[derive(Clone, Copy, Debug, PartialEq, Eq)]
+pub enum Taken {
+    /// All of it is used.
+    All,
+    /// A word is no token. `used` bytes of the piece are used: with the next one no text of events
+    /// goes on.
+    Fault { used: usize, fault: LexFault },
+}
+
+/// Scans the text of a capture, in pieces of any size.
+#[derive(Drop)]
+pub struct Scan<'p> {
+    lexer: Lexer,
+    reader: Reader<'p>,
+}
+
+impl<'p> Scan<'p> {
+    /// A scan at the start of a text. To begin anew behind a word that is no token is to make a new
+    /// one: it counts bytes and events from 0.
+    pub fn new(profile: &'p Profile) -> Scan<'p>
+        ensures { ScanStandsAt result (at_start profile.now) }
+    {
+        Scan {
+            lexer: Lexer::new(),
+            reader: Reader::new(profile),
+        }
+    }
+
+    /// Takes the words of the next piece of the text, and tells a visitor what comes of them, up to a
+    /// word that is no token.
+    ///
+    /// After a fault the scan takes nothing more. A packet that is under way there is not reported.
+    ///
+    /// # Errors
+    ///
+    /// `Write` where the writer failed.
+    pub fn take_words<V: Visitor, W: Sink>(
+        &mut self,
+        piece: &[u8],
+        visitor: &mut V,
+        waiting: &mut Waiting,
+        writer: &mut W,
+    ) -> Result<Taken, RunFault>
+        ensures takes { (start : V) (reached : Reached) (text : List ℕ) → ScanStandsAt self.old reached → V.Stands start visitor.old reached text
+            → IfOk result (λ taken. PutsOut (λ more. TakesPiece (V.Stands start visitor.new) reached piece.now taken self.new (text ++ more))
+            (W.told writer.old).held waiting.old.items (W.told writer.new).held waiting.new.items) }
+        ensures failed { WriterTells (W.told writer.old) (W.told writer.new) result }
+    {
+        let mut rest = piece;
+        'words: loop {
+            match self.lexer.feed_acked(rest) {
+                Some(byte) => {
+                    visitor.visit_bytes(&rest[..3]);
+                    self.take_event(Event::Byte(byte), visitor, waiting, writer)?;
+                    visitor.visit_bytes(&rest[3..5]);
+                    self.take_event(Event::Ack, visitor, waiting, writer)?;
+                    rest = &rest[5..];
+                }
+                None => {
+                    let lexed = self.lexer.feed(rest);
+                    visitor.visit_bytes(&rest[..lexed.used]);
+                    match lexed.step {
+                        Step::Need => return Ok(Taken::All),
+                        Step::Event(event) => self.take_event(event, visitor, waiting, writer)?,
+                        Step::Fault(fault) => {
+                            return Ok(Taken::Fault {
+                                used: piece.len() - rest.len() + lexed.used,
+                                fault,
+                            });
+                        }
+                    }
+                    rest = &rest[lexed.used..];
+                }
+            }
+        }
+    }
+
+    /// Takes the end of the text, which ends a word under way, and answers the fault of one that is
+    /// no token.
+    ///
+    /// # Errors
+    ///
+    /// `Write` where the writer failed.
+    pub fn take_end<V: Visitor, W: Sink>(
+        &mut self,
+        visitor: &mut V,
+        waiting: &mut Waiting,
+        writer: &mut W,
+    ) -> Result<Option<LexFault>, RunFault>
+        ensures takes { (start : V) (reached : Reached) (text : List ℕ) → ScanStandsAt self.old reached → V.Stands start visitor.old reached text
+            → IfOk result (λ end. PutsOut (λ more. TakesEnd (V.Stands start visitor.new) reached end self.new (text ++ more))
+            (W.told writer.old).held waiting.old.items (W.told writer.new).held waiting.new.items) }
+        ensures failed { WriterTells (W.told writer.old) (W.told writer.new) result }
+    {
+        match self.lexer.finish() {
+            Err(fault) => Ok(Some(fault)),
+            Ok(None) => Ok(None),
+            Ok(Some(event)) => {
+                self.take_event(event, visitor, waiting, writer)?;
+                Ok(None)
+            }
+        }
+    }
+
+    /// What the events come to if none follows: the refusal of an end inside a packet, if there is
+    /// one. Nothing changes.
+    pub fn truncation(&self) -> Option<Refusal>
+        ensures { (reached : Reached) → HasRead self.now reached → Truncates reached result }
+    {
+        self.reader.finish().err()
+    }
+
+    /// Takes an event, and tells a visitor what it comes to.
+    #[inline(always)]
+    fn take_event<V: Visitor, W: Sink>(
+        &mut self,
+        event: Event,
+        visitor: &mut V,
+        waiting: &mut Waiting,
+        writer: &mut W,
+    ) -> Result<(), RunFault>
+        ensures lexer { self.new.lexer ≡ self.old.lexer }
+        ensures takes { (start : V) (reached : Reached) (text : List ℕ) → HasRead self.old reached → V.Stands start visitor.old reached text
+            → OnOk result (PutsOut (λ more. TakesEvent (V.Stands start visitor.new) reached event self.new (text ++ more))
+            (W.told writer.old).held waiting.old.items (W.told writer.new).held waiting.new.items) }
+        ensures failed { WriterTells (W.told writer.old) (W.told writer.new) result }
+    {
+        match report(&mut self.reader, event) {
+            Took::More => {
+                visitor.visit_event(event);
+                Ok(())
+            }
+            Took::Packet => self.visit_packet(visitor, waiting, writer),
+            Took::Refused(refusal) => visit_refusal(event, refusal, visitor, waiting, writer),
+        }
+    }
+
+    /// Tells a visitor of the packet that ended last.
+    #[inline(never)]
+    fn visit_packet<V: Visitor, W: Sink>(
+        &self,
+        visitor: &mut V,
+        waiting: &mut Waiting,
+        writer: &mut W,
+    ) -> Result<(), RunFault>
+        ensures visits { (start : V) (reached : Reached) (text : List ℕ) (n : ℕ) (front : List BusEvent) (event : BusEvent) → V.Stands start visitor.old reached text
+            → reached.standing ≡ Open n front → Packet reached.profile (last_read self.now.reader) (front ++ event ∷ [])
+            → OnOk result (PutsOut (λ more. V.Stands start visitor.new (behind_packet reached n front event (last_read self.now.reader)) (text ++ more))
+            (W.told writer.old).held waiting.old.items (W.told writer.new).held waiting.new.items) }
+        ensures failed { WriterTells (W.told writer.old) (W.told writer.new) result }
+    {
+        visitor.visit_packet(self.reader.packet(), waiting, writer)
+    }
+}
+
+/// Tells a visitor of a refusal.
+#[inline(never)]
+fn visit_refusal<V: Visitor, W: Sink>(
+    event: Event,
+    refusal: Refusal,
+    visitor: &mut V,
+    waiting: &mut Waiting,
+    writer: &mut W,
+) -> Result<(), RunFault>
+    ensures visits { (start : V) (reached : Reached) (text : List ℕ) (n : ℕ) (front : List BusEvent) → V.Stands start visitor.old reached text
+        → reached.standing ≡ Open n front → RefusedAt reached.profile n front event (refusal_data refusal)
+        → OnOk result (PutsOut (λ more. V.Stands start visitor.new (behind_refusal reached n front event (refusal_data refusal)) (text ++ more))
+        (W.told writer.old).held waiting.old.items (W.told writer.new).held waiting.new.items) }
+    ensures failed { WriterTells (W.told writer.old) (W.told writer.new) result }
+{
+    visitor.visit_refusal(event, refusal, waiting, writer)
+}
