@@ -1,5 +1,5 @@
-# What the program is built from. A script sets `root` to the repository's folder and reads this
-# file.
+# What the program and the library for C are built from. A script sets `root` to the repository's
+# folder and reads this file.
 
 # Tells why nothing can be run, and ends with the launcher's own status.
 fail() {
@@ -7,10 +7,11 @@ fail() {
     exit 125
 }
 
-# The lines of crates.txt that name the program and what it stands on, as `NAME: USES ..`, without
-# comments.
+# The lines of crates.txt that name the program, or another crate, and what it stands on, as
+# `NAME: USES ..`, without comments and without the word that says that a library is static.
+#   crates [CRATE]
 crates() {
-    awk '
+    awk -v top="${1:-pmb}" '
         function want(name, words, count, i) {
             if (!(name in line) || name in wanted) return
             wanted[name]
@@ -20,13 +21,13 @@ crates() {
         { sub(/#.*/, ""); gsub(/[ \t\r,]+/, " "); sub(/^ /, ""); sub(/ ?:? ?$/, "") }
         $0 != "" {
             if (!/:/) $0 = $0 ":"
-            sub(/ ?: ?/, ": ")
+            sub(/ ?: ?/, ": "); sub(/ staticlib:/, ":")
             name = $0; sub(/[ :].*/, "", name)
             names[++last] = name; line[name] = $0
             uses[name] = $0; sub(/^[^:]*:/, "", uses[name])
         }
         END {
-            want("pmb")
+            want(top)
             for (i = 1; i <= last; i++) if (names[i] in wanted) print line[names[i]]
         }
     ' "$root/crates.txt"
@@ -34,10 +35,11 @@ crates() {
 
 # One digest over those lines and over each file that a check of those crates reads: sources,
 # definitions and proofs.
+#   digest [CRATE]
 digest() (
     cd "$root" || exit
     if command -v sha256sum >/dev/null; then sum=sha256sum; else sum='shasum -a 256'; fi
-    lines=$(crates)
+    lines=$(crates "${1:-pmb}")
     set --
     while IFS=' :' read -r name _; do
         for folder in "crates/$name/src" "crates/$name/specs" "crates/$name/proofs"; do

@@ -1,0 +1,347 @@
+/* Calls each function of pmb.h at its limits, alone and from four threads. What is expected is
+ * computed here, or worked out by hand from the standard. C99 and C++. */
+#include <pthread.h>
+#include <stdio.h>
+#include <string.h>
+
+#include "pmb.h"
+
+#define THREADS 4
+#define LARGE 65536
+
+static int fail(const char *what, int line)
+{
+    fprintf(stderr, "calls: line %d: %s\n", line, what);
+    return 1;
+}
+
+#define EXPECT(holds)                                                                              \
+    do {                                                                                           \
+        if (!(holds)) return fail(#holds, __LINE__);                                               \
+    } while (0)
+
+/* CRC-8 bit by bit: x^8 + x^2 + x + 1. */
+static uint8_t slow_pec(uint8_t crc, const uint8_t *bytes, size_t length)
+{
+    size_t i;
+    int bit;
+    for (i = 0; i < length; i++) {
+        crc = (uint8_t)(crc ^ bytes[i]);
+        for (bit = 0; bit < 8; bit++) crc = (uint8_t)((crc & 0x80) ? (crc << 1) ^ 0x07 : crc << 1);
+    }
+    return crc;
+}
+
+static int pecs(void)
+{
+    static const uint8_t digits[] = {'1', '2', '3', '4', '5', '6', '7', '8', '9'};
+    uint8_t bytes[LARGE];
+    size_t i;
+    unsigned crc, byte;
+    EXPECT(pmb_pec(0, digits, 9) == 0xf4);
+    for (crc = 0; crc < 256; crc++) {
+        EXPECT(pmb_pec((uint8_t)crc, digits, 0) == crc);
+        for (byte = 0; byte < 256; byte++) {
+            uint8_t one = (uint8_t)byte;
+            uint8_t right = slow_pec((uint8_t)crc, &one, 1);
+            EXPECT(pmb_pec_next((uint8_t)crc, one) == right);
+            EXPECT(pmb_pec((uint8_t)crc, &one, 1) == right);
+        }
+    }
+    for (i = 0; i < LARGE; i++) bytes[i] = (uint8_t)(i * i / 7 + i);
+    EXPECT(pmb_pec(0, bytes, LARGE) == slow_pec(0, bytes, LARGE));
+    for (i = 0; i <= 300; i++)
+        EXPECT(pmb_pec(pmb_pec(0, bytes, i), bytes + i, 300 - i) == slow_pec(0, bytes, 300));
+    return 0;
+}
+
+static pmb_format format_of(int kind, int exponent, int mode, int m, int b, int r)
+{
+    pmb_format format;
+    format.kind = (uint8_t)kind;
+    format.exponent = (int8_t)exponent;
+    format.mode = (uint8_t)mode;
+    format.m = (int16_t)m;
+    format.b = (int16_t)b;
+    format.r = (int8_t)r;
+    return format;
+}
+
+static pmb_quantity quantity_of(int64_t numerator, int64_t denominator)
+{
+    pmb_quantity quantity;
+    quantity.numerator = numerator;
+    quantity.denominator = denominator;
+    return quantity;
+}
+
+/* Whether a quantity comes to a status, and to a code where that is PMB_OK. */
+static int encodes(pmb_format format, pmb_quantity quantity, int status, unsigned code)
+{
+    uint16_t found = 0x5aa5;
+    if (pmb_encode(&format, quantity, &found) != status) return 0;
+    return found == (status == PMB_OK ? code : 0x5aa5u);
+}
+
+static int decodes(pmb_format format, unsigned code, int64_t numerator, int64_t denominator)
+{
+    pmb_quantity found = quantity_of(-7, -7);
+    return pmb_decode(&format, (uint16_t)code, &found) == PMB_OK &&
+           found.numerator == numerator && found.denominator == denominator;
+}
+
+/* Whether both calls refuse a format with a status, and leave what stood there. */
+static int refuses(pmb_format format, int status)
+{
+    pmb_quantity found = quantity_of(-7, -9);
+    return encodes(format, quantity_of(1, 1), status, 0) &&
+           encodes(format, quantity_of(1, 0), status, 0) &&
+           pmb_decode(&format, 0xffff, &found) == status && found.numerator == -7 &&
+           found.denominator == -9;
+}
+
+static int formats(void)
+{
+    const pmb_format linear11 = format_of(PMB_LINEAR11, 99, 99, 0, 0, 99);
+    const pmb_format unsigned16 = format_of(PMB_ULINEAR16, -9, 99, 0, 0, 99);
+    const pmb_format signed16 = format_of(PMB_SLINEAR16, -9, 99, 0, 0, 99);
+    const pmb_format fixed = format_of(PMB_LINEAR11_FIXED, -3, 99, 0, 0, 99);
+    const pmb_format direct = format_of(PMB_DIRECT, 99, 99, 3, 2, 1);
+    const int64_t most = INT64_C(0x3fffffffffffffff);
+    int kind, number;
+
+    /* LINEAR11: 12 is 768 * 2^-6. The greatest value is 1023 * 2^15, the least -1024 * 2^15. */
+    EXPECT(encodes(linear11, quantity_of(12, 1), PMB_OK, 0xd300));
+    EXPECT(encodes(linear11, quantity_of(-24, -2), PMB_OK, 0xd300));
+    EXPECT(encodes(linear11, quantity_of(-1, 3), PMB_OK, 0xad55));
+    EXPECT(encodes(linear11, quantity_of(0, -5), PMB_OK, 0));
+    EXPECT(encodes(linear11, quantity_of(33521664, 1), PMB_OK, 0x7bff));
+    EXPECT(encodes(linear11, quantity_of(33521665, 1), PMB_ABOVE, 0));
+    EXPECT(encodes(linear11, quantity_of(-33554432, 1), PMB_OK, 0x7c00));
+    EXPECT(encodes(linear11, quantity_of(-33554433, 1), PMB_BELOW, 0));
+    EXPECT(encodes(linear11, quantity_of(1, most), PMB_OK, 0));
+    EXPECT(encodes(linear11, quantity_of(most, 1), PMB_ABOVE, 0));
+    EXPECT(encodes(linear11, quantity_of(-most, 1), PMB_BELOW, 0));
+    EXPECT(encodes(linear11, quantity_of(most + 1, 1), PMB_TOO_LARGE, 0));
+    EXPECT(encodes(linear11, quantity_of(1, most + 1), PMB_TOO_LARGE, 0));
+    EXPECT(encodes(linear11, quantity_of(INT64_MIN, 1), PMB_TOO_LARGE, 0));
+    EXPECT(encodes(linear11, quantity_of(INT64_MIN, INT64_MIN), PMB_OK, 0xba00));
+    EXPECT(encodes(linear11, quantity_of(INT64_MIN, -1), PMB_TOO_LARGE, 0));
+    EXPECT(encodes(linear11, quantity_of(0, 0), PMB_ZERO_DENOMINATOR, 0));
+    EXPECT(decodes(linear11, 0xd300, 12, 1) && decodes(linear11, 0x7c00, -33554432, 1));
+    EXPECT(decodes(linear11, 0x8001, 1, 65536) && decodes(linear11, 0x87ff, -1, 65536));
+
+    /* LINEAR11 with the exponent -3: eighths, from -128 to 1023/8; any word is read as LINEAR11. */
+    EXPECT(encodes(fixed, quantity_of(-1, 3), PMB_OK, 0xeffd));
+    EXPECT(encodes(fixed, quantity_of(0, 1), PMB_OK, 0xe800));
+    EXPECT(encodes(fixed, quantity_of(1023, 8), PMB_OK, 0xebff));
+    EXPECT(encodes(fixed, quantity_of(1024, 8), PMB_ABOVE, 0));
+    EXPECT(encodes(fixed, quantity_of(-1025, 8), PMB_BELOW, 0));
+    EXPECT(decodes(fixed, 0xd300, 12, 1));
+
+    /* ULINEAR16 and SLINEAR16 with the exponent -9: 512ths. */
+    EXPECT(encodes(unsigned16, quantity_of(12, 1), PMB_OK, 0x1800));
+    EXPECT(encodes(unsigned16, quantity_of(33, 10), PMB_OK, 0x069a));
+    EXPECT(encodes(unsigned16, quantity_of(1, 1024), PMB_OK, 0));
+    EXPECT(encodes(unsigned16, quantity_of(3, 1024), PMB_OK, 2));
+    EXPECT(encodes(unsigned16, quantity_of(65535, 512), PMB_OK, 0xffff));
+    EXPECT(encodes(unsigned16, quantity_of(65536, 512), PMB_ABOVE, 0));
+    EXPECT(encodes(unsigned16, quantity_of(-1, most), PMB_BELOW, 0));
+    EXPECT(decodes(unsigned16, 0xffff, 65535, 512));
+    EXPECT(encodes(signed16, quantity_of(-64, 1), PMB_OK, 0x8000));
+    EXPECT(encodes(signed16, quantity_of(32767, 512), PMB_OK, 0x7fff));
+    EXPECT(encodes(signed16, quantity_of(64, 1), PMB_ABOVE, 0));
+    EXPECT(decodes(signed16, 0x8000, -64, 1) && decodes(signed16, 0xffff, -1, 512));
+
+    /* DIRECT with m = 3, b = 2, R = 1: Y = (3 X + 2) * 10. */
+    EXPECT(encodes(direct, quantity_of(1, 1), PMB_OK, 50));
+    EXPECT(decodes(direct, 50, 1, 1) && decodes(direct, 0, -2, 3));
+    EXPECT(decodes(direct, 0xffff, -7, 10));
+
+    /* VOUT_MODE 17h is the exponent -9; 40h is DIRECT. */
+    EXPECT(encodes(format_of(PMB_VOUT, 99, 0x17, 0, 0, 0), quantity_of(12, 1), PMB_OK, 0x1800));
+    EXPECT(decodes(format_of(PMB_VOUT, 99, 0x17, 0, 0, 0), 0x8000, 64, 1));
+    EXPECT(decodes(format_of(PMB_VOUT_SIGNED, 99, 0x17, 0, 0, 0), 0x8000, -64, 1));
+    for (kind = PMB_VOUT; kind <= PMB_VOUT_SIGNED; kind++) {
+        EXPECT(decodes(format_of(kind, 99, 0x40, 3, 2, 1), 50, 1, 1));
+        EXPECT(decodes(format_of(kind, 99, 0x5f, 3, 2, 1), 50, 1, 1));
+        EXPECT(refuses(format_of(kind, 0, 0x40, 0, 2, 99), PMB_NO_COEFFICIENTS));
+        EXPECT(refuses(format_of(kind, 0, 0x40, 3, 2, 10), PMB_BAD_SCALE));
+        EXPECT(refuses(format_of(kind, 0, 0x20, 3, 2, 1), PMB_VID));
+        EXPECT(refuses(format_of(kind, 0, 0x60, 3, 2, 1), PMB_IEEE));
+        for (number = 0x80; number < 0x100; number++)
+            EXPECT(refuses(format_of(kind, 0, number, 3, 2, 1), PMB_RELATIVE));
+    }
+    for (kind = PMB_LINEAR11_FIXED; kind <= PMB_SLINEAR16; kind++)
+        for (number = -128; number < 128; number++) {
+            const pmb_format format = format_of(kind, number, 0xff, 0, 0, 99);
+            if (number < -16 || number > 15) EXPECT(refuses(format, PMB_BAD_EXPONENT));
+            else EXPECT(decodes(format, 0, 0, 1));
+        }
+    for (number = -128; number < 128; number++)
+        if (number < -9 || number > 9)
+            EXPECT(refuses(format_of(PMB_DIRECT, 0, 0, -1, 0, number), PMB_BAD_SCALE));
+    EXPECT(refuses(format_of(PMB_DIRECT, 0, 0, 0, 0, 99), PMB_ZERO_SLOPE));
+    for (kind = 7; kind < 256; kind++)
+        EXPECT(refuses(format_of(kind, 0, 0, 1, 0, 0), PMB_BAD_FORMAT));
+    return 0;
+}
+
+/* Each code's value has a code of that value. */
+static int round_trips(void)
+{
+    const pmb_format all[] = {
+        format_of(PMB_LINEAR11, 0, 0, 0, 0, 0),       format_of(PMB_ULINEAR16, -16, 0, 0, 0, 0),
+        format_of(PMB_SLINEAR16, 15, 0, 0, 0, 0),     format_of(PMB_VOUT, 0, 0x17, 0, 0, 0),
+        format_of(PMB_DIRECT, 0, 0, -32768, 32767, 9), format_of(PMB_DIRECT, 0, 0, 1, -1, -9),
+    };
+    size_t i;
+    unsigned code;
+    for (i = 0; i < sizeof all / sizeof *all; i++)
+        for (code = 0; code < 65536; code += 7) {
+            pmb_quantity value, again;
+            uint16_t nearest;
+            EXPECT(pmb_decode(&all[i], (uint16_t)code, &value) == PMB_OK);
+            EXPECT(pmb_encode(&all[i], value, &nearest) == PMB_OK);
+            EXPECT(all[i].kind == PMB_LINEAR11 || nearest == code);
+            EXPECT(pmb_decode(&all[i], nearest, &again) == PMB_OK);
+            EXPECT(again.numerator == value.numerator && again.denominator == value.denominator);
+        }
+    return 0;
+}
+
+static int parses(const char *text, int status, int64_t numerator, int64_t denominator)
+{
+    pmb_quantity found = quantity_of(-7, -9);
+    if (pmb_quantity_parse(text, strlen(text), &found) != status) return 0;
+    return status == PMB_OK ? found.numerator == numerator && found.denominator == denominator
+                            : found.numerator == -7 && found.denominator == -9;
+}
+
+static int texts_in(void)
+{
+    char large[LARGE];
+    EXPECT(parses("12", PMB_OK, 12, 1) && parses("-6/4", PMB_OK, -3, 2));
+    EXPECT(parses("-1.50", PMB_OK, -3, 2) && parses("-0", PMB_OK, 0, 1));
+    EXPECT(parses("4611686018427387903", PMB_OK, INT64_C(0x3fffffffffffffff), 1));
+    EXPECT(parses("4611686018427387904", PMB_TOO_LARGE, 0, 0));
+    EXPECT(parses("0.000000000000000001", PMB_OK, 1, INT64_C(1000000000000000000)));
+    EXPECT(parses("0.0000000000000000000000001", PMB_TOO_LARGE, 0, 0));
+    EXPECT(parses("9223372036854775808/2", PMB_TOO_LARGE, 0, 0));
+    EXPECT(parses("9223372036854775807/9223372036854775807", PMB_OK, 1, 1));
+    EXPECT(parses("", PMB_EMPTY, 0, 0) && parses("1/0", PMB_ZERO_DENOMINATOR, 0, 0));
+    EXPECT(parses("-", PMB_BAD_DIGIT, 0, 0) && parses("1.", PMB_BAD_DIGIT, 0, 0));
+    EXPECT(parses(".5", PMB_BAD_DIGIT, 0, 0) && parses("+1", PMB_BAD_DIGIT, 0, 0));
+    EXPECT(parses("1 ", PMB_BAD_DIGIT, 0, 0) && parses("1e3", PMB_BAD_DIGIT, 0, 0));
+    memset(large, '0', sizeof large);
+    large[sizeof large - 2] = '7';
+    large[sizeof large - 1] = 0;
+    EXPECT(parses(large, PMB_OK, 7, 1));
+    large[1] = '.';
+    EXPECT(parses(large, PMB_TOO_LARGE, 0, 0));
+    return 0;
+}
+
+/* Whether a call that writes a text writes this one into each room: whole where it and its NUL fit,
+ * nothing where they don't, and never beside it. */
+typedef int32_t (*writer)(int, int, char *, size_t, size_t *);
+
+static int writes(writer write, int first, int second, int status, const char *text)
+{
+    const size_t length = strlen(text);
+    size_t room, at;
+    for (room = 0; room <= 64; room++) {
+        char bytes[66];
+        size_t told = 999;
+        int32_t found;
+        memset(bytes, '~', sizeof bytes);
+        found = write(first, second, bytes + 1, room, &told);
+        EXPECT(found == (status == PMB_OK && room <= length ? PMB_NO_ROOM : status));
+        EXPECT(told == length);
+        EXPECT(found != PMB_OK || memcmp(bytes + 1, text, length + 1) == 0);
+        for (at = 0; at < sizeof bytes; at++)
+            if (found != PMB_OK || at < 1 || at > length + 1) EXPECT(bytes[at] == '~');
+    }
+    return 0;
+}
+
+static int32_t write_command(int code, int unused, char *text, size_t room, size_t *length)
+{
+    (void)unused;
+    return pmb_command_name((uint8_t)code, text, room, length);
+}
+
+static int32_t write_bit(int code, int bit, char *text, size_t room, size_t *length)
+{
+    return pmb_bit_name((uint8_t)code, (uint8_t)bit, text, room, length);
+}
+
+static const pmb_quantity quantities[] = {
+    {12, 1}, {-6, 4}, {2, -3}, {0, 9}, {1, INT64_C(0x3fffffffffffffff)}, {1, 65536}, {5, 0},
+    {INT64_MIN, 1}, {-INT64_C(0x3fffffffffffffff), INT64_C(1) << 24},
+};
+
+static int32_t write_quantity(int which, int unused, char *text, size_t room, size_t *length)
+{
+    (void)unused;
+    return pmb_quantity_text(quantities[which], text, room, length);
+}
+
+static int texts_out(void)
+{
+    int code, bit, names = 0;
+    EXPECT(!writes(write_quantity, 0, 0, PMB_OK, "12"));
+    EXPECT(!writes(write_quantity, 1, 0, PMB_OK, "-1.5"));
+    EXPECT(!writes(write_quantity, 2, 0, PMB_OK, "-2/3"));
+    EXPECT(!writes(write_quantity, 3, 0, PMB_OK, "0"));
+    EXPECT(!writes(write_quantity, 4, 0, PMB_OK, "1/4611686018427387903"));
+    EXPECT(!writes(write_quantity, 5, 0, PMB_OK, "0.0000152587890625"));
+    EXPECT(!writes(write_quantity, 6, 0, PMB_ZERO_DENOMINATOR, ""));
+    EXPECT(!writes(write_quantity, 7, 0, PMB_TOO_LARGE, ""));
+    EXPECT(!writes(write_quantity, 8, 0, PMB_OK, "-274877906943.999999940395355224609375"));
+    EXPECT(!writes(write_command, 0x00, 0, PMB_OK, "PAGE"));
+    EXPECT(!writes(write_command, 0x49, 0, PMB_OK, "IOUT_OC_LV_FAULT_RESPONSE"));
+    EXPECT(!writes(write_command, 0x88, 0, PMB_OK, "READ_VIN"));
+    EXPECT(!writes(write_command, 0x07, 0, PMB_NO_NAME, ""));
+    EXPECT(!writes(write_command, 0xff, 0, PMB_NO_NAME, ""));
+    EXPECT(!writes(write_bit, 0x79, 15, PMB_OK, "VOUT"));
+    EXPECT(!writes(write_bit, 0x79, 0, PMB_OK, "NONE_OF_THE_ABOVE"));
+    EXPECT(!writes(write_bit, 0x7e, 2, PMB_NO_NAME, ""));
+    EXPECT(!writes(write_bit, 0x79, 16, PMB_NO_NAME, ""));
+    EXPECT(!writes(write_bit, 0x79, 255, PMB_NO_NAME, ""));
+    EXPECT(!writes(write_bit, 0x21, 0, PMB_NO_NAME, ""));
+    for (code = 0; code < 256; code++) {
+        char text[PMB_MOST_COMMAND_NAME + 1];
+        size_t length;
+        names += pmb_command_name((uint8_t)code, text, sizeof text, &length) == PMB_OK;
+        for (bit = 0; bit < 256; bit++) {
+            int32_t status = write_bit(code, bit, text, PMB_MOST_BIT_NAME + 1, &length);
+            EXPECT(status == PMB_OK || status == PMB_NO_NAME);
+            EXPECT(length <= PMB_MOST_BIT_NAME);
+        }
+    }
+    EXPECT(names == 156);
+    return 0;
+}
+
+static void *all(void *result)
+{
+    *(int *)result = pmb_version() != PMB_VERSION || pecs() || formats() || round_trips() ||
+                     texts_in() || texts_out();
+    return result;
+}
+
+int main(void)
+{
+    pthread_t threads[THREADS];
+    int results[THREADS], alone, i, failed;
+    all(&alone);
+    failed = alone;
+    for (i = 0; i < THREADS; i++)
+        if (pthread_create(&threads[i], NULL, all, &results[i])) return fail("pthread_create", __LINE__);
+    for (i = 0; i < THREADS; i++) {
+        pthread_join(threads[i], NULL);
+        failed |= results[i];
+    }
+    return failed;
+}

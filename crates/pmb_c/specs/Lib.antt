@@ -1,0 +1,5 @@
+pub mod Status
+pub mod Format
+pub mod Quantity
+pub mod Number
+pub mod Room

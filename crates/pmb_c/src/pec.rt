@@ -1,0 +1,28 @@
+//! The packet error code (SMBus 3.0 section 6.4).
+ghost use Rattle.std.specs.Prelude.{◌≡◌, ℕ, List, [], ◌∷◌, ◌++◌, bit_xor};
+ghost use Rattle.pmb_bus.specs.Pec.{pec};
+
+use pmb_bus::pec_next;
+
+/// The packet error code of bytes and one more byte, where `crc` is the code of those bytes, or 0 if
+/// there are none.
+#[unsafe(no_mangle)]
+pub extern "C" fn pmb_pec_next(crc: u8, byte: u8) -> u8
+    ensures goes_on { (bytes : List ℕ) → pec bytes ≡ crc → result ≡ pec (bytes ++ byte ∷ []) }
+    ensures step { result ≡ pec (bit_xor crc byte ∷ []) }
+{
+    pec_next(crc, byte)
+}
+
+/// The packet error code of bytes before and these bytes, where `crc` is the code of those before, or
+/// 0 if there are none.
+#[unsafe(no_mangle)]
+pub extern "C" fn pmb_pec(crc: u8, bytes: &[u8]) -> u8
+    ensures { (before : List ℕ) → pec before ≡ crc → result ≡ pec (before ++ bytes.now) }
+{
+    let mut code = crc;
+    for &byte in bytes {
+        code = pec_next(code, byte);
+    }
+    code
+}

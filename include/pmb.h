@@ -1,0 +1,151 @@
+/* pmb.h: the proved PMBus codec for C99 and C++.
+ *
+ * Link with release/libpmb.a or release/libpmb.so. docs/library.md begins with a first program.
+ *
+ * For every function here:
+ *  - It takes no memory from the heap, keeps nothing between calls and starts nothing. It uses
+ *    less than 2 KB of stack. It needs memcpy and memmove of the C library, and nothing else of it.
+ *  - It may be called from several threads side by side, and from a signal handler. Two calls at
+ *    one time may not write to the same place.
+ *  - No pointer may be null, also where a length is 0. Behind a pointer with a length there are
+ *    that many bytes, up to 2^63 - 1. What a call writes to does not overlap what it reads.
+ *  - Every value is allowed. What is out of range is told by a status.
+ *  - A call whose status is not PMB_OK leaves what it would have written as it was. Only `length` is
+ *    written always.
+ */
+#ifndef PMB_H
+#define PMB_H
+
+#include <stddef.h>
+#include <stdint.h>
+
+#ifdef __cplusplus
+extern "C" {
+#endif
+
+/* The version of this header: the major number in bits 31:16, the minor one in bits 15:8, the patch
+ * in bits 7:0. */
+#define PMB_VERSION 0x000100u
+
+/* The version of the library that is linked. */
+uint32_t pmb_version(void);
+
+/* What a call came to. */
+enum pmb_status {
+    PMB_OK = 0,
+    /* The quantity is below every value, or above every value, of the format. */
+    PMB_BELOW = 1,
+    PMB_ABOVE = 2,
+    /* The format: its kind is none of enum pmb_kind. */
+    PMB_BAD_FORMAT = 3,
+    /* Its exponent of two is not from -16 to 15. */
+    PMB_BAD_EXPONENT = 4,
+    /* The slope m of DIRECT is 0. */
+    PMB_ZERO_SLOPE = 5,
+    /* The exponent of ten r of DIRECT is not from -9 to 9. */
+    PMB_BAD_SCALE = 6,
+    /* VOUT_MODE: values are relative to VOUT_COMMAND. */
+    PMB_RELATIVE = 7,
+    /* VOUT_MODE: values are VID codes. */
+    PMB_VID = 8,
+    /* VOUT_MODE: values are IEEE half precision numbers. */
+    PMB_IEEE = 9,
+    /* VOUT_MODE: values are in DIRECT, and there are no coefficients (m is 0). */
+    PMB_NO_COEFFICIENTS = 10,
+    /* The text of a quantity has no byte. */
+    PMB_EMPTY = 11,
+    /* The text is not a quantity's. */
+    PMB_BAD_DIGIT = 12,
+    /* The denominator is 0. */
+    PMB_ZERO_DENOMINATOR = 13,
+    /* A number of the quantity in lowest terms is 2^62 or more, without its sign; or a text has
+     * more than 24 digits after the point, zeros at the end not counted, or a number of 2^63 or more
+     * before or after the slash. */
+    PMB_TOO_LARGE = 14,
+    /* The standard has no name there. */
+    PMB_NO_NAME = 15,
+    /* The text and the NUL after it don't fit into the room. */
+    PMB_NO_ROOM = 16
+};
+
+/* A quantity: an exact fraction, without a unit. What is given may be any fraction, of any signs.
+ * What is returned is in lowest terms, with a denominator of 1 or more. */
+typedef struct pmb_quantity {
+    int64_t numerator;
+    int64_t denominator;
+} pmb_quantity;
+
+/* The kinds of number formats (PMBus Part II revision 1.3, sections 7 and 8). */
+enum pmb_kind {
+    PMB_LINEAR11 = 0,
+    /* LINEAR11, written with one exponent. */
+    PMB_LINEAR11_FIXED = 1,
+    PMB_ULINEAR16 = 2,
+    PMB_SLINEAR16 = 3,
+    PMB_DIRECT = 4,
+    /* The format that a VOUT_MODE names, for a command whose linear words are unsigned (as
+     * VOUT_COMMAND) or signed (as VOUT_TRIM). */
+    PMB_VOUT = 5,
+    PMB_VOUT_SIGNED = 6
+};
+
+/* A number format: its kind, and the numbers that the kind asks for. Others count for nothing. */
+typedef struct pmb_format {
+    uint8_t kind;    /* one of enum pmb_kind */
+    int8_t exponent; /* of two, -16 to 15: PMB_LINEAR11_FIXED, PMB_ULINEAR16, PMB_SLINEAR16 */
+    uint8_t mode;    /* VOUT_MODE: PMB_VOUT, PMB_VOUT_SIGNED */
+    int8_t r;        /* DIRECT's exponent of ten, -9 to 9 */
+    int16_t m;       /* DIRECT's slope; not 0, but for PMB_VOUT and PMB_VOUT_SIGNED 0 where none */
+    int16_t b;       /* DIRECT's offset */
+} pmb_format;
+
+/* The packet error code (SMBus 3.0 section 6.4) of bytes and one more byte, where crc is the code
+ * of those bytes, or 0 if there are none. */
+uint8_t pmb_pec_next(uint8_t crc, uint8_t byte);
+
+/* The packet error code of bytes before and these bytes, where crc is the code of those before, or
+ * 0 if there are none. In a packet it covers every byte before it, address bytes included. */
+uint8_t pmb_pec(uint8_t crc, const uint8_t *bytes, size_t length);
+
+/* Writes the code of two bytes whose value is nearest to a quantity: the even one where two are
+ * equally near. A quantity outside the range is refused, however little it is outside.
+ * Returns what is wrong with the format (PMB_BAD_FORMAT to PMB_NO_COEFFICIENTS), or else with the
+ * quantity (PMB_ZERO_DENOMINATOR, PMB_TOO_LARGE), or else PMB_BELOW or PMB_ABOVE. */
+int32_t pmb_encode(const pmb_format *format, pmb_quantity quantity, uint16_t *code);
+
+/* Writes the exact value of a code of two bytes.
+ * Returns what is wrong with the format (PMB_BAD_FORMAT to PMB_NO_COEFFICIENTS). */
+int32_t pmb_decode(const pmb_format *format, uint16_t code, pmb_quantity *quantity);
+
+/* Writes the quantity that a text of so many bytes spells, without a NUL: an optional '-', digits,
+ * and then nothing, a '.' and digits, or a '/' and digits; as "12", "-1.5", "2/3".
+ * Returns PMB_EMPTY, PMB_BAD_DIGIT, PMB_ZERO_DENOMINATOR or PMB_TOO_LARGE, the first that holds. */
+int32_t pmb_quantity_parse(const char *text, size_t length, pmb_quantity *quantity);
+
+/* The most characters of a text that is written, without its NUL. */
+#define PMB_MOST_QUANTITY_TEXT 45
+#define PMB_MOST_COMMAND_NAME 32
+#define PMB_MOST_BIT_NAME 17
+
+/* Writes the text of a quantity, and a NUL: its shortest exact decimal where one has at most 24
+ * digits after the point, and otherwise numerator, '/' and denominator in lowest terms. length is
+ * told how many characters it has, also where they don't fit; 0 where there is no text.
+ * Returns PMB_ZERO_DENOMINATOR or PMB_TOO_LARGE, or else PMB_NO_ROOM. */
+int32_t pmb_quantity_text(pmb_quantity quantity, char *text, size_t room, size_t *length);
+
+/* Writes the name of a standard command (PMBus Part II Appendix I), and a NUL, as "READ_VIN" of 88h.
+ * length is told how many characters it has, also where they don't fit; 0 where there is no name.
+ * Returns PMB_NO_NAME, or else PMB_NO_ROOM. */
+int32_t pmb_command_name(uint8_t code, char *text, size_t room, size_t *length);
+
+/* Writes the name of a bit of a status command (PMBus Part II section 17), and a NUL, as "VOUT" of
+ * bit 15 of 79h, STATUS_WORD. Bits are counted from 0 at the lowest. length is told how many
+ * characters it has, also where they don't fit; 0 where there is no name.
+ * Returns PMB_NO_NAME, or else PMB_NO_ROOM. */
+int32_t pmb_bit_name(uint8_t code, uint8_t bit, char *text, size_t room, size_t *length);
+
+#ifdef __cplusplus
+}
+#endif
+
+#endif

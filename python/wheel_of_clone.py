@@ -1,0 +1,57 @@
+"""Builds the wheel of a clone: the package, and in it the released library.
+
+It needs nothing but Python, so `pip install ./python` fetches nothing.
+"""
+
+import base64
+import hashlib
+import os
+import zipfile
+
+HERE = os.path.dirname(os.path.abspath(__file__))
+LIBRARY = os.path.join(HERE, os.pardir, "release", "libpmb.so")
+VERSION = "0.1.0"
+INFO = "pmb-{}.dist-info".format(VERSION)
+METADATA = """Metadata-Version: 2.1
+Name: pmb
+Version: {}
+Summary: The proved PMBus codec: numbers, packet error codes and names
+Requires-Python: >=3.8
+""".format(VERSION)
+WHEEL = """Wheel-Version: 1.0
+Generator: wheel_of_clone
+Root-Is-Purelib: false
+Tag: py3-none-linux_x86_64
+"""
+
+
+def read(path):
+    with open(path, "rb") as file:
+        return file.read()
+
+
+def files():
+    """Each file of the wheel but the last: its name and its bytes."""
+    package = os.path.join(HERE, "pmb")
+    for name in sorted(os.listdir(package)):
+        if name.endswith((".py", ".typed")):
+            yield "pmb/" + name, read(os.path.join(package, name))
+    yield "pmb/libpmb.so", read(LIBRARY)
+    yield INFO + "/METADATA", METADATA.encode()
+    yield INFO + "/WHEEL", WHEEL.encode()
+
+
+def build_wheel(wheel_directory, config_settings=None, metadata_directory=None):
+    name = "pmb-{}-py3-none-linux_x86_64.whl".format(VERSION)
+    record = ""
+    with zipfile.ZipFile(os.path.join(wheel_directory, name), "w", zipfile.ZIP_DEFLATED) as wheel:
+        for path, content in files():
+            wheel.writestr(path, content)
+            digest = base64.urlsafe_b64encode(hashlib.sha256(content).digest()).rstrip(b"=")
+            record += "{},sha256={},{}\n".format(path, digest.decode(), len(content))
+        wheel.writestr(INFO + "/RECORD", record + INFO + "/RECORD,,\n")
+    return name
+
+
+def build_sdist(sdist_directory, config_settings=None):
+    raise NotImplementedError("the wheel is built in a clone: pip install ./python")
