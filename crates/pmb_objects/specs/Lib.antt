@@ -2,6 +2,7 @@ pub mod Names
 pub mod Seen
 pub mod Sees
 pub mod Members
+pub mod Packets
 pub mod Refusals
 pub mod Counts
 pub mod BadToken

@@ -1,5 +1,5 @@
 -- The members that objects share.
-use Rattle.std.specs.Prelude.{ℕ, Bool, true, false, if◌then◌else◌, nat_eq, Option, Some, None, List, [], ◌∷◌, ◌++◌, codes}
+use Rattle.std.specs.Prelude.{ℕ, Bool, true, false, if◌then◌else◌, nat_eq, nat_le, Option, Some, None, List, [], ◌∷◌, ◌++◌, codes}
 use Rattle.pmb_command.specs.Entry.{EntryParts}
 use Rattle.pmb_note.specs.Paging.{all_pages}
 use Rattle.pmb_object.specs.Json.{Json, null, string}
@@ -47,3 +47,7 @@ command_members seen addr code = code_member code ++ entry_members (page_at seen
 abbrev pub sent_command : SeenData → ℕ → List ℕ → List Member
 sent_command seen addr [] = []
 sent_command seen addr (code ∷ bytes) = command_members seen addr code
+
+-- which part of how many; nothing where it is the only one
+abbrev pub part_members : ℕ → ℕ → List Member
+part_members part parts = if nat_le parts 1 then [] else named (codes "part") (count part) ∷ named (codes "parts") (count parts) ∷ []

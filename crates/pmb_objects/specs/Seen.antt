@@ -2,8 +2,9 @@
 use Rattle.std.specs.Prelude.{ℕ, Option, Some, None, List, option_map}
 use Rattle.pmb_command.specs.Entry.{EntryParts}
 use Rattle.pmb_command.specs.Parts.{DeviceParts, command_with, device_with}
+use Rattle.pmb_late.specs.declared.mode.KnownMode.{KnownMode}
 use Rattle.pmb_late.specs.declared.start.Start.{Start}
-use Rattle.pmb_late.specs.Known.{page}
+use Rattle.pmb_late.specs.Known.{mode, page}
 use Rattle.pmb_transaction.specs.Transaction.{TransactionData}
 
 -- The digits behind a point, what is known of PAGE and VOUT_MODE at first, the devices, and the
@@ -23,6 +24,9 @@ entry_of (Some device) code = option_map (λ c. c.entry) (command_with code devi
 abbrev pub entry_at : SeenData → ℕ → ℕ → Option EntryParts
 entry_at seen addr code = entry_of (device_with addr seen.profile) code
 
--- PAGE of the device with an address
+-- PAGE of the device with an address, and the VOUT_MODE that its output voltages are read by
 abbrev pub page_at : SeenData → ℕ → Option ℕ
 page_at seen addr = page seen.start seen.profile seen.before addr
+
+abbrev pub mode_at : SeenData → ℕ → KnownMode
+mode_at seen addr = mode seen.start seen.profile seen.before addr

@@ -1,9 +1,11 @@
 //! Objects of a capture, each put into a line of JSON.
 //!
 //! A function for each sort of object appends its line to bytes that the caller has, and takes no
-//! memory: [`refusal_line`], [`bad_token_line`] of a word that is no token, and at the end
-//! [`device_line`] of how often a device came and [`end_line`] of the totals, which [`Counts`] has
-//! counted. [`is_wanted`] tells which objects are wanted. A line has at most [`OBJECT`] bytes.
+//! memory: [`write_line`] of a part, [`read_line`], [`call_line`], [`alert_line`],
+//! [`no_alert_line`], [`refusal_line`], [`bad_token_line`] of a word that is no token, and at the
+//! end [`device_line`] of how often a device came and [`end_line`] of the totals, which [`Counts`]
+//! has counted. [`Seen`] is what is known where a packet begins. [`is_wanted`] tells which objects
+//! are wanted. A line has at most [`OBJECT`] bytes.
 //!
 //! ```rust
 //! let place = Place { line: 2, column: 7 };
@@ -16,9 +18,11 @@
 
 mod bad_token;
 mod counts;
+mod data;
 mod last;
 mod members;
 mod names;
+mod packet;
 mod refusal;
 mod seen;
 mod wanted;
@@ -26,6 +30,7 @@ mod wanted;
 pub use bad_token::{WORD, bad_token_line};
 pub use counts::{Counts, DeviceCounts};
 pub use last::{device_line, end_line};
+pub use packet::{alert_line, call_line, no_alert_line, read_line, write_line};
 pub use refusal::refusal_line;
 pub use seen::Seen;
 pub use wanted::is_wanted;

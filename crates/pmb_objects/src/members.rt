@@ -4,7 +4,7 @@ ghost use Rattle.std.specs.Prelude.{◌≡◌, ◌+◌, ◌*◌, ◌≤◌, ◌+
 ghost use Rattle.pmb_command.specs.Entry.{entry_parts};
 ghost use Rattle.pmb_object.specs.declared.place.Place.TheVariants.{First, Later};
 ghost use Rattle.pmb_object.specs.Member.{digits, is_key, members_text, named};
-ghost use Rattle.pmb_objects.specs.Members.{command_members, entry_members, head_members, page_member, sent_command};
+ghost use Rattle.pmb_objects.specs.Members.{command_members, entry_members, head_members, page_member, part_members, sent_command};
 ghost use Rattle.pmb_objects.specs.Seen.{SeenData};
 ghost use Rattle.pmb_objects.specs.Sees.{Sees};
 
@@ -117,5 +117,20 @@ pub(crate) fn append_sent_command<const N: usize>(
 {
     if let [code, ..] = sent {
         append_command(out, seen, addr, *code);
+    }
+}
+
+/// The most bytes of which part an object is.
+pub(crate) const PART_MEMBERS: usize = 2 * NUMBER_MEMBER;
+
+/// Appends which part an object is, of how many; nothing where it is the only one.
+pub(crate) fn append_part<const N: usize>(out: &mut ArrayVec<u8, N>, part: u64, parts: u64)
+    requires room { length out.old.items + PART_MEMBERS ≤ N }
+    ensures members { out.new.items ≡ out.old.items ++ members_text Later (part_members part parts) }
+    ensures short { length out.new.items ≤ length out.old.items + PART_MEMBERS }
+{
+    if parts > 1 {
+        number_member(out, MemberPlace::Later, "part", part);
+        number_member(out, MemberPlace::Later, "parts", parts);
     }
 }

@@ -2,13 +2,14 @@
 
 ghost use Rattle.std.specs.Prelude.{◌≡◌, option_map};
 ghost use Rattle.pmb_command.specs.Entry.{entry_parts};
-ghost use Rattle.pmb_objects.specs.Seen.{SeenData, entry_at, page_at};
+ghost use Rattle.pmb_command.specs.Parts.{device_with};
+ghost use Rattle.pmb_objects.specs.Seen.{SeenData, entry_at, mode_at, page_at};
 ghost use Rattle.pmb_objects.specs.Sees.{Sees};
 
 use pmb_command::Entry;
 use pmb_decimal::Digits;
-use pmb_late::Late;
-use pmb_table::Profile;
+use pmb_late::{KnownMode, Late};
+use pmb_table::{DeviceProfile, Profile};
 
 /// What is known where a packet begins: the devices, and what the transactions before have told of
 /// PAGE and VOUT_MODE. Numbers get that many digits after the point.
@@ -20,6 +21,13 @@ pub struct Seen<'s> {
 }
 
 impl<'s> Seen<'s> {
+    /// The device with an address.
+    pub(crate) fn device(&self, addr: u8) -> Option<&DeviceProfile>
+        ensures { (known : SeenData) → Sees self.now known → option_map (λ d. d.now) result ≡ device_with addr known.profile }
+    {
+        self.profile.device(addr)
+    }
+
     /// The command with a code of the device with an address.
     pub(crate) fn entry(&self, addr: u8, code: u8) -> Option<&Entry>
         ensures { (known : SeenData) → Sees self.now known → option_map (λ e. entry_parts e.now) result ≡ entry_at known addr code }
@@ -35,5 +43,12 @@ impl<'s> Seen<'s> {
         ensures { (known : SeenData) → Sees self.now known → result ≡ page_at known addr }
     {
         self.late.page(addr)
+    }
+
+    /// What is known of the VOUT_MODE that its output voltages are read by.
+    pub(crate) fn mode(&self, addr: u8) -> KnownMode
+        ensures { (known : SeenData) → Sees self.now known → result ≡ mode_at known addr }
+    {
+        self.late.mode(addr)
     }
 }

@@ -5,6 +5,8 @@
 #[cfg(test)]
 mod counts;
 #[cfg(test)]
+mod packets;
+#[cfg(test)]
 mod refusals;
 #[cfg(test)]
 mod words;

@@ -1,0 +1,17 @@
+//! Tests of what an object says of a command's data, over the public names of `pmb_fields`: tables of
+//! words and registers, worked out with exact fractions and by hand, and lines after which a device's
+//! VOUT_MODE is known or not.
+#![tactic(auto)]
+
+#[cfg(test)]
+mod contexts;
+#[cfg(test)]
+mod example;
+#[cfg(test)]
+mod numbers;
+#[cfg(test)]
+mod registers;
+#[cfg(test)]
+mod says;
+#[cfg(test)]
+mod voltages;
