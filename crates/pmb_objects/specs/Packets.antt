@@ -67,14 +67,14 @@ is_whole_write None bytes = false
 is_whole_write (Some device) [] = false
 is_whole_write (Some device) (code ∷ bytes) = may_check device.pec && is_whole_in (forms device code).write bytes
 
+-- what is said of an error code beside the right one
+abbrev pub right_members : ℕ → ℕ → List Member
+right_members code right = named (codes "pec") (string (if nat_eq code right then codes "right" else codes "wrong")) ∷ named (codes "right_pec") (digits (right ∷ [])) ∷ []
+
 -- of the bytes before the refused one, and that one
 abbrev pub checked_members : ℕ → Option DeviceParts → List ℕ → Option ℕ → List Member
 checked_members addr device front None = []
-checked_members addr device front (Some last) =
-    if is_whole_write device front then
-    named (codes "pec") (string (if nat_eq last (pec (write_address addr ∷ front)) then codes "right" else codes "wrong"))
-    ∷ named (codes "right_pec") (digits (pec (write_address addr ∷ front) ∷ [])) ∷ []
-    else []
+checked_members addr device front (Some last) = if is_whole_write device front then right_members last (pec (write_address addr ∷ front)) else []
 
 -- what was refused, by what was sent
 abbrev pub refused_name : List ℕ → Bool → List ℕ
@@ -119,12 +119,12 @@ module _ (seen : SeenData) where
       head_members at place (codes "call") ++ device_member t.addr ++ command_members seen t.addr t.code
       ++ named (codes "sent") (digits t.bytes) ∷ named (codes "reply") (digits t.reply) ∷ named (codes "pec") (boolean t.pec) ∷ [])
 
-  -- the leg that was refused, as the last part of so many
-  abbrev pub refused_object : ℕ → Place → ℕ → RefusedData → Object
-  refused_object at place parts t = of_device t.addr (
-      head_members at place (codes "refused") ++ part_members parts parts ++ device_member t.addr
-      ++ named (codes "refused") (string (refused_name t.sent t.at_read)) ∷ sent_command seen t.addr t.sent
-      ++ named (codes "sent") (digits t.sent) ∷ refused_check t.addr (device_with t.addr seen.profile) t.sent t.at_read)
+  -- the leg that was refused, as the last of so many parts
+  abbrev pub refused_object : ℕ → Place → ℕ → ℕ → List ℕ → Bool → Object
+  refused_object at place parts addr sent at_read = of_device addr (
+      head_members at place (codes "refused") ++ part_members parts parts ++ device_member addr
+      ++ named (codes "refused") (string (refused_name sent at_read)) ∷ sent_command seen addr sent
+      ++ named (codes "sent") (digits sent) ∷ refused_check addr (device_with addr seen.profile) sent at_read)
 
   -- ---- the objects of a packet
 
@@ -139,7 +139,7 @@ module _ (seen : SeenData) where
     abbrev pub refused_objects : List ℕ → RefusedData → List Object
     refused_objects ats t =
         write_objects 1 (length t.parts + 1) ats t.parts
-        ++ map (λ at. refused_object (capped at) (place at) (length t.parts + 1) t) (take 1 (drop (length t.parts) ats))
+        ++ map (λ at. refused_object (capped at) (place at) (length t.parts + 1) t.addr t.sent t.at_read) (take 1 (drop (length t.parts) ats))
 
     -- before the packet n events came
     abbrev pub packet_objects : ℕ → List Event → TransactionData → List Object

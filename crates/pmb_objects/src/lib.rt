@@ -2,7 +2,7 @@
 //!
 //! A function for each sort of object appends its line to bytes that the caller has, and takes no
 //! memory: [`write_line`] of a part, [`read_line`], [`call_line`], [`alert_line`],
-//! [`no_alert_line`], [`refusal_line`], [`bad_token_line`] of a word that is no token, and at the
+//! [`no_alert_line`], [`refused_line`], [`refusal_line`], [`bad_token_line`] of a word that is no token, and at the
 //! end [`device_line`] of how often a device came and [`end_line`] of the totals, which [`Counts`]
 //! has counted. [`Seen`] is what is known where a packet begins. [`is_wanted`] tells which objects
 //! are wanted. A line has at most [`OBJECT`] bytes.
@@ -24,6 +24,7 @@ mod members;
 mod names;
 mod packet;
 mod refusal;
+mod refused;
 mod seen;
 mod wanted;
 
@@ -32,6 +33,7 @@ pub use counts::{Counts, DeviceCounts};
 pub use last::{device_line, end_line};
 pub use packet::{alert_line, call_line, no_alert_line, read_line, write_line};
 pub use refusal::refusal_line;
+pub use refused::refused_line;
 pub use seen::Seen;
 pub use wanted::is_wanted;
 

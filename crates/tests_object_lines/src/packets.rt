@@ -4,14 +4,16 @@ use arrayvec::ArrayVec;
 use pmb_decimal::Digits;
 use pmb_late::{Late, Start};
 use pmb_line::parse_line;
-use pmb_objects::{OBJECT, Seen, alert_line, call_line, no_alert_line, read_line, write_line};
+use pmb_objects::{
+    OBJECT, Seen, alert_line, call_line, no_alert_line, read_line, refused_line, write_line,
+};
 use pmb_places::Place;
 use pmb_table::{Profile, SAMPLE};
 use pmb_transaction::Transaction;
 use std::test::Fail;
 
 /// A line of a transaction, where its first event stands, and the line of its object, or of its
-/// second part.
+/// last part.
 type Row = (&'static str, u64, Place, &'static str);
 
 /// The rows of the table. A call keeps the proof of a loop over them from carrying the table.
@@ -19,7 +21,7 @@ fn rows() -> &'static [Row] {
     &ROWS
 }
 
-static ROWS: [Row; 6] = [
+static ROWS: [Row; 9] = [
     (
         "write 58 21 00 18 pec",
         0,
@@ -48,6 +50,24 @@ static ROWS: [Row; 6] = [
         "{\"at\":7,\"line\":4,\"column\":2,\"kind\":\"call\",\"device\":\"58\",\"code\":\"1b\",\"command\":\"SMBALERT_MASK\",\"sent\":\"7a\",\"reply\":\"10\",\"pec\":false}\n",
     ),
     (
+        "refused 58 03 47",
+        36,
+        Place { line: 4, column: 1 },
+        "{\"at\":36,\"line\":4,\"column\":1,\"kind\":\"refused\",\"device\":\"58\",\"refused\":\"byte\",\"code\":\"03\",\"command\":\"CLEAR_FAULTS\",\"sent\":\"0347\",\"pec\":\"wrong\",\"right_pec\":\"46\"}\n",
+    ),
+    (
+        "refused 59 03 + 20",
+        36,
+        Place { line: 4, column: 1 },
+        "{\"at\":36,\"line\":4,\"column\":1,\"kind\":\"refused\",\"part\":2,\"parts\":2,\"device\":\"20\",\"refused\":\"address\",\"sent\":\"\"}\n",
+    ),
+    (
+        "refused 58 88 read",
+        36,
+        Place { line: 4, column: 1 },
+        "{\"at\":36,\"line\":4,\"column\":1,\"kind\":\"refused\",\"device\":\"58\",\"refused\":\"read address\",\"code\":\"88\",\"command\":\"READ_VIN\",\"page\":0,\"sent\":\"88\"}\n",
+    ),
+    (
         "alert b0",
         44,
         Place { line: 5, column: 1 },
@@ -61,7 +81,7 @@ static ROWS: [Row; 6] = [
     ),
 ];
 
-/// The line of a transaction that is not refused: of a group that of its last part.
+/// The line of a transaction: of a group that of its last part, or of the leg that was refused.
 fn told(seen: &Seen<'_>, at: u64, place: Place, transaction: &Transaction) -> ArrayVec<u8, OBJECT> {
     let mut out = ArrayVec::new();
     match transaction {
@@ -105,7 +125,21 @@ fn told(seen: &Seen<'_>, at: u64, place: Place, transaction: &Transaction) -> Ar
         ),
         Transaction::Alert { byte, pec } => alert_line(&mut out, at, place, *byte, *pec),
         Transaction::NoAlert => no_alert_line(&mut out, at, place),
-        Transaction::Refused { .. } => {}
+        Transaction::Refused {
+            parts,
+            addr,
+            sent,
+            at_read,
+        } => refused_line(
+            &mut out,
+            seen,
+            at,
+            place,
+            parts.len() as u64 + 1,
+            *addr,
+            sent.as_slice(),
+            *at_read,
+        ),
     }
     out
 }

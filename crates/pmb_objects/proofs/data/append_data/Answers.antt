@@ -1,5 +1,5 @@
 -- Where there is no device, or no such command of it, nothing is said.
-use Rattle.std.proofs.Common.{Some, ◌++◌, ap, ◌∙◌}
+use Rattle.std.proofs.Common.{◌++◌, ap, ◌∙◌}
 use Rattle.pmb_object.specs.declared.place.Place.TheVariants.{Later}
 use Rattle.pmb_object.specs.Member.{members_text}
 use Rattle.pmb_objects.specs.Packets.{data_of, data_of_entry}

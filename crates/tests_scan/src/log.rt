@@ -1,0 +1,61 @@
+//! A visitor that keeps what it was told.
+
+use arrayvec::ArrayVec;
+use pmb_bus::{Event, event_text};
+use pmb_io::{RunFault, Sink, Waiting};
+use pmb_reader::Refusal;
+use pmb_scan::Visitor;
+use pmb_transaction::Transaction;
+
+/// What was told, as far as there is room.
+#[derive(Clone, Default, Drop)]
+pub struct Log {
+    /// The bytes that were used.
+    pub bytes: ArrayVec<u8, 128>,
+    /// The events in their spelling: `packet ` in place of the last one of each packet, and `!` before
+    /// each that was refused.
+    pub events: ArrayVec<u8, 128>,
+    /// The places of the refusals.
+    pub places: ArrayVec<u64, 8>,
+}
+
+impl Log {
+    fn append(&mut self, text: &[u8]) {
+        let _ = self.events.try_extend_from_slice(text);
+    }
+}
+
+impl Visitor for Log {
+    ghost Stands = { λ _ _ _ _. Unit {0} };
+
+    fn visit_bytes(&mut self, bytes: &[u8]) {
+        let _ = self.bytes.try_extend_from_slice(bytes);
+    }
+
+    fn visit_event(&mut self, event: Event) {
+        self.append(event_text(event).as_bytes());
+    }
+
+    fn visit_packet<W: Sink>(
+        &mut self,
+        _transaction: &Transaction,
+        _waiting: &mut Waiting,
+        _writer: &mut W,
+    ) -> Result<(), RunFault> {
+        self.append(b"packet ");
+        Ok(())
+    }
+
+    fn visit_refusal<W: Sink>(
+        &mut self,
+        event: Event,
+        refusal: Refusal,
+        _waiting: &mut Waiting,
+        _writer: &mut W,
+    ) -> Result<(), RunFault> {
+        self.append(b"!");
+        self.append(event_text(event).as_bytes());
+        let _ = self.places.try_push(refusal.at);
+        Ok(())
+    }
+}
