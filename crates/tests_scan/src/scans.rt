@@ -105,13 +105,14 @@ fn check_row(
     alloc: Global,
     profile: &Profile,
     row: &Row,
-    cut: usize,
+    front: &[u8],
+    back: &[u8],
 ) -> Result<(), Fail> {
+    let cut = front.len();
     let mut scan = Scan::new(profile);
     let mut log = Log::default();
     let mut waiting = Waiting::new();
     let mut writer = Io::new(Vec::new(alloc));
-    let (front, back) = row.capture.split_at(cut);
     let mut used: usize = 0;
     let mut bad = None;
     for piece in [front, back] {
@@ -155,7 +156,8 @@ fn rows_are_told(rt: HostRuntime) -> Result<(), Fail> {
     let profile = Profile::from_toml(rt.alloc(), SAMPLE.as_bytes())?;
     for row in &ROWS {
         for cut in 0..=row.capture.len() {
-            check_row(&rt, rt.alloc(), &profile, row, cut)?;
+            let (front, back) = row.capture.split_at(cut);
+            check_row(&rt, rt.alloc(), &profile, row, front, back)?;
         }
     }
     Ok(())
