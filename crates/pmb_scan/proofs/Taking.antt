@@ -1,13 +1,17 @@
 -- A piece of a text that is taken word by word.
-use Rattle.std.proofs.Common.{◌≡◌, ℕ, ◌+◌, ◌≤◌, Option, List, [], ◌∷◌, ◌++◌, length, take, drop, sym, ◌∙◌, ap, subst, refl, append_assoc, append-nil, length-append, length-take-le, take-append-drop, drop-drop, arith}
+use Rattle.std.proofs.Common.{◌≡◌, ℕ, ◌+◌, ◌-◌, ◌≤◌, Some, map, inl, inr, Option, List, [], ◌∷◌, ◌++◌, length, get_or, take, drop, sym, ◌∙◌, ap, subst, refl, append_assoc, append-nil, length-append, length-take-le, take-append-drop, drop-drop, arith}
 use Rattle.std.proofs.Math.Seq.{take-append-add}
-use Rattle.std.proofs.lemmas.List.{take_all}
+use Rattle.std.proofs.lemmas.Bool.{cases_Bool}
+use Rattle.std.proofs.lemmas.List.{length-map, take_all, take_more}
 use Rattle.pmb_bus.specs.declared.event.Event.{Event}
 use Rattle.pmb_bus.specs.declared.event.Event.TheVariants.{Byte, Ack}
 use Rattle.pmb_bus.specs.declared.lexer.Lexer.{Lexer}
 use Rattle.pmb_bus.specs.declared.lexer.LexFault.{LexFault}
 use Rattle.pmb_bus.specs.Lexer.{LexerStandsAt, NeedsMore, EndsWord, FeedsAcked, Refuses, IsFaultOf, OpenWordIsBad}
-use Rattle.pmb_bus.specs.Text.{BeginsText, EndedWordsSpell}
+use Rattle.pmb_bus.specs.Event.{event_of}
+use Rattle.pmb_bus.specs.Text.{BeginsText, EndedWordsSpell, Spells, ends_in_comment, in_comment, is_separator}
+use Rattle.pmb_bus.proofs.Spelling.{spells_ended}
+use Rattle.pmb_bus.proofs.Words.{blank_out, comment_cuts, cut_by, longer_by}
 use Rattle.pmb_io.specs.Engines.{PutsOut}
 use Rattle.pmb_io.specs.Outgoing.{PutsText}
 use Rattle.pmb_io.proofs.Writing.{writes_then, writes_nothing}
@@ -27,6 +31,35 @@ stands_counted : (lexer : Lexer) (n : ℕ) (a b : List ℕ) (events : List Event
 stands_counted lexer n a b events e counted stands =
     subst (λ (t : List ℕ). LexerStandsAt lexer (length t) t events) e (subst (λ (k : ℕ). LexerStandsAt lexer k a events) counted stands)
 
+-- where a byte ends a word, the text spells the events with that word's
+byte_spells : (text : List ℕ) (b : ℕ) (events : List Event) (event : Event) → EndedWordsSpell text events → EndedWordsSpell (text ++ b ∷ []) (events ++ event ∷ [])
+    → Spells (text ++ b ∷ []) (events ++ event ∷ [])
+byte_spells text b events event before ended =
+    elim (cases_Bool (in_comment (ends_in_comment text) b)) [
+      | inl inside ↦ spells_ended (text ++ b ∷ []) (events ++ event ∷ []) ended (cut_by text b (comment_cuts (ends_in_comment text) b inside)).opened
+      | inr outside ↦
+          elim (cases_Bool (is_separator b)) [
+            | inl separates ↦ spells_ended (text ++ b ∷ []) (events ++ event ∷ []) ended (cut_by text b (ap is_separator (blank_out (ends_in_comment text) b outside) ∙ separates)).opened
+            | inr keeps ↦
+                let same = ap (map event_of) (longer_by text b outside keeps).ended in
+                let both : map Some events ≡ map Some (events ++ event ∷ []) = sym before ∙ (sym same ∙ ended) in
+                let lengths = sym (length-map events Some) ∙ (ap length both ∙ (length-map (events ++ event ∷ []) Some ∙ length-append events (event ∷ []))) in
+                absurd (omega (arith, lengths))
+          ]
+    ]
+
+-- the word that ends in a piece is the last of the text up to there
+word_spells : (n : ℕ) (text : List ℕ) (events : List Event) (piece : List ℕ) (used : ℕ) (lexer : Lexer) (event : Event) → EndsWord n text events piece used lexer event
+    → Spells (text ++ take used piece) (events ++ event ∷ [])
+word_spells n text events piece used lexer event word =
+    let front = take (used - 1) piece in
+    let last = get_or piece (used - 1) 0 in
+    let used_is : used ≡ (used - 1) + 1 = omega (arith, word.some) in
+    let bytes : take used piece ≡ front ++ last ∷ [] = ap (λ k. take k piece) used_is ∙ take_more piece (used - 1) 0 (omega (arith, word.some, word.within)) in
+    let all : text ++ take used piece ≡ (text ++ front) ++ last ∷ [] = ap (λ l. text ++ l) bytes ∙ sym (append_assoc text front (last ∷ [])) in
+    subst (λ (t : List ℕ). Spells t (events ++ event ∷ [])) (sym all)
+    (byte_spells (text ++ front) last events event word.before (subst (λ (t : List ℕ). EndedWordsSpell t (events ++ event ∷ [])) all word.stands.ended))
+
 module _ {V : Type 0} (Stands : V → V → Reached → List ℕ → Type 0) where
   -- a visitor is told of bytes
   abbrev pub Told : V → V → List ℕ → Type 0
@@ -34,7 +67,7 @@ module _ {V : Type 0} (Stands : V → V → Reached → List ℕ → Type 0) whe
 
   -- an event is taken
   abbrev pub Took : Scan → V → Event → Scan → V → Option (List ℕ) → List ℕ → Option (List ℕ) → List ℕ → Type 0
-  Took scan visitor event scan_after visitor_after h0 w0 h1 w1 = (start : V) (reached : Reached) (text : List ℕ) → HasRead scan reached → Stands start visitor reached text
+  Took scan visitor event scan_after visitor_after h0 w0 h1 w1 = (start : V) (reached : Reached) (text : List ℕ) → HasRead scan reached → Stands start visitor reached text → Spells reached.text (reached.events ++ event ∷ [])
       → PutsOut (λ more. TakesEvent (Stands start visitor_after) reached event scan_after (text ++ more)) h0 w0 h1 w1
 
   -- a front of the piece was taken, all but the rest
@@ -72,8 +105,8 @@ module _ {V : Type 0} (Stands : V → V → Reached → List ℕ → Type 0) whe
   -- what an event comes to is no matter of the lexer's
   pub took_as : (a b : Scan) (before : V) (event : Event) (c d : Scan) (after : V) (h0 : Option (List ℕ)) (w0 : List ℕ) (h1 : Option (List ℕ)) (w1 : List ℕ)
       → a.reader ≡ b.reader → c.reader ≡ d.reader → Took a before event c after h0 w0 h1 w1 → Took b before event d after h0 w0 h1 w1
-  took_as a b before event c d after h0 w0 h1 w1 same_before same_after took start reached text read visited =
-      let puts = took start reached text (subst (λ (r : Reader). ReaderReached r reached) (sym same_before) read) visited in record {
+  took_as a b before event c d after h0 w0 h1 w1 same_before same_after took start reached text read visited spells =
+      let puts = took start reached text (subst (λ (r : Reader). ReaderReached r reached) (sym same_before) read) visited spells in record {
         text = puts.text;
         writes = puts.writes;
         holds = record {
@@ -95,7 +128,8 @@ module _ {V : Type 0} (Stands : V → V → Reached → List ℕ → Type 0) whe
   word_more start v0 v1 v2 reached piece rest left bytes used event h0 h1 h2 w0 w1 w2 text scan after lexer so_far word told took same_lexer bytes_are left_is =
       let there = so_far.there in
       let told_there = told start there (text ++ so_far.more) so_far.visited in
-      let taken = took start (behind_bytes there bytes) (text ++ so_far.more) (reads_on scan.reader there bytes so_far.stands.reader) told_there in
+      let taken = took start (behind_bytes there bytes) (text ++ so_far.more) (reads_on scan.reader there bytes so_far.stands.reader) told_there
+      (subst (λ (l : List ℕ). Spells (there.text ++ l) (there.events ++ event ∷ [])) (sym bytes_are) (word_spells _ there.text there.events rest used lexer event word)) in
       let text_is : there.text ++ take used rest ≡ taken.holds.there.text = sym (taken.holds.same_text ∙ ap (λ (l : List ℕ). there.text ++ l) bytes_are) in (
         record {
           used = so_far.used ++ take used rest;

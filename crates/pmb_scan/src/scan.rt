@@ -7,6 +7,7 @@
 
 ghost use Rattle.std.specs.Prelude.{◌≡◌, ◌++◌, ◌∷◌, [], ◌≤◌, ℕ, List, OnOk, IfOk, length, drop};
 ghost use Rattle.pmb_bus.specs.declared.event.Event.{Event as BusEvent};
+ghost use Rattle.pmb_bus.specs.Text.{Spells};
 ghost use Rattle.pmb_bus.specs.declared.event.Event.TheVariants.{Ack, Byte};
 ghost use Rattle.pmb_io.specs.Calls.{WriterTells};
 ghost use Rattle.pmb_io.specs.Engines.{PutsOut};
@@ -147,7 +148,7 @@ impl<'p> Scan<'p> {
         writer: &mut W,
     ) -> Result<(), RunFault>
         ensures lexer { self.new.lexer ≡ self.old.lexer }
-        ensures takes { (start : V) (reached : Reached) (text : List ℕ) → HasRead self.old reached → V.Stands start visitor.old reached text
+        ensures takes { (start : V) (reached : Reached) (text : List ℕ) → HasRead self.old reached → V.Stands start visitor.old reached text → Spells reached.text (reached.events ++ event ∷ [])
             → OnOk result (PutsOut (λ more. TakesEvent (V.Stands start visitor.new) reached event self.new (text ++ more))
             (W.told writer.old).held waiting.old.items (W.told writer.new).held waiting.new.items) }
         ensures failed { WriterTells (W.told writer.old) (W.told writer.new) result }
@@ -171,7 +172,7 @@ impl<'p> Scan<'p> {
         writer: &mut W,
     ) -> Result<(), RunFault>
         ensures visits { (start : V) (reached : Reached) (text : List ℕ) (n : ℕ) (front : List BusEvent) (event : BusEvent) → V.Stands start visitor.old reached text
-            → reached.standing ≡ Open n front → Packet reached.profile (last_read self.now.reader) (front ++ event ∷ [])
+            → Spells reached.text (reached.events ++ event ∷ []) → reached.standing ≡ Open n front → Packet reached.profile (last_read self.now.reader) (front ++ event ∷ [])
             → OnOk result (PutsOut (λ more. V.Stands start visitor.new (behind_packet reached n front event (last_read self.now.reader)) (text ++ more))
             (W.told writer.old).held waiting.old.items (W.told writer.new).held waiting.new.items) }
         ensures failed { WriterTells (W.told writer.old) (W.told writer.new) result }
@@ -190,7 +191,7 @@ fn visit_refusal<V: Visitor, W: Sink>(
     writer: &mut W,
 ) -> Result<(), RunFault>
     ensures visits { (start : V) (reached : Reached) (text : List ℕ) (n : ℕ) (front : List BusEvent) → V.Stands start visitor.old reached text
-        → reached.standing ≡ Open n front → RefusedAt reached.profile n front event (refusal_data refusal)
+        → Spells reached.text (reached.events ++ event ∷ []) → reached.standing ≡ Open n front → RefusedAt reached.profile n front event (refusal_data refusal)
         → OnOk result (PutsOut (λ more. V.Stands start visitor.new (behind_refusal reached n front event (refusal_data refusal)) (text ++ more))
         (W.told writer.old).held waiting.old.items (W.told writer.new).held waiting.new.items) }
     ensures failed { WriterTells (W.told writer.old) (W.told writer.new) result }

@@ -2,6 +2,7 @@
 
 ghost use Rattle.std.specs.Prelude.{◌≡◌, ◌++◌, ◌∷◌, [], ℕ, List, OnOk};
 ghost use Rattle.pmb_bus.specs.declared.event.Event.{Event as BusEvent};
+ghost use Rattle.pmb_bus.specs.Text.{Spells};
 ghost use Rattle.pmb_io.specs.Calls.{WriterTells};
 ghost use Rattle.pmb_io.specs.Engines.{PutsOut};
 ghost use Rattle.pmb_reader.specs.Reader.{Open};
@@ -18,7 +19,8 @@ use pmb_transaction::Transaction;
 
 /// Is told what a scan comes upon, in its order, and may put out a text for each packet and refusal.
 ///
-/// Bytes come first, then what their word's end comes to, which is one of the other three.
+/// Bytes come first, then what their word's end comes to, which is one of the other three. So the text
+/// up to there spells the events with this one: the word of this event is the text's last.
 pub trait Visitor {
     /// A visitor that began as the first has become the second. Meanwhile it was told what was
     /// reached, and put out this text.
@@ -33,7 +35,7 @@ pub trait Visitor {
     /// which comes after a refusal, up to and with the next STOP.
     fn visit_event(&mut self, event: Event)
         ensures { (start : Self) (reached : Reached) (text : List ℕ) → Stands start self.old reached text
-            → Stands start self.new (behind_event reached event) text };
+            → Spells reached.text (reached.events ++ event ∷ []) → Stands start self.new (behind_event reached event) text };
 
     /// An event came, a STOP, and ends the packet of this transaction.
     fn visit_packet<W: Sink>(
@@ -43,7 +45,7 @@ pub trait Visitor {
         writer: &mut W,
     ) -> Result<(), RunFault>
         ensures visits { (start : Self) (reached : Reached) (text : List ℕ) (n : ℕ) (front : List BusEvent) (event : BusEvent) → Stands start self.old reached text
-            → reached.standing ≡ Open n front → Packet reached.profile (transaction_data transaction.now) (front ++ event ∷ [])
+            → Spells reached.text (reached.events ++ event ∷ []) → reached.standing ≡ Open n front → Packet reached.profile (transaction_data transaction.now) (front ++ event ∷ [])
             → OnOk result (PutsOut (λ more. Stands start self.new (behind_packet reached n front event (transaction_data transaction.now)) (text ++ more))
             (W.told writer.old).held waiting.old.items (W.told writer.new).held waiting.new.items) }
         ensures failed { WriterTells (W.told writer.old) (W.told writer.new) result };
@@ -57,7 +59,7 @@ pub trait Visitor {
         writer: &mut W,
     ) -> Result<(), RunFault>
         ensures visits { (start : Self) (reached : Reached) (text : List ℕ) (n : ℕ) (front : List BusEvent) → Stands start self.old reached text
-            → reached.standing ≡ Open n front → RefusedAt reached.profile n front event (refusal_data refusal)
+            → Spells reached.text (reached.events ++ event ∷ []) → reached.standing ≡ Open n front → RefusedAt reached.profile n front event (refusal_data refusal)
             → OnOk result (PutsOut (λ more. Stands start self.new (behind_refusal reached n front event (refusal_data refusal)) (text ++ more))
             (W.told writer.old).held waiting.old.items (W.told writer.new).held waiting.new.items) }
         ensures failed { WriterTells (W.told writer.old) (W.told writer.new) result };

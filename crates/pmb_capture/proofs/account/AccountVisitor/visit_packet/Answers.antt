@@ -7,7 +7,7 @@ use Rattle.pmb_capture.proofs.Outcomes.{adds_packet, puts_more}
 use Rattle.pmb_capture.proofs.account.AccountVisitor.visit_packet.Goals as goal
 
 pub returns-clause-visits : goal.returns-clause-visits
-returns-clause-visits g c start reached text n front event stands standing packet =
+returns-clause-visits g c start reached text n front event stands spells standing packet =
     let t = transaction_data c.args.transaction.now in
     let before = accepted_in (map outcome reached.spans) in
     on_ok_both c.put_packet.result (λ behind puts.

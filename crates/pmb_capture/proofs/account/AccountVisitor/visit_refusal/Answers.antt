@@ -7,7 +7,7 @@ use Rattle.pmb_capture.proofs.Outcomes.{adds_refusal, puts_more}
 use Rattle.pmb_capture.proofs.account.AccountVisitor.visit_refusal.Goals as goal
 
 pub returns-clause-visits : goal.returns-clause-visits
-returns-clause-visits g c start reached text n front stands standing refused =
+returns-clause-visits g c start reached text n front stands spells standing refused =
     let refusal = refusal_data c.args.refusal in
     let before = accepted_in (map outcome reached.spans) in
     let taken = c.take_refusal.ensures in

@@ -41,7 +41,7 @@ pub returns-in_ok-take_event-in-Ok-Some-clause-takes : goal.returns-in_ok-take_e
 returns-in_ok-take_event-in-Ok-Some-clause-takes g c start reached text stands visited =
     let finish = subst (λ o. Finishes (length reached.text) reached.text reached.events (Ok o) c.finish.new.self) c.in-Ok-Some.field-0-is
     (c.in-Ok-Some.ensures.stands (length reached.text) reached.text reached.events stands.lexer) in
-    let taken = c.in_ok-take_event-in-Ok-Some.ensures.takes start reached text stands.reader visited in record {
+    let taken = c.in_ok-take_event-in-Ok-Some.ensures.takes start reached text stands.reader visited finish.spells in record {
       text = taken.text;
       writes = taken.writes;
       holds = record {

@@ -8,7 +8,7 @@ use Rattle.pmb_scan.proofs.scan.Scan.take_event.Goals as goal
 
 -- no text goes out
 pub returns-in-More-clause-takes : goal.returns-in-More-clause-takes
-returns-in-More-clause-takes g c start reached text read visited = record {
+returns-in-More-clause-takes g c start reached text read visited spells = record {
   text = [];
   writes = writes_nothing _ _;
   holds = record {
@@ -17,12 +17,12 @@ returns-in-More-clause-takes g c start reached text read visited = record {
     same_text = refl;
     events = refl;
     reads = c.in-More.ensures reached read;
-    visited = subst (λ t. g.V.Visitor.Stands start c.visit_event.new.self (behind_event reached c.args.event) t) (sym (append-nil text)) (c.visit_event.ensures start reached text visited);
+    visited = subst (λ t. g.V.Visitor.Stands start c.visit_event.new.self (behind_event reached c.args.event) t) (sym (append-nil text)) (c.visit_event.ensures start reached text visited spells);
   };
 }
 
 pub returns-in-Packet-clause-takes : goal.returns-in-Packet-clause-takes
-returns-in-Packet-clause-takes g c start reached text read visited =
+returns-in-Packet-clause-takes g c start reached text read visited spells =
     let ended = c.in-Packet.ensures reached read in
     on_ok_weaker c.visit_packet.result (λ puts. record {
       text = puts.text;
@@ -35,10 +35,10 @@ returns-in-Packet-clause-takes g c start reached text read visited =
         reads = ended.reads;
         visited = puts.holds;
       };
-    }) (c.visit_packet.ensures.visits start reached text ended.n ended.front c.args.event visited ended.standing ended.packet)
+    }) (c.visit_packet.ensures.visits start reached text ended.n ended.front c.args.event visited spells ended.standing ended.packet)
 
 pub returns-in-Refused-clause-takes : goal.returns-in-Refused-clause-takes
-returns-in-Refused-clause-takes g c start reached text read visited =
+returns-in-Refused-clause-takes g c start reached text read visited spells =
     let refused = c.in-Refused.ensures reached read in
     on_ok_weaker c.visit_refusal.result (λ puts. record {
       text = puts.text;
@@ -51,4 +51,4 @@ returns-in-Refused-clause-takes g c start reached text read visited =
         reads = refused.reads;
         visited = puts.holds;
       };
-    }) (c.visit_refusal.ensures.visits start reached text refused.n refused.front visited refused.standing refused.refused)
+    }) (c.visit_refusal.ensures.visits start reached text refused.n refused.front visited spells refused.standing refused.refused)
