@@ -96,7 +96,7 @@ last_if false place before = refl
 last_with : (places : List Place) (found : Bool) (place : Place) → last_place (places ++ (place_if found place ++ [])) ≡ cond found place (last_place places)
 last_with places found place = fold-append (λ b place. place) first_place places (place_if found place ++ []) ∙ last_if found place (last_place places)
 
-last_word_by : (text : List ℕ) (b : ℕ) → place_of_last_word (text ++ b ∷ []) ≡ cond (begins_word text b) (place_behind text) (place_of_last_word text)
+pub last_word_by : (text : List ℕ) (b : ℕ) → place_of_last_word (text ++ b ∷ []) ≡ cond (begins_word text b) (place_behind text) (place_of_last_word text)
 last_word_by text b = ap last_place (places_from-append [] text (b ∷ [])) ∙ last_with (word_places text) (begins_word text b) (place_behind text)
 
 last_end_by : (text : List ℕ) (b : ℕ) → end_of_last_word (text ++ b ∷ []) ≡ cond (is_in_word text b) (place_behind (text ++ b ∷ [])) (end_of_last_word text)

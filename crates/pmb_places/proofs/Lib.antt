@@ -1,3 +1,6 @@
 pub mod Bytes
 pub mod Counts
 pub mod Fronts
+pub mod Behind
+pub mod OpenWords
+pub mod Tails

@@ -1,2 +1,3 @@
 -- What private fields say of the text that was given.
 pub mod Standing
+pub mod OpenWord

@@ -1,17 +1,23 @@
-//! Places of words in the text of a capture, by line and column.
+//! Places of words in the text of a capture, by line and column, and the word under way at its end.
 //!
 //! [`Places`] is given the bytes of a text in pieces of any size. It says where the next byte stands,
-//! where the last word began and where it ended.
+//! where the last word began and where it ended. [`OpenWord`] is given them too, and keeps the first
+//! bytes of the word that is under way.
 //!
 //! ```rust
 //! let mut places = Places::new();
 //! places.take(b"S b0 A # alert\n  21");
 //! assert_eq!(rt; places.word(), Place { line: 2, column: 3 });
 //! assert_eq!(rt; places.end(), Place { line: 2, column: 5 });
+//! let mut word = OpenWord::new();
+//! word.take(b"S b0 A # alert\n  21");
+//! assert_eq!(rt; word.bytes(), b"21".as_slice());
 //! ```
 #![tactic(auto)]
 
 pub mod laws;
+mod open_word;
 mod places;
 
+pub use open_word::{OpenWord, WORD};
 pub use places::{Place, Places};

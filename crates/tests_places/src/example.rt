@@ -1,6 +1,6 @@
 //! The program of the crate's page, and each law.
 
-use pmb_places::{Place, Places, laws};
+use pmb_places::{OpenWord, Place, Places, WORD, laws};
 
 #[test]
 fn says_where_the_last_word_stands(rt: HostRuntime) {
@@ -9,6 +9,10 @@ fn says_where_the_last_word_stands(rt: HostRuntime) {
     assert_eq!(rt; places.word(), Place { line: 2, column: 3 });
     assert_eq!(rt; places.end(), Place { line: 2, column: 5 });
     assert_eq!(rt; places.here(), Place { line: 2, column: 5 });
+    let mut word = OpenWord::new();
+    word.take(b"S b0 A # alert\n  21");
+    assert_eq!(rt; word.bytes(), b"21".as_slice());
+    assert_eq!(rt; WORD, 32);
 }
 
 #[test]
@@ -16,4 +20,8 @@ fn calls_each_law() {
     laws::each_word_has_a_place();
     laws::places_go_on();
     laws::words_stand_at_their_places();
+    laws::the_last_word_stands_there();
+    laws::open_words_stand_there();
+    laws::open_words_go_on();
+    laws::open_words_stand_in_front();
 }

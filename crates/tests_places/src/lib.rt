@@ -4,4 +4,6 @@
 #[cfg(test)]
 mod example;
 #[cfg(test)]
+mod open_words;
+#[cfg(test)]
 mod rows;

@@ -3,4 +3,4 @@ use Rattle.pmb_places.proofs.Bytes.{places_from-append}
 use Rattle.pmb_places.proofs.laws.places_go_on.Goals as goal
 
 pub returns : goal.returns
-returns c = places_from-append []
+returns c = record { whole = places_from-append []; behind = places_from-append }
