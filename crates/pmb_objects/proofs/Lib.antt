@@ -1,5 +1,13 @@
+pub mod All
 pub mod Checked
 pub mod Counting
+pub mod DataMembers
+pub mod Each
+pub mod Fine
+pub mod Keys
 pub mod LastByte
 pub mod Lists
 pub mod Parts
+pub mod Quantities
+pub mod Shared
+pub mod Texts

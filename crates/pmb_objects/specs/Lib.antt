@@ -7,4 +7,5 @@ pub mod Refusals
 pub mod Counts
 pub mod BadToken
 pub mod Object
+pub mod Laws
 pub mod machine

@@ -5,7 +5,8 @@
 //! [`no_alert_line`], [`refused_line`], [`refusal_line`], [`bad_token_line`] of a word that is no token, and at the
 //! end [`device_line`] of how often a device came and [`end_line`] of the totals, which [`Counts`]
 //! has counted. [`Seen`] is what is known where a packet begins. [`is_wanted`] tells which objects
-//! are wanted. A line has at most [`OBJECT`] bytes.
+//! are wanted. A line has at most [`OBJECT`] bytes. By the [`laws`] it is one JSON object with distinct
+//! keys, and LF.
 //!
 //! ```rust
 //! let place = Place { line: 2, column: 7 };
@@ -19,7 +20,9 @@
 mod bad_token;
 mod counts;
 mod data;
+mod kept;
 mod last;
+pub mod laws;
 mod members;
 mod names;
 mod packet;
