@@ -29,6 +29,7 @@ SUBJECTS = [
     places.odd_places,
     senseless.senseless_inputs,
     profiles.hostile_profiles,
+    profiles.changed_profiles,
 ]
 
 

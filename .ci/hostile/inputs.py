@@ -37,6 +37,10 @@ pec = "on"
 """
 FRONT = SAMPLE + b"%%\n"
 
+# A profile of one device with one command, for runs of which each byte counts.
+SMALL_BUS = b'[[device]]\naddress = 0x58\npec = "off"\nstandard = false\n' \
+    b'[[device.command]]\nname = "READ_VIN"\n'
+
 # Profiles with a fault: one that the rules refuse, one that is no TOML, one with bad digits.
 FAULTY = [
     (b'[[device]]\naddress = 0x0c\npec = "off"\n', b"pmb: profile: BadAddress in device 0\n"),
@@ -51,6 +55,7 @@ CAPTURE = [
     b"S b0 A 79 A S b1 A 40 A 88 N P # a read\n",
     b"S b0 A 03 A 47 N P\n",
     b"S b0 A 03 A 47 A P\n",
+    b"S b0 A 21 A 00 A 18 A f8 A P\n",
     b"S B0\tA 20 A\r\n14 A P\n",
     b"S b0 A 21 A 00 A 18 A P\n",
     b"S b0 A 03 A S b2 A 03 A P\n",
@@ -68,6 +73,11 @@ TRANSACTIONS = [
     b"\n",
     b"refused 58 03 47\n",
     b"write 59 21 00 18 pec\n",
+    b"write 58 88 00 00\n",
+    b"write 58 21 00\n",
+    b"write 58 c8\n",
+    b"write 20 03\n",
+    b"write 58 03 + 58 03\n",
     b"refused 20\n",
     b"alert none\n",
 ]
@@ -83,18 +93,30 @@ REQUESTS = [
     b"call 58 1b 7a\n",
     b"wrote 58\n",
     b"write 58 03 + 59 03\n",
+    b"write 58 00 ff\n",
+    b"set 58 21 12\n",
+    b"write 58 00 01\n",
+    b"get 58 21\n",
+    b"write 58 00 ff\n",
+    b"get 58 21\n",
 ]
-QUANTITIES = [b"12\n", b"-1/3\n", b"33521665\n", b"0.5\r\n", b"\n", b"1/0\n", b"x\n", b"1" * 300 + b"\n"]
-CODES = [b"d300\n", b"12g4\n", b"0032\r\n", b"\n", b"7bff\n", b"d" * 300 + b"\n"]
+QUANTITIES = [b"12\n", b"1\n", b"1023.5\n", b"33521664\n", b"33521665\n", b"-1/3\n", b"0.5\r\n", b"\n",
+              b"1/0\n", b"x\n", b"1" * 300 + b"\n"]
+CODES = [b"d300\n", b"0001\n", b"12g4\n", b"0032\r\n", b"\n", b"7bff\n", b"d" * 300 + b"\n"]
 
 # Each subcommand with the rows that it is given.
 UNDER_SAMPLE = [
     (["show", "--sample"], CAPTURE),
     (["check", "--sample"], CAPTURE),
+    (["json", "--sample"], CAPTURE),
     (["build", "--sample"], TRANSACTIONS),
     (["run", "--sample"], REQUESTS),
 ]
 BEHIND_A_PROFILE = [([words[0]], rows) for words, rows in UNDER_SAMPLE]
+# `profile`, which reads no more than a profile, and with `--sample` nothing.
+DESCRIPTIONS = [(["profile"], SMALL_BUS + b"%%\n"), (["profile", "--sample"], b"")]
+# The words of each subcommand that reads a profile.
+WITH_A_PROFILE = [words for words, _ in BEHIND_A_PROFILE] + [["profile"]]
 CONVERSIONS = [
     (["encode", "linear11"], QUANTITIES),
     (["decode", "linear11"], CODES),
@@ -102,7 +124,8 @@ CONVERSIONS = [
     (["decode", "direct:3,2,1"], CODES),
 ]
 # Words that read nothing: calls for help and the version, none, and bad ones.
-HELP = [["help"], ["--help"], ["--version"], ["show", "--help"], ["help", "encode"]]
+HELP = [["help"], ["--help"], ["--version"], ["show", "--help"], ["help", "encode"],
+        ["profile", "--help"]]
 BAD_WORDS = [[], ["bad"], ["show", "--bad"], ["encode"], ["encode", "foo"], ["decode", "linear11:99"]]
 
 
@@ -163,6 +186,7 @@ def large_inputs(program):
     return [
         (["show", "--sample"], capture),
         (["check", "--sample"], capture),
+        (["json", "--sample"], capture),
         (["build", "--sample"], large_transactions()),
         (["run", "--sample"], large_requests()),
         (["encode", "linear11"], large_quantities()),

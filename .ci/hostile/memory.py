@@ -2,8 +2,9 @@
 
 import collections
 
-from inputs import BAD_WORDS, BEHIND_A_PROFILE, CONVERSIONS, FAULTY, FRONT, HELP, UNDER_SAMPLE
-from program import name_of, told
+from inputs import (BAD_WORDS, BEHIND_A_PROFILE, CONVERSIONS, DESCRIPTIONS, FAULTY, FRONT, HELP,
+                    UNDER_SAMPLE, WITH_A_PROFILE)
+from program import name_of, tells_fault, told
 
 NO_MEMORY = b"pmb: no memory\n"
 # One run: its words and input, how long the profile in front is, whether a front of its output may
@@ -17,8 +18,10 @@ def cases():
     for words, rows in BEHIND_A_PROFILE:
         # Read byte by byte, so that what was read beyond the profile shows.
         yield Case(words, FRONT + b"".join(rows), len(FRONT), False, {"move_at_most": 1})
+    for words, text in DESCRIPTIONS:
+        yield Case(words, text, len(text), False, {"move_at_most": 1})
     for text, _ in FAULTY:
-        for words, _ in BEHIND_A_PROFILE:
+        for words in WITH_A_PROFILE:
             yield Case(words, text, len(text), False, {})
     for words in HELP:
         yield Case(words, b"", 0, True, {})
@@ -33,6 +36,13 @@ def wants_memory(case, answer, ordinary):
     return answer.status == 4 and answer.err == NO_MEMORY and may_be_out and is_unread
 
 
+def is_explained_less(case, answer, ordinary):
+    """Whether a fault of a profile was told as it is, and explained by fewer lines or none."""
+    fault = ordinary.err.partition(b"\n")[0] + b"\n"
+    return (case.words == ["profile"] and ordinary.status == 2
+            and tells_fault(case.words, fault, answer) and ordinary.err.startswith(answer.err))
+
+
 def refuse_each(program, report, case, ordinary, later):
     """Refuses the first allocation, then the second, until a run meets none; returns how many were
     refused, and how many runs did without."""
@@ -40,7 +50,8 @@ def refuse_each(program, report, case, ordinary, later):
     while True:
         faults = {**case.faults, "fail_allocation": at, **later}
         answer = program.run(case.words, case.text, **faults)
-        is_ordinary = told(answer) == told(ordinary)
+        is_ordinary = (told(answer) == told(ordinary)
+                       or is_explained_less(case, answer, ordinary))
         met = answer.counts.allocations >= at
         report.holds(is_ordinary or met and wants_memory(case, answer, ordinary),
                      name_of(case.words, faults),
@@ -79,7 +90,8 @@ def describe(case):
 def faulty_profiles(program, report):
     """The ordinary answers to the faulty profiles, to which those under refused memory are held."""
     for text, fault in FAULTY:
-        for words, _ in BEHIND_A_PROFILE:
-            report.same(name_of(words) + " with a faulty profile", (2, b"", fault),
-                        told(program.run(words, text)))
+        for words in WITH_A_PROFILE:
+            answer = program.run(words, text)
+            report.holds(tells_fault(words, fault, answer), name_of(words) + " with a faulty profile",
+                         (2, b"", fault), told(answer))
     return f"faulty profiles: {len(FAULTY)}, each by its name"

@@ -7,7 +7,9 @@ import select
 import termios
 import time
 
-from inputs import BEHIND_A_PROFILE, CONVERSIONS, FRONT, HELP, MEGABYTE, UNDER_SAMPLE
+from inputs import (BEHIND_A_PROFILE, CONVERSIONS, DESCRIPTIONS, FRONT, HELP, MEGABYTE, SMALL_BUS,
+                    UNDER_SAMPLE)
+from profiles import LIMIT, all_commands
 from program import contents, name_of
 from streams import READ_FAILED, WRITE_FAILED, answers_to_rows
 
@@ -16,9 +18,10 @@ PATIENCE = 20
 
 
 def runs():
-    """Words with an input of some rows."""
+    """Words with an input of some rows, or of a profile."""
     return [(words, b"".join(rows)) for words, rows in UNDER_SAMPLE + CONVERSIONS] + [
-        (words, FRONT + b"".join(rows)) for words, rows in BEHIND_A_PROFILE]
+        (words, FRONT + b"".join(rows)) for words, rows in BEHIND_A_PROFILE] + [
+        (["profile"], SMALL_BUS)]
 
 
 def on_new_file(program, name):
@@ -58,7 +61,7 @@ def input_that_cannot_be_read(program, report):
 def output_that_cannot_be_written(program, report):
     """/dev/full as standard output, and closed standard output."""
     full = os.open("/dev/full", os.O_WRONLY)
-    for words, text in runs() + [(words, b"") for words in HELP]:
+    for words, text in runs() + DESCRIPTIONS + [(words, b"") for words in HELP]:
         for name, out in (("/dev/full", full), ("closed", None)):
             err = on_new_file(program, "told")
             status, _, _ = program.ended(started_on(program, words, text, out, err))
@@ -71,11 +74,11 @@ def output_that_cannot_be_written(program, report):
 def closed_pipe(program, report):
     """`| head -n 1`: the pipe is closed once it has given something, and is far too small for the
     rest. No signal ends the program."""
+    inputs = [(["profile"], all_commands(LIMIT).encode())]
     for words, rows in UNDER_SAMPLE + CONVERSIONS:
-        row = rows[0]
-        text = row * (2 * MEGABYTE // len(row))
-        if words[0] == "check":
-            text = rows[3] * (2 * MEGABYTE // len(rows[3]))
+        row = rows[3] if words[0] == "check" else rows[0]
+        inputs.append((words, row * (2 * MEGABYTE // len(row))))
+    for words, text in inputs:
         receiver, out = os.pipe()
         err = on_new_file(program, "told")
         process = started_on(program, words, text, out, err)

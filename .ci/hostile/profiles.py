@@ -1,13 +1,29 @@
 """Hostile profiles: each is made from code, and is taken or refused by its name, in little time and
 memory."""
 
-from program import name_of, short
+import random
+import re
+import tomllib
+
+from inputs import SAMPLE, SEED
+from program import name_of, short, tells_fault
 
 # The longest profile that is read.
 LIMIT = 1_048_576
-# Processor time, which other work on the machine hardly changes; most take a tenth of it.
+# Processor time: docs/profiles.md says two seconds, which other work on the machine can double. Most
+# take a tenth of it.
 SECONDS = 4.0
+# docs/profiles.md says 41 MB at most, but for the profiles below.
 PEAK_KILOBYTES = 64_000
+PEAKS_OF_SOME = {
+    "arrays, 78 deep, side by side": 100_000,
+    "an array of tables of one key": 200_000,
+    "inline tables, 78 deep, side by side": 280_000,
+    "dotted keys, 78 deep, each with a front of its own": 660_000,
+    "dotted keys of one inline table, each with a front of its own": 660_000,
+    "tables, 78 deep, each with a front of its own": 660_000,
+    "arrays of tables, 78 deep, each with a front of its own": 660_000,
+}
 # docs/devices.md says 145 MB for the largest bus.
 LARGEST_BUS_KILOBYTES = 160_000
 
@@ -109,6 +125,10 @@ def profiles():
     yield "dotted keys, side by side", numbered("", lambda n: f"a.{n}=1\n"), unknown
     yield ("dotted keys, 79 deep, side by side",
            numbered("", lambda n: "a" + ".a" * 75 + f".{n}=1\n"), unknown)
+    yield ("dotted keys, 78 deep, each with a front of its own",
+           numbered("", lambda n: f"{n}" + ".a" * 77 + "=1\n"), unknown)
+    yield ("dotted keys of one inline table, each with a front of its own",
+           numbered("a={", lambda n: f"{n}" + ".a" * 76 + "=1", "}", joint=","), unknown)
     yield "dotted keys in inline tables", numbered("a={", lambda n: f"a.{n}=1", "}", joint=","), unknown
     yield "the most keys", numbered("", lambda n: f"{n}=1\n"), unknown
     yield "the most keys, backwards", numbered("", lambda n: f"{999999 - n}=1\n"), unknown
@@ -121,6 +141,10 @@ def profiles():
     yield "the most tables", numbered("", lambda n: f"[{n}]\n"), unknown
     yield "tables of one table", numbered("", lambda n: f"[a.{n}]\n"), unknown
     yield "tables, 79 deep, side by side", numbered("", lambda n: "[a" + ".a" * 75 + f".{n}]\n"), unknown
+    yield ("tables, 78 deep, each with a front of its own",
+           numbered("", lambda n: f"[{n}" + ".a" * 77 + "]\n"), unknown)
+    yield ("arrays of tables, 78 deep, each with a front of its own",
+           numbered("", lambda n: f"[[{n}" + ".a" * 77 + "]]\n"), unknown)
     yield "the most devices", fill("", "[[device]]\n"), many
     yield "the most arrays of tables", numbered("", lambda n: f"[[{n}]]\n"), unknown
     yield ("arrays of tables in the last device",
@@ -140,6 +164,10 @@ def profiles():
     yield "the most arrays", fill("device=[", "[],", "]"), many
     yield ("the most arrays in an array",
            fill("device=[[", "[],", "]]"), refused("WrongType", " in device 0"))
+    yield "arrays, 78 deep, side by side", fill("device=[", "[" * 78 + "]" * 78 + ",", "]"), many
+    yield ("inline tables, 78 deep, side by side",
+           fill("device=[", "{a=" * 78 + "1" + "}" * 78 + ",", "]"), many)
+    yield "an array of tables of one key", fill("device=[", "{a=1},", "]"), many
     yield "the most inline tables", fill("device=[", "{},", "]"), many
     yield "the most integers", fill("device=[", "1,", "]"), many
     yield "the most integers of another key", fill("a=[", "1,", "]"), unknown
@@ -205,16 +233,30 @@ def largest_bus():
     return "".join(device.format(address, commands) for address in range(0x10, 0x50))
 
 
-def costs_little(report, run, answer, most):
+def costs_little(report, run, answer, most, seconds=SECONDS):
     """Holds an answer to the time and the peak of memory that it may take."""
-    report.holds(answer.seconds <= SECONDS, run, f"at most {SECONDS} s of processor time",
+    report.holds(answer.seconds <= seconds, run, f"at most {seconds} s of processor time",
                  answer.seconds)
     peak = answer.counts.peak_kilobytes
     report.holds(0 < peak <= most, run, f"a peak of at most {most} KB", f"{peak} KB")
 
 
+def describe(program, report, name, text, wanted, most):
+    """`profile` takes or refuses a profile as `show` does. One with a fault it may read twice."""
+    answer = program.run_once(["profile"], text)
+    run = f"pmb profile of a profile: {name}"
+    if wanted == TAKEN:
+        is_so = (answer.status, answer.err) == TAKEN and answer.out != b""
+        costs_little(report, run, answer, most)
+    else:
+        is_so = tells_fault(["profile"], wanted[1], answer)
+        costs_little(report, run, answer, 2 * most, 2 * SECONDS)
+    report.holds(is_so, run, short(wanted), (answer.status, answer.err, answer.out))
+
+
 def hostile_profiles(program, report):
-    """`show` of each profile alone, whose capture is empty; and `run` on the largest bus."""
+    """`show` of each profile alone, whose capture is empty, and `profile` of it; and `run` on the
+    largest bus."""
     count = peak = slowest = 0
     for name, profile, wanted in profiles():
         text = profile if isinstance(profile, bytes) else profile.encode()
@@ -222,7 +264,9 @@ def hostile_profiles(program, report):
         run = f"pmb show under a profile: {name}"
         report.holds((answer.status, answer.err) == wanted and answer.out == b"", run, short(wanted),
                      (answer.status, answer.err, answer.out))
-        costs_little(report, run, answer, PEAK_KILOBYTES)
+        most = PEAKS_OF_SOME.get(name, PEAK_KILOBYTES)
+        costs_little(report, run, answer, most)
+        describe(program, report, name, text, wanted, most)
         count += 1
         peak = max(peak, answer.counts.peak_kilobytes)
         slowest = max(slowest, answer.seconds)
@@ -232,3 +276,54 @@ def hostile_profiles(program, report):
     costs_little(report, run, bus, LARGEST_BUS_KILOBYTES)
     return (f"hostile profiles: {count}, peak {peak // 1000} MB, at most {slowest:.1f} s of processor "
             f"time; the largest bus takes {bus.counts.peak_kilobytes // 1000} MB, {bus.seconds:.1f} s")
+
+
+# What may stand where a byte was.
+BYTES = [bytes([it]) for it in b" \n\r\t#\"'=[]{}.,_-+019afxzAZ%\\\0\x80\xff"]
+# The names of docs/profiles.md.
+FAULTS = set(b"""NotToml UnknownKey MissingKey WrongType TooManyDevices BadAddress AddressTwice BadPages
+    BadName UnknownName BadValue CodeTwice BadForm BadCoefficients BadInitial""".split())
+
+
+def changed(rng, text):
+    """Each front of a text, the text twice, and with each byte changed to some, removed and doubled."""
+    yield from (text[:end] for end in range(len(text)))
+    yield text + text
+    for at, byte in enumerate(text):
+        for other in [b"", bytes([byte] * 2), *rng.sample(BYTES, 4)]:
+            yield text[:at] + other + text[at + 1:]
+
+
+def is_toml(text):
+    """Whether Python's own reader takes it."""
+    try:
+        tomllib.loads(text.decode())
+    except (tomllib.TOMLDecodeError, UnicodeDecodeError):
+        return False
+    return True
+
+
+def fault_of(err):
+    """The name in a line on standard error that tells a fault of a profile; else None."""
+    front, _, fault = err.partition(b"pmb: profile: ")
+    name = re.match(b"[A-Za-z]+", fault)
+    return name[0] if front == b"" and fault[-1:] == b"\n" and name else None
+
+
+def changed_profiles(program, report):
+    """The sample, changed at each place, is taken or refused by a name, and for that it is no TOML
+    exactly where Python's reader finds none."""
+    rng = random.Random(SEED)
+    tried = taken = 0
+    for text in changed(rng, SAMPLE):
+        answer = program.run_once(["profile"], text)
+        fault = fault_of(answer.err)
+        is_named = answer.status == 2 and answer.out == b"" and fault in FAULTS
+        is_taken = answer.status == 0 and answer.err == b"" and answer.out != b""
+        run = f"pmb profile of a changed sample: {short(text, 600)}"
+        report.holds(is_named or is_taken, run, "a bus, or a fault by its name",
+                     (answer.status, answer.err))
+        report.same(run, is_toml(text), fault != b"NotToml")
+        tried += 1
+        taken += is_taken
+    return f"changed profiles: {tried}, of which {taken} are taken"

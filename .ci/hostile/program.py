@@ -114,6 +114,14 @@ class Report:
         return self.holds(wanted == came, run, short(wanted), came)
 
 
+def tells_fault(words, line, answer):
+    """Whether a faulty profile was refused by this line. `profile` may explain it in more lines, each
+    behind two spaces."""
+    first, *others = answer.err.splitlines(True) or [b""]
+    may_explain = words[:1] == ["profile"] and all(it.startswith(b"  ") for it in others)
+    return (answer.status, answer.out, first) == (2, b"", line) and (not others or may_explain)
+
+
 def told(answer):
     """What a user sees of an answer."""
     return answer.status, answer.out, answer.err

@@ -1,11 +1,13 @@
 """Senseless input: each subcommand gives a named answer, in little memory and in linear time."""
 
+import os
 import random
 
 from inputs import CONVERSIONS, MEGABYTE, SEED, UNDER_SAMPLE
-from program import name_of, short, told
+from program import Answer, contents, name_of, short
 
 PEAK_KILOBYTES = 4096
+SIZES = [MEGABYTE, 10 * MEGABYTE, 100 * MEGABYTE]
 # Ten times the input may take so many times as long, where times under the least one are noise.
 GROWTH = 20
 LEAST_SECONDS = 0.02
@@ -36,39 +38,69 @@ KINDS = {
 }
 
 
+# Not tried in the largest size: each byte is a line, so the answers are eight times as long.
+SMALLER = ["LF"]
+
+
+def answer_of(program, words, source):
+    """The status, what is on standard error, the counts and the seconds of a run on an input from its
+    front. What is on standard output is not kept."""
+    os.lseek(source, 0, os.SEEK_SET)
+    os.ftruncate(program.err, 0)
+    os.lseek(program.err, 0, os.SEEK_SET)
+    unkept = os.open(os.devnull, os.O_WRONLY)
+    status, counts, seconds = program.ended(program.start(words, [source, unkept, program.err]))
+    os.close(unkept)
+    return Answer(status, b"", contents(program.err), counts, seconds)
+
+
+def has_little_peak(report, run, answer):
+    peak = answer.counts.peak_kilobytes
+    report.holds(0 < peak < PEAK_KILOBYTES, run, f"a peak under {PEAK_KILOBYTES} KB", f"{peak} KB")
+
+
 def named_answer(report, run, answer):
     """Whether senseless input was answered as input is: done, or with refusals."""
     is_named = answer.status in (0, 1) and answer.err == b""
     report.holds(is_named, run, "status 0 or 1 and nothing on standard error",
                  (answer.status, answer.err))
-    peak = answer.counts.peak_kilobytes
-    report.holds(0 < peak < PEAK_KILOBYTES, run, f"a peak under {PEAK_KILOBYTES} KB", f"{peak} KB")
+    has_little_peak(report, run, answer)
 
 
-def too_long(program, report, kind, text):
+def too_long(program, report, run, words, source):
     """Without a line `%%` all is profile, and ten megabytes of it are too many."""
-    answer = program.run(["show"], text)
-    run = f"pmb show under a profile of {kind}"
-    report.same(run, (2, b"", b"pmb: profile too long\n"), told(answer))
-    peak = answer.counts.peak_kilobytes
-    report.holds(0 < peak < PEAK_KILOBYTES, run,
-                 f"a peak under {PEAK_KILOBYTES} KB", f"{peak} KB")
+    answer = answer_of(program, words, source)
+    report.same(run, (2, b"pmb: profile too long\n"), (answer.status, answer.err))
+    has_little_peak(report, run, answer)
+
+
+def linear(report, run, seconds):
+    """Ten times the input takes about ten times as long."""
+    for smaller, larger in zip(seconds, seconds[1:]):
+        report.holds(larger <= GROWTH * max(smaller, LEAST_SECONDS), run,
+                     f"ten times the input in {GROWTH} times the time", short(seconds))
 
 
 def senseless_inputs(program, report):
-    peak = slowest = 0
+    peak, slowest = 0, [0.0] * len(SIZES)
     for kind, make in KINDS.items():
-        small, large = make(MEGABYTE), make(10 * MEGABYTE)
-        for words, _ in UNDER_SAMPLE + CONVERSIONS[:2]:
-            run = f"{name_of(words)} on {kind}"
-            answers = [program.run(words, text) for text in (small, large)]
-            for answer in answers:
+        seconds = {}
+        for place, size in enumerate(SIZES[: -1 if kind in SMALLER else None]):
+            source = program.scratch("senseless")
+            os.write(source, make(size))
+            for words, _ in UNDER_SAMPLE + CONVERSIONS[:2]:
+                run = f"{name_of(words)} on {kind}"
+                answer = answer_of(program, words, source)
                 named_answer(report, run, answer)
-            seconds = [answer.seconds for answer in answers]
-            report.holds(seconds[1] <= GROWTH * max(seconds[0], LEAST_SECONDS), run,
-                         f"ten times the input in {GROWTH} times the time", short(seconds))
-            peak = max(peak, answers[1].counts.peak_kilobytes)
-            slowest = max(slowest, seconds[1])
-        too_long(program, report, kind, large)
-    return (f"senseless input: {len(KINDS)} kinds of 1 and 10 MB through each subcommand, "
-            f"peak {peak} KB, at most {slowest:.1f} s of processor time")
+                seconds.setdefault(run, []).append(answer.seconds)
+                peak = max(peak, answer.counts.peak_kilobytes)
+                slowest[place] = max(slowest[place], answer.seconds)
+            if size > MEGABYTE:
+                for words in (["show"], ["profile"]):
+                    too_long(program, report, f"{name_of(words)} under a profile of {kind}", words, source)
+            os.close(source)
+        for run, taken in seconds.items():
+            linear(report, run, taken)
+    times = ", ".join(f"{it:.1f}" for it in slowest)
+    return (f"senseless input: {len(KINDS)} kinds of 1, 10 and 100 MB through each subcommand, "
+            f"peak {peak} KB, at most {times} s of processor time")

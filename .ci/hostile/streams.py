@@ -3,8 +3,9 @@
 import errno
 import os
 
-from inputs import (BAD_WORDS, BEHIND_A_PROFILE, CONVERSIONS, FAULTY, FRONT, HELP, UNDER_SAMPLE,
-                    large_inputs)
+from inputs import (BAD_WORDS, BEHIND_A_PROFILE, CONVERSIONS, DESCRIPTIONS, FAULTY, FRONT, HELP,
+                    SMALL_BUS, UNDER_SAMPLE, WITH_A_PROFILE, large_inputs)
+from profiles import LIMIT, all_commands
 from program import name_of, told
 
 READ_FAILED = b"pmb: read failed\n"
@@ -33,10 +34,13 @@ def rows_within(front, rows, length):
 
 def answers_to_rows(program, words, front, rows):
     """What is written for the first rows, for each number of them. The last line of `check` is not
-    among that, since it is for an input that has ended."""
+    among that, nor are the last objects of `json`, since they are for an input that has ended."""
     outs = [program.run(words, front + b"".join(rows[:count])).out for count in range(len(rows) + 1)]
     if words[0] == "check":
         outs = [b"".join(out.splitlines(True)[:-1]) for out in outs]
+    if words[0] == "json":
+        last = (b'{"kind":"device"', b'{"kind":"end"')
+        outs = [b"".join(line for line in out.splitlines(True) if not line.startswith(last)) for out in outs]
     return outs
 
 
@@ -62,11 +66,27 @@ def small_reads(program, report):
             answer = program.run(words, text, **faults)
             so_far = outs[rows_within(front, rows, at - 1)]
             failed_read_holds(report, name_of(words, faults), answer, ordinary, so_far)
-            if words[0] not in ("show", "check"):
+            if words[0] not in ("show", "check", "json"):
                 # Of lines just those that have ended are answered. A packet may end before its row.
                 report.same(name_of(words, faults), so_far, answer.out)
             tried += 1
-    return f"failing reads: {len(runs)} small inputs, {tried} places"
+    tried += profile_reads(program, report)
+    return f"failing reads: {len(runs) + 2} small inputs, {tried} places"
+
+
+def profile_reads(program, report):
+    """Each read of a profile fails, where a read gives one byte, and nothing is written. Behind the
+    line `%%` nothing is read."""
+    tried = 0
+    for text, reads in ((SMALL_BUS, len(SMALL_BUS) + 1), (SMALL_BUS + b"%%\nP", len(SMALL_BUS) + 3)):
+        ordinary = program.run(["profile"], text, move_at_most=1)
+        report.same("pmb profile, reads", (0, reads), (ordinary.status, ordinary.counts.reads))
+        for at in range(1, reads + 1):
+            faults = {"fail_read": at, "move_at_most": 1}
+            report.same(name_of(["profile"], faults), (3, b"", READ_FAILED),
+                        told(program.run(["profile"], text, **faults)))
+            tried += 1
+    return tried
 
 
 def failed_write_holds(report, run, answer, ordinary):
@@ -79,6 +99,7 @@ def small_writes(program, report):
     """Each write of a small output fails, where a write takes one byte; and where the bytes that a
     read and a write move are few, nothing changes."""
     runs = small_runs() + [(words, b"", []) for words in HELP]
+    runs.append((["profile"], SMALL_BUS, []))
     tried = moved = 0
     for words, front, rows in runs:
         text = front + b"".join(rows)
@@ -138,7 +159,7 @@ def large_writes(program, report, words, text, ordinary):
 
 
 def large_streams(program, report):
-    runs = large_inputs(program)
+    runs = large_inputs(program) + [(["profile"], all_commands(LIMIT).encode())]
     reads = writes = 0
     for words, text in runs:
         ordinary = program.run(words, text)
@@ -148,10 +169,11 @@ def large_streams(program, report):
         writes += large_writes(program, report, words, text, ordinary)
         interrupted = [{kind: at, "fail_error": errno.EINTR}
                        for kind in ("fail_read", "fail_write") for at in INTERRUPTED]
-        for faults in [RANDOM_MOVES[-1], *interrupted]:
+        for faults in [{"move_at_most": 1}, *RANDOM_MOVES[-2:], *interrupted]:
             answer = program.run(words, text, **faults)
             report.same(name_of(words, faults) + " on 3 MB", told(ordinary), told(answer))
-    return f"failing streams of 3 MB: {len(runs)} inputs, each of {reads} reads and {writes} writes"
+    return (f"failing streams of 3 MB, and a profile of 1 MB: {len(runs)} inputs, each of {reads} "
+            f"reads and {writes} writes")
 
 
 def failing_standard_error(program, report):
@@ -159,7 +181,9 @@ def failing_standard_error(program, report):
     runs = [(words, FRONT + b"".join(rows), {}) for words, rows in BEHIND_A_PROFILE]
     runs += [(words, b"".join(rows), faults) for words, rows in UNDER_SAMPLE + CONVERSIONS
              for faults in ({}, {"fail_read": 1}, {"fail_write": 1}, {"fail_allocation": 3})]
-    runs += [(words, text, {}) for text, _ in FAULTY for words, _ in BEHIND_A_PROFILE]
+    runs += [(words, text, faults) for words, text in DESCRIPTIONS
+             for faults in ({}, {"fail_write": 1}, {"fail_allocation": 3})]
+    runs += [(words, text, {}) for text, _ in FAULTY for words in WITH_A_PROFILE]
     runs += [(words, b"", {}) for words in HELP + BAD_WORDS]
     full = os.open("/dev/full", os.O_WRONLY)
     for words, text, faults in runs:

@@ -2,7 +2,7 @@
 
 import re
 
-from . import devices, lines, notes, numbers, packets, profiles, reading
+from . import devices, lines, notes, numbers, objects, packets, profiles, reading
 from .numbers import Fault
 
 
@@ -15,6 +15,9 @@ def program(words, given):
     if len(words) == 2 and words[0] in ("encode", "decode"):
         return convert(words[0], words[1], given)
     tasks = {"show": show, "check": check, "build": build, "run": run}
+    if words[:1] == ["json"]:
+        words, choice = json_flags(words)
+        tasks["json"] = lambda profile, matter: json(profile, matter, choice)
     if words == [words[0], "--sample"] and words[0] in tasks:
         return tasks[words[0]](profiles.SAMPLE, given)
     if len(words) == 1 and words[0] in tasks:
@@ -61,6 +64,31 @@ def show(profile, given):
             answers.append(lines.line_of(outcome) + " # " + notes.note(context, outcome))
             context.observe(outcome)
     return answered(answers, is_bad)
+
+
+def json_flags(words):
+    """The words without the flags of `json`, and what these say."""
+    choice, kept, left = objects.Choice(), words[:1], list(words[1:])
+    while left:
+        flag = left.pop(0)
+        if flag == "--late":
+            choice = choice._replace(late=True)
+        elif flag == "--fixed-vout-mode":
+            choice = choice._replace(fixed=True)
+        elif flag == "--keep-going":
+            choice = choice._replace(keep_going=True)
+        elif flag == "--digits":
+            choice = choice._replace(digits=int(left.pop(0)))
+        elif flag == "--device":
+            choice = choice._replace(devices=choice.devices + (int(left.pop(0), 16),))
+        else:
+            kept.append(flag)
+    return kept, choice
+
+
+def json(profile, given, choice):
+    text, bad = objects.json(profile, given, choice)
+    return 1 if bad else 0, text.encode(), b""
 
 
 def check(profile, given):

@@ -1,6 +1,7 @@
 """How a capture is read, by docs/packets.md: its packets and refusals, in order."""
 
 import re
+from typing import NamedTuple
 
 from .packets import (
     ACK, ALERT, NACK, START, STOP,
@@ -149,48 +150,87 @@ def reason_of(legs, last, event, allowed):
     return "WrongEvent"
 
 
-def refusal_line(at, reason, allowed):
+def kind_names(allowed):
+    """The kinds of events, by their names, in one order."""
     kinds = {None if is_byte(event) else event for event in allowed}
-    names = [name for kind, name in KINDS if kind in kinds]
-    return "# refusal at %d: %s, expected %s" % (at, reason, " or ".join(names))
+    return [name for kind, name in KINDS if kind in kinds]
 
 
-def reading(profile, events, ends):
-    """The packets' transactions and the refusals' lines, in order. Where the events end with the
-    capture, an end inside a packet is a refusal."""
-    legs, last, is_passing = [], None, False
-    for at, event in enumerate(events):
+class Packet(NamedTuple):
+    """A packet, before which so many events came. `starts` are the numbers of its STARTs."""
+    at: int
+    starts: tuple
+    transaction: object
+
+
+class Refusal(NamedTuple):
+    """An event, or the end, that no packet goes on with, behind legs of a packet under way."""
+    at: int
+    reason: str
+    expected: list
+    got: object
+    legs: list
+
+
+def outcomes(profile, events, ends, first=0):
+    """The packets and the refusals, in order; so many events came before. Where the events end with
+    the capture, an end inside a packet is a refusal."""
+    legs, starts, last, is_passing = [], (), None, False
+    for at, event in enumerate(events, first):
         if is_passing:
             is_passing = event != STOP
             continue
         allowed = may_come(profile, legs, last)
         if event not in allowed:
-            yield refusal_line(at, reason_of(legs, last, event, allowed), allowed)
-            legs, last, is_passing = [], None, event != STOP
+            reason = reason_of(legs, last, event, allowed)
+            yield Refusal(at, reason, kind_names(allowed), event, legs)
+            legs, starts, last, is_passing = [], (), None, event != STOP
         elif event == STOP:
-            yield transaction_of(profile, legs, last)
-            legs, last = [], None
+            yield Packet(starts[0], starts, transaction_of(profile, legs, last))
+            legs, starts, last = [], (), None
         else:
             if event == START:
                 legs = legs + [[]]
+                starts += (at,)
             if is_byte(event):
                 legs = legs[:-1] + [legs[-1] + [event]]
             last = event
     if ends and last is not None:
-        yield refusal_line(len(events), "Truncated", may_come(profile, legs, last))
+        expected = kind_names(may_come(profile, legs, last))
+        yield Refusal(first + len(events), "Truncated", expected, None, legs)
+
+
+def reading(profile, events, ends):
+    """The packets' transactions and the refusals' lines, in order."""
+    for outcome in outcomes(profile, events, ends):
+        if isinstance(outcome, Packet):
+            yield outcome.transaction
+        else:
+            expected = " or ".join(outcome.expected)
+            yield "# refusal at %d: %s, expected %s" % (outcome.at, outcome.reason, expected)
+
+
+def words(text):
+    """The words of a capture (docs/text.md), each with the place of its first byte."""
+    # A comment is made blank, so that places stay.
+    text = re.sub(rb"#[^\n]*", lambda comment: b" " * len(comment[0]), text)
+    return [(word[0], word.start()) for word in re.finditer(rb"[^ \t\r\n]+", text)]
+
+
+def event_of(word):
+    """The event that a word is the token of, or None."""
+    if word in (b"S", b"P", b"A", b"N"):
+        return word.decode()
+    return int(word, 16) if re.fullmatch(rb"[0-9a-fA-F]{2}", word) else None
 
 
 def spelled(text):
-    """The events of a capture's words (docs/text.md), up to the first word that is none, and the
-    place of that word or None."""
+    """The events of a capture's words, up to the first word that is none, and the place of that word
+    or None."""
     events = []
-    # A comment is made blank, so that places stay.
-    text = re.sub(rb"#[^\n]*", lambda comment: b" " * len(comment[0]), text)
-    for word in re.finditer(rb"[^ \t\r\n]+", text):
-        if word[0] in (b"S", b"P", b"A", b"N"):
-            events.append(word[0].decode())
-        elif re.fullmatch(rb"[0-9a-fA-F]{2}", word[0]):
-            events.append(int(word[0], 16))
-        else:
-            return events, word.start()
+    for word, at in words(text):
+        event = event_of(word)
+        if event is None:
+            return events, at
+        events.append(event)
     return events, None

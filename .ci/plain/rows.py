@@ -76,6 +76,14 @@ b0c
 # none
 """
 
+# A capture whose packets tell of each other, with a word that is no token.
+JSON_CAPTURE = """S b0 A 21 A 00 A 18 A P # by VOUT_MODE\r
+\tS b0 A 20 A 14 A P S b0 A 21 A 01 A 18 A P
+S b0 A 03 A S b2 A 03 A P
+S b0 A 00 A 01 A zz P
+S b0 A 03 A 47 A P S b2 A 03 A S 40 N P
+S b4 A 00 A ff A b2 A P S b4 A 21 A 00 A 18"""
+
 # Transaction lines under the sample profile.
 TRANSACTIONS = """
 write 58 21 00 18 pec
@@ -241,7 +249,8 @@ def rows():
     """All rows."""
     found = [(["show", "--sample"], b""), (["build", "--sample"], b"\n"), (["show"], b"")]
     for capture in lines_of(CAPTURES):
-        found += [([task, "--sample"], capture) for task in ("show", "check")]
+        found += [([task, "--sample"], capture) for task in ("show", "check", "json")]
+    found += json_rows()
     found += [(["build", "--sample"], line + b"\n") for line in lines_of(TRANSACTIONS)]
     found.append((["build", "--sample"], TRANSACTIONS.encode()))
     found.append((["build", "--sample"], b"write 58 03\r\nwrite 58 03\r\r\n\r\nwrite # 5\r"))
@@ -249,6 +258,14 @@ def rows():
         found.append((["run", "--sample"], requests.replace(b"; ", b"\n") + b"\n"))
     found += conversions() + long_rows() + rows_behind_profiles()
     return found
+
+
+def json_rows():
+    """A capture under each flag of `json`."""
+    flags = [[], ["--late"], ["--late", "--fixed-vout-mode"], ["--keep-going"], ["--digits", "0"],
+             ["--digits", "12"], ["--digits", "2", "--late"], ["--device", "58"],
+             ["--device", "59", "--device", "20"], ["--keep-going", "--late", "--device", "5a"]]
+    return [(["json", "--sample"] + words, JSON_CAPTURE.encode()) for words in flags]
 
 
 def conversions():
@@ -274,6 +291,8 @@ def long_rows():
     refused = b"refused 58 99" + b" ff" * 256
     return [
         (["show", "--sample"], b"S b0 A 99 A S b1 A ff" + b" A 41" * 255 + b" N P"),
+        (["json", "--sample"], b"S b0 A 99 A S b1 A ff" + b" A 41" * 255 + b" N P"),
+        (["json", "--sample"], b"S b0 A 99 A ff" + b" A 41" * 255 + b" A 00 N P"),
         (["show", "--sample"], b"S b0 A 99 A ff" + b" A 41" * 255 + b" A P"),
         (["build", "--sample"], b"write 58 99" + block + b" pec\n"),
         (["build", "--sample"], b"write 58 99" + block + b" 41\n"),
@@ -303,6 +322,9 @@ def long_rows():
         (["build"], many + b"refused" + sixteen + b" + 20\n"),
         (["build"], many + b"refused" + sixteen[: -len(b" + 1f 03")] + b" + 1f 03 00\n"),
         (["show"], many + legs + b" P"),
+        (["json"], many + legs + b" P"),
+        (["json"], many + legs + b" S 40 A P"),
+        (["json"], many + legs[: -len(b"S 3e A 03 A")] + b"S 3e A 04 N P"),
         (["show"], many + legs + b" S 40 A 03 A P"),
         (["show"], many + legs[: -len(b"03 A")] + b"04 N P"),
         (["show"], b" " * 1048575 + b"\n%%\n"),
@@ -319,14 +341,16 @@ def rows_behind_profiles():
     found += [(["show"], sample + capture) for capture in lines_of(CAPTURES)[:12]]
     found += [(["build"], sample + line) for line in lines_of(TRANSACTIONS)[:8]]
     for capture in lines_of(ODD_CAPTURES):
-        found += [([task], odd + capture) for task in ("show", "check")]
+        found += [([task], odd + capture) for task in ("show", "check", "json")]
+        found.append((["json", "--late"], odd + capture))
     found += [(["build"], odd + line) for line in lines_of(ODD_LINES)]
     for requests in lines_of(ODD_REQUESTS):
         found.append((["run"], odd + requests.replace(b"; ", b"\n")))
     nobody = b"device = []\n%%\n"
     found.append((["show"], nobody + b"S 40 N P S 19 A b0 N P S 40 A P"))
     found.append((["build"], nobody + b"write 58 03\nrefused 58\nalert none\n"))
-    found.append((["show"], profiles.BOARD_TEXT + b"%%\n" + example("sessions/power_up.txt")))
+    board = profiles.BOARD_TEXT + b"%%\n" + example("sessions/power_up.txt")
+    found += [(["show"], board), (["json"], board), (["json", "--late"], board)]
     found.append((["run"], profiles.BOARD_TEXT + b"%%\n" + example("requests/bring_up.txt")))
     found.append((["show"], profiles.LTC3880_TEXT + b"%%\n" + example("profiles/ltc3880.txt")))
     found.append((["show"], profiles.PFE1100_TEXT + b"%%\n" + example("profiles/pfe1100.txt")))

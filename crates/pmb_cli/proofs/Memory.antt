@@ -6,8 +6,10 @@ use Rattle.pmb_io.specs.declared.fault.ToolFault.{ToolFault}
 use Rattle.pmb_io.specs.declared.fault.ToolFault.TheVariants.{Read, Write, TooManyReads, ProfileTooLong, Memory}
 use Rattle.pmb_status.specs.Status.{status_of}
 use Rattle.pmb_status.specs.declared.status.Status.TheVariants.{BadWords, IoFailed, NoMemory}
-use Rattle.pmb_words.specs.Asked.{Asking, Traffic, Encode, Decode}
-use Rattle.pmb_cli.specs.Memory.{ReadNoMatter, ReadWithoutMemory}
+use Rattle.pmb_words.specs.Asked.{Asking, Traffic, Json, Encode, Decode}
+use Rattle.pmb_words.specs.declared.json_task.ProfilePlace.{ProfilePlace}
+use Rattle.pmb_words.specs.declared.json_task.ProfilePlace.TheVariants.{Sample, Front}
+use Rattle.pmb_cli.specs.Memory.{ReadNoMatter, ReadUnder, ReadWithoutMemory}
 
 -- a fault of status NoMemory is that of memory
 pub is_memory : (fault : ToolFault) → status_of fault ≡ NoMemory → fault ≡ Memory
@@ -19,9 +21,14 @@ is_memory Memory none = refl
 
 module _ {R : Type 0} (told : R → ReaderTold) where
   -- where nothing was read
+  unread_under : (place : ProfilePlace) (old new : R) → new ≡ old → ReadUnder told place old new
+  unread_under Sample old new same = same
+  unread_under Front old new same = inl same
+
   pub unread : (asking : Asking) (old new : R) → new ≡ old → ReadWithoutMemory told asking old new
   unread (Traffic work true) old new same = same
   unread (Traffic work false) old new same = inl same
+  unread (Json wanted) old new same = unread_under wanted.profile old new same
   unread (Encode format) old new same = same
   unread (Decode format) old new same = same
 

@@ -56,6 +56,15 @@ module _ {R W : Type 0} (reader_told : R → ReaderTold) (writer_told : W → Wr
   work_with_memory given (Err ProfileTooLong) ran = ran
   work_with_memory given (Err Memory) none = (given, none.0, none.1)
 
+  -- one that lacks it where this holds does so where that holds
+  pub given_so : (Other : Type 0) → (Given → Other) → (outcome : Result Tally ToolFault) → Worked outcome → OrNoMemory (Other × (reader_new ≡ reader) × (out_new ≡ out)) IsRun outcome
+  given_so Other so (Ok tally) ran = ran
+  given_so Other so (Err Read) ran = ran
+  given_so Other so (Err Write) ran = ran
+  given_so Other so (Err TooManyReads) ran = ran
+  given_so Other so (Err ProfileTooLong) ran = ran
+  given_so Other so (Err Memory) none = (so none.0, none.1, none.2)
+
   abbrev DoesIt : Status → Type 0
   DoesIt = Does (λ tally. Done reader_told writer_told job tally first (reader, out) (reader_new, out_new)) (PartDone reader_told writer_told job first (reader, out) (reader_new, out_new)) (writer_told out) (writer_told out_new)
 

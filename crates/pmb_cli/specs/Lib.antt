@@ -1,3 +1,4 @@
+pub mod Json
 pub mod Matter
 pub mod Memory
 pub mod Often

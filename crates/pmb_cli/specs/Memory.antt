@@ -1,8 +1,11 @@
 -- What was read where there was no memory: nothing, or the front of the input alone.
-use Rattle.std.specs.Prelude.{◌≡◌, ◌⊎◌, true, false}
+use Rattle.std.specs.Prelude.{◌≡◌, ◌⊎◌, true}
 use Rattle.pmb_front.specs.Front.{Parts, ReadFront, ReadSome}
 use Rattle.pmb_io.specs.Told.{ReaderTold}
-use Rattle.pmb_words.specs.Asked.{Asking, Traffic, Encode, Decode}
+use Rattle.pmb_cli.specs.Tasks.{place_by}
+use Rattle.pmb_words.specs.Asked.{Asking, Traffic, Json, Encode, Decode}
+use Rattle.pmb_words.specs.declared.json_task.ProfilePlace.{ProfilePlace}
+use Rattle.pmb_words.specs.declared.json_task.ProfilePlace.TheVariants.{Sample, Front}
 
 module _ {R : Type 0} (told : R → ReaderTold) where
   -- The front was read, and nothing behind it: a reader that gave a line `%%` was not read again.
@@ -15,9 +18,14 @@ module _ {R : Type 0} (told : R → ReaderTold) where
   abbrev pub ReadNoMatter : R → R → Type 0
   ReadNoMatter old new = ReadSome told old new ⊎ ReadFrontAlone old new
 
-  -- By what was asked for. Where the profile stands in front, memory may be lacking before anything is read.
+  -- By where the profile is. Where it stands in front, memory may be lacking before anything is read.
+  abbrev pub ReadUnder : ProfilePlace → R → R → Type 0
+  ReadUnder Sample old new = new ≡ old
+  ReadUnder Front old new = (new ≡ old) ⊎ ReadNoMatter old new
+
+  -- By what was asked for.
   abbrev pub ReadWithoutMemory : Asking → R → R → Type 0
-  ReadWithoutMemory (Traffic work true) old new = new ≡ old
-  ReadWithoutMemory (Traffic work false) old new = (new ≡ old) ⊎ ReadNoMatter old new
+  ReadWithoutMemory (Traffic work sampled) old new = ReadUnder (place_by sampled) old new
+  ReadWithoutMemory (Json wanted) old new = ReadUnder wanted.profile old new
   ReadWithoutMemory (Encode format) old new = new ≡ old
   ReadWithoutMemory (Decode format) old new = new ≡ old

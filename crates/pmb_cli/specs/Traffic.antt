@@ -1,4 +1,4 @@
--- What `pmb show`, `pmb check`, `pmb build`, `pmb run` and `pmb profile` write of what they read.
+-- What `pmb show`, `pmb check`, `pmb json`, `pmb build`, `pmb run` and `pmb profile` write of what they read.
 use Rattle.std.specs.Prelude.{◌≡◌, ◌⊎◌, ℕ, true, List, []}
 use Rattle.std.specs.Io.KnownBytes.{IsAtEnd}
 use Rattle.pmb_build.specs.Lines.{building}
@@ -13,6 +13,12 @@ use Rattle.pmb_front.specs.Front.{FirstMark, Undecided}
 use Rattle.pmb_run.specs.Lines.{running}
 use Rattle.pmb_describe.specs.Table.{bus_text}
 use Rattle.pmb_cli.specs.Matter.{Behind, PartBehind, UnderSample}
+use Rattle.pmb_cli.specs.Json.{telling}
+use Rattle.pmb_cli.specs.declared.deed.Deed.{Deed}
+use Rattle.pmb_cli.specs.declared.deed.Deed.TheVariants as deeds
+use Rattle.pmb_words.specs.Json.{wanted_of}
+use Rattle.pmb_words.specs.declared.json_task.ProfilePlace.{ProfilePlace}
+use Rattle.pmb_words.specs.declared.json_task.ProfilePlace.TheVariants.{Sample, Front}
 use Rattle.pmb_words.specs.declared.work.Work.{Work}
 use Rattle.pmb_words.specs.declared.work.Work.TheVariants.{Show, Check, Build, Run, Describe}
 
@@ -37,6 +43,11 @@ working Check profile = checking profile
 working Build profile = building profile
 working Run profile = running profile
 working Describe profile = describing profile
+
+-- what each deed is to write under a profile
+abbrev pub doing : Deed → List DeviceParts → Job Tally
+doing (deeds.Work work) = working work
+doing (deeds.Json task) = telling (wanted_of task.now)
 
 -- What was read but for a last piece left something open: nothing was decided of the profile, or the job wants more of what
 -- stands behind it.
@@ -65,3 +76,12 @@ module _ {R W : Type 0} (reader_told : R → ReaderTold) (writer_told : W → Wr
 
   abbrev pub PartDoneUnderSample : List ℕ → R × W → R × W → Type 0
   PartDoneUnderSample sample old new = UnderSample (λ profile. PartDone reader_told writer_told (job profile) [] old new) sample
+
+  -- the same, by where the profile is
+  abbrev pub DoneUnder : ProfilePlace → List ℕ → Tally → R × W → R × W → Type 0
+  DoneUnder Sample sample tally old new = DoneUnderSample sample tally old new
+  DoneUnder Front sample tally old new = DoneBehind tally old new
+
+  abbrev pub PartDoneUnder : ProfilePlace → List ℕ → R × W → R × W → Type 0
+  PartDoneUnder Sample sample old new = PartDoneUnderSample sample old new
+  PartDoneUnder Front sample old new = PartDoneBehind old new

@@ -4,12 +4,11 @@ ghost use Rattle.std.specs.Prelude.{◌≡◌, ◌≢◌, ◌≤◌, ◌⊎◌, 
 ghost use Rattle.pmb_cli.specs.Matter.{HasBadProfile};
 ghost use Rattle.pmb_cli.specs.Memory.{ReadWithoutMemory};
 ghost use Rattle.pmb_cli.specs.Statuses.{StatusTells};
-ghost use Rattle.pmb_cli.specs.Tasks.{DoesTask};
+ghost use Rattle.pmb_cli.specs.Tasks.{DoesTask, IsUnderFront};
 ghost use Rattle.pmb_status.specs.Status.{EndedWell, Failed, IsTold, OfCode, Tells};
 ghost use Rattle.std.specs.declared.io.ErrorKind.TheVariants.{OutOfMemory};
-ghost use Rattle.pmb_words.specs.Asked.{AskFor, AskForNothing, Asking, HasBadFormat, Traffic};
+ghost use Rattle.pmb_words.specs.Asked.{AskFor, AskForNothing, Asking, HasBadFormat};
 ghost use Rattle.pmb_words.specs.Words.{AreRefused, AskToTell, MayBeRefused, faults_of};
-ghost use Rattle.pmb_words.specs.declared.work.Work.{Work as WorkOf};
 
 use crate::doing::run_task;
 use pmb_io::{Sink, Source};
@@ -27,7 +26,7 @@ use std::io;
 /// | --- | --- |
 /// | 0 | done, or help or the version was asked for |
 /// | 1 | the capture has refusals, lines were answered by a fault, or requests failed |
-/// | 2 | the words are no command or name no format, or the profile has a fault or is too long |
+/// | 2 | the words are no command, name no format or ask `json` for what there is not, or the profile has a fault or is too long |
 /// | 3 | a read or a write failed, or there were too many reads |
 /// | 4 | there was no memory |
 ///
@@ -49,7 +48,7 @@ pub fn tool<S: AsStr, R: Source, W: Sink, E: Sink>(
     ensures helped { AskToTell (map S.text words.now) → (result ≡ 0) ⊎ (result ≡ 3) ⊎ (result ≡ 4) }
     ensures refused { AreRefused (map S.text words.now) → (result ≡ 2) ⊎ (result ≡ 4) }
     ensures told { result ≡ 2 → (MayBeRefused (map S.text words.now) ⊎ AskForNothing (map S.text words.now)) ⊎ (HasBadFormat (map S.text words.now)
-        ⊎ ((work : WorkOf) × AskFor (map S.text words.now) (Traffic work false) × HasBadProfile R.told reader.old reader.new)) }
+        ⊎ ((asking : Asking) × AskFor (map S.text words.now) asking × IsUnderFront asking × HasBadProfile R.told reader.old reader.new)) }
     ensures nothing { AskForNothing (map S.text words.now) → (result ≡ 2) ⊎ (result ≡ 4) }
     ensures nothing_unread { AskForNothing (map S.text words.now) → reader.new ≡ reader.old }
     ensures unwritten { AreRefused (map S.text words.now) → out.new ≡ out.old }
@@ -63,8 +62,8 @@ pub fn tool<S: AsStr, R: Source, W: Sink, E: Sink>(
     ensures bad_format_unread { HasBadFormat (map S.text words.now) → reader.new ≡ reader.old }
     ensures bad_format_unwritten { HasBadFormat (map S.text words.now) → out.new ≡ out.old }
 
-    // What was written is all that the words ask for: of a capture that is shown or checked, of lines that are built, or of
-    // requests that are run, under the sample profile or under the one in front of them, or the answers to the lines that are
+    // What was written is all that the words ask for: of a capture that is shown, checked or told in JSON, of lines that are
+    // built, or of requests that are run, under the sample profile or under the one in front of them, or the answers to the lines that are
     // encoded or decoded. Where a read failed or there were too many, it is so much of that.
     ensures did { (asking : Asking) → AskFor (map S.text words.now) asking → OfCode (DoesTask R.told W.told SAMPLE.now asking (reader.old, out.old) (reader.new, out.new)) result }
 
@@ -104,7 +103,7 @@ fn run_words<S: AsStr, R: Source, W: Sink, E: Sink>(
     ensures helped { AskToTell (map S.text words.now) → (result ≡ Status.Done) ⊎ (result ≡ Status.IoFailed) ⊎ (result ≡ Status.NoMemory) }
     ensures refused { AreRefused (map S.text words.now) → (result ≡ Status.BadWords) ⊎ (result ≡ Status.NoMemory) }
     ensures told { result ≡ Status.BadWords → (MayBeRefused (map S.text words.now) ⊎ AskForNothing (map S.text words.now)) ⊎ (HasBadFormat (map S.text words.now)
-        ⊎ ((work : WorkOf) × AskFor (map S.text words.now) (Traffic work false) × HasBadProfile R.told reader.old reader.new)) }
+        ⊎ ((asking : Asking) × AskFor (map S.text words.now) asking × IsUnderFront asking × HasBadProfile R.told reader.old reader.new)) }
     ensures nothing { AskForNothing (map S.text words.now) → (result ≡ Status.BadWords) ⊎ (result ≡ Status.NoMemory) }
     ensures nothing_unread { AskForNothing (map S.text words.now) → reader.new ≡ reader.old }
     ensures unwritten { AreRefused (map S.text words.now) → out.new ≡ out.old }
@@ -118,8 +117,8 @@ fn run_words<S: AsStr, R: Source, W: Sink, E: Sink>(
     ensures bad_format_unread { HasBadFormat (map S.text words.now) → reader.new ≡ reader.old }
     ensures bad_format_unwritten { HasBadFormat (map S.text words.now) → out.new ≡ out.old }
 
-    // What was written is all that the words ask for: of a capture that is shown or checked, of lines that are built, or of
-    // requests that are run, under the sample profile or under the one in front of them, or the answers to the lines that are
+    // What was written is all that the words ask for: of a capture that is shown, checked or told in JSON, of lines that are
+    // built, or of requests that are run, under the sample profile or under the one in front of them, or the answers to the lines that are
     // encoded or decoded. Where a read failed or there were too many, it is so much of that.
     ensures did { (asking : Asking) → AskFor (map S.text words.now) asking → DoesTask R.told W.told SAMPLE.now asking (reader.old, out.old) (reader.new, out.new) result }
 

@@ -17,5 +17,5 @@ mod sample;
 
 pub use front_parts::Front;
 pub use front_reader::front;
-pub use profile_fault::tell_profile;
+pub use profile_fault::{explain_profile, tell_profile};
 pub use sample::sample_profile;

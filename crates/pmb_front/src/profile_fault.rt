@@ -5,9 +5,11 @@ ghost use Rattle.pmb_keys.specs.declared.fault.FaultKind.TheVariants.{OutOfMemor
 ghost use Rattle.pmb_status.specs.Status.{IsTold};
 
 use arrayvec::ArrayString;
+use pmb_hints::hints;
 use pmb_io::{Sink, ToolFault};
 use pmb_status::{Status, tell, tell_text};
 use pmb_table::{FaultKind, ProfileFault};
+use std::alloc::Global;
 use std::fmt::Write;
 
 /// Tells what is wrong with a profile, and where, on `err`.
@@ -21,6 +23,29 @@ pub fn tell_profile<E: Sink>(fault: ProfileFault, err: &mut E) -> Status
         return tell(ToolFault::Memory, err);
     }
     tell_text(profile_text(fault).as_str(), err);
+    Status::BadWords
+}
+
+/// Tells the same of the profile of a text, and after it the lines that help, all in one write.
+pub fn explain_profile<E: Sink>(
+    alloc: Global,
+    text: &[u8],
+    fault: ProfileFault,
+    err: &mut E,
+) -> Status
+    ensures memory { fault.what ≡ OutOfMemory → result ≡ Status.NoMemory }
+    ensures other { fault.what ≢ OutOfMemory → result ≡ Status.BadWords }
+    ensures refused { (result ≡ Status.BadWords) ⊎ (result ≡ Status.NoMemory) }
+    ensures err_told { IsTold (E.told err.old) (E.told err.new) }
+{
+    if fault.what == FaultKind::OutOfMemory {
+        return tell(ToolFault::Memory, err);
+    }
+    let mut lines = ArrayString::<2048>::new();
+    let _ = lines.try_push_str("pmb: ");
+    let _ = lines.try_push_str(profile_text(fault).as_str());
+    let _ = lines.try_push_str(hints(alloc, text, fault).as_str());
+    let _ = err.write_all(lines.as_str().as_bytes());
     Status::BadWords
 }
 

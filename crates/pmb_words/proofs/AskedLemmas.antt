@@ -1,5 +1,5 @@
 -- What `clap` found in the words, as what they ask for.
-use Rattle.std.proofs.Common.{◌≡◌, Bool, true, Option, Some, None, List, [], refl, sym, ap, ◌∙◌}
+use Rattle.std.proofs.Common.{◌≡◌, Bool, true, Option, Some, None, List, [], map, refl, sym, ap, ◌∙◌}
 use Rattle.std.specs.Borrow.{Bor}
 use Rattle.std.specs.Option.{option_map, unwrap_or}
 use Rattle.std.specs.Prelude.{Box}
@@ -34,8 +34,14 @@ pub entered_none : {Z : Type 0} (met : Option (Box SubCommand Z)) → None ≡ o
 entered_none None none = refl
 entered_none (Some b) none = cc
 
--- a text or none
-pub text_or_none : (found : Option (Bor Text)) (text other : Bor Text) (first : Option Text) → option_map (λ s. s.now) found ≡ first → text ≡ unwrap_or found other → other.now ≡ []
-    → text.now ≡ unwrap_or first []
-text_or_none None text other first is chosen empty = ap (λ (t : Bor Text). t.now) chosen ∙ empty ∙ ap (λ o. unwrap_or o []) is
-text_or_none (Some s) text other first is chosen empty = ap (λ (t : Bor Text). t.now) chosen ∙ ap (λ o. unwrap_or o []) is
+-- a text, or another where there is none
+pub text_or : (found : Option (Bor Text)) (text other : Bor Text) (first : Option Text) (fallback : Text) → option_map (λ s. s.now) found ≡ first → text ≡ unwrap_or found other → other.now ≡ fallback
+    → text.now ≡ unwrap_or first fallback
+text_or None text other first fallback is chosen else_is = ap (λ (t : Bor Text). t.now) chosen ∙ else_is ∙ ap (λ o. unwrap_or o fallback) is
+text_or (Some s) text other first fallback is chosen else_is = ap (λ (t : Bor Text). t.now) chosen ∙ ap (λ o. unwrap_or o fallback) is
+
+-- texts, or none of them
+pub texts_or_none : (found : Option (Bor (List (Bor Text)))) (texts other : Bor (List (Bor Text))) (all : Option (List Text)) → option_map (λ s. map (λ v. v.now) s.now) found ≡ all → texts ≡ unwrap_or found other → other.now ≡ []
+    → map (λ v. v.now) texts.now ≡ unwrap_or all []
+texts_or_none None texts other all is chosen empty = ap (λ (t : Bor (List (Bor Text))). map (λ v. v.now) t.now) chosen ∙ ap (λ (ts : List (Bor Text)). map (λ v. v.now) ts) empty ∙ ap (λ o. unwrap_or o []) is
+texts_or_none (Some s) texts other all is chosen empty = ap (λ (t : Bor (List (Bor Text))). map (λ v. v.now) t.now) chosen ∙ ap (λ o. unwrap_or o []) is

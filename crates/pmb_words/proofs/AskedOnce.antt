@@ -4,10 +4,12 @@ use Rattle.clap.specs.Words.{IsAmong, Kinds, Row, Text, subcommand_of}
 use Rattle.clap.specs.declared.error.kind.ErrorKind.{ErrorKind}
 use Rattle.pmb_status.specs.declared.status.Status.{Status}
 use Rattle.pmb_status.specs.declared.status.Status.TheVariants.{Done, BadWords, IoFailed, NoMemory}
-use Rattle.pmb_words.specs.Asked.{AskFor, Asking, SubcommandAsks, Decode, Encode, HasBadFormat, NamesNone, Traffic, format_in, has_sample, name_of}
+use Rattle.pmb_words.specs.Asked.{AskFor, Asking, AsksNothing, SubcommandAsks, Decode, Encode, HasBadFormat, Json, NamesNone, Traffic, format_in, has_sample, name_of}
 use Rattle.pmb_words.specs.declared.work.Work.{Work}
 use Rattle.pmb_words.specs.declared.work.Work.TheVariants.{Show, Check, Build, Run, Describe}
 use Rattle.clap.specs.declared.error.kind.ErrorKind.TheVariants.{DisplayHelp, DisplayVersion, OutOfMemory}
+use Rattle.pmb_words.specs.Json.{JsonAsks, JsonWanted}
+use Rattle.pmb_words.proofs.JsonOnce.{one_wanted}
 use Rattle.pmb_words.specs.Words.{AskToTell, IsTelling, help, version, faults_of, pmb_app}
 
 -- the name of the subcommand, and its matches
@@ -19,7 +21,7 @@ rows_in : Option (Text × List Row) → List Row
 rows_in None = []
 rows_in (Some met) = met.1
 
--- the letters that tell `show`, `check`, `build`, `run`, `profile`, `encode` and `decode` apart
+-- the letters that tell `show`, `check`, `json`, `build`, `run`, `profile`, `encode` and `decode` apart
 abbrev letter_of : Work → ℕ
 letter_of Show = 115
 letter_of Check = 99
@@ -29,6 +31,7 @@ letter_of Describe = 112
 
 abbrev pub letter : Asking → ℕ
 letter (Traffic work sample) = letter_of work
+letter (Json wanted) = 106
 letter (Encode format) = 101
 letter (Decode format) = 100
 
@@ -45,6 +48,7 @@ begins Describe = refl
 is_letter : (found : Option (Text × List Row)) (asking : Asking) → SubcommandAsks found asking → first_of found ≡ letter asking
 unfolding first_of name_in
 is_letter found (Traffic work sample) is = ap first_of is.1 ∙ begins work
+is_letter found (Json wanted) is = ap first_of is.1
 is_letter found (Encode format) is = ap first_of is.1
 is_letter found (Decode format) is = ap first_of is.1
 
@@ -55,6 +59,13 @@ no_encode Check is = omega (arith, is)
 no_encode Build is = omega (arith, is)
 no_encode Run is = omega (arith, is)
 no_encode Describe is = omega (arith, is)
+
+no_json : (work : Work) → letter_of work ≡ 106 → ⊥
+no_json Show is = omega (arith, is)
+no_json Check is = omega (arith, is)
+no_json Build is = omega (arith, is)
+no_json Run is = omega (arith, is)
+no_json Describe is = omega (arith, is)
 
 no_decode : (work : Work) → letter_of work ≡ 100 → ⊥
 no_decode Show is = omega (arith, is)
@@ -103,12 +114,34 @@ one_asking found (Traffic work sample) (Traffic other others) is also =
     ap (λ (w : Work). Traffic w sample) same ∙ ap (Traffic other) (is.2 ∙ (ap has_sample rows ∙ sym also.2))
 one_asking found (Traffic work sample) (Encode format) is also = absurd (no_encode work (sym (is_letter found (Traffic work sample) is) ∙ is_letter found (Encode format) also))
 one_asking found (Traffic work sample) (Decode format) is also = absurd (no_decode work (sym (is_letter found (Traffic work sample) is) ∙ is_letter found (Decode format) also))
+one_asking found (Traffic work sample) (Json wanted) is also = absurd (no_json work (sym (is_letter found (Traffic work sample) is) ∙ is_letter found (Json wanted) also))
+one_asking found (Json wanted) (Traffic work sample) is also = absurd (no_json work (sym (is_letter found (Traffic work sample) also) ∙ is_letter found (Json wanted) is))
+one_asking found (Json wanted) (Json other) is also =
+    let rows : is.0 ≡ also.0 = one_rows found found (codes "json") is.0 also.0 refl is.1 also.1 in
+    ap Json (one_wanted also.0 wanted other (subst (λ (rs : List Row). JsonAsks rs wanted) rows is.2) also.2)
+one_asking found (Json wanted) (Encode format) is also = let apart : 106 ≡ 101 = sym (is_letter found (Json wanted) is) ∙ is_letter found (Encode format) also in absurd (omega (arith, apart))
+one_asking found (Json wanted) (Decode format) is also = let apart : 106 ≡ 100 = sym (is_letter found (Json wanted) is) ∙ is_letter found (Decode format) also in absurd (omega (arith, apart))
+one_asking found (Encode format) (Json wanted) is also = let apart : 101 ≡ 106 = sym (is_letter found (Encode format) is) ∙ is_letter found (Json wanted) also in absurd (omega (arith, apart))
+one_asking found (Decode format) (Json wanted) is also = let apart : 100 ≡ 106 = sym (is_letter found (Decode format) is) ∙ is_letter found (Json wanted) also in absurd (omega (arith, apart))
 one_asking found (Encode format) (Traffic work sample) is also = absurd (no_encode work (sym (is_letter found (Traffic work sample) also) ∙ is_letter found (Encode format) is))
 one_asking found (Encode format) (Encode other) is also = ap Encode (is.2 ∙ (ap format_in (one_rows found found (codes "encode") is.0 also.0 refl is.1 also.1) ∙ sym also.2))
 one_asking found (Encode format) (Decode other) is also = let apart : 101 ≡ 100 = sym (is_letter found (Encode format) is) ∙ is_letter found (Decode other) also in absurd (omega (arith, apart))
 one_asking found (Decode format) (Traffic work sample) is also = absurd (no_decode work (sym (is_letter found (Traffic work sample) also) ∙ is_letter found (Decode format) is))
 one_asking found (Decode format) (Encode other) is also = let apart : 100 ≡ 101 = sym (is_letter found (Decode format) is) ∙ is_letter found (Encode other) also in absurd (omega (arith, apart))
 one_asking found (Decode format) (Decode other) is also = ap Decode (is.2 ∙ (ap format_in (one_rows found found (codes "decode") is.0 also.0 refl is.1 also.1) ∙ sym also.2))
+
+-- ---- `json` with a fault
+
+json_letter : (rows : List Row) → first_of (Some (codes "json", rows)) ≡ 106
+unfolding first_of name_in
+json_letter rows = refl
+
+-- where its matches ask for nothing, so does the subcommand
+pub json_nothing : (found : Option (Text × List Row)) (rows : List Row) → found ≡ Some (codes "json", rows) → ((wanted : JsonWanted) → ¬ (JsonAsks rows wanted)) → AsksNothing found
+json_nothing found rows named none (Traffic work sample) is = no_json work (sym (is_letter found (Traffic work sample) is) ∙ ap first_of named ∙ json_letter rows)
+json_nothing found rows named none (Json wanted) is = none wanted (subst (λ (rs : List Row). JsonAsks rs wanted) (one_rows found found (codes "json") is.0 rows refl is.1 named) is.2)
+json_nothing found rows named none (Encode format) is = let apart : 101 ≡ 106 = sym (is_letter found (Encode format) is) ∙ ap first_of named ∙ json_letter rows in absurd (omega (arith, apart))
+json_nothing found rows named none (Decode format) is = let apart : 100 ≡ 106 = sym (is_letter found (Decode format) is) ∙ ap first_of named ∙ json_letter rows in absurd (omega (arith, apart))
 
 -- ---- a format that is none
 
@@ -122,6 +155,7 @@ bad_format words asking ask bad = elim bad.asks [
 -- and only there
 pub names_none : (words : List Text) (asking : Asking) → AskFor words asking → NamesNone asking → HasBadFormat words
 names_none words (Traffic work sample) ask none = absurd none
+names_none words (Json wanted) ask none = absurd none
 names_none words (Encode format) ask none = record { format = format; asks = inl ask; fault = none.0; bad = none.1 }
 names_none words (Decode format) ask none = record { format = format; asks = inr ask; fault = none.0; bad = none.1 }
 

@@ -16,21 +16,21 @@ use Rattle.clap.specs.declared.error.kind.ErrorKind.TheVariants.{DisplayHelp, Di
 use Rattle.pmb_words.specs.Words.{AskToTell, IsFlag, help, version, faults_of, lines_app, pmb_app}
 
 -- a word without a hyphen in front
-abbrev IsNoFlag : Text → Type 0
+abbrev pub IsNoFlag : Text → Type 0
 IsNoFlag [] = Unit {0}
 IsNoFlag (c ∷ cs) = c ≢ 45
 
-no_flag : (word : Text) → (IsFlag word → ⊥) → IsNoFlag word
+pub no_flag : (word : Text) → (IsFlag word → ⊥) → IsNoFlag word
 no_flag [] plain = tt
 no_flag (c ∷ cs) plain = λ is. plain (cs, ap (λ b. b ∷ cs) is)
 
 -- it is not `--`
-is_no_end : (word : Text) → IsNoFlag word → bytes_eq word (45 ∷ 45 ∷ []) ≡ false
+pub is_no_end : (word : Text) → IsNoFlag word → bytes_eq word (45 ∷ 45 ∷ []) ≡ false
 is_no_end [] plain = refl
 is_no_end (c ∷ cs) plain = let test : eqb c 45 ≡ false = ne_eqb c 45 plain in rw test refl
 
 -- it has none to take off
-has_no_hyphen : (word : Text) → IsNoFlag word → strip_byte 45 word ≡ None
+pub has_no_hyphen : (word : Text) → IsNoFlag word → strip_byte 45 word ≡ None
 has_no_hyphen [] plain = refl
 has_no_hyphen (c ∷ cs) plain = let test : eqb c 45 ≡ false = ne_eqb c 45 plain in rw test refl
 
@@ -61,7 +61,7 @@ walk_fault_one s word plain =
     ap₂ (λ (fault : Kinds) (met : Held × Step). or_else (or_else fault (step_fault s 1 met.0 met.1)) []) (is_no_fault s word nothing_held plain) (is_value s.rules 1 word nothing_held plain)
 
 -- the faults of a level, by those of its walk
-abbrev after_walk : Shape → Kinds → Walk → Kinds
+abbrev pub after_walk : Shape → Kinds → Walk → Kinds
 after_walk s fault end =
     or_else fault (or_else [] (or_else (settle_fault s.rules s.args_override_self end.held)
     (or_else (defaults_fault (settled s.rules end.held).rows s.rules)
@@ -141,7 +141,7 @@ asks_to_decode name format no_hyphen =
 
 -- ---- `pmb show`, `pmb check`, `pmb build`, `pmb run` and `pmb profile`, with the flag or without it
 
-abbrev rows_in : Option (Text × List Row) → List Row
+abbrev pub rows_in : Option (Text × List Row) → List Row
 rows_in None = []
 rows_in (Some subcommand) = subcommand.1
 

@@ -1,4 +1,9 @@
 pub mod AskedLemmas
 pub mod AskedOnce
 pub mod AskedWords
+pub mod CommandLemmas
+pub mod EachOnce
+pub mod JsonAddresses
+pub mod JsonOnce
+pub mod JsonWords
 mod WordsExamples

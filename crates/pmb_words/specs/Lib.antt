@@ -1,2 +1,4 @@
-pub mod Asked
+pub mod Flags
 pub mod Words
+pub mod Json
+pub mod Asked

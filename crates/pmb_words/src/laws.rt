@@ -1,10 +1,14 @@
 //! Laws over the definitions alone.
 
-ghost use Rattle.std.specs.Prelude.{◌≡◌, ◌∷◌, [], List, codes, false, true};
+ghost use Rattle.std.specs.Prelude.{◌≡◌, ◌∷◌, [], List, ℕ, codes, false, true};
 ghost use Rattle.clap.specs.Words.{Text};
-ghost use Rattle.pmb_words.specs.Asked.{AskFor, AskForNothing, Asking, Decode, Encode, HasBadFormat, NamesNone, Traffic};
+ghost use Rattle.pmb_words.specs.Asked.{AskFor, AskForNothing, Asking, Decode, Encode, HasBadFormat, Json, NamesNone, Traffic};
 ghost use Rattle.clap.specs.declared.error.kind.ErrorKind.TheVariants.{DisplayHelp, InvalidSubcommand};
+ghost use Rattle.pmb_words.specs.Json.{SpellsAddress, SpellsDigits, at_first};
 ghost use Rattle.pmb_words.specs.Words.{AreRefused, AskToTell, IsFlag, faults_of};
+ghost use Rattle.pmb_words.specs.declared.json_task.AfterBadWord.TheVariants.{GoOn};
+ghost use Rattle.pmb_words.specs.declared.json_task.KnownAtFirst.TheVariants.{Neither, VoutMode};
+ghost use Rattle.pmb_words.specs.declared.json_task.ProfilePlace.TheVariants.{Sample};
 ghost use Rattle.pmb_words.specs.declared.work.Work.TheVariants.{Show, Check, Build, Run, Describe};
 
 /// The words `pmb show`, `pmb check`, `pmb build`, `pmb run` and `pmb profile`, each with `--sample` or
@@ -27,6 +31,24 @@ pub fn words_ask()
     ensures help { (name : Text) → AskToTell (name ∷ codes "--help" ∷ []) }
     ensures version { (name : Text) → AskToTell (name ∷ codes "--version" ∷ []) }
     ensures help_words { (name : Text) (words : List Text) → faults_of (name ∷ codes "help" ∷ words) ≡ DisplayHelp ∷ InvalidSubcommand ∷ [] }
+{}
+
+/// `pmb json` alone and with `--sample`, `--late`, `--late --fixed-vout-mode`, `--keep-going`,
+/// `--keep-going --sample`, `--digits N` or `--device HH` has no fault of `clap`'s and asks for just
+/// that, where N is a number from 0 to 12 and HH an address. With any other N or HH that does not begin
+/// with `-`, and with `--fixed-vout-mode` alone, it asks for nothing.
+pub fn json_words_ask()
+    ensures json { (name : Text) → AskFor (name ∷ codes "json" ∷ []) (Json at_first) }
+    ensures sample { (name : Text) → AskFor (name ∷ codes "json" ∷ codes "--sample" ∷ []) (Json (record at_first { profile = Sample })) }
+    ensures late { (name : Text) → AskFor (name ∷ codes "json" ∷ codes "--late" ∷ []) (Json (record at_first { known = Neither })) }
+    ensures late_fixed { (name : Text) → AskFor (name ∷ codes "json" ∷ codes "--late" ∷ codes "--fixed-vout-mode" ∷ []) (Json (record at_first { known = VoutMode })) }
+    ensures keep_going { (name : Text) → AskFor (name ∷ codes "json" ∷ codes "--keep-going" ∷ []) (Json (record at_first { after_bad_word = GoOn })) }
+    ensures two { (name : Text) → AskFor (name ∷ codes "json" ∷ codes "--keep-going" ∷ codes "--sample" ∷ []) (Json (record at_first { profile = Sample; after_bad_word = GoOn })) }
+    ensures digits { (name N : Text) (n : ℕ) → SpellsDigits N n → AskFor (name ∷ codes "json" ∷ codes "--digits" ∷ N ∷ []) (Json (record at_first { digits = n })) }
+    ensures device { (name HH : Text) (address : ℕ) → SpellsAddress HH address → AskFor (name ∷ codes "json" ∷ codes "--device" ∷ HH ∷ []) (Json (record at_first { devices = address ∷ [] })) }
+    ensures fixed_alone { (name : Text) → AskForNothing (name ∷ codes "json" ∷ codes "--fixed-vout-mode" ∷ []) }
+    ensures bad_digits { (name N : Text) → (IsFlag N → ⊥) → ((n : ℕ) → SpellsDigits N n → ⊥) → AskForNothing (name ∷ codes "json" ∷ codes "--digits" ∷ N ∷ []) }
+    ensures bad_device { (name HH : Text) → (IsFlag HH → ⊥) → ((address : ℕ) → SpellsAddress HH address → ⊥) → AskForNothing (name ∷ codes "json" ∷ codes "--device" ∷ HH ∷ []) }
 {}
 
 /// Words ask for one thing at most: those that ask for something to be done have no fault, ask for

@@ -11,13 +11,17 @@
 //! ```
 #![tactic(auto)]
 
+mod flags;
+mod json_fault;
+mod json_task;
+mod json_words;
 pub mod laws;
-mod sample_flag;
 mod tasks;
 mod without_words;
 mod words;
 mod work;
 
+pub use json_task::{AfterBadWord, JsonTask, KnownAtFirst, ProfilePlace};
 pub use tasks::{Task, asked};
 pub use without_words::no_words;
 pub use work::Work;

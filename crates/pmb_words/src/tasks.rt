@@ -1,13 +1,16 @@
 //! What the words of the command ask for.
 
-ghost use Rattle.std.specs.Prelude.{◌≡◌, ◌≢◌, ◌⊎◌, IfErr, IfOk, map};
+ghost use Rattle.std.specs.Prelude.{◌≡◌, ◌≢◌, ◌⊎◌, IfErr, IfOk, MatchResult, map};
 ghost use Rattle.clap.specs.Words.{subcommand_rows_of};
 ghost use Rattle.pmb_status.specs.Status.{EndedWell, Failed, IsTold, Tells};
 ghost use Rattle.pmb_io.specs.Count.{raised};
-ghost use Rattle.pmb_words.specs.Asked.{AskFor, AskForNothing, Asking, AsksTask, asking_of};
+ghost use Rattle.pmb_words.specs.Asked.{AskFor, AskForNothing, Asking, AsksNothing, SubcommandAsks, asking_of};
 ghost use Rattle.pmb_words.specs.Words.{AreRefused, AskToTell, MayBeRefused};
 
-use crate::sample_flag::has_sample;
+use crate::flags::has_flag;
+use crate::json_fault::{JsonFault, tell_json};
+use crate::json_task::JsonTask;
+use crate::json_words::read_json;
 use crate::words::{parse, tell_words};
 use crate::work::Work;
 use clap::ArgMatches;
@@ -17,15 +20,26 @@ use std::alloc::Global;
 use std::convert::AsStr;
 
 /// What is to be done.
-#[derive(Clone, Copy)]
+#[derive(Drop)]
 pub enum Task<'a> {
     /// What is done with a capture, with lines or with the bus itself, and whether it is done under the
     /// sample profile, or else under the one in front.
     Traffic(Work, bool),
+    /// What a capture says is told in JSON.
+    Json(JsonTask),
     /// Lines are encoded in the format that a text names.
     Encode(&'a str),
     /// Lines are decoded in the format that a text names.
     Decode(&'a str),
+}
+
+// Why there is nothing to be done.
+#[derive(Clone, Copy)]
+enum NoTask {
+    // The words name no command.
+    NoCommand,
+    // The words of `json` have a fault.
+    Json(JsonFault),
 }
 
 /// What the words ask for, the program's own name first. Words that ask for nothing to be done are
@@ -34,7 +48,8 @@ pub enum Task<'a> {
 /// # Errors
 ///
 /// The exit status of what was told: `Done` for help or the version, `BadWords` for words that are no
-/// command, `IoFailed` where `out` failed, and `NoMemory` where there was no memory.
+/// command or whose flags of `json` ask for nothing, `IoFailed` where `out` failed, and `NoMemory`
+/// where there was no memory.
 pub fn asked<'a, S: AsStr, W: Sink, E: Sink>(
     alloc: Global,
     words: &'a [S],
@@ -68,31 +83,39 @@ pub fn asked<'a, S: AsStr, W: Sink, E: Sink>(
         Err(error) => return Err(tell_words(alloc, words, &error, out, err)),
     };
     match task_of(&matches) {
-        Some(task) => Ok(task),
-        None => Err(tell_nothing(err)),
+        Ok(task) => Ok(task),
+        Err(NoTask::NoCommand) => Err(tell_nothing(err)),
+        Err(NoTask::Json(fault)) => Err(tell_json(fault, err)),
     }
 }
 
 // What the words ask for, by the subcommand among them.
-fn task_of<'a>(matches: &ArgMatches<'a>) -> Option<Task<'a>>
-    ensures { AsksTask (subcommand_rows_of matches.now) result }
+fn task_of<'a>(matches: &ArgMatches<'a>) -> Result<Task<'a>, NoTask>
+    ensures { MatchResult result (λ task. SubcommandAsks (subcommand_rows_of matches.now) (asking_of task)) (λ _. AsksNothing (subcommand_rows_of matches.now)) }
 {
-    let (name, arguments) = matches.subcommand()?;
+    let Some((name, arguments)) = matches.subcommand() else {
+        return Err(NoTask::NoCommand);
+    };
     if name == "show" {
-        Some(Task::Traffic(Work::Show, has_sample(arguments)))
+        Ok(Task::Traffic(Work::Show, has_flag(arguments, "sample")))
     } else if name == "check" {
-        Some(Task::Traffic(Work::Check, has_sample(arguments)))
+        Ok(Task::Traffic(Work::Check, has_flag(arguments, "sample")))
     } else if name == "build" {
-        Some(Task::Traffic(Work::Build, has_sample(arguments)))
+        Ok(Task::Traffic(Work::Build, has_flag(arguments, "sample")))
     } else if name == "run" {
-        Some(Task::Traffic(Work::Run, has_sample(arguments)))
+        Ok(Task::Traffic(Work::Run, has_flag(arguments, "sample")))
     } else if name == "profile" {
-        Some(Task::Traffic(Work::Describe, has_sample(arguments)))
+        Ok(Task::Traffic(Work::Describe, has_flag(arguments, "sample")))
     } else if name == "encode" {
-        Some(Task::Encode(arguments.get_str("FORMAT").unwrap_or("")))
+        Ok(Task::Encode(arguments.get_str("FORMAT").unwrap_or("")))
     } else if name == "decode" {
-        Some(Task::Decode(arguments.get_str("FORMAT").unwrap_or("")))
+        Ok(Task::Decode(arguments.get_str("FORMAT").unwrap_or("")))
+    } else if name == "json" {
+        match read_json(arguments) {
+            Ok(task) => Ok(Task::Json(task)),
+            Err(fault) => Err(NoTask::Json(fault)),
+        }
     } else {
-        None
+        Err(NoTask::NoCommand)
     }
 }

@@ -2,11 +2,11 @@
 
 ghost use Rattle.std.specs.Prelude.{◌≡◌, ◌≢◌, ◌⊎◌, [], codes, false, map, IfOk};
 ghost use Rattle.std.specs.Io.KnownBytes.{Appends};
-ghost use Rattle.clap.specs.Words.{FailsBy, app_of, kind_of, new_app, subcommand_of, subcommand_rows_of, with_subcommand};
+ghost use Rattle.clap.specs.Words.{FailsBy, app_of, kind_of, new_app, rule_of, subcommand_of, subcommand_rows_of, with_subcommand};
 ghost use Rattle.clap.specs.declared.builder.command.Command.TheViews.{out-Command as fields_of};
 ghost use Rattle.pmb_io.specs.Count.{raised};
 ghost use Rattle.pmb_status.specs.Status.{EndedWell, Failed, IsTold, Tells};
-ghost use Rattle.pmb_words.specs.Words.{IsTelling, faults_of, lines_app, pmb_app, sampled_app, top_app};
+ghost use Rattle.pmb_words.specs.Words.{IsTelling, capture_app, faults_of, flag, json_app, lines_app, pmb_app, sampled_app, top_app, valued};
 
 use clap::error::ErrorKind;
 use clap::{Arg, ArgAction, ArgMatches, Command, Error};
@@ -54,10 +54,33 @@ fn pmb_command<'a>(alloc: Global) -> Result<Command<'a>, AllocError>
     )
 }
 
-// `pmb` with `show`, `check`, `build` and `run`.
+// `pmb` with `show`, `check`, `json`, `build` and `run`.
 fn traffic_command<'a>(alloc: Global) -> Result<Command<'a>, AllocError>
-    ensures { IfOk result (λ command. app_of command ≡ with_subcommand (with_subcommand (with_subcommand (with_subcommand (top_app (new_app (codes "pmb")))
-        (sampled_app (codes "show")).top) (sampled_app (codes "check")).top) (sampled_app (codes "build")).top) (sampled_app (codes "run")).top) }
+    ensures { IfOk result (λ command. app_of command ≡ with_subcommand (with_subcommand capture_app (sampled_app (codes "build")).top) (sampled_app (codes "run")).top) }
+{
+    let building = with_sampled(
+        alloc,
+        capture_command(alloc)?,
+        "build",
+        "Writes the bus events of transaction lines, a packet a line",
+        "Standard input is a profile, a line '%%' and transaction lines, or with --sample the lines \
+         alone. 'pmb profile' shows what a profile makes.\n\n\
+         Example:\n  echo 'write 58 21 00 18 pec' | ./pmb build --sample",
+    )?;
+    with_sampled(
+        alloc,
+        building,
+        "run",
+        "Runs requests on simulated devices: a packet and its result for each",
+        "Standard input is a profile, a line '%%' and request lines, or with --sample the lines \
+         alone. 'pmb profile' shows what a profile makes.\n\n\
+         Example:\n  echo 'set 58 21 12' | ./pmb run --sample",
+    )
+}
+
+// `pmb` with `show`, `check` and `json`.
+fn capture_command<'a>(alloc: Global) -> Result<Command<'a>, AllocError>
+    ensures { IfOk result (λ command. app_of command ≡ capture_app) }
 {
     let showing = with_sampled(
         alloc,
@@ -77,24 +100,7 @@ fn traffic_command<'a>(alloc: Global) -> Result<Command<'a>, AllocError>
          alone. 'pmb profile' shows what a profile makes.\n\n\
          Example:\n  echo 'S b0 A 03 A 47 A P' | ./pmb check --sample",
     )?;
-    let building = with_sampled(
-        alloc,
-        checking,
-        "build",
-        "Writes the bus events of transaction lines, a packet a line",
-        "Standard input is a profile, a line '%%' and transaction lines, or with --sample the lines \
-         alone. 'pmb profile' shows what a profile makes.\n\n\
-         Example:\n  echo 'write 58 21 00 18 pec' | ./pmb build --sample",
-    )?;
-    with_sampled(
-        alloc,
-        building,
-        "run",
-        "Runs requests on simulated devices: a packet and its result for each",
-        "Standard input is a profile, a line '%%' and request lines, or with --sample the lines \
-         alone. 'pmb profile' shows what a profile makes.\n\n\
-         Example:\n  echo 'set 58 21 12' | ./pmb run --sample",
-    )
+    checking.subcommand(json_command(alloc)?)
 }
 
 // `pmb` without subcommands.
@@ -148,14 +154,101 @@ fn sampled_command<'a>(
     ensures shape { IfOk result (λ command. app_of command ≡ sampled_app name.entry.now) }
     ensures local { IfOk result (λ command. (fields_of command).has_globals ≡ false) }
 {
-    let sample = Arg::new(alloc, "sample")
-        .long("sample")
-        .action(ArgAction::SetTrue)
-        .help("Take the sample profile, and not one from the front of the input");
+    let sample = flag(
+        alloc,
+        "sample",
+        "Take the sample profile, and not one from the front of the input",
+    );
     Command::new(alloc, name)
         .about(about)
         .after_help(example)
         .arg(sample)
+}
+
+// `json` with its flags.
+fn json_command<'a>(alloc: Global) -> Result<Command<'a>, AllocError>
+    ensures shape { IfOk result (λ command. app_of command ≡ json_app) }
+    ensures local { IfOk result (λ command. (fields_of command).has_globals ≡ false) }
+{
+    bare_json_command(alloc)
+        .arg(flag(
+            alloc,
+            "sample",
+            "Take the sample profile, and not one from the front of the input",
+        ))?
+        .arg(flag(
+            alloc,
+            "late",
+            "The capture begins in the middle: PAGE and VOUT_MODE are unknown until it tells them",
+        ))?
+        .arg(flag(
+            alloc,
+            "fixed-vout-mode",
+            "With --late, VOUT_MODE begins as the profile says, and only PAGE is unknown",
+        ))?
+        .arg(flag(
+            alloc,
+            "keep-going",
+            "After a word that is no token, drop the rest of its line and read on",
+        ))?
+        .arg(valued(
+            alloc,
+            "digits",
+            "N",
+            ArgAction::Set,
+            "The most digits after the point of a number, 0 to 12; 6 without this",
+        ))?
+        .arg(valued(
+            alloc,
+            "device",
+            "HH",
+            ArgAction::Append,
+            "Tell only what is said of the device at this address of seven bits, in two hexadecimal \
+             digits; may be given more than once",
+        ))
+}
+
+// `json` without its flags.
+fn bare_json_command<'a>(alloc: Global) -> Command<'a>
+    ensures shape { app_of result ≡ new_app (codes "json") }
+    ensures local { (fields_of result).has_globals ≡ false }
+{
+    Command::new(alloc, "json")
+        .about("Tells what a capture says, as lines of JSON")
+        .after_help(
+            "Standard input is a profile, a line '%%' and the capture, or with --sample the capture \
+             alone. 'pmb profile' shows what a profile makes.\n\n\
+             Example:\n  echo 'S b0 A 21 A 00 A 18 A P' | ./pmb json --sample",
+        )
+}
+
+// A flag.
+fn flag<'a>(alloc: Global, name: &'a str, help: &'a str) -> Arg<'a>
+    ensures rule { rule_of result ≡ flag name.entry.now }
+    ensures local { result.global ≡ false }
+{
+    Arg::new(alloc, name)
+        .long(name)
+        .action(ArgAction::SetTrue)
+        .help(help)
+}
+
+// A flag that a word follows.
+fn valued<'a>(
+    alloc: Global,
+    name: &'a str,
+    word: &'a str,
+    uses: ArgAction,
+    help: &'a str,
+) -> Arg<'a>
+    ensures rule { rule_of result ≡ valued name.entry.now uses }
+    ensures local { result.global ≡ false }
+{
+    Arg::new(alloc, name)
+        .long(name)
+        .value_name(word)
+        .action(uses)
+        .help(help)
 }
 
 // `encode` or `decode` with its FORMAT.

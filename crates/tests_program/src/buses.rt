@@ -1,6 +1,10 @@
-//! `pmb profile`: the bus of a profile alone, of one in front of a capture, and of the sample.
+//! `pmb profile`: the bus of a profile alone, of one in front of a capture, and of the sample; and what
+//! is told of a fault of a profile, with the lines that help.
 
-use crate::run::{Calls, Failure, check_failure, check_text, run, unreadable};
+use crate::run::{
+    Calls, Failure, check_failure, check_text, run, run_told, run_untold, unreadable,
+};
+use pmb_cli::Io;
 use std::test::Fail;
 
 const PROFILE: [&str; 2] = ["pmb", "profile"];
@@ -25,8 +29,7 @@ code name                             write read  call  paged kind              
 98   PMBUS_REVISION                   -     one   -     no    raw                       33\n";
 
 #[rattlefmt::skip]
-static ROWS: [Row; 9] = [
-    ("nothing", "", "", "pmb: profile: MissingKey\n", 2),
+static ROWS: [Row; 14] = [
     ("an empty bus", "device = []", "devices     0\n", "", 0),
     ("an empty bus, and a capture", "device = []\n%%\nS 40 N P\n", "devices     0\n", "", 0),
     (
@@ -40,14 +43,55 @@ static ROWS: [Row; 9] = [
         "[[device]]\naddress = 0x58\npec = \"optional\"\nvout_mode = 13\nstandard = false\ncommand = [{ name = \"PMBUS_REVISION\", initial = \"33\" }]\n%%\nP x\n%%\n",
         DEVICE, "", 0,
     ),
-    ("a capture alone", "S b0 A 21 A 00 A 18 A P\n", "", "pmb: profile: NotToml\n", 2),
-    ("an address of 8 bits", "[[device]]\naddress = 0xb0\npec = \"on\"\n", "", "pmb: profile: BadAddress in device 0\n", 2),
+    // Behind the line of a fault stand those that help with it.
+    (
+        "nothing", "", "",
+        "pmb: profile: MissingKey\n  device is missing: each device begins with a line [[device]], and a profile without any is device = []\n", 2,
+    ),
+    (
+        "a capture alone", "S b0 A 21 A 00 A 18 A P\n", "",
+        "pmb: profile: NotToml\n  line 1: key with no value, expected `=`\n\
+         \x20 This looks like a capture or lines: a profile and a line %% come first, or --sample.\n", 2,
+    ),
+    // What stands behind the line `%%` makes no difference.
+    (
+        "no TOML, and a capture", "[[device]]\naddress 0x58\n%%\nS 40 N P\n", "",
+        "pmb: profile: NotToml\n  line 2: key with no value, expected `=`\n", 2,
+    ),
+    (
+        "an address of 8 bits", "[[device]]\naddress = 0xb0\npec = \"on\"\n", "",
+        "pmb: profile: BadAddress in device 0\n\
+         \x20 address = 0xb0: an address of 7 bits is needed, from 0x08 to 0x77, but not 0x0c\n\
+         \x20 0xb0 is the 8-bit form of 58h: address = 0x58\n", 2,
+    ),
+    (
+        "a key with a letter too few", "[[device]]\nadress = 0x58\npec = \"on\"\n", "",
+        "pmb: profile: UnknownKey in device 0\n  adress: did you mean address?\n", 2,
+    ),
+    (
+        "a word with a letter too few", "[[device]]\naddress = 0x58\npec = \"of\"\n", "",
+        "pmb: profile: BadValue in device 0\n  pec = \"of\": did you mean \"off\"?\n", 2,
+    ),
+    (
+        "no page", "[[device]]\naddress = 0x58\npec = \"off\"\npages = 0\n", "",
+        "pmb: profile: BadPages in device 0\n  pages = 0: a number from 1 to 32 is needed\n", 2,
+    ),
     (
         "a fault of a command, and a capture",
         "[[device]]\naddress = 0x58\npec = \"on\"\ncommand = [{ name = \"READ_VIN\" }, { name = \"READ_VON\" }]\n%%\nS 40 N P\n",
-        "", "pmb: profile: UnknownName in device 0 command 1\n", 2,
+        "", "pmb: profile: UnknownName in device 0 command 1\n  name = \"READ_VON\": did you mean \"READ_VIN\"?\n", 2,
     ),
-    ("a fault of the second device", "[[device]]\naddress = 0x58\npec = \"on\"\n[[device]]\naddress = 0x58\npec = \"on\"\n", "", "pmb: profile: AddressTwice in device 1\n", 2),
+    (
+        "a fault of a command's form",
+        "[[device]]\naddress = 0x58\npec = \"on\"\n[[device.command]]\nname = \"READ_VIN\"\nread = \"four\"\n",
+        "",
+        "pmb: profile: BadForm in device 0 command 0\n\
+         \x20 kind = \"linear11\", read = \"four\": such a number has \"two\" bytes, and kind = \"raw\" goes with each form\n", 2,
+    ),
+    (
+        "a fault of the second device", "[[device]]\naddress = 0x58\npec = \"on\"\n[[device]]\naddress = 0x58\npec = \"on\"\n",
+        "", "pmb: profile: AddressTwice in device 1\n  address = 0x58: device 0 has this address\n", 2,
+    ),
 ];
 
 #[test]
@@ -103,6 +147,18 @@ fn tells_each_call_that_fails(rt: HostRuntime) {
     for row in &FAILURES {
         check_failure(&rt, rt.alloc(), &PROFILE, PROFILE_AND_CAPTURE, row);
     }
+}
+
+/// A profile with a fault.
+const FAULTY: &str = "[[device]]\naddress = 0x58\npec = \"of\"\n";
+
+#[test]
+fn explains_in_one_write(rt: HostRuntime) {
+    let untold = run_untold(rt.alloc(), &PROFILE, &mut Io::new(FAULTY.as_bytes()));
+    untold.check(&rt, "a fault", "where nothing can be told", ("", "", 2));
+    let told = run_told(rt.alloc(), &PROFILE, &mut Io::new(FAULTY.as_bytes()), 1);
+    let lines = "pmb: profile: BadValue in device 0\n  pec = \"of\": did you mean \"off\"?\n";
+    told.check(&rt, "a fault", "told by one write", ("", lines, 2));
 }
 
 #[test]

@@ -12,6 +12,8 @@ mod captures;
 #[cfg(test)]
 mod formats;
 #[cfg(test)]
+mod json;
+#[cfg(test)]
 mod lines;
 #[cfg(test)]
 mod profiles;

@@ -59,9 +59,20 @@ pub(crate) fn run<R: Source>(alloc: Global, words: &[&str], reader: &mut R) -> R
     run_to(alloc, words, reader, ALL, ALL)
 }
 
+/// Runs the program over a reader, where the call behind so many others fails that tells something on
+/// standard error.
+pub(crate) fn run_told<R: Source>(
+    alloc: Global,
+    words: &[&str],
+    reader: &mut R,
+    tells: u64,
+) -> Ran {
+    run_to(alloc, words, reader, ALL, tells)
+}
+
 /// Runs the program over a reader, where nothing can be told.
 pub(crate) fn run_untold<R: Source>(alloc: Global, words: &[&str], reader: &mut R) -> Ran {
-    run_to(alloc, words, reader, ALL, 0)
+    run_told(alloc, words, reader, 0)
 }
 
 /// Runs the program over a text, byte by byte, where the read behind so many others fails.

@@ -1,7 +1,7 @@
 //! The words of the command: those that are no command, help, the version, and none at all.
 
 use crate::run::{ALL, Ran, check_refused, run, run_to_write, run_without_words, unreadable};
-use pmb_cli::laws::words_ask;
+use pmb_cli::laws::{json_words_ask, words_ask};
 use std::io::ErrorKind;
 use std::process::Abort;
 
@@ -75,6 +75,7 @@ fn refuses_words_that_are_no_command(rt: HostRuntime) {
         check_refused(&rt, rt.alloc(), name, words, told);
     }
     words_ask();
+    json_words_ask();
 }
 
 const ABOUT: &str = "Reads and writes PMBus traffic, and converts between codes and quantities\n\n\
@@ -82,6 +83,7 @@ const ABOUT: &str = "Reads and writes PMBus traffic, and converts between codes 
     Commands:\n\
     \x20 show     Shows the transactions of a capture, one a line\n\
     \x20 check    Tells the refusals of a capture, one a line, and the number of packets\n\
+    \x20 json     Tells what a capture says, as lines of JSON\n\
     \x20 build    Writes the bus events of transaction lines, a packet a line\n\
     \x20 run      Runs requests on simulated devices: a packet and its result for each\n\
     \x20 profile  Shows the bus that a profile makes: its devices and their commands\n\

@@ -1,36 +1,68 @@
-use Rattle.std.proofs.Common.{◌≡◌, ◌∙◌, inl, inr, ap, refl, subst, sym}
+use Rattle.std.proofs.Common.{◌≡◌, ◌∙◌, Bool, true, false, inl, inr, refl, subst, sym}
 use Rattle.pmb_table.specs.declared.sample.TheConstants.{SAMPLE}
 use Rattle.pmb_status.specs.declared.status.Status.TheVariants.{BadWords, NoMemory}
-use Rattle.pmb_words.specs.Asked.{NamesNone, Traffic, asking_of}
+use Rattle.pmb_words.specs.Asked.{NamesNone, asking_of}
+use Rattle.pmb_words.specs.declared.json_task.ProfilePlace.{ProfilePlace}
+use Rattle.pmb_words.specs.declared.json_task.ProfilePlace.TheVariants.{Sample, Front}
 use Rattle.pmb_words.specs.declared.tasks.Task.{Task}
-use Rattle.pmb_cli.specs.Memory.{ReadWithoutMemory}
-use Rattle.pmb_cli.specs.Tasks.{DoesTask}
+use Rattle.pmb_cli.specs.Memory.{ReadUnder, ReadWithoutMemory}
+use Rattle.pmb_cli.specs.Tasks.{DoesTask, DoesUnder, IsUnderFront, place_by}
+use Rattle.pmb_cli.specs.Traffic.{working}
 use Rattle.pmb_cli.proofs.Formats.{none_is_named}
 use Rattle.pmb_cli.proofs.Often.{none_in_all}
 use Rattle.pmb_cli.proofs.Statuses.{does_as, does_none, refused_tells}
 use Rattle.pmb_cli.proofs.doing.run_task.Goals as goal
 
+-- without `--sample` the profile is the one in front
+is_unsampled : (sample : Bool) → place_by sample ≡ Front → sample ≡ false
+is_unsampled false is = refl
+is_unsampled true is = let clash : Sample ≡ Front = is in cc
+
 -- ---- a capture or lines under a profile
 
 pub returns-in-Traffic-clause-did : goal.returns-in-Traffic-clause-did
 returns-in-Traffic-clause-did g c =
-    subst (λ (t : Task). DoesTask g.R.Source.told g.W.Sink.told SAMPLE.now (asking_of t) (c.args.reader.now, c.args.out.now) (c.run_traffic.new.reader, c.run_traffic.new.out) c.run_traffic.result) (sym c.in-Traffic.is)
-    c.run_traffic.ensures.did
+    subst (λ (t : Task). DoesTask g.R.Source.told g.W.Sink.told SAMPLE.now (asking_of t) (c.args.reader.now, c.args.out.now) (c.run_under.new.reader, c.run_under.new.out) c.run_under.result) (sym c.in-Traffic.is)
+    (subst (λ (place : ProfilePlace). DoesUnder g.R.Source.told g.W.Sink.told SAMPLE.now place (working c.in-Traffic.work) (c.args.reader.now, c.args.out.now) (c.run_under.new.reader, c.run_under.new.out) c.run_under.result) c.place.ensures
+    c.run_under.ensures.did)
 
 pub returns-in-Traffic-clause-memory : goal.returns-in-Traffic-clause-memory
 returns-in-Traffic-clause-memory g c memory =
-    subst (λ (t : Task). ReadWithoutMemory g.R.Source.told (asking_of t) c.args.reader.now c.run_traffic.new.reader) (sym c.in-Traffic.is) (c.run_traffic.ensures.memory memory)
+    subst (λ (t : Task). ReadWithoutMemory g.R.Source.told (asking_of t) c.args.reader.now c.run_under.new.reader) (sym c.in-Traffic.is)
+    (subst (λ (place : ProfilePlace). ReadUnder g.R.Source.told place c.args.reader.now c.run_under.new.reader) c.place.ensures (c.run_under.ensures.memory memory))
 
 pub returns-in-Traffic-clause-told : goal.returns-in-Traffic-clause-told
 returns-in-Traffic-clause-told g c bad =
-    let told = c.run_traffic.ensures.told bad in
-    inr (c.in-Traffic.work, ap asking_of c.in-Traffic.is ∙ ap (Traffic c.in-Traffic.work) told.0, told.1)
+    let told = c.run_under.ensures.told bad in
+    inr (subst (λ (t : Task). IsUnderFront (asking_of t)) (sym c.in-Traffic.is) (is_unsampled c.in-Traffic.sample (sym c.place.ensures ∙ told.0)), told.1)
 
 pub returns-in-Traffic-clause-bad_format : goal.returns-in-Traffic-clause-bad_format
 returns-in-Traffic-clause-bad_format g c none = absurd (subst (λ (t : Task). NamesNone (asking_of t)) c.in-Traffic.is none)
 
 pub returns-in-Traffic-clause-bad_format_unread : goal.returns-in-Traffic-clause-bad_format_unread
 returns-in-Traffic-clause-bad_format_unread g c none = absurd (subst (λ (t : Task). NamesNone (asking_of t)) c.in-Traffic.is none)
+
+-- ---- a capture that is told in JSON
+
+pub returns-in-Json-clause-did : goal.returns-in-Json-clause-did
+returns-in-Json-clause-did g c =
+    subst (λ (t : Task). DoesTask g.R.Source.told g.W.Sink.told SAMPLE.now (asking_of t) (c.args.reader.now, c.args.out.now) (c.run_under-in-Json.new.reader, c.run_under-in-Json.new.out) c.run_under-in-Json.result) (sym c.in-Json.is)
+    c.run_under-in-Json.ensures.did
+
+pub returns-in-Json-clause-memory : goal.returns-in-Json-clause-memory
+returns-in-Json-clause-memory g c memory =
+    subst (λ (t : Task). ReadWithoutMemory g.R.Source.told (asking_of t) c.args.reader.now c.run_under-in-Json.new.reader) (sym c.in-Json.is) (c.run_under-in-Json.ensures.memory memory)
+
+pub returns-in-Json-clause-told : goal.returns-in-Json-clause-told
+returns-in-Json-clause-told g c bad =
+    let told = c.run_under-in-Json.ensures.told bad in
+    inr (subst (λ (t : Task). IsUnderFront (asking_of t)) (sym c.in-Json.is) told.0, told.1)
+
+pub returns-in-Json-clause-bad_format : goal.returns-in-Json-clause-bad_format
+returns-in-Json-clause-bad_format g c none = absurd (subst (λ (t : Task). NamesNone (asking_of t)) c.in-Json.is none)
+
+pub returns-in-Json-clause-bad_format_unread : goal.returns-in-Json-clause-bad_format_unread
+returns-in-Json-clause-bad_format_unread g c none = absurd (subst (λ (t : Task). NamesNone (asking_of t)) c.in-Json.is none)
 
 -- ---- lines to encode
 

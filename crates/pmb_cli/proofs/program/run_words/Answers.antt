@@ -29,7 +29,7 @@ returns-in-Ok-clause-status g c =
 pub returns-in-Ok-clause-told : goal.returns-in-Ok-clause-told
 returns-in-Ok-clause-told g c bad = elim (c.run_task.ensures.told bad) [
   | inl none ↦ inr (inl (c.one_asking.ensures.names_none _ (asking_of c.in-Ok.task) c.in-Ok.ensures.ok none))
-  | inr fault ↦ inr (inr (fault.0, subst (λ (a : Asking). AskFor (map g.S.AsStr.text c.args.words.now) a) fault.1 c.in-Ok.ensures.ok, fault.2))
+  | inr fault ↦ inr (inr (asking_of c.in-Ok.task, c.in-Ok.ensures.ok, fault.0, fault.1))
 ]
 
 pub returns-in-Ok-clause-err_told : goal.returns-in-Ok-clause-err_told

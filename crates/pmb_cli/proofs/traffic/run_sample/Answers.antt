@@ -5,20 +5,20 @@ use Rattle.pmb_cli.proofs.Working.{worked_did, worked_tells, worked_unread, work
 use Rattle.pmb_cli.proofs.traffic.run_sample.Goals as goal
 
 pub returns-in-Ok-clause-status : goal.returns-in-Ok-clause-status
-returns-in-Ok-clause-status g c = worked_tells g.R.Source.told g.W.Sink.told _ _ _ _ _ _ _ c.args.reader.now (at_start _) c.do_work.result _ c.ended.ensures.status c.do_work.ensures
+returns-in-Ok-clause-status g c = worked_tells g.R.Source.told g.W.Sink.told _ _ _ _ _ _ _ c.args.reader.now (at_start _) c.do_deed.result _ c.ended.ensures.status c.do_deed.ensures
 
 -- What was done was so under the sample profile.
 pub returns-in-Ok-clause-did : goal.returns-in-Ok-clause-did
 returns-in-Ok-clause-did g c =
     does_as _ _ _ _ _ _ _ (λ tally done. record { profile = c.in-Ok.profile; says = c.in-Ok.ensures.ok; holds = done }) (λ part. record { profile = c.in-Ok.profile; says = c.in-Ok.ensures.ok; holds = part })
-    (worked_did g.R.Source.told g.W.Sink.told _ _ _ _ _ _ _ c.do_work.result _ c.ended.ensures.status c.do_work.ensures)
+    (worked_did g.R.Source.told g.W.Sink.told _ _ _ _ _ _ _ c.do_deed.result _ c.ended.ensures.status c.do_deed.ensures)
 
 pub returns-in-Ok-clause-no_fault : goal.returns-in-Ok-clause-no_fault
-returns-in-Ok-clause-no_fault g c bad = worked_unrefused g.R.Source.told g.W.Sink.told _ _ _ _ _ _ _ c.do_work.result c.do_work.ensures (sym c.ended.ensures.status ∙ bad)
+returns-in-Ok-clause-no_fault g c bad = worked_unrefused g.R.Source.told g.W.Sink.told _ _ _ _ _ _ _ c.do_deed.result c.do_deed.ensures (sym c.ended.ensures.status ∙ bad)
 
 -- Without memory for the devices nothing was read.
 pub returns-in-Ok-clause-memory : goal.returns-in-Ok-clause-memory
-returns-in-Ok-clause-memory g c memory = worked_unread g.R.Source.told g.W.Sink.told _ _ _ _ _ _ _ c.do_work.result c.do_work.ensures (sym c.ended.ensures.status ∙ memory)
+returns-in-Ok-clause-memory g c memory = worked_unread g.R.Source.told g.W.Sink.told _ _ _ _ _ _ _ c.do_deed.result c.do_deed.ensures (sym c.ended.ensures.status ∙ memory)
 
 -- There was no memory for the sample.
 pub returns-in-Err-clause-status : goal.returns-in-Err-clause-status

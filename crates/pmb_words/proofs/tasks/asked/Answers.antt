@@ -5,10 +5,10 @@ use Rattle.pmb_words.proofs.AskedOnce.{is_telling, memory_is_not_bad, only_memor
 use Rattle.pmb_words.proofs.tasks.asked.Goals as goal
 
 -- What is kept of the words is what they ask for.
-pub returns-in-Some-clause-ok : goal.returns-in-Some-clause-ok
-returns-in-Some-clause-ok g c = record {
+pub returns-in-Ok-task_of-clause-ok : goal.returns-in-Ok-task_of-clause-ok
+returns-in-Ok-task_of-clause-ok g c = record {
   no_fault = c.in-Ok.ensures.kinds;
-  asks = subst (λ s. SubcommandAsks s (asking_of c.in-Some.task)) c.in-Ok.ensures.matches c.in-Some.ensures;
+  asks = subst (λ s. SubcommandAsks s (asking_of c.in-Ok-task_of.task)) c.in-Ok.ensures.matches c.in-Ok-task_of.ensures;
 }
 
 -- ---- where the words have no fault, only memory is lacking

@@ -6,7 +6,5 @@ use Rattle.pmb_words.proofs.words.traffic_command.Goals as goal
 
 pub returns : goal.returns
 returns c =
-    IfOk-weaker c.with_sampled-4.result _ _ (λ command is. is ∙ ap (λ (a : App). with_subcommand a (sampled_app (codes "run")).top)
-    (c.in_ok-building.ensures ∙ ap (λ (a : App). with_subcommand a (sampled_app (codes "build")).top)
-    (c.in_ok-checking.ensures ∙ ap (λ (a : App). with_subcommand a (sampled_app (codes "check")).top)
-    (c.in_ok-showing.ensures ∙ ap (λ (a : App). with_subcommand a (sampled_app (codes "show")).top) c.top_command.ensures)))) c.with_sampled-4.ensures
+    IfOk-weaker c.with_sampled-2.result _ _ (λ command is. is ∙ ap (λ (a : App). with_subcommand a (sampled_app (codes "run")).top)
+    (c.in_ok-building.ensures ∙ ap (λ (a : App). with_subcommand a (sampled_app (codes "build")).top) c.in_ok-capture_command.ensures)) c.with_sampled-2.ensures

@@ -1,0 +1,217 @@
+//! What helps with forms that do not go together.
+
+use crate::keyed::Keyed;
+use crate::lines::Hints;
+use crate::ranges::unknown_word;
+use crate::twice::code_of;
+use pmb_command::{Form, Kind, standard};
+use std::fmt::Write;
+use toml::Table;
+
+/// The words of `write`.
+const WRITE: [&str; 7] = ["none", "zero", "one", "two", "four", "eight", "block"];
+
+/// The words of `read`.
+const READ: [&str; 6] = ["none", "one", "two", "four", "eight", "block"];
+
+/// The words of `call`.
+const CALL: [&str; 3] = ["none", "two", "block"];
+
+/// The parts of a command, in the words of a profile.
+#[derive(Clone, Copy)]
+pub(crate) struct Parts<'a> {
+    pub(crate) code: i64,
+    pub(crate) write: &'a str,
+    pub(crate) read: &'a str,
+    call: &'a str,
+    kind: &'a str,
+    paged: bool,
+}
+
+/// The word of a form.
+fn form_word(form: Option<Form>) -> &'static str {
+    match form {
+        None => "none",
+        Some(Form::Zero) => "zero",
+        Some(Form::One) => "one",
+        Some(Form::Two) => "two",
+        Some(Form::Four) => "four",
+        Some(Form::Eight) => "eight",
+        Some(Form::Block) => "block",
+    }
+}
+
+/// The word of a kind.
+fn kind_word(kind: Kind) -> &'static str {
+    match kind {
+        Kind::Raw => "raw",
+        Kind::Linear11 | Kind::Linear11Fixed(_) => "linear11",
+        Kind::Vout => "vout",
+        Kind::VoutSigned => "vout_signed",
+        Kind::Direct(_) => "direct",
+        Kind::Status => "status",
+    }
+}
+
+/// The parts of the standard command of a code, if there is one.
+fn standard_parts(code: i64) -> Option<Parts<'static>> {
+    let byte = u8::try_from(code).ok()?;
+    let entry = standard(byte)?;
+    Some(Parts {
+        code,
+        write: form_word(entry.shape.write),
+        read: form_word(entry.shape.read),
+        call: form_word(entry.shape.call),
+        kind: kind_word(entry.kind),
+        paged: entry.paged,
+    })
+}
+
+/// The parts of a command's table before its keys say more: those of the standard command that it
+/// names, or with a code none.
+fn first_parts(table: &Table) -> Option<Parts<'static>> {
+    let code = code_of(table)?;
+    if table.get("code").is_none() {
+        return standard_parts(code);
+    }
+    Some(Parts {
+        code,
+        write: "none",
+        read: "none",
+        call: "none",
+        kind: "raw",
+        paged: false,
+    })
+}
+
+/// The parts of a command's table.
+pub(crate) fn parts_of(keyed: Keyed<'_>) -> Option<Parts<'_>> {
+    let first = first_parts(keyed.table)?;
+    let paged = match keyed.get("paged") {
+        Some(value) => value.as_bool()?,
+        None => first.paged,
+    };
+    Some(Parts {
+        code: first.code,
+        write: keyed.text("write").unwrap_or(first.write),
+        read: keyed.text("read").unwrap_or(first.read),
+        call: keyed.text("call").unwrap_or(first.call),
+        kind: keyed.text("kind").unwrap_or(first.kind),
+        paged,
+    })
+}
+
+impl Parts<'_> {
+    /// The key of the form in which the command has its value, and the form: read, or else written.
+    pub(crate) fn value_form(&self) -> (&'static str, &str) {
+        if self.read == "none" && self.write != "none" {
+            ("write", self.write)
+        } else {
+            ("read", self.read)
+        }
+    }
+
+    /// Whether it has a form at all.
+    fn has_form(&self) -> bool {
+        self.write != "none" || self.read != "none" || self.call != "none"
+    }
+
+    /// Whether it is written and read in one form, or written without data.
+    fn ways_agree(&self) -> bool {
+        self.write == "none"
+            || self.write == "zero"
+            || self.read == "none"
+            || self.write == self.read
+    }
+
+    /// Whether each of its forms is that of another command, or none.
+    fn keeps(&self, other: &Parts<'_>) -> bool {
+        (self.write == "none" || self.write == other.write)
+            && (self.read == "none" || self.read == other.read)
+            && (self.call == "none" || self.call == other.call)
+    }
+}
+
+/// Tells a word that is no form, or which parts do not go together.
+pub(crate) fn form_hint(keyed: Keyed<'_>, lines: &mut Hints) {
+    if unknown_word(keyed, "write", &WRITE, lines)
+        || unknown_word(keyed, "read", &READ, lines)
+        || unknown_word(keyed, "call", &CALL, lines)
+    {
+        return;
+    }
+    if let Some(parts) = parts_of(keyed) {
+        let _ = ways_hint(&parts, lines) || kept_hint(&parts, lines) || kind_hint(&parts, lines);
+    }
+}
+
+/// Tells that a command has no form, or two for one value.
+fn ways_hint(parts: &Parts<'_>, lines: &mut Hints) -> bool {
+    if !parts.has_form() {
+        let _ = lines.try_push_str(
+            "  write, read and call are all \"none\": one of them is needed, and a command with \
+             code has those alone that its keys give\n",
+        );
+        return true;
+    }
+    if !parts.ways_agree() {
+        let (write, read) = (parts.write, parts.read);
+        let _ = write!(
+            lines,
+            "  write = \"{write}\", read = \"{read}\": these are the same, unless write is \"zero\" or \
+             one of them \"none\"\n"
+        );
+        return true;
+    }
+    false
+}
+
+/// Tells what PAGE, CLEAR_FAULTS, VOUT_MODE, COEFFICIENTS and STATUS_CML keep of the standard.
+fn kept_hint(parts: &Parts<'_>, lines: &mut Hints) -> bool {
+    let name = match parts.code {
+        0x00 => "PAGE",
+        0x03 => "CLEAR_FAULTS",
+        0x20 => "VOUT_MODE",
+        0x30 => "COEFFICIENTS",
+        0x7e => "STATUS_CML",
+        _ => return false,
+    };
+    let Some(kept) = standard_parts(parts.code) else {
+        return false;
+    };
+    if !parts.keeps(&kept) {
+        let (write, read, call) = (kept.write, kept.read, kept.call);
+        let _ = write!(
+            lines,
+            "  {name} keeps the standard's forms, or has \"none\" in their place: write = \"{write}\", \
+             read = \"{read}\", call = \"{call}\"\n"
+        );
+        return true;
+    }
+    if parts.code != 0x7e && parts.kind != "raw" {
+        let kind = parts.kind;
+        let _ = write!(lines, "  kind = \"{kind}\": {name} is always \"raw\"\n");
+        return true;
+    }
+    if parts.code == 0x00 && parts.paged {
+        let _ = lines.try_push_str("  paged = true: PAGE has one value for all pages\n");
+        return true;
+    }
+    false
+}
+
+/// Tells a form that its kind can't have.
+fn kind_hint(parts: &Parts<'_>, lines: &mut Hints) -> bool {
+    let (key, form) = parts.value_form();
+    let kind = parts.kind;
+    let needed = match kind {
+        "raw" => return false,
+        "status" => "status bits are \"one\" or \"two\" bytes",
+        _ => "such a number has \"two\" bytes",
+    };
+    let _ = write!(
+        lines,
+        "  kind = \"{kind}\", {key} = \"{form}\": {needed}, and kind = \"raw\" goes with each form\n"
+    );
+    true
+}

@@ -1,0 +1,30 @@
+//! What helps with a fault of a profile: the key, its value, the rule that it breaks, and what would
+//! do.
+//!
+//! [`hints`] reads the text anew and looks for the fault, of which only its name and its place are
+//! known. What it writes is for people, and no program should read it. No clause says which lines
+//! they are: `tests_hints` does.
+//!
+//! ```rust
+//! let text = b"[[device]]\naddress = 0xb0\npec = \"on\"\n";
+//! let fault = Profile::from_toml(rt.alloc(), text).err().ok_or("no fault")?;
+//! let lines = hints(rt.alloc(), text, fault);
+//! assert!(rt; lines.as_str().ends_with("0xb0 is the 8-bit form of 58h: address = 0x58\n"));
+//! ```
+#![tactic(auto)]
+
+mod command;
+mod device;
+mod forms;
+mod initial;
+mod keyed;
+mod keys;
+mod lines;
+mod ranges;
+mod similar;
+mod spelling;
+mod syntax;
+mod twice;
+mod values;
+
+pub use lines::{Hints, hints};

@@ -1,0 +1,75 @@
+//! Texts that are no TOML.
+
+use crate::lines::Hints;
+use std::fmt::Write;
+use toml::de::Error;
+
+/// The words with which captures, transaction lines and requests begin.
+const FIRST_WORDS: [&str; 11] = [
+    "S", "P", "A", "N", "write", "read", "call", "refused", "alert", "set", "get",
+];
+
+/// What the reader of TOML says of a text, or that it is a capture or lines without their profile.
+pub(crate) fn syntax_hint(text: &str, error: &Error, lines: &mut Hints) {
+    let Some(span) = error.span() else {
+        return;
+    };
+    let line = line_at(text.as_bytes(), span.start);
+    let _ = write!(lines, "  line {line}: {}\n", error.message());
+    if is_matter(text) {
+        let _ = lines.try_push_str(
+            "  This looks like a capture or lines: a profile and a line %% come first, or --sample.\n",
+        );
+    }
+}
+
+/// Where a text stops to be UTF-8.
+pub(crate) fn utf8_hint(text: &[u8], place: usize, lines: &mut Hints) {
+    let line = line_at(text, place);
+    let _ = write!(lines, "  line {line}: not UTF-8\n");
+}
+
+/// The number of the line, from 1, that a place of a text is in.
+fn line_at(text: &[u8], place: usize) -> usize {
+    let mut line: usize = 1;
+    for i in 0..text.len() {
+        if i >= place {
+            return line;
+        }
+        if text[i] == b'\n' {
+            line = line.saturating_add(1);
+        }
+    }
+    line
+}
+
+/// Whether the first line of a text that is not blank and no comment begins as a capture or lines do.
+fn is_matter(text: &str) -> bool {
+    for line in text.lines() {
+        let mut words = line.split_ascii_whitespace();
+        if let Some(word) = words.next() {
+            if !word.starts_with("#") {
+                return is_first_word(word) && !begins_value(words.next());
+            }
+        }
+    }
+    false
+}
+
+/// Whether the word before this one is a key.
+fn begins_value(word: Option<&str>) -> bool {
+    match word {
+        None => false,
+        Some(word) => word.starts_with("="),
+    }
+}
+
+/// Whether a capture or lines may begin with a word.
+fn is_first_word(word: &str) -> bool {
+    for first in &FIRST_WORDS {
+        if word == *first {
+            return true;
+        }
+    }
+    false
+}

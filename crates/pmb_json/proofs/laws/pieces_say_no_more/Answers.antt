@@ -1,0 +1,19 @@
+use Rattle.std.proofs.Common.{List, [], ◌++◌, ◌∙◌}
+use Rattle.pmb_late.specs.declared.start.Start.TheVariants.{AllKnown}
+use Rattle.pmb_note.specs.Paging.{mode as mode_of_whole}
+use Rattle.pmb_transaction.specs.Transaction.{TransactionData}
+use Rattle.pmb_json.proofs.Pieces.{spans_said}
+use Rattle.pmb_json.proofs.laws.pieces_say_no_more.Goals as goal
+
+pub returns : goal.returns
+returns c profile digits start devices place there before n spans bus late so =
+    spans_said digits profile devices devices start AllKnown place there n spans [] before
+    (λ (ts : List TransactionData). record {
+      pages = λ addr number is. c.all_that_is_known_is_the_context.ensures.page profile (before ++ ts) addr
+          ∙ c.pieces_say_what_the_whole_says.ensures.page profile start before ts addr number late is;
+      modes = λ addr. (
+        mode_of_whole profile (before ++ ts) addr,
+        c.pieces_say_what_the_whole_says.ensures.mode profile start before ts addr bus (so addr),
+        c.all_that_is_known_is_the_context.ensures.mode profile (before ++ ts) addr,
+      );
+    })

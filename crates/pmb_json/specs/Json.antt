@@ -1,0 +1,50 @@
+-- What `json` is to write.
+use Rattle.std.specs.Prelude.{◌≡◌, ◌⊎◌, ◌<◌, ℕ, List, ◌++◌, length}
+use Rattle.pmb_bus.specs.declared.event.Event.{Event}
+use Rattle.pmb_bus.specs.Text.{BeginsText, FirstBadWord, front_word}
+use Rattle.pmb_command.specs.Parts.{DeviceParts}
+use Rattle.pmb_io.specs.Runs.{Job}
+use Rattle.pmb_io.specs.declared.tally.Tally.{Tally}
+use Rattle.pmb_json.specs.declared.bad_words.BadWords.{BadWords}
+use Rattle.pmb_json.specs.declared.bad_words.BadWords.TheVariants.{End, GoOn}
+use Rattle.pmb_json.specs.SoFar.{HasWrittenJson}
+use Rattle.pmb_json.specs.Text.{WritesJson}
+use Rattle.pmb_stream.specs.Choice.{ChoiceData}
+
+-- The word under way at the end of the bytes is their first that is no token, and has fewer than 32 bytes.
+pub record EndsInShortBadWord (bytes : List ℕ) : Type 0 where
+  pub front : List ℕ
+  pub word : List ℕ
+  pub events : List Event
+  pub split : bytes ≡ front ++ word
+  pub bad : FirstBadWord bytes events (length front)
+  pub under_way : front_word word ≡ word
+  pub short : length word < 32
+
+-- More is wanted of bytes that begin some text that spells events, and of those that end in such a
+-- word; and always where reading goes on behind bad words.
+abbrev pub IsOpenJson : BadWords → List ℕ → Type 0
+IsOpenJson End bytes = BeginsText bytes ⊎ EndsInShortBadWord bytes
+IsOpenJson GoOn bytes = Unit {0}
+
+module _ (choice : ChoiceData) (profile : List DeviceParts) (after : BadWords) where
+  -- No more is wanted: this is all that is written, whatever follows.
+  pub record StopsJson (bytes : List ℕ) (text : List ℕ) (tally : Tally) : Type 0 where
+    pub ends : after ≡ End
+    pub writes : WritesJson choice profile after bytes text tally
+    pub whatever_follows : (more : List ℕ) → WritesJson choice profile after (bytes ++ more) text tally
+
+  -- What is written so far for bytes, a front of what is written for them.
+  pub record WritesJsonFront (bytes : List ℕ) (text : List ℕ) : Type 0 where
+    pub rest : List ℕ
+    pub tally : Tally
+    pub so_far : HasWrittenJson choice profile after bytes text
+    pub writes : WritesJson choice profile after bytes (text ++ rest) tally
+
+  abbrev pub json_job : Job Tally
+  json_job = record {
+    Whole = λ tally bytes text. WritesJson choice profile after bytes text tally;
+    Stops = λ tally bytes text. StopsJson bytes text tally;
+    Front = WritesJsonFront;
+    IsOpen = IsOpenJson after;
+  }

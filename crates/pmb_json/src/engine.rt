@@ -1,0 +1,304 @@
+//! From the text of a capture to its objects, in pieces.
+//!
+//! Between two bad words a scan reads on, and the stream is told. A bad word's bytes are taken until
+//! 32 have come or it has ended: then its object goes out. What is left of its line is taken and
+//! dropped, and a new scan begins behind it.
+
+ghost use Rattle.std.specs.Prelude.{◌≡◌, ◌⊎◌, ◌≢◌, ◌++◌, ◌≤◌, ◌<◌, ℕ, List, [], OnOk, IfOk, length};
+ghost use Rattle.pmb_bus.specs.Text.{front_word, open_word};
+ghost use Rattle.pmb_io.specs.Calls.{WriterTells};
+ghost use Rattle.pmb_io.specs.Engines.{PutsOut};
+ghost use Rattle.pmb_io.specs.Outgoing.{PutsText};
+ghost use Rattle.pmb_json.specs.Json.{WritesJsonFront};
+ghost use Rattle.pmb_json.specs.declared.engine.Inside.TheVariants as inside;
+ghost use Rattle.pmb_json.specs.machine.Standing.{HasEnded, HasPutOut, HasStopped, IsLess, StandsBehindBadWord, StandsInBadLine, StandsInBadWord, StandsInWords, TakesLine, json_bad_words, json_choice, json_profile, json_tally, last_word_objects, stops_for_good};
+ghost use Rattle.pmb_objects.specs.Counts.{after_bad_token};
+ghost use Rattle.pmb_objects.specs.Object.{object_lines};
+ghost use Rattle.pmb_stream.specs.Before.{Before};
+ghost use Rattle.pmb_stream.specs.Choice.{choice_data};
+ghost use Rattle.pmb_stream.specs.Stream.{StreamKnows, stream_choice};
+
+use crate::bad_words::BadWords;
+use crate::nowhere::Nowhere;
+use crate::word_end::{behind, is_over, line_bytes, word_bytes};
+use crate::word_laws::bad_words_stand_there;
+use pmb_bus::laws::texts_may_be_cut_between_words;
+use pmb_io::{Engine, Flow, RunFault, Sink, Tally, Waiting};
+use pmb_scan::{Scan, Taken};
+use pmb_spans::laws::spans_move;
+use pmb_stream::{Choice, Stream};
+use pmb_table::Profile;
+
+/// What the next byte belongs to.
+#[derive(Clone, Copy)]
+enum Inside {
+    /// Words that may be tokens.
+    Words,
+    /// A word that is no token, whose object is not out.
+    BadWord,
+    /// The rest of its line.
+    BadLine,
+}
+
+/// What is left of a piece behind a bad line.
+enum Left<'b> {
+    /// All of it is used.
+    Nothing,
+    /// No more is wanted.
+    Stop,
+    /// Behind the LF of the line.
+    Bytes(&'b [u8]),
+}
+
+/// From the text of a capture to its objects.
+#[derive(Drop)]
+pub(crate) struct Json<'p> {
+    profile: &'p Profile,
+    bad_words: BadWords,
+    scan: Scan<'p>,
+    stream: Stream<'p>,
+    inside: Inside,
+}
+
+impl<'p> Json<'p> {
+    /// Nothing was given yet.
+    pub(crate) fn new(profile: &'p Profile, choice: Choice<'p>, bad_words: BadWords) -> Json<'p>
+        ensures profile { json_profile result ≡ profile.now }
+        ensures choice { json_choice result ≡ choice_data choice.entry }
+        ensures bad_words { json_bad_words result ≡ bad_words }
+        ensures begins { HasPutOut result result [] [] }
+    {
+        let Choice {
+            digits,
+            start,
+            devices,
+        } = choice;
+        Json {
+            profile,
+            bad_words,
+            scan: Scan::new(profile),
+            stream: Stream::new(
+                profile,
+                Choice {
+                    digits,
+                    start,
+                    devices,
+                },
+            ),
+            inside: Inside::Words,
+        }
+    }
+
+    /// How many packets came, and how many refusals and words that are no token.
+    pub(crate) fn tally(&self) -> Tally
+        ensures { result ≡ json_tally self.now }
+    {
+        self.stream.tally()
+    }
+
+    /// Leaves the text where it is, and puts out no more: what came of it so far is a front of what it
+    /// would come to.
+    pub(crate) fn leave(&mut self)
+        ensures { (start : Json) (bytes text : List ℕ) → HasPutOut start self.old bytes text
+            → WritesJsonFront (json_choice start) (json_profile start) (json_bad_words start) bytes text }
+    {
+        spans_move();
+        bad_words_stand_there();
+        // Nothing of this is kept. That the capture may end here says that it comes to something.
+        let _ = self.scan.truncation();
+        // Without a call of the stream's the check doesn't find the types that it is made of.
+        let _ = self.stream.tally();
+        let _ = self.end(&mut Waiting::new(), &mut Nowhere);
+    }
+
+    /// Takes bytes up to the end of a bad line.
+    fn take_line<'b, W: Sink>(
+        &mut self,
+        bytes: &'b [u8],
+        waiting: &mut Waiting,
+        writer: &mut W,
+    ) -> Result<Left<'b>, RunFault>
+        ensures takes { (start : Json) (given text : List ℕ) → HasPutOut start self.old given text
+            → IfOk result (λ left. PutsOut (λ more. TakesLine start self.new given bytes.now left (text ++ more))
+            (W.told writer.old).held waiting.old.items (W.told writer.new).held waiting.new.items) }
+        ensures less { IfOk result (λ left. IsLess left (length bytes.now)) }
+        ensures failed { WriterTells (W.told writer.old) (W.told writer.new) result }
+    {
+        match self.inside {
+            Inside::Words => self.take_words(bytes, waiting, writer),
+            Inside::BadWord => self.take_bad_word(bytes, waiting, writer),
+            Inside::BadLine => Ok(self.drop_line(bytes)),
+        }
+    }
+
+    /// Takes words up to the first that is no token, and then that one.
+    fn take_words<'b, W: Sink>(
+        &mut self,
+        bytes: &'b [u8],
+        waiting: &mut Waiting,
+        writer: &mut W,
+    ) -> Result<Left<'b>, RunFault>
+        ensures takes { (start : Json) (given text : List ℕ) → self.old.inside ≡ inside.Words → StandsInWords start self.old given text
+            → IfOk result (λ left. PutsOut (λ more. TakesLine start self.new given bytes.now left (text ++ more))
+            (W.told writer.old).held waiting.old.items (W.told writer.new).held waiting.new.items) }
+        ensures less { IfOk result (λ left. IsLess left (length bytes.now)) }
+        ensures failed { WriterTells (W.told writer.old) (W.told writer.new) result }
+    {
+        match self
+            .scan
+            .take_words(bytes, &mut self.stream, waiting, writer)?
+        {
+            Taken::All => Ok(Left::Nothing),
+            Taken::Fault { used, .. } => {
+                spans_move();
+                bad_words_stand_there();
+                // That the events may end here says which packets and refusals came before.
+                let _ = self.scan.truncation();
+                self.inside = Inside::BadWord;
+                self.take_bad_word(behind(bytes, used), waiting, writer)
+            }
+        }
+    }
+
+    /// Takes bytes that go on with a bad word and its line, up to the end of the line.
+    fn take_bad_word<'b, W: Sink>(
+        &mut self,
+        bytes: &'b [u8],
+        waiting: &mut Waiting,
+        writer: &mut W,
+    ) -> Result<Left<'b>, RunFault>
+        ensures takes { (start : Json) (given text : List ℕ) → self.old.inside ≡ inside.BadWord → StandsInBadWord bytes.now start self.old given text
+            → IfOk result (λ left. PutsOut (λ more. TakesLine start self.new given bytes.now left (text ++ more))
+            (W.told writer.old).held waiting.old.items (W.told writer.new).held waiting.new.items) }
+        ensures less { IfOk result (λ left. IsLess left (length bytes.now)) }
+        ensures failed { WriterTells (W.told writer.old) (W.told writer.new) result }
+    {
+        bad_words_stand_there();
+        let count = word_bytes(bytes, self.stream.word_length());
+        self.stream.take_text(&bytes[..count]);
+        let rest = behind(bytes, count);
+        if !is_over(rest, self.stream.word_length()) {
+            return Ok(Left::Nothing);
+        }
+        self.end_bad_word(rest, waiting, writer)
+    }
+
+    /// Puts out the object of the bad word, of which no more is wanted, and drops what is left of its
+    /// line.
+    fn end_bad_word<'b, W: Sink>(
+        &mut self,
+        rest: &'b [u8],
+        waiting: &mut Waiting,
+        writer: &mut W,
+    ) -> Result<Left<'b>, RunFault>
+        ensures takes { (start : Json) (given text : List ℕ) → StandsBehindBadWord rest.now start self.old given text
+            → IfOk result (λ left. PutsOut (λ more. TakesLine start self.new given rest.now left (text ++ more))
+            (W.told writer.old).held waiting.old.items (W.told writer.new).held waiting.new.items) }
+        ensures less { IfOk result (λ left. IsLess left (length rest.now)) }
+        ensures failed { WriterTells (W.told writer.old) (W.told writer.new) result }
+    {
+        bad_words_stand_there();
+        match self.bad_words {
+            BadWords::End => {
+                self.put_last_word(waiting, writer)?;
+                Ok(Left::Stop)
+            }
+            BadWords::GoOn => {
+                self.stream.put_bad_word(waiting, writer)?;
+                self.inside = Inside::BadLine;
+                Ok(self.drop_line(rest))
+            }
+        }
+    }
+
+    /// Drops what is left of a bad line. Behind its LF reading begins anew.
+    fn drop_line<'b>(&mut self, bytes: &'b [u8]) -> Left<'b>
+        ensures takes { (start : Json) (given text : List ℕ) → self.old.inside ≡ inside.BadLine → StandsInBadLine bytes.now start self.old given text
+            → TakesLine start self.new given bytes.now result text }
+        ensures less { IsLess result (length bytes.now) }
+    {
+        match line_bytes(bytes) {
+            None => {
+                self.stream.take_text(bytes);
+                Left::Nothing
+            }
+            Some(count) => {
+                texts_may_be_cut_between_words();
+                self.stream.take_text(&bytes[..count + 1]);
+                self.stream.begin_anew();
+                self.scan = Scan::new(self.profile);
+                self.inside = Inside::Words;
+                Left::Bytes(behind(bytes, count + 1))
+            }
+        }
+    }
+
+    /// Puts out the object of the word under way, which is no token, and the counts.
+    fn put_last_word<W: Sink>(
+        &mut self,
+        waiting: &mut Waiting,
+        writer: &mut W,
+    ) -> Result<(), RunFault>
+        ensures puts { (b : Before) → StreamKnows b self.old.stream
+            → OnOk result (PutsText (W.told writer.old).held waiting.old.items (W.told writer.new).held waiting.new.items (object_lines (json_choice self.old).devices (last_word_objects b))) }
+        ensures knows { (b : Before) → StreamKnows b self.old.stream → OnOk result (StreamKnows (record b { counts = after_bad_token b.counts }) self.new.stream) }
+        ensures failed { WriterTells (W.told writer.old) (W.told writer.new) result }
+    {
+        self.stream.put_bad_word(waiting, writer)?;
+        self.stream.put_counts(waiting, writer)
+    }
+
+    /// The end of the words.
+    fn end_words<W: Sink>(&mut self, waiting: &mut Waiting, writer: &mut W) -> Result<(), RunFault>
+        ensures ends { (start : Json) (bytes text : List ℕ) → StandsInWords start self.old bytes text
+            → OnOk result (PutsOut (λ more. HasEnded start self.new bytes (text ++ more))
+            (W.told writer.old).held waiting.old.items (W.told writer.new).held waiting.new.items) }
+        ensures failed { WriterTells (W.told writer.old) (W.told writer.new) result }
+    {
+        spans_move();
+        bad_words_stand_there();
+        match self.scan.take_end(&mut self.stream, waiting, writer)? {
+            None => self.stream.put_end(self.scan.truncation(), waiting, writer),
+            Some(_) => {
+                // As in `take_words`.
+                let _ = self.scan.truncation();
+                self.put_last_word(waiting, writer)
+            }
+        }
+    }
+}
+
+impl<'p> Engine for Json<'p> {
+    ghost Stands = { HasPutOut };
+
+    ghost Stops = { HasStopped };
+
+    ghost Ends = { HasEnded };
+
+    fn take<W: Sink>(
+        &mut self,
+        piece: &[u8],
+        waiting: &mut Waiting,
+        writer: &mut W,
+    ) -> Result<Flow, RunFault> {
+        let mut rest = piece;
+        'lines: loop {
+            match self.take_line(rest, waiting, writer)? {
+                Left::Nothing => return Ok(Flow::More),
+                Left::Stop => return Ok(Flow::Stop),
+                Left::Bytes(bytes) => rest = bytes,
+            }
+        }
+    }
+
+    fn end<W: Sink>(&mut self, waiting: &mut Waiting, writer: &mut W) -> Result<(), RunFault> {
+        bad_words_stand_there();
+        match self.inside {
+            Inside::Words => self.end_words(waiting, writer),
+            Inside::BadWord => self.put_last_word(waiting, writer),
+            Inside::BadLine => self.stream.put_counts(waiting, writer),
+        }
+    }
+
+    ghost stops_for_good = { stops_for_good };
+}

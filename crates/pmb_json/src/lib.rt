@@ -1,0 +1,26 @@
+//! `json`: what a capture says, as lines of JSON.
+//!
+//! [`json`] writes an object for each packet, each refusal and each word that is no token, as soon as
+//! it has ended, and at the end how often each device came. Behind a word that is no token reading
+//! ends, or goes on with the next line ([`BadWords`]).
+//!
+//! ```rust
+//! let choice = Choice { digits: Digits::default(), start: Start::AllKnown, devices: &[] };
+//! let mut reader = Io::new(b" 18 A f8 A P".as_slice());
+//! let mut writer = Io::new(Vec::new(rt.alloc()));
+//! let first = b"S b0 A 21 A 00 A";
+//! let tally = json(&profile, choice, BadWords::End, first, &mut reader, &mut writer)?;
+//! assert_eq!(rt; tally, Tally { packets: 1, refusals: 0 });
+//! ```
+#![tactic(auto)]
+
+mod bad_words;
+mod engine;
+pub mod laws;
+mod nowhere;
+mod run;
+mod word_end;
+mod word_laws;
+
+pub use bad_words::BadWords;
+pub use run::json;

@@ -1,0 +1,10 @@
+pub mod Lines
+pub mod Lists
+pub mod Putting
+pub mod Spans
+pub mod Starts
+pub mod Places
+pub mod Standing
+pub mod Told
+pub mod Ends
+pub mod Counts

@@ -1,0 +1,5 @@
+pub mod Choice
+pub mod Spans
+pub mod Before
+pub mod Stream
+pub mod machine

@@ -1,0 +1,35 @@
+use Rattle.pmb_words.proofs.JsonWords.{alone_is_nothing, asks_device, asks_digits, asks_with_flags, bad_device_asks_nothing, bad_digits_ask_nothing, no_flags, sample_flag, late_flag, fixed_flag, going_flag, two_flags}
+use Rattle.pmb_words.proofs.laws.json_words_ask.Goals as goal
+
+pub returns-clause-json : goal.returns-clause-json
+returns-clause-json c = asks_with_flags no_flags
+
+pub returns-clause-sample : goal.returns-clause-sample
+returns-clause-sample c = asks_with_flags sample_flag
+
+pub returns-clause-late : goal.returns-clause-late
+returns-clause-late c = asks_with_flags late_flag
+
+pub returns-clause-late_fixed : goal.returns-clause-late_fixed
+returns-clause-late_fixed c = asks_with_flags fixed_flag
+
+pub returns-clause-keep_going : goal.returns-clause-keep_going
+returns-clause-keep_going c = asks_with_flags going_flag
+
+pub returns-clause-two : goal.returns-clause-two
+returns-clause-two c = asks_with_flags two_flags
+
+pub returns-clause-digits : goal.returns-clause-digits
+returns-clause-digits c = asks_digits
+
+pub returns-clause-device : goal.returns-clause-device
+returns-clause-device c = asks_device
+
+pub returns-clause-fixed_alone : goal.returns-clause-fixed_alone
+returns-clause-fixed_alone c = alone_is_nothing
+
+pub returns-clause-bad_digits : goal.returns-clause-bad_digits
+returns-clause-bad_digits c = bad_digits_ask_nothing
+
+pub returns-clause-bad_device : goal.returns-clause-bad_device
+returns-clause-bad_device c = bad_device_asks_nothing
