@@ -3,4 +3,5 @@ pub mod Counts
 pub mod Fronts
 pub mod Behind
 pub mod OpenWords
+pub mod ShortWords
 pub mod Tails

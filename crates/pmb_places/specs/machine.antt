@@ -1,3 +1,4 @@
 -- What private fields say of the text that was given.
 pub mod Standing
+pub mod ShortWord
 pub mod OpenWord

@@ -18,6 +18,7 @@
 pub mod laws;
 mod open_word;
 mod places;
+mod short_word;
 
 pub use open_word::{OpenWord, WORD};
 pub use places::{Place, Places};

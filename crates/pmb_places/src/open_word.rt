@@ -1,13 +1,15 @@
 //! The word under way.
 //!
 //! Of a piece of text only its tail counts: the bytes behind the last one that stands in no word. So
-//! one loop finds where the tail begins, which keeps nothing, and then the tail is copied.
+//! one loop finds where the tail begins, which keeps nothing, and then the tail is copied. A short word
+//! and the space behind it, as most bytes come, leave no word under way.
 
 ghost use Rattle.std.specs.Prelude.{◌≡◌, ◌++◌, [], ℕ, ◌≤◌, List, length, take};
 ghost use Rattle.pmb_bus.specs.Text.{ends_in_comment, in_comment, is_separator, open_word};
 ghost use Rattle.pmb_places.specs.OpenWord.{OpenWordStandsAt};
 ghost use Rattle.pmb_places.specs.machine.OpenWord.{IsTail};
 
+use crate::short_word::{ShortWord, short_word};
 use arrayvec::ArrayVec;
 
 /// How many bytes of a word are kept.
@@ -101,6 +103,16 @@ impl OpenWord {
     /// Takes the next bytes of the text.
     #[inline]
     pub fn take(&mut self, bytes: &[u8])
+        ensures { (text : List ℕ) → OpenWordStandsAt self.old text → OpenWordStandsAt self.new (text ++ bytes.now) }
+    {
+        match short_word(bytes) {
+            ShortWord::One | ShortWord::Two if !self.in_comment => self.bytes.clear(),
+            _ => self.take_tail(bytes),
+        }
+    }
+
+    /// Takes bytes by their tail.
+    fn take_tail(&mut self, bytes: &[u8])
         ensures { (text : List ℕ) → OpenWordStandsAt self.old text → OpenWordStandsAt self.new (text ++ bytes.now) }
     {
         let tail = Tail::of(self.in_comment, bytes);

@@ -1,12 +1,15 @@
 //! Where words stand.
 //!
 //! `Places` keeps the places of three bytes and whether the last byte was one of a word or of a
-//! comment, and nothing else of the text.
+//! comment, and nothing else of the text. Most bytes come as a short word and the space behind it,
+//! which `take` takes at once; all others come one after the other.
 
 ghost use Rattle.std.specs.Prelude.{◌≡◌, ◌++◌, ◌∷◌, [], ℕ, List, true, false};
 ghost use Rattle.pmb_bus.specs.Text.{is_separator};
 ghost use Rattle.pmb_places.specs.Places.{PlacesStandAt, end_of_last_word, place_after, place_behind, place_of_last_word};
-ghost use Rattle.pmb_places.specs.machine.Standing.{after_byte, inside_behind};
+ghost use Rattle.pmb_places.specs.machine.Standing.{after_byte, behind_word, inside_behind, place_beside};
+
+use crate::short_word::{ShortWord, short_word};
 
 /// The place of a byte in a text. A line ends with LF. Both numbers count from 1, and stay at the
 /// greatest `u64`.
@@ -18,6 +21,17 @@ pub struct Place {
 }
 
 impl Place {
+    /// The next place of the same line.
+    #[inline]
+    fn beside(self) -> Place
+        ensures { result ≡ place_beside self }
+    {
+        Place {
+            line: self.line,
+            column: self.column.saturating_add(1),
+        }
+    }
+
     // The place of the byte behind a byte that stands here.
     #[inline]
     fn after(self, byte: u8) -> Place
@@ -29,10 +43,7 @@ impl Place {
                 column: 1,
             }
         } else {
-            Place {
-                line: self.line,
-                column: self.column.saturating_add(1),
-            }
+            self.beside()
         }
     }
 }
@@ -108,7 +119,30 @@ impl Places {
     }
 
     /// Takes the next bytes of the text.
+    #[inline]
     pub fn take(&mut self, bytes: &[u8])
+        ensures { (text : List ℕ) → PlacesStandAt self.old text → PlacesStandAt self.new (text ++ bytes.now) }
+    {
+        match (self.inside, short_word(bytes)) {
+            (Inside::Between, ShortWord::One) => self.take_word(self.here.beside()),
+            (Inside::Between, ShortWord::Two) => self.take_word(self.here.beside().beside()),
+            _ => self.take_each(bytes),
+        }
+    }
+
+    /// Takes a word of this line, which ends there, and a space.
+    #[inline]
+    fn take_word(&mut self, end: Place)
+        ensures { self.new ≡ behind_word self.old end }
+    {
+        self.word = self.here;
+        self.end = end;
+        self.here = end.beside();
+        self.inside = Inside::Between;
+    }
+
+    /// Takes bytes one after the other.
+    fn take_each(&mut self, bytes: &[u8])
         ensures { (text : List ℕ) → PlacesStandAt self.old text → PlacesStandAt self.new (text ++ bytes.now) }
     {
         for byte in bytes {

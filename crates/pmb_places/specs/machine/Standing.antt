@@ -1,9 +1,11 @@
 -- What a `Places` keeps of the text that it was given.
-use Rattle.std.specs.Prelude.{◌≡◌, ℕ, ◌==◌, ◌&&◌, not, Bool, true, false, if◌then◌else◌, List}
+use Rattle.std.specs.Prelude.{◌≡◌, ℕ, ◌+◌, ◌==◌, ◌&&◌, not, Bool, true, false, if◌then◌else◌, List}
+use Rattle.pmb_bus.specs.Count.{capped}
 use Rattle.pmb_bus.specs.Event.{character}
 use Rattle.pmb_bus.specs.Text.{ends_in_comment, is_separator, is_word, open_word}
 use Rattle.pmb_places.specs.declared.places.Inside.{Inside}
 use Rattle.pmb_places.specs.declared.places.Inside.TheVariants.{Between, Word, Comment}
+use Rattle.pmb_places.specs.declared.places.Place.{Place}
 use Rattle.pmb_places.specs.declared.places.Places.{Places}
 use Rattle.pmb_places.specs.Text.{place_after, place_behind, place_of_last_word, end_of_last_word}
 
@@ -36,6 +38,16 @@ after_byte p b =
       end = if is_in_a_word inside then place_after p.here b else p.end;
       inside = inside;
     }
+
+-- ---- a short word and a space at once
+
+-- the next place of the same line
+abbrev pub place_beside : Place → Place
+place_beside place = record { line = place.line; column = capped (place.column + 1) }
+
+-- behind a word that begins here and ends there, and a space
+abbrev pub behind_word : Places → Place → Places
+behind_word p end = record { here = place_beside end; word = p.here; end = end; inside = Between }
 
 pub record PlacesStandAt (places : Places) (text : List ℕ) : Type 0 where
   pub here : places.here ≡ place_behind text

@@ -1,6 +1,6 @@
 use Rattle.std.proofs.Common.{◌++◌, List, ℕ, take}
 use Rattle.pmb_places.specs.Places.{PlacesStandAt}
-use Rattle.pmb_places.proofs.places.Places.take.Given as goal
+use Rattle.pmb_places.proofs.places.Places.take_each.Given as goal
 
 -- it stands behind the bytes so far
 abbrev pub invariant-loop-byte : goal.invariant-loop-byte
