@@ -13,9 +13,6 @@ module _ (counts : ℕ → DeviceData) where
   pub come : (addr : ℕ) → has_come (counts addr) ≡ true → counts_of counts (addr ∷ []) ≡ counts_object addr (counts addr) ∷ []
   come addr came = rw came refl
 
-  pub not_come : (addr : ℕ) → has_come (counts addr) ≡ false → counts_of counts (addr ∷ []) ≡ []
-  not_come addr none = rw none refl
-
   pub counts_append : (a b : List ℕ) → counts_of counts (a ++ b) ≡ counts_of counts a ++ counts_of counts b
   counts_append a b =
       ap (map (λ (addr : ℕ). counts_object addr (counts addr))) (filter-append (λ (addr : ℕ). has_come (counts addr)) a b)

@@ -31,9 +31,6 @@ appended_line h0 h1 w0 w1 w2 line room appended = record {
 
 module _ (devices : List ℕ) where
   -- one object, of which nothing or its line goes out
-  pub puts_unwanted_line : (object : Object) (h : Option (List ℕ)) (w : List ℕ) → is_wanted devices object.device ≡ false → PutsText h w h w (object_lines devices (object ∷ []))
-  puts_unwanted_line object h w unwanted = subst (λ (t : List ℕ). PutsText h w h w t) (sym (unwanted_line devices object unwanted)) (writes_nothing h w)
-
   pub puts_wanted_line : (object : Object) (h0 h1 : Option (List ℕ)) (w0 w1 w2 : List ℕ) → is_wanted devices object.device ≡ true → PutsText h0 w0 h1 w1 []
       → w2 ≡ w1 ++ object_line object.members → PutsText h0 w0 h1 w2 (object_lines devices (object ∷ []))
   puts_wanted_line object h0 h1 w0 w1 w2 wanted room appended =

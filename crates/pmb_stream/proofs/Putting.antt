@@ -60,14 +60,6 @@ module _ (stream : Stream) where
   -- ---- the object at a START that may be there
 
   module _ (object : Before → Begun → Object) (begun : List Begun) where
-    pub puts_at_none : (h : Option (List ℕ)) (w : List ℕ) → begun ≡ [] → PutsObjects stream (λ b. map (object b) begun) h w h w
-    puts_at_none h w none = puts_as (λ b. []) (λ b. map (object b) begun) h h w w (λ b. ap (map (object b)) (sym none)) (puts_none h w)
-
-    pub puts_at_unwanted : (first : Begun) (device : Option ℕ) (h : Option (List ℕ)) (w : List ℕ) → begun ≡ first ∷ [] → ((b : Before) → (object b first).device ≡ device)
-        → is_wanted (stream_choice stream).devices device ≡ false → PutsObjects stream (λ b. map (object b) begun) h w h w
-    puts_at_unwanted first device h w is named unwanted =
-        puts_as (λ b. object b first ∷ []) (λ b. map (object b) begun) h h w w (λ b. ap (map (object b)) (sym is)) (puts_unwanted (λ b. object b first) device h w named unwanted)
-
     pub puts_at_wanted : (some : Before) (first : Begun) (device : Option ℕ) (h0 h1 : Option (List ℕ)) (w0 w1 w2 : List ℕ) → begun ≡ first ∷ [] → StreamKnows some stream
         → ((b : Before) → (object b first).device ≡ device) → is_wanted (stream_choice stream).devices device ≡ true → PutsText h0 w0 h1 w1 []
         → ((b : Before) → StreamKnows b stream → w2 ≡ w1 ++ object_line (object b first).members) → PutsObjects stream (λ b. map (object b) begun) h0 w0 h1 w2

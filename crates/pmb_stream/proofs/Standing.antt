@@ -4,7 +4,7 @@ use Rattle.std.proofs.lemmas.Bool.{false≢true}
 use Rattle.pmb_bus.specs.declared.event.Event.{Event}
 use Rattle.pmb_bus.specs.declared.event.Event.TheVariants.{Start, Byte, Ack, Nack, Stop}
 use Rattle.pmb_io.specs.Count.{capped}
-use Rattle.pmb_io.specs.Tally.{IsTallyOf, with_packet, with_refusal}
+use Rattle.pmb_io.specs.Tally.{IsTallyOf, with_packet}
 use Rattle.pmb_io.specs.declared.tally.Tally.{Tally}
 use Rattle.pmb_late.specs.Late.{HasSeen}
 use Rattle.pmb_objects.specs.Counts.{CountsData}
@@ -22,7 +22,7 @@ use Rattle.pmb_stream.specs.Before.{Before}
 use Rattle.pmb_stream.specs.Spans.{event_place}
 use Rattle.pmb_stream.specs.Stream.{StreamKnows, stream_profile}
 use Rattle.pmb_stream.specs.machine.Begun.{begun_behind, begun_legs}
-use Rattle.pmb_stream.specs.machine.Knowing.{IsCleared, IsCountOf, KeepsPacket, KeepsUnderWay, passes_on}
+use Rattle.pmb_stream.specs.machine.Knowing.{IsCleared, IsCountOf, KeepsPacket, KeepsUnderWay}
 use Rattle.pmb_stream.proofs.Starts.{one_more_kept}
 
 -- ---- what it was given
@@ -46,12 +46,6 @@ pub packet_counted : (old new : Tally) (packets refusals : ℕ) → new ≡ with
 packet_counted old new packets refusals is counts = record {
   packets_counted = ap (λ (t : Tally). t.packets) is ∙ (ap (λ (n : ℕ). capped (n + 1)) counts.packets_counted ∙ counted_more packets);
   refusals_counted = ap (λ (t : Tally). t.refusals) is ∙ counts.refusals_counted;
-}
-
-pub refusal_counted : (old new : Tally) (packets refusals more : ℕ) → new ≡ with_refusal old → refusals + 1 ≡ more → IsTallyOf packets refusals old → IsTallyOf packets more new
-refusal_counted old new packets refusals more is one counts = record {
-  packets_counted = ap (λ (t : Tally). t.packets) is ∙ counts.packets_counted;
-  refusals_counted = ap (λ (t : Tally). t.refusals) is ∙ (ap (λ (n : ℕ). capped (n + 1)) counts.refusals_counted ∙ counted_more refusals ∙ ap capped one);
 }
 
 -- ---- of a packet under way
@@ -99,23 +93,6 @@ keeps_event b old new text n count place events event keeps passing said begun c
       ∙ ap (λ (p : Place). begun_behind (begun_legs at (b.n + n) events) (capped ((b.n + n) + length events)) p event) (sym (placed more))
       ∙ sym (one_more_kept at (b.n + n) events event);
 }
-
--- an event that is passed over
-pub keeps_passing : (b : Before) (stream : Stream) (text : List ℕ) (n : ℕ) (event : Event) → IsCleared stream → stream.passing ≡ passes_on event
-    → KeepsUnderWay b stream text (behind_passed n event)
-keeps_passing b stream text n Start cleared is = (is, cleared)
-keeps_passing b stream text n (Byte c) cleared is = (is, cleared)
-keeps_passing b stream text n Ack cleared is = (is, cleared)
-keeps_passing b stream text n Nack cleared is = (is, cleared)
-keeps_passing b stream text n Stop cleared is = keeps_none b stream text (n + 1) is cleared
-
-pub passed_event : (b : Before) (old new : Stream) (text : List ℕ) (standing : Standing) (event : Event) → old.passing ≡ true → KeepsUnderWay b old text standing
-    → new.said ≡ old.said → new.begun ≡ old.begun → new.passing ≡ passes_on event → KeepsUnderWay b new text (stands_behind standing event)
-passed_event b old new text (Open n events) event passing keeps said begun is = absurd (false≢true (sym keeps.reading ∙ passing))
-passed_event b old new text (Held n refusal) event passing keeps said begun is = tt
-passed_event b old new text (Passing n) event passing keeps said begun is =
-    keeps_passing b new text n event
-    (record { said = subst (λ s. SaidStandsAt s []) (sym said) keeps.1.said; begun = ap (λ l. l.items) begun ∙ keeps.1.begun }) is
 
 -- an event where none is passed over
 pub read_event : (b : Before) (old new : Stream) (text : List ℕ) (standing : Standing) (all : ℕ) (place : Place) (event : Event) → old.passing ≡ false → KeepsUnderWay b old text standing

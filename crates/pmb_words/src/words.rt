@@ -33,7 +33,7 @@ fn pmb_command<'a>(alloc: Global) -> Result<Command<'a>, AllocError>
         traffic_command(alloc)?,
         "profile",
         "Shows the bus that a profile makes: its devices and their commands",
-        "Standard input is the profile, up to a line '%%' or to its end.\n\n\
+        "Standard input is the profile, up to a line '%%' or to its end. If the profile is wrong, this says why.\n\n\
          Example:\n  ./pmb profile < examples/profiles/ltc3880.toml",
     )?;
     let encoding = with_lines(
@@ -64,7 +64,7 @@ fn traffic_command<'a>(alloc: Global) -> Result<Command<'a>, AllocError>
         "build",
         "Writes the bus events of transaction lines, a packet a line",
         "Standard input is a profile, a line '%%' and transaction lines, or with --sample the lines \
-         alone. 'pmb profile' shows what a profile makes.\n\n\
+         alone. 'pmb profile' shows what a profile makes, or what is wrong with it.\n\n\
          Example:\n  echo 'write 58 21 00 18 pec' | ./pmb build --sample",
     )?;
     with_sampled(
@@ -73,7 +73,7 @@ fn traffic_command<'a>(alloc: Global) -> Result<Command<'a>, AllocError>
         "run",
         "Runs requests on simulated devices: a packet and its result for each",
         "Standard input is a profile, a line '%%' and request lines, or with --sample the lines \
-         alone. 'pmb profile' shows what a profile makes.\n\n\
+         alone. 'pmb profile' shows what a profile makes, or what is wrong with it.\n\n\
          Example:\n  echo 'set 58 21 12' | ./pmb run --sample",
     )
 }
@@ -88,7 +88,7 @@ fn capture_command<'a>(alloc: Global) -> Result<Command<'a>, AllocError>
         "show",
         "Shows the transactions of a capture, one a line",
         "Standard input is a profile, a line '%%' and the capture, or with --sample the capture \
-         alone. 'pmb profile' shows what a profile makes.\n\n\
+         alone. 'pmb profile' shows what a profile makes, or what is wrong with it.\n\n\
          Example:\n  echo 'S b0 A 21 A 00 A 18 A P' | ./pmb show --sample",
     )?;
     let checking = with_sampled(
@@ -97,7 +97,7 @@ fn capture_command<'a>(alloc: Global) -> Result<Command<'a>, AllocError>
         "check",
         "Tells the refusals of a capture, one a line, and the number of packets",
         "Standard input is a profile, a line '%%' and the capture, or with --sample the capture \
-         alone. 'pmb profile' shows what a profile makes.\n\n\
+         alone. 'pmb profile' shows what a profile makes, or what is wrong with it.\n\n\
          Example:\n  echo 'S b0 A 03 A 47 A P' | ./pmb check --sample",
     )?;
     checking.subcommand(json_command(alloc)?)
@@ -217,7 +217,7 @@ fn bare_json_command<'a>(alloc: Global) -> Command<'a>
         .about("Tells what a capture says, as lines of JSON")
         .after_help(
             "Standard input is a profile, a line '%%' and the capture, or with --sample the capture \
-             alone. 'pmb profile' shows what a profile makes.\n\n\
+             alone. 'pmb profile' shows what a profile makes, or what is wrong with it.\n\n\
              Example:\n  echo 'S b0 A 21 A 00 A 18 A P' | ./pmb json --sample",
         )
 }

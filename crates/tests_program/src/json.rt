@@ -236,7 +236,7 @@ const HELP: &str = "Tells what a capture says, as lines of JSON\n\n\
     \x20     --digits <N>       The most digits after the point of a number, 0 to 12; 6 without this\n\
     \x20     --device <HH>      Tell only what is said of the device at this address of seven bits, in two hexadecimal digits; may be given more than once\n\
     \x20 -h, --help             Print help\n\n\
-    Standard input is a profile, a line '%%' and the capture, or with --sample the capture alone. 'pmb profile' shows what a profile makes.\n\n\
+    Standard input is a profile, a line '%%' and the capture, or with --sample the capture alone. 'pmb profile' shows what a profile makes, or what is wrong with it.\n\n\
     Example:\n  echo 'S b0 A 21 A 00 A 18 A P' | ./pmb json --sample\n";
 
 #[test]
