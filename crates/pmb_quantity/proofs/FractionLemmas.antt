@@ -4,8 +4,8 @@ use Rattle.std.specs.Int.{IsGcd, ◌∣◌}
 use Rattle.std.proofs.lemmas.Bool.{cases_Bool, cases_eq, false≢true}
 use Rattle.std.proofs.lemmas.Bool.Decides.{nat_tests}
 use Rattle.std.proofs.lemmas.Nat.{mod_below, div-add-mod', mod-mul-add}
-use Rattle.std.proofs.Math.Nat.{zero-mul, mul-lt-mul_of_pos_right, div-mul_cancel, mul-div_cancel, eq-zero_of_zero-dvd, eq-one_of_dvd-one}
-use Rattle.std.proofs.lemmas.Nat.Gcd.{IsGcd-from_zero, IsGcd-from_mod, same_from_IsGcd, dvd_of_mod-eq-zero, mod-eq-zero_of_dvd, le_of_dvd}
+use Rattle.std.proofs.Math.Nat.{zero-mul, mul-lt-mul_of_pos_right, div-mul_cancel, mul-div_cancel, eq-zero_of_zero-dvd, eq-one_of_dvd-one, one-dvd, dvd-mul_right}
+use Rattle.std.proofs.lemmas.Nat.Gcd.{IsGcd-from_zero, IsGcd-from_mod, IsGcd-swap, same_from_IsGcd, dvd_trans, dvd_of_mod-eq-zero, mod-eq-zero_of_dvd, le_of_dvd}
 use Rattle.pmb_quantity.specs.Fraction.{Fraction, common_divisor, gcd, IsLowest, IsQuantity}
 
 -- ---- there is a greatest common divisor: Euclid's division finds it, in so many turns
@@ -108,6 +108,9 @@ IsGcd-gcd (suc a) b =
 pub gcd_is : (a b g : ℕ) → IsGcd a b g → gcd a b ≡ g
 gcd_is a b g is = same_from_IsGcd a b (gcd a b) g (IsGcd-gcd a b) is
 
+pub gcd_swap : (a b : ℕ) → gcd b a ≡ gcd a b
+gcd_swap a b = gcd_is b a (gcd a b) (IsGcd-swap a b (gcd a b) (IsGcd-gcd a b))
+
 pub gcd_of_zero : (a : ℕ) → gcd a zero ≡ a
 gcd_of_zero a = gcd_is a 0 a (IsGcd-from_zero a 0 refl)
 
@@ -181,3 +184,31 @@ IsQuantity-quotients n d positive n_fits d_fits = record {
   positive = quotient_positive d (gcd n d) positive (IsGcd-gcd n d).1;
   lowest = lowest_of_gcd (record { numerator = pos (n / gcd n d); denominator = d / gcd n d }) (gcd-quotients n d positive);
 }
+
+-- ---- numbers without a common divisor
+-- Where a and b have no common divisor and b divides a * c, it divides c.
+pub divides_other : (a b c : ℕ) → 0 < c → gcd a b ≡ 1 → b ∣ a * c → b ∣ c
+divides_other a b c some one divides =
+    let P : ℕ → Type 0 = λ g. b ∣ g in
+    let whole : gcd (a * c) (b * c) ≡ c = gcd-scale a b c some ∙ ap (λ g. g * c) one ∙ omega arith in
+    subst P whole ((IsGcd-gcd (a * c) (b * c)).2 b divides (dvd-mul_right b c))
+
+-- what a divisor of a number has in common with another one
+pub coprime_divisor : (d n m : ℕ) → d ∣ n → gcd n m ≡ 1 → gcd d m ≡ 1
+coprime_divisor d n m divides one =
+    gcd_is d m 1 (
+      one-dvd d,
+      one-dvd m,
+      λ k of_d of_m. subst (λ (g : ℕ). k ∣ g) one ((IsGcd-gcd n m).2 k (dvd_trans k of_d divides) of_m),
+    )
+
+-- with a product a number has no common divisor where it has none with either factor
+pub coprime_product : (n a b : ℕ) → 0 < b → gcd n a ≡ 1 → gcd n b ≡ 1 → gcd n (a * b) ≡ 1
+coprime_product n a b some with_a with_b =
+    gcd_is n (a * b) 1 (
+      one-dvd n,
+      one-dvd (a * b),
+      λ d of_n of_product.
+          let of_b : d ∣ b = divides_other a d b some (gcd_swap d a ∙ coprime_divisor d n a of_n with_a) of_product in
+          subst (λ (g : ℕ). d ∣ g) with_b ((IsGcd-gcd n b).2 d of_n of_b),
+    )

@@ -1,5 +1,5 @@
 -- The laws.
-use Rattle.std.proofs.Common.{◌≡◌, ℕ, suc, ◌*◌, ◌/◌, ◌<◌, ℤ, pos, negsuc, neg_ℤ, ◌*ℤ◌, unsigned_abs, int_div, refl, sym, ap, ◌∙◌, subst, arith}
+use Rattle.std.proofs.Common.{◌≡◌, ℕ, suc, ◌*◌, ◌/◌, ◌<◌, ℤ, pos, negsuc, neg_ℤ, ◌*ℤ◌, unsigned_abs, int_div, refl, sym, ap, ◌∙◌, subst}
 use Rattle.std.proofs.Math.Nat.{div-mul_cancel, mul_assoc, mul_comm, dvd-mul_left, dvd-mul_right}
 use Rattle.std.proofs.Math.IntN.{*ℤ_comm}
 use Rattle.std.proofs.lemmas.Nat.Gcd.{dvd_antisymm}
@@ -8,7 +8,7 @@ use Rattle.pmb_quantity.specs.Fraction.{Fraction, HasValue, IsLowest, gcd, lowes
 use Rattle.pmb_quantity.proofs.Fitted.{unsigned_abs-neg}
 use Rattle.pmb_quantity.specs.Laws.{AreLowestTerms}
 use Rattle.pmb_quantity.proofs.Scaling.{neg-scale, unscale_eq, scale-swap}
-use Rattle.pmb_quantity.proofs.FractionLemmas.{IsGcd-gcd, gcd-quotients, gcd-scale, gcd_of_lowest, lowest_of_gcd, quotient_positive}
+use Rattle.pmb_quantity.proofs.FractionLemmas.{IsGcd-gcd, gcd-quotients, gcd_of_lowest, lowest_of_gcd, quotient_positive, divides_other}
 
 -- both products are one multiple of the two quotients
 cross : (m d g : ℕ) → g ∣ m → g ∣ d → m / g * d ≡ d / g * m
@@ -32,13 +32,6 @@ pub lowest_terms-lowest : (n : ℤ) (d : ℕ) → 0 < d → IsLowest (lowest_ter
 lowest_terms-lowest n d positive =
     let g = gcd (unsigned_abs n) d in
     lowest_of_gcd (lowest_terms n d) (ap (λ m. gcd m (d / g)) (int_div-abs n g) ∙ gcd-quotients (unsigned_abs n) d positive)
-
--- Where a and b have no common divisor and b divides a * c, it divides c.
-divides_other : (a b c : ℕ) → 0 < c → gcd a b ≡ 1 → b ∣ a * c → b ∣ c
-divides_other a b c some one divides =
-    let P : ℕ → Type 0 = λ g. b ∣ g in
-    let whole : gcd (a * c) (b * c) ≡ c = gcd-scale a b c some ∙ ap (λ g. g * c) one ∙ omega arith in
-    subst P whole ((IsGcd-gcd (a * c) (b * c)).2 b divides (dvd-mul_right b c))
 
 -- Two fractions of one value in lowest terms are one.
 same_denominator : (x e y f : ℕ) → 0 < e → 0 < f → gcd x e ≡ 1 → gcd y f ≡ 1 → x * f ≡ e * y → e ≡ f

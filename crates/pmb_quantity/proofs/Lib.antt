@@ -8,6 +8,10 @@ pub mod DigitLemmas
 pub mod ReadingLemmas
 pub mod RoundTrip
 pub mod Shortest
+pub mod Primes
+pub mod Decimals
+pub mod Powers
+pub mod Tens
 pub mod Places
 pub mod Twos
 pub mod Halves

@@ -1,15 +1,16 @@
 -- Numbers in texts, and the fractions that they make.
-use Rattle.std.proofs.Common.{◌≡◌, ◌≢◌, ℕ, zero, suc, ◌+◌, ◌-◌, ◌*◌, ◌/◌, ◌^◌, ◌<◌, ◌≤◌, cond, eq-eqb, pos, List, [], ◌∷◌, ◌++◌, length, take, drop, get_or, ◌⊎◌, Some, None, Result, Err, refl, sym, ap, ◌∙◌, inl, inr, arith, take-append-drop}
+use Rattle.std.proofs.Common.{◌≡◌, ◌≢◌, ℕ, zero, suc, ◌+◌, ◌-◌, ◌*◌, ◌/◌, ◌^◌, ◌<◌, ◌≤◌, cond, eq-eqb, pos, List, [], ◌∷◌, ◌++◌, length, length-append, take, drop, get_or, ◌⊎◌, Some, None, Result, Ok, Err, refl, sym, ap, ◌∙◌, inl, inr, arith, take-append-drop}
 use Rattle.std.specs.Char.{digit_value}
 use Rattle.std.specs.Str.Parse.{AllDigits, digits_value, digits_value_after}
 use Rattle.std.specs.Int.{◌∣◌}
 use Rattle.std.proofs.lemmas.Bool.{cases_lt, ne_eqb, cond_below, cond_above}
 use Rattle.std.proofs.lemmas.Bool.Decides.{nat_tests}
-use Rattle.std.proofs.lemmas.Int.Digits.{digits_value_more}
+use Rattle.std.proofs.lemmas.Int.Digits.{digits_value-lt}
 use Rattle.std.proofs.lemmas.Str.Parse.{digit_at}
 use Rattle.std.proofs.lemmas.Nat.{le-div, mul-le}
 use Rattle.std.proofs.lemmas.Nat.Gcd.{le_of_dvd}
-use Rattle.std.proofs.Math.Nat.{pow-suc, div-one, div-mul_cancel, mul-div_cancel, mul_assoc, mul-lt-mul_of_pos_right, mul-add-mod_self_right}
+use Rattle.std.proofs.Math.Seq.{take-suc}
+use Rattle.std.proofs.Math.Nat.{pow-suc, div-one, div-le_self, div-mul_cancel, mul-div_cancel, mul_assoc, mul-lt-mul_of_pos_right, mul-add-mod_self_right}
 use Rattle.pmb_quantity.specs.declared.quantity.QuantityFault.{QuantityFault}
 use Rattle.pmb_quantity.specs.declared.quantity.QuantityFault.TheVariants.{Empty, ZeroDenominator, TooLarge}
 use Rattle.pmb_quantity.specs.Fraction.{Fraction, gcd, lowest_terms}
@@ -17,7 +18,8 @@ use Rattle.pmb_quantity.specs.Quantity.{fitted, negated}
 use Rattle.pmb_quantity.specs.Reading.{without_last_zeros, with_last, point_value, slash_value, numeral_of, numeral_value, reading}
 use Rattle.pmb_quantity.specs.machine.Below.{below}
 use Rattle.pmb_quantity.proofs.FractionLemmas.{gcd_step, gcd_positive, gcd-scale, gcd-quotients, IsGcd-gcd, quotient_positive}
-use Rattle.pmb_quantity.proofs.Fitted.{lowest-numerator, lowest-denominator}
+use Rattle.pmb_quantity.proofs.Fitted.{lowest-fits, lowest-numerator, lowest-denominator}
+use Rattle.pmb_quantity.proofs.TextLemmas.{ten_at_most}
 
 -- ---- digits and their number
 pub is_digit_at : (ds : List ℕ) (i : ℕ) → AllDigits 10 ds → i < length ds → (48 ≤ get_or ds i 0) × (get_or ds i 0 ≤ 57)
@@ -25,11 +27,6 @@ is_digit_at ds i digits inside = let at = digit_at ds i digits inside in (omega 
 
 value_of_digit : (c : ℕ) → 48 ≤ c → c ≤ 57 → digit_value c ≡ c - 48
 value_of_digit c low high = grind (arith, nat_tests)
-
-pub digit_more : (ds : List ℕ) (i : ℕ) → AllDigits 10 ds → i < length ds → digits_value 10 (take (i + 1) ds) ≡ digits_value 10 (take i ds) * 10 + (get_or ds i 0 - 48)
-digit_more ds i digits inside =
-    let at = is_digit_at ds i digits inside in
-    digits_value_more 10 ds i inside ∙ ap (λ d. digits_value 10 (take i ds) * 10 + d) (value_of_digit (get_or ds i 0) at.0 at.1)
 
 -- more digits make the number no smaller
 after_at_least : (n : ℕ) (ds : List ℕ) → n ≤ digits_value_after 10 n ds
@@ -40,10 +37,17 @@ after-append : (n : ℕ) (xs ys : List ℕ) → digits_value_after 10 n (xs ++ y
 after-append n [] ys = refl
 after-append n (x ∷ xs) ys = after-append (n * 10 + digit_value x) xs ys
 
-pub front_at_most : (ds : List ℕ) (i : ℕ) → digits_value 10 (take i ds) ≤ digits_value 10 ds
-front_at_most ds i =
-    let whole : digits_value 10 (take i ds ++ drop i ds) ≡ digits_value 10 ds = ap (digits_value 10) (take-append-drop i ds) in
-    omega (arith, whole, after-append 0 (take i ds) (drop i ds), after_at_least (digits_value 10 (take i ds)) (drop i ds))
+-- one digit more
+pub after_more : (n : ℕ) (ds : List ℕ) (i : ℕ) → AllDigits 10 ds → i < length ds → digits_value_after 10 n (take (i + 1) ds) ≡ digits_value_after 10 n (take i ds) * 10 + (get_or ds i 0 - 48)
+after_more n ds i digits inside =
+    let at = is_digit_at ds i digits inside in
+    let next : i + 1 ≡ suc i = omega arith in
+    ap (λ k. digits_value_after 10 n (take k ds)) next ∙ ap (digits_value_after 10 n) (take-suc ds i 0 inside) ∙ after-append n (take i ds) (get_or ds i 0 ∷ []) ∙ ap (λ d. digits_value_after 10 n (take i ds) * 10 + d) (value_of_digit (get_or ds i 0) at.0 at.1)
+
+pub after_front : (n : ℕ) (ds : List ℕ) (i : ℕ) → digits_value_after 10 n (take i ds) ≤ digits_value_after 10 n ds
+after_front n ds i =
+    let whole : digits_value_after 10 n (take i ds ++ drop i ds) ≡ digits_value_after 10 n ds = ap (digits_value_after 10 n) (take-append-drop i ds) in
+    omega (arith, whole, after-append n (take i ds) (drop i ds), after_at_least (digits_value_after 10 n (take i ds)) (drop i ds))
 
 -- digits after a number
 after-is : (n : ℕ) (ds : List ℕ) → digits_value_after 10 n ds ≡ n * 10 ^ length ds + digits_value 10 ds
@@ -57,6 +61,23 @@ after-is n (c ∷ cs) =
 
 pub digits_value-append : (xs ys : List ℕ) → digits_value 10 (xs ++ ys) ≡ digits_value 10 xs * 10 ^ length ys + digits_value 10 ys
 digits_value-append xs ys = after-append 0 xs ys ∙ after-is (digits_value 10 xs) ys
+
+-- few digits write a small number
+pub AllDigits-append : (xs ys : List ℕ) → AllDigits 10 xs → AllDigits 10 ys → AllDigits 10 (xs ++ ys)
+AllDigits-append [] ys front back = back
+AllDigits-append (x ∷ xs) ys front back = (front.0, AllDigits-append xs ys front.1 back)
+
+pub few_digits : (most : ℕ) (ds : List ℕ) → AllDigits 10 ds → length ds ≤ most → digits_value 10 ds < 10 ^ most
+few_digits most ds digits few =
+    omega (arith, digits_value-lt 10 ds digits, ten_at_most (length ds) most few)
+
+-- two runs of digits, one behind the other
+pub after_both : (front back : List ℕ) → digits_value_after 10 (digits_value 10 front) back ≡ digits_value 10 (front ++ back)
+after_both front back = sym (after-append 0 front back)
+
+pub few_in_both : (front back : List ℕ) → AllDigits 10 front → AllDigits 10 back → length front + length back ≤ 18 → digits_value 10 (front ++ back) < 10 ^ 18
+few_in_both front back front_digits back_digits few =
+    few_digits 18 (front ++ back) (AllDigits-append front back front_digits back_digits) (omega (arith, length-append front back))
 
 -- a number below a limit, or none
 pub below-none : (limit n : ℕ) → limit ≤ n → below limit n ≡ None
@@ -169,6 +190,15 @@ module _ (front back : List ℕ) where
       let value : List ℕ → Result Fraction QuantityFault = λ (k : List ℕ). fitted (lowest_terms (pos (digits_value 10 (front ++ k))) (10 ^ length k)) in
       let short_here : length (without_last_zeros back) ≤ 24 = omega (arith, ap length is) in
       sym (cond_above 24 (length (without_last_zeros back)) (Err TooLarge) (value (without_last_zeros back)) (value (without_last_zeros back)) short_here refl) ∙ ap value (sym is) ∙ ap (λ n. fitted (lowest_terms (pos n) (10 ^ length kept))) (digits_value-append front kept)
+
+  pub point-short : (kept : List ℕ) → kept ≡ without_last_zeros back → length kept ≤ 18 → digits_value 10 (front ++ kept) < 2 ^ 62 → point_value front back ≡ Ok (lowest_terms (pos (digits_value 10 (front ++ kept))) (10 ^ length kept))
+  point-short kept is few small =
+      let n = digits_value 10 (front ++ kept) in
+      let d = 10 ^ length kept in
+      let ten : d ≤ 10 ^ 18 = ten_at_most (length kept) 18 few in
+      point-is kept is (omega arith)
+      ∙ ap (λ x. fitted (lowest_terms (pos x) d)) (sym (digits_value-append front kept))
+      ∙ lowest-fits n d (omega (arith, div-le_self n (gcd n d))) (omega (arith, ten, div-le_self d (gcd n d)))
 
   pub slash-zero : digits_value 10 back ≡ 0 → slash_value front back ≡ Err ZeroDenominator
   unfolding slash_value

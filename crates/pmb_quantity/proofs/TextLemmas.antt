@@ -1,8 +1,8 @@
 -- Texts of numbers.
-use Rattle.std.proofs.Common.{◌≡◌, ℕ, zero, suc, ◌+◌, ◌-◌, ◌/◌, ◌%◌, ◌^◌, ◌<◌, ◌≤◌, Bool, true, false, cond, ◌==◌, Some, None, [], ◌∷◌, length, length-append, ℤ, pos, negsuc, ◌<ℤ◌, ◌≤ℤ◌, refl, ap, ◌∙◌, arith}
+use Rattle.std.proofs.Common.{◌≡◌, ℕ, zero, suc, ◌+◌, ◌-◌, ◌/◌, ◌%◌, ◌^◌, ◌<◌, ◌≤◌, Bool, true, false, cond, ◌==◌, Some, None, [], ◌∷◌, ◌++◌, length, length-append, append_assoc, ℤ, pos, negsuc, ◌<ℤ◌, ◌≤ℤ◌, refl, ap, ◌∙◌, arith}
 use Rattle.std.proofs.lemmas.Int.{ints}
 use Rattle.std.specs.Fmt.{decimal}
-use Rattle.std.proofs.lemmas.Fmt.{decimal_step, length-decimal-le}
+use Rattle.std.proofs.lemmas.Fmt.{decimal_step, decimal_digit, length-decimal-le}
 use Rattle.std.proofs.Math.Nat.{pow-le-pow_right, one-le-pow}
 use Rattle.pmb_quantity.specs.QuantityText.{first_of, places_of, padded, minus}
 
@@ -10,9 +10,26 @@ use Rattle.pmb_quantity.specs.QuantityText.{first_of, places_of, padded, minus}
 pub short_decimal : (n : ℕ) → n < 2 ^ 62 → length (decimal n) ≤ 19
 short_decimal n small = length-decimal-le 19 n (omega arith) (omega arith) (omega arith)
 
--- one digit more
-pub length-decimal_step : (n : ℕ) → 10 ≤ n → n < 2 ^ 64 → length (decimal n) ≡ length (decimal (n / 10)) + 1
-length-decimal_step n large small = ap length (decimal_step n large small) ∙ length-append (decimal (n / 10)) ((48 + n % 10) ∷ [])
+-- two digits, and two digits more
+pub decimal_pair : (n : ℕ) → 10 ≤ n → n < 100 → decimal n ≡ (48 + n / 10) ∷ (48 + n % 10) ∷ []
+decimal_pair n large small =
+    decimal_step n large (omega arith) ∙ ap (λ ds. ds ++ (48 + n % 10) ∷ []) (decimal_digit (n / 10) (omega arith))
+
+pub decimal_pairs : (n : ℕ) → 100 ≤ n → n < 2 ^ 64 → decimal n ≡ decimal (n / 100) ++ ((48 + n % 100 / 10) ∷ (48 + n % 100 % 10) ∷ [])
+decimal_pairs n large small =
+    let front : n / 10 / 10 ≡ n / 100 = omega arith in
+    let first : n / 10 % 10 ≡ n % 100 / 10 = omega arith in
+    let last : n % 10 ≡ n % 100 % 10 = omega arith in
+    decimal_step n (omega arith) small
+    ∙ ap (λ ds. ds ++ (48 + n % 10) ∷ []) (decimal_step (n / 10) (omega arith) (omega arith))
+    ∙ append_assoc (decimal (n / 10 / 10)) ((48 + n / 10 % 10) ∷ []) ((48 + n % 10) ∷ [])
+    ∙ ap (λ x. decimal x ++ ((48 + n / 10 % 10) ∷ (48 + n % 10) ∷ [])) front
+    ∙ ap (λ x. decimal (n / 100) ++ ((48 + x) ∷ (48 + n % 10) ∷ [])) first
+    ∙ ap (λ x. decimal (n / 100) ++ ((48 + n % 100 / 10) ∷ (48 + x) ∷ [])) last
+
+pub length-decimal_pairs : (n : ℕ) → 100 ≤ n → n < 2 ^ 64 → length (decimal n) ≡ length (decimal (n / 100)) + 2
+length-decimal_pairs n large small =
+    ap length (decimal_pairs n large small) ∙ length-append (decimal (n / 100)) ((48 + n % 100 / 10) ∷ (48 + n % 100 % 10) ∷ [])
 
 pub length-padded : (places n : ℕ) → length (padded places n) ≡ places
 length-padded zero n = refl
@@ -20,8 +37,11 @@ length-padded (suc places) n =
     length-append (padded places (n / 10)) ((48 + n % 10) ∷ []) ∙ omega (arith, length-padded places (n / 10))
 
 -- powers of ten in use are small
+pub ten_at_most : (places most : ℕ) → places ≤ most → 10 ^ places ≤ 10 ^ most
+ten_at_most places most few = pow-le-pow_right {n = 10} (omega arith) {i = places} {j = most} few
+
 pub ten_small : (places : ℕ) → places ≤ 24 → 10 ^ places ≤ 10 ^ 24
-ten_small places few = pow-le-pow_right {n = 10} (omega arith) {i = places} {j = 24} few
+ten_small places few = ten_at_most places 24 few
 
 pub ten_positive : (places : ℕ) → 0 < 10 ^ places
 ten_positive places = omega (arith, one-le-pow places 10 (omega arith))

@@ -1,49 +1,20 @@
 -- Twos in a number, and what it has in common with a power of two.
-use Rattle.std.proofs.Common.{◌≡◌, ℕ, zero, suc, inl, inr, ◌+◌, ◌-◌, ◌*◌, ◌/◌, ◌%◌, ◌^◌, ◌<◌, ◌≤◌, min, pos, sym, ap, ◌∙◌, subst, arith}
-use Rattle.std.specs.Int.{bit_at, w64, trailing_zeros, ◌∣◌}
+use Rattle.std.proofs.Common.{◌≡◌, ℕ, zero, suc, inl, inr, ◌+◌, ◌-◌, ◌*◌, ◌/◌, ◌%◌, ◌^◌, ◌<◌, ◌≤◌, min, pos, sym, ap, ◌∙◌, arith}
+use Rattle.std.specs.Int.{bit_at, w64, trailing_zeros}
 use Rattle.std.specs.Int.Count.{trailing_of_zero}
-use Rattle.std.proofs.lemmas.Bool.{cases_eq, cases_lt}
-use Rattle.std.proofs.lemmas.Nat.{pow_pos, pow-add, mul-mod_second}
+use Rattle.std.proofs.lemmas.Bool.{cases_lt}
+use Rattle.std.proofs.lemmas.Nat.{pow_pos, pow-add}
 use Rattle.std.proofs.lemmas.Nat.Bits.{bit_at-trailing_zeros, bit_at-zero}
-use Rattle.std.proofs.lemmas.Nat.Gcd.{dvd_refl}
-use Rattle.std.proofs.Math.Nat.{mul_assoc, mul_comm, mul-div_cancel, div-mul_cancel, pow-suc, one-dvd, dvd-mul_left, eq-one_of_dvd-one}
+use Rattle.std.proofs.lemmas.Nat.Gcd.{mod-eq-zero_of_dvd}
+use Rattle.std.proofs.Math.Nat.{mul_assoc, mul_comm, mul-div_cancel, pow-suc, one-dvd}
 use Rattle.pmb_quantity.specs.Fraction.{gcd, lowest_terms}
 use Rattle.pmb_quantity.proofs.FractionLemmas.{gcd_is, gcd-scale, gcd-quotients}
-
--- what divides an odd number is odd
-odd_divisor : (d n : ℕ) → d ∣ n → n % 2 ≡ 1 → d % 2 ≡ 1
-odd_divisor d n divides odd =
-    elim (cases_eq (d % 2) 0) [
-      | inl even ↦
-          let whole : n / d * d ≡ n = div-mul_cancel d divides in
-          let product : (n / d * d) % 2 ≡ (n / d * 0) % 2 = sym (mul-mod_second (n / d) d 2) ∙ ap (λ r. (n / d * r) % 2) even in
-          absurd (omega (arith, whole, product, ap (λ x. x % 2) whole))
-      | inr other ↦ omega arith
-    ]
-
--- an odd number that divides a power of two is 1
-odd_power : (j d : ℕ) → d % 2 ≡ 1 → d ∣ 2 ^ j → d ≡ 1
-odd_power zero d odd divides = eq-one_of_dvd-one divides
-odd_power (suc j) d odd divides =
-    let m = 2 ^ suc j / d in
-    let whole : m * d ≡ 2 ^ suc j = div-mul_cancel d divides in
-    let parity : (m * d) % 2 ≡ (m * 1) % 2 = sym (mul-mod_second m d 2) ∙ ap (λ r. (m * r) % 2) odd in
-    let even : (m * d) % 2 ≡ 0 = ap (λ x. x % 2) whole ∙ omega (arith, pow-suc 2 j) in
-    let halves : m ≡ m / 2 * 2 = omega (arith, parity, even) in
-    let swapped : m * d ≡ m / 2 * d * 2 = ap (λ x. x * d) halves ∙ mul_assoc (m / 2) 2 d ∙ ap (λ x. m / 2 * x) (mul_comm 2 d) ∙ sym (mul_assoc (m / 2) d 2) in
-    let half : m / 2 * d ≡ 2 ^ j = omega (arith, swapped, whole, pow-suc 2 j) in
-    odd_power j d odd (subst (λ (x : ℕ). d ∣ x) half (dvd-mul_left d (m / 2)))
+use Rattle.pmb_quantity.proofs.Primes.{two_coprime}
 
 gcd_of_odd : (n j : ℕ) → n % 2 ≡ 1 → gcd n (2 ^ j) ≡ 1
-gcd_of_odd n j odd =
-    gcd_is n (2 ^ j) 1 (
-      one-dvd n,
-      one-dvd (2 ^ j),
-      λ d of_n of_power.
-          subst (λ (x : ℕ). x ∣ 1) (sym (odd_power j d (odd_divisor d n of_n odd) of_power)) (dvd_refl 1),
-    )
+gcd_of_odd n j odd = two_coprime n j (λ even. omega (arith, odd, mod-eq-zero_of_dvd 2 even))
 
-gcd_of_one : (n : ℕ) → gcd n 1 ≡ 1
+pub gcd_of_one : (n : ℕ) → gcd n 1 ≡ 1
 gcd_of_one n = gcd_is n 1 1 (one-dvd n, one-dvd 1, λ d of_n of_one. of_one)
 
 -- no digit of two below the t-th is set
@@ -81,6 +52,13 @@ common_twos (suc n) h fits few =
       | inl less ↦ common (suc n) h t (omega arith) (no_rest t (suc n) digits.2) (gcd_of_odd (suc n / 2 ^ t) (h - t) digits.1) ∙ ap (λ x. 2 ^ x) (omega arith)
       | inr more ↦ all_of_them (suc n) h (λ i less. digits.2 i (omega arith)) ∙ ap (λ x. 2 ^ x) (omega arith)
     ]
+
+-- without its twos a number is odd
+pub odd_part : (n : ℕ) → 0 < n → n < 2 ^ 64 → n / 2 ^ trailing_zeros w64 n % 2 ≡ 1
+odd_part n positive fits = (bit_at-trailing_zeros w64 n positive fits).1
+
+pub whole_twos : (n : ℕ) → 0 < n → n < 2 ^ 64 → n ≡ n / 2 ^ trailing_zeros w64 n * 2 ^ trailing_zeros w64 n
+whole_twos n positive fits = no_rest (trailing_zeros w64 n) n (bit_at-trailing_zeros w64 n positive fits).2
 
 -- a positive number of 64 bits has fewer of them
 pub few_twos : (n : ℕ) → 0 < n → n < 2 ^ 64 → trailing_zeros w64 n < 64

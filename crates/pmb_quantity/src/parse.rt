@@ -1,6 +1,6 @@
 //! Which quantity a text spells.
-ghost use Rattle.std.specs.Prelude.{◌≡◌, pos, ◌^◌, ◌+◌, ◌*◌, ◌<◌, ◌≤◌};
-ghost use Rattle.std.specs.Str.Parse.{AllDigits, digits_value};
+ghost use Rattle.std.specs.Prelude.{◌≡◌, pos, ◌^◌, ◌+◌, ◌*◌, ◌<◌, ◌≤◌, ◌++◌, length};
+ghost use Rattle.std.specs.Str.Parse.{AllDigits, digits_value, digits_value_after};
 ghost use Rattle.pmb_quantity.specs.Fraction.{lowest_terms};
 ghost use Rattle.pmb_quantity.specs.machine.Numeral.{view, HasDigits};
 ghost use Rattle.pmb_quantity.specs.Reading.{numeral_of, numeral_value, point_value, reading, slash_value, without_last_zeros};
@@ -13,6 +13,9 @@ use crate::text::{PLACES, power_of_ten};
 
 /// A number before or after a slash is below this one.
 const SLASH_LIMIT: u128 = 1 << 63;
+
+/// At most this many digits write a number below 2^62, and ten to this power is below it too.
+const SHORT_LEN: usize = 18;
 
 impl Quantity {
     /// Reads an optional `-`, digits, and then nothing, a point and digits, or a slash and digits.
@@ -57,16 +60,44 @@ fn value_of(numeral: Numeral<'_>) -> Result<Quantity, QuantityFault>
     }
 }
 
-/// The quantity of digits around a point.
+/// The quantity of digits around a point. Most are few, and make numbers of 64 bits.
 fn point_value(front: &[u8], back: &[u8]) -> Result<Quantity, QuantityFault>
     requires front { AllDigits 10 front.now }
     requires back { AllDigits 10 back.now }
     ensures { result ≡ point_value front.now back.now }
 {
     let back = without_last_zeros(back);
+    let len = front.len() + back.len();
+    if len <= SHORT_LEN {
+        return Ok(short_value(front, back));
+    }
     if back.len() > PLACES as usize {
         return Err(QuantityFault::TooLarge);
     }
+    long_value(front, back)
+}
+
+/// The quantity of few digits around a point.
+fn short_value(front: &[u8], back: &[u8]) -> Quantity
+    requires front { AllDigits 10 front.now }
+    requires back { AllDigits 10 back.now }
+    requires few { length front.now + length back.now ≤ 18 }
+    ensures { result
+        ≡ lowest_terms (pos (digits_value 10 (front.now ++ back.now))) (10 ^ length back.now) }
+{
+    let number = digits_after(digits_after(0, front), back);
+    Quantity::from_decimal(number, back.len() as u32)
+}
+
+/// The quantity of digits around a point, up to 24 of them after it.
+fn long_value(front: &[u8], back: &[u8]) -> Result<Quantity, QuantityFault>
+    requires front { AllDigits 10 front.now }
+    requires back { AllDigits 10 back.now }
+    requires few { length back.now ≤ 24 }
+    ensures { result ≡ fitted (lowest_terms
+        (pos (digits_value 10 front.now * 10 ^ length back.now + digits_value 10 back.now))
+        (10 ^ length back.now)) }
+{
     let scale = power_of_ten(back.len() as u32);
     let Some(whole) = number(front, LIMIT) else {
         return Err(QuantityFault::TooLarge);
@@ -92,7 +123,7 @@ fn slash_value(front: &[u8], back: &[u8]) -> Result<Quantity, QuantityFault>
     let Some(numerator) = number(front, SLASH_LIMIT) else {
         return Err(QuantityFault::TooLarge);
     };
-    Quantity::from_parts(numerator, denominator)
+    Quantity::from_words(numerator as u64, denominator as u64)
 }
 
 /// A whole number and a fraction below 1 with this denominator.
@@ -131,6 +162,19 @@ fn number(digits: &[u8], limit: u128) -> Option<u128>
     requires limit { limit ≤ 2 ^ 80 }
     ensures { result ≡ below limit (digits_value 10 digits.now) }
 {
+    if digits.len() > SHORT_LEN {
+        return long_number(digits, limit);
+    }
+    let number = u128::from(digits_after(0, digits));
+    if number < limit { Some(number) } else { None }
+}
+
+/// The same of any number of digits.
+fn long_number(digits: &[u8], limit: u128) -> Option<u128>
+    requires digits { AllDigits 10 digits.now }
+    requires limit { limit ≤ 2 ^ 80 }
+    ensures { result ≡ below limit (digits_value 10 digits.now) }
+{
     let mut number = 0;
     for digit in digits {
         number = number * 10 + u128::from(*digit - b'0');
@@ -139,4 +183,17 @@ fn number(digits: &[u8], limit: u128) -> Option<u128>
         }
     }
     if number < limit { Some(number) } else { None }
+}
+
+/// The number that digits write when they follow those of another number.
+fn digits_after(first: u64, digits: &[u8]) -> u64
+    requires digits { AllDigits 10 digits.now }
+    requires fits { digits_value_after 10 first digits.now < 2 ^ 64 }
+    ensures { result ≡ digits_value_after 10 first digits.now }
+{
+    let mut number = first;
+    for digit in digits {
+        number = number * 10 + u64::from(*digit - b'0');
+    }
+    number
 }

@@ -1,5 +1,5 @@
 //! Quantities: exact fractions.
-ghost use Rattle.std.specs.Prelude.{◌≡◌, ℕ, ◌^◌, ◌<◌, ◌≤◌, pos, unsigned_abs, IfOk};
+ghost use Rattle.std.specs.Prelude.{◌≡◌, ℕ, ◌-◌, ◌*◌, ◌^◌, ◌<◌, ◌≤◌, pos, unsigned_abs, IfOk};
 ghost use Rattle.pmb_quantity.specs.Fraction.{Fraction, HasValue, IsQuantity, gcd, lowest_terms};
 
 use std::marker::Model;
@@ -107,7 +107,7 @@ impl Quantity {
 
     /// A fraction of numbers of 64 bits, or `TooLarge`. With a power of two, as the denominators of
     /// the linear formats are, a number has only twos in common, and shifts take them out.
-    fn from_words(numerator: u64, denominator: u64) -> Result<Quantity, QuantityFault>
+    pub(crate) fn from_words(numerator: u64, denominator: u64) -> Result<Quantity, QuantityFault>
         requires { 0 < denominator }
         ensures { result ≡ fitted (lowest_terms (pos numerator) denominator) }
     {
@@ -118,6 +118,21 @@ impl Quantity {
         }
         let divisor = gcd_of_words(numerator, denominator);
         Quantity::from_lowest(numerator / divisor, denominator / divisor)
+    }
+
+    /// A number with so many digits after a point. With a power of ten it has only twos and fives
+    /// in common.
+    pub(crate) fn from_decimal(number: u64, places: u32) -> Quantity
+        requires number_fits { number < 2 ^ 62 }
+        requires few { places ≤ 18 }
+        ensures { result ≡ lowest_terms (pos number) (10 ^ places) }
+    {
+        let twos = common_halvings(number, places);
+        let (numerator, fives) = without_fives(number >> twos, places);
+        Quantity {
+            numerator: numerator as i64,
+            denominator: power_of_five(fives) << (places - twos),
+        }
     }
 
     /// A fraction in lowest terms, or `TooLarge`.
@@ -182,4 +197,51 @@ fn gcd_of_words(mut a: u64, mut b: u64) -> u64
         b = rest;
     }
     a
+}
+
+/// Takes out of a number the fives that it has in common with a power of five: the rest, and how
+/// many fives are left of the power.
+pub(crate) fn without_fives(number: u64, fives: u32) -> (u64, u32)
+    ensures fewer { result.1 ≤ fives }
+    ensures value { result.0 * 5 ^ (fives - result.1) ≡ number }
+    ensures lowest { gcd result.0 (5 ^ result.1) ≡ 1 }
+{
+    let mut rest = number;
+    let mut left = fives;
+    while left > 0 && rest % 5 == 0 {
+        rest /= 5;
+        left -= 1;
+    }
+    (rest, left)
+}
+
+/// Five to each power up to 18.
+const POWERS_OF_FIVE: [u64; 19] = [
+    1,
+    5,
+    25,
+    125,
+    625,
+    3_125,
+    15_625,
+    78_125,
+    390_625,
+    1_953_125,
+    9_765_625,
+    48_828_125,
+    244_140_625,
+    1_220_703_125,
+    6_103_515_625,
+    30_517_578_125,
+    152_587_890_625,
+    762_939_453_125,
+    3_814_697_265_625,
+];
+
+/// Five to a power.
+pub(crate) fn power_of_five(power: u32) -> u64
+    requires { power ≤ 18 }
+    ensures { result ≡ 5 ^ power }
+{
+    POWERS_OF_FIVE[power as usize]
 }

@@ -1,10 +1,10 @@
 //! How a quantity is written.
-ghost use Rattle.std.specs.Prelude.{◌≡◌, ◌+◌, ◌*◌, ◌^◌, ◌<◌, ◌≤◌, [], ◌∷◌, ◌++◌, length, Some, IfSome};
+ghost use Rattle.std.specs.Prelude.{◌≡◌, ◌+◌, ◌*◌, ◌/◌, ◌%◌, ◌^◌, ◌<◌, ◌≤◌, [], ◌∷◌, ◌++◌, length, Some, IfSome};
 ghost use Rattle.std.specs.Fmt.{decimal};
 ghost use Rattle.arrayvec.specs.ArrayString.{array_string_len};
 ghost use Rattle.pmb_quantity.specs.QuantityText.{after_point, magnitude_text, padded, places_of, spelling};
 
-use crate::quantity::Quantity;
+use crate::quantity::{Quantity, power_of_five, without_fives};
 use arrayvec::ArrayString;
 
 /// The text of a quantity: a sign, 19 digits, a point and 24 digits at most.
@@ -12,6 +12,9 @@ pub type QuantityText = ArrayString<45>;
 
 /// The most digits after a point.
 pub(crate) const PLACES: u32 = 24;
+
+/// More fives than a number of 64 bits has as factors.
+const MOST_FIVES: u32 = 28;
 
 impl Quantity {
     /// The shortest exact decimal, as `-1.5`, where one has at most 24 digits after the point; else
@@ -99,7 +102,7 @@ fn push_divided(text: &mut QuantityText, numerator: u64, denominator: u64)
     match places_of(denominator) {
         Some(places) => {
             push_number(text, numerator / denominator);
-            let unit = power_of_ten(places) / u128::from(denominator);
+            let unit = unit_of(places, denominator);
             push_after_point(text, places, u128::from(numerator % denominator) * unit);
         }
         None => {
@@ -111,21 +114,33 @@ fn push_divided(text: &mut QuantityText, numerator: u64, denominator: u64)
 }
 
 /// The fewest digits after a point, up to 24, that write a fraction of this denominator: none, where
-/// 24 digits don't do, or the first number that does.
+/// 24 digits don't do. Each digit takes out a two and a five.
 fn places_of(denominator: u64) -> Option<u32>
     requires { 0 < denominator }
     ensures value { result ≡ places_of denominator }
     ensures few { IfSome result (λ places. places ≤ 24) }
 {
-    if power_of_ten(PLACES) % u128::from(denominator) != 0 {
+    let twos = denominator.trailing_zeros();
+    let (rest, left) = without_fives(denominator >> twos, MOST_FIVES);
+    if rest != 1 {
         return None;
     }
-    for places in 0..PLACES + 1 {
-        if power_of_ten(places) % u128::from(denominator) == 0 {
-            return Some(places);
-        }
+    let places = twos.max(MOST_FIVES - left);
+    if places <= PLACES { Some(places) } else { None }
+}
+
+/// How many units of the last place one part of this denominator has. Up to 18 places are divided
+/// as numbers of 64 bits, which is several times as fast.
+fn unit_of(places: u32, denominator: u64) -> u128
+    requires few { places ≤ 24 }
+    requires positive { 0 < denominator }
+    ensures { result ≡ 10 ^ places / denominator }
+{
+    if places <= 18 {
+        u128::from((power_of_five(places) << places) / denominator)
+    } else {
+        power_of_ten(places) / u128::from(denominator)
     }
-    None
 }
 
 /// Ten to so many places.
@@ -138,7 +153,7 @@ pub(crate) fn power_of_ten(places: u32) -> u128
     10u128.pow(places)
 }
 
-/// Appends a number.
+/// Appends a number, two digits at a time.
 fn push_number(text: &mut QuantityText, number: u64)
     requires { array_string_len text.old + length (decimal number) ≤ 45 }
     ensures { text.new.bytes ≡ text.old.bytes ++ decimal number }
@@ -147,7 +162,21 @@ fn push_number(text: &mut QuantityText, number: u64)
         push_ascii(text, b'0' + number as u8);
         return;
     }
-    push_number(text, number / 10);
+    if number < 100 {
+        push_pair(text, number);
+        return;
+    }
+    push_number(text, number / 100);
+    push_pair(text, number % 100);
+}
+
+/// Appends two digits.
+fn push_pair(text: &mut QuantityText, number: u64)
+    requires small { number < 100 }
+    requires room { array_string_len text.old + 2 ≤ 45 }
+    ensures { text.new.bytes ≡ text.old.bytes ++ (48 + number / 10) ∷ (48 + number % 10) ∷ [] }
+{
+    push_ascii(text, b'0' + (number / 10) as u8);
     push_ascii(text, b'0' + (number % 10) as u8);
 }
 

@@ -1,20 +1,6 @@
-use Rattle.std.proofs.Common.{◌+◌, sym, arith}
-use Rattle.std.specs.Str.Parse.{digits_value}
-use Rattle.pmb_quantity.proofs.ReadingLemmas.{is_digit_at, digit_more, front_at_most, below-none}
+use Rattle.std.proofs.Common.{arith}
+use Rattle.pmb_quantity.proofs.ReadingLemmas.{few_digits}
 use Rattle.pmb_quantity.proofs.parse.number.Goals as goal
 
-pub overflow_sub-digit : goal.overflow_sub-digit
-overflow_sub-digit c = let digit = is_digit_at c.args.digits.now c.loop-digit.digit-index c.requires.digits c.loop-digit-test.true in digit.0
-
-pub returns-then-number-limit : goal.returns-then-number-limit
-returns-then-number-limit c =
-    let ds = c.args.digits.now in
-    let i = c.loop-digit.digit-index in
-    let more = digit_more ds i c.requires.digits c.loop-digit-test.true in
-    let front = front_at_most ds (i + 1) in
-    sym (below-none c.args.limit (digits_value 10 ds) (omega (arith, c.loop-digit.invariant.0)))
-
-pub loop-digit-preserved : goal.loop-digit-preserved
-loop-digit-preserved c =
-    let more = digit_more c.args.digits.now c.loop-digit.digit-index c.requires.digits c.loop-digit-test.true in
-    (omega (arith, c.loop-digit.invariant.0), omega arith)
+pub digits_after-requires-clause-fits : goal.digits_after-requires-clause-fits
+digits_after-requires-clause-fits c = omega (arith, few_digits 18 c.args.digits.now c.requires.digits (omega arith))

@@ -1,38 +1,18 @@
-use Rattle.std.proofs.Common.{◌≡◌, ◌≢◌, ◌+◌, ◌-◌, ◌%◌, ◌^◌, true, false, eq-eqb, sym, ◌∙◌, ap, arith}
-use Rattle.std.proofs.lemmas.Bool.{ne_eqb}
-use Rattle.pmb_quantity.specs.QuantityText.{first_of}
-use Rattle.pmb_quantity.proofs.TextLemmas.{fits_places, places_of-is, first_of-passes, first_of-fails, first_of-none}
-use Rattle.pmb_quantity.proofs.Places.{none_without_last}
+use Rattle.std.proofs.Common.{◌-◌, Some, sym, ap, ◌∙◌, arith}
+use Rattle.std.specs.Int.{w64, trailing_zeros}
+use Rattle.pmb_quantity.proofs.Places.{places_none, places_same, places_of_parts, places_of_many}
 use Rattle.pmb_quantity.proofs.text.places_of.Goals as goal
 
-pub loop-places-init : goal.loop-places-init
-loop-places-init c = sym (places_of-is c.args.denominator)
+pub returns-then-rest-ne1-clause-value : goal.returns-then-rest-ne1-clause-value
+returns-then-rest-ne1-clause-value c =
+    sym (places_none c.args.denominator c.without_fives-rest.result.0 c.without_fives-rest.result.1 c.requires (omega arith) c.without_fives-rest.ensures.value c.without_fives-rest.ensures.lowest c.if-rest-ne1.true)
 
-pub loop-places-preserved : goal.loop-places-preserved
-loop-places-preserved c =
+pub returns-then-places-le-PLACES-clause-value : goal.returns-then-places-le-PLACES-clause-value
+returns-then-places-le-PLACES-clause-value c =
     let d = c.args.denominator in
-    let n = c.loop-places.places in
-    let rest : 10 ^ n % d ≢ 0 = rw (c.power_of_ten-in-loop-places.ensures.value, c.from-in-loop-places.ensures) at c.if-power_of_ten-from-eq0.false in
-    let fails : fits_places d n ≡ false = ne_eqb (10 ^ n % d) 0 rest in
-    let left : 25 - (n + 1) ≡ 25 - n - 1 = omega arith in
-    ap (first_of (fits_places d) (n + 1)) left ∙ sym (first_of-fails (fits_places d) n (25 - n) (omega arith) fails) ∙ c.loop-places.invariant
+    ap Some c.max-places.ensures ∙ sym (places_same d c.without_fives-rest.result.0 c.without_fives-rest.result.1 c.requires (omega arith) c.without_fives-rest.ensures.value c.without_fives-rest.ensures.lowest c.if-rest-ne1.false ∙ places_of_parts (trailing_zeros w64 d) (28 - c.without_fives-rest.result.1) (omega arith))
 
-pub returns-then-power_of_ten-from-eq0-clause-value : goal.returns-then-power_of_ten-from-eq0-clause-value
-returns-then-power_of_ten-from-eq0-clause-value c =
+pub returns-else-places-le-PLACES-clause-value : goal.returns-else-places-le-PLACES-clause-value
+returns-else-places-le-PLACES-clause-value c =
     let d = c.args.denominator in
-    let n = c.loop-places.places in
-    let rest : 10 ^ n % d ≡ 0 = rw (c.power_of_ten-in-loop-places.ensures.value, c.from-in-loop-places.ensures) at c.if-power_of_ten-from-eq0.true in
-    let passes : fits_places d n ≡ true = eq-eqb (10 ^ n % d) 0 rest in
-    sym (first_of-passes (fits_places d) n (25 - n) (omega arith) passes) ∙ c.loop-places.invariant
-
-pub returns : goal.returns
-returns c =
-    let d = c.args.denominator in
-    let n = c.loop-places.places in
-    record { value = sym (first_of-none (fits_places d) n (25 - n) (omega arith)) ∙ c.loop-places.invariant; few = tt }
-
-pub returns-then-power_of_ten-from-ne0-clause-value : goal.returns-then-power_of_ten-from-ne0-clause-value
-returns-then-power_of_ten-from-ne0-clause-value c =
-    let d = c.args.denominator in
-    let rest : 10 ^ 24 % d ≢ 0 = rw (c.power_of_ten.ensures.value, c.from.ensures) at c.if-power_of_ten-from-ne0.true in
-    sym (none_without_last d c.requires rest)
+    sym (places_same d c.without_fives-rest.result.0 c.without_fives-rest.result.1 c.requires (omega arith) c.without_fives-rest.ensures.value c.without_fives-rest.ensures.lowest c.if-rest-ne1.false ∙ places_of_many (trailing_zeros w64 d) (28 - c.without_fives-rest.result.1) (omega arith))
