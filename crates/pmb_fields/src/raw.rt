@@ -11,6 +11,7 @@ use pmb_object::{Place, TEXT_MEMBER, text_member};
 use pmb_value::ModeFault;
 
 /// Appends a member whose value is a text.
+#[inline(always)]
 pub(crate) fn append_text<const N: usize>(out: &mut ArrayVec<u8, N>, key: &str, text: &[u8])
     requires key { IsTrue (is_key key.now) }
     requires room { length out.old.items + (TEXT_MEMBER + 6 * length text.now) ≤ N }

@@ -1,9 +1,10 @@
 -- Bytes that a string has as they are; hexadecimal digits are among them.
-use Rattle.std.proofs.Common.{◌≡◌, ℕ, zero, suc, ◌/◌, ◌%◌, ◌<◌, Bool, true, cond, ◌&&◌, codes, List, [], ◌∷◌, ◌++◌, slice_index, refl, ap, ap₂, arith, inl, inr}
-use Rattle.std.proofs.lemmas.Bool.{and_parts, and_from, cases_lt}
+use Rattle.std.proofs.Common.{◌≡◌, ℕ, zero, suc, ◌/◌, ◌%◌, ◌<◌, ◌==◌, Bool, true, cond, ◌&&◌, codes, List, [], ◌∷◌, ◌++◌, get_or, slice_index, refl, ap, ap₂, arith, inl, inr}
+use Rattle.std.proofs.lemmas.Bool.{agree_below, agree_below_at, and_parts, and_from, cases_lt}
 use Rattle.hex.specs.Hex.{IsBytes, encode_lower, encode_with, lower_digits}
 use Rattle.pmb_object.specs.Spelling.{is_plain, escaped, all_escaped, AreBytes}
 use Rattle.pmb_object.specs.Member.{all_plain}
+use Rattle.pmb_object.specs.declared.text.TheConstants.{PLAIN}
 
 pub plain_as_it_is : (byte : ℕ) → is_plain byte ≡ true → escaped byte ≡ byte ∷ []
 plain_as_it_is byte plain = ap (λ (b : Bool). cond b (byte ∷ []) (codes "\\u00" ++ encode_lower (byte ∷ []))) plain
@@ -13,6 +14,16 @@ all_plain_as_they_are [] plain = refl
 all_plain_as_they_are (byte ∷ more) plain =
     let here = and_parts (is_plain byte) (all_plain more) plain in
     ap₂ (λ (front back : List ℕ). front ++ back) (plain_as_it_is byte here.0) (all_plain_as_they_are more here.1)
+
+-- ---- the table of plain bytes
+
+-- the whole table, computed
+table_is_right : agree_below (λ b. get_or PLAIN b 0 == 1) is_plain 256 ≡ true
+table_is_right = refl
+
+-- a byte, by the table
+pub plain_read : (b : ℕ) → b < 256 → (get_or PLAIN b 0 == 1) ≡ is_plain b
+plain_read b byte = agree_below_at (λ b. get_or PLAIN b 0 == 1) is_plain 256 b table_is_right byte
 
 -- ---- each number below another
 

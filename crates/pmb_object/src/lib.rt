@@ -26,9 +26,11 @@
 //! ```
 #![tactic(auto)]
 
+mod hex_digits;
 pub mod laws;
 mod line;
 mod member;
+mod number;
 mod place;
 mod text;
 

@@ -5,10 +5,11 @@ ghost use Rattle.pmb_object.specs.Json.{IsNumber, null, boolean, number as numbe
 ghost use Rattle.pmb_object.specs.Spelling.{comma as comma_text, spelled};
 ghost use Rattle.pmb_object.specs.Member.{array_text, count, digits, is_key, items_text, key_text, members_text, named};
 
+use crate::hex_digits::append_quoted_digits;
+use crate::number::append_number;
 use crate::place::Place;
-use crate::text::{append, append_all_digits, append_quoted};
+use crate::text::{append, append_quoted};
 use arrayvec::ArrayVec;
-use itoa::Buffer;
 
 /// The most bytes of a key with what stands around it: a comma, its quotes, a colon.
 pub const KEY: usize = 16 + 4;
@@ -32,6 +33,7 @@ pub const ARRAY_MEMBER: usize = KEY + 1;
 pub const TEXT_ITEM: usize = 3;
 
 /// Appends a member whose value is a whole number.
+#[inline(always)]
 pub fn number_member<const N: usize>(
     out: &mut ArrayVec<u8, N>,
     place: Place,
@@ -44,10 +46,11 @@ pub fn number_member<const N: usize>(
     ensures short { length out.new.items ≤ length out.old.items + NUMBER_MEMBER }
 {
     append_key(out, place, key);
-    append(out, Buffer::new().format(number).as_bytes());
+    append_number(out, number);
 }
 
 /// Appends a member whose value is the number that a text spells.
+#[inline(always)]
 pub fn number_text_member<const N: usize>(
     out: &mut ArrayVec<u8, N>,
     place: Place,
@@ -65,6 +68,7 @@ pub fn number_text_member<const N: usize>(
 }
 
 /// Appends a member whose value is a text, whose bytes are its characters.
+#[inline(always)]
 pub fn text_member<const N: usize>(out: &mut ArrayVec<u8, N>, place: Place, key: &str, text: &[u8])
     requires key { IsTrue (is_key key.now) }
     requires room { length out.old.items + (TEXT_MEMBER + 6 * length text.now) ≤ N }
@@ -76,6 +80,7 @@ pub fn text_member<const N: usize>(out: &mut ArrayVec<u8, N>, place: Place, key:
 }
 
 /// Appends a member whose value is a text of two lower-case hexadecimal digits for each byte.
+#[inline(always)]
 pub fn hex_member<const N: usize>(out: &mut ArrayVec<u8, N>, place: Place, key: &str, bytes: &[u8])
     requires key { IsTrue (is_key key.now) }
     requires room { length out.old.items + (TEXT_MEMBER + 2 * length bytes.now) ≤ N }
@@ -83,12 +88,11 @@ pub fn hex_member<const N: usize>(out: &mut ArrayVec<u8, N>, place: Place, key: 
     ensures short { length out.new.items ≤ length out.old.items + (TEXT_MEMBER + 2 * length bytes.now) }
 {
     append_key(out, place, key);
-    append(out, b"\"");
-    append_all_digits(out, bytes);
-    append(out, b"\"");
+    append_quoted_digits(out, bytes);
 }
 
 /// Appends a member whose value is `true` or `false`.
+#[inline(always)]
 pub fn bool_member<const N: usize>(out: &mut ArrayVec<u8, N>, place: Place, key: &str, value: bool)
     requires key { IsTrue (is_key key.now) }
     requires room { length out.old.items + BOOL_MEMBER ≤ N }
@@ -96,17 +100,24 @@ pub fn bool_member<const N: usize>(out: &mut ArrayVec<u8, N>, place: Place, key:
     ensures short { length out.new.items ≤ length out.old.items + BOOL_MEMBER }
 {
     append_key(out, place, key);
-    append(out, bool_text(value));
+    append_bool(out, value);
 }
 
-fn bool_text(value: bool) -> &'static [u8]
-    ensures text { result.now ≡ spelled (boolean value) }
-    ensures short { length result.now ≤ 5 }
+#[inline(always)]
+fn append_bool<const N: usize>(out: &mut ArrayVec<u8, N>, value: bool)
+    requires { length out.old.items + 5 ≤ N }
+    ensures text { out.new.items ≡ out.old.items ++ spelled (boolean value) }
+    ensures short { length out.new.items ≤ length out.old.items + 5 }
 {
-    if value { b"true" } else { b"false" }
+    if value {
+        append(out, b"true");
+    } else {
+        append(out, b"false");
+    }
 }
 
 /// Appends a member whose value is `null`.
+#[inline(always)]
 pub fn null_member<const N: usize>(out: &mut ArrayVec<u8, N>, place: Place, key: &str)
     requires key { IsTrue (is_key key.now) }
     requires room { length out.old.items + NULL_MEMBER ≤ N }
@@ -118,6 +129,7 @@ pub fn null_member<const N: usize>(out: &mut ArrayVec<u8, N>, place: Place, key:
 }
 
 /// Begins a member whose value is an array: its values follow, and [`end_array`].
+#[inline(always)]
 pub fn begin_array<const N: usize>(out: &mut ArrayVec<u8, N>, place: Place, key: &str)
     requires key { IsTrue (is_key key.now) }
     requires room { length out.old.items + ARRAY_MEMBER ≤ N }
@@ -134,7 +146,7 @@ pub fn text_item<const N: usize>(out: &mut ArrayVec<u8, N>, place: Place, text: 
     ensures item { out.new.items ≡ out.old.items ++ items_text place (string text.now ∷ []) }
     ensures short { length out.new.items ≤ length out.old.items + (TEXT_ITEM + 6 * length text.now) }
 {
-    append(out, comma(place));
+    append_comma(out, place);
     append_quoted(out, text);
 }
 
@@ -147,27 +159,31 @@ pub fn end_array<const N: usize>(out: &mut ArrayVec<u8, N>)
     append(out, b"]");
 }
 
-/// Appends a key up to its value.
-#[inline]
+/// Appends a key up to its value. It is inlined with each member: where the caller names the key,
+/// its length is known, and a few moves copy it.
+#[inline(always)]
 fn append_key<const N: usize>(out: &mut ArrayVec<u8, N>, place: Place, key: &str)
     requires key { IsTrue (is_key key.now) }
     requires room { length out.old.items + KEY ≤ N }
     ensures key { out.new.items ≡ out.old.items ++ key_text place key.now }
     ensures short { length out.new.items ≤ length out.old.items + KEY }
 {
-    append(out, comma(place));
-    append(out, b"\"");
+    append_comma(out, place);
+    out.push(b'"');
     append(out, key.as_bytes());
-    append(out, b"\":");
+    out.push(b'"');
+    out.push(b':');
 }
 
-#[inline]
-fn comma(place: Place) -> &'static [u8]
-    ensures text { result.now ≡ comma_text place }
-    ensures short { length result.now ≤ 1 }
+/// Appends a comma, but before the first.
+#[inline(always)]
+fn append_comma<const N: usize>(out: &mut ArrayVec<u8, N>, place: Place)
+    requires { length out.old.items + 1 ≤ N }
+    ensures text { out.new.items ≡ out.old.items ++ comma_text place }
+    ensures short { length out.new.items ≤ length out.old.items + 1 }
 {
     match place {
-        Place::First => b"",
-        Place::Later => b",",
+        Place::First => {}
+        Place::Later => out.push(b','),
     }
 }

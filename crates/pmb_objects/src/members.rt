@@ -52,6 +52,7 @@ pub(crate) fn begin_object<const N: usize>(
 }
 
 /// Appends the member of a byte, by its digits.
+#[inline(always)]
 pub(crate) fn append_byte<const N: usize>(out: &mut ArrayVec<u8, N>, key: &str, byte: u8)
     requires key { IsTrue (is_key key.now) }
     requires room { length out.old.items + BYTE_MEMBER ≤ N }

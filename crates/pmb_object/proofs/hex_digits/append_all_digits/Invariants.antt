@@ -1,6 +1,6 @@
 use Rattle.std.proofs.Common.{◌≡◌, ◌+◌, ◌*◌, ◌++◌, take, length}
 use Rattle.hex.specs.Hex.{encode_lower}
-use Rattle.pmb_object.proofs.text.append_all_digits.Given as goal
+use Rattle.pmb_object.proofs.hex_digits.append_all_digits.Given as goal
 
 -- the bytes so far
 abbrev pub invariant-loop-byte : goal.invariant-loop-byte

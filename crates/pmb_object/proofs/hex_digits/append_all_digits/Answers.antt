@@ -3,7 +3,7 @@ use Rattle.std.proofs.Common.{List, ℕ, [], ◌∷◌, ◌++◌, get_or, take, 
 use Rattle.std.proofs.lemmas.List.{append-nil, take_more}
 use Rattle.hex.specs.Hex.{encode_lower, encode_with}
 use Rattle.pmb_object.proofs.Plain.{digits_append}
-use Rattle.pmb_object.proofs.text.append_all_digits.Goals as goal
+use Rattle.pmb_object.proofs.hex_digits.append_all_digits.Goals as goal
 
 pub loop-byte-init : goal.loop-byte-init
 unfolding encode_with
