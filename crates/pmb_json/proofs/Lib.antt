@@ -16,3 +16,8 @@ pub mod SomeText
 pub mod Pieces
 pub mod Cut
 pub mod OneFront
+pub mod EachOf
+pub mod Telling
+pub mod Fitting
+pub mod JsonSpans
+pub mod JsonLines

@@ -2,4 +2,5 @@ pub mod Text
 pub mod SoFar
 pub mod Json
 pub mod Pieces
+pub mod Lines
 pub mod machine

@@ -9,6 +9,7 @@ ghost use Rattle.pmb_late.specs.Certain.{CanBeCutAfter};
 ghost use Rattle.pmb_late.specs.declared.start.Start.TheVariants.{AllKnown};
 ghost use Rattle.pmb_late.specs.declared.start.Start.{Start};
 ghost use Rattle.pmb_object.specs.Member.{Member};
+ghost use Rattle.pmb_object.specs.Spelling.{AreBytes};
 ghost use Rattle.pmb_places.specs.declared.places.Place.{Place};
 ghost use Rattle.pmb_spans.specs.Spans.{Span, moved_spans};
 ghost use Rattle.pmb_transaction.specs.Transaction.{TransactionData};
@@ -16,6 +17,7 @@ ghost use Rattle.pmb_stream.specs.Before.{at_first};
 ghost use Rattle.pmb_stream.specs.Choice.{ChoiceData};
 ghost use Rattle.pmb_objects.specs.Counts.{CountsData};
 ghost use Rattle.pmb_objects.specs.Object.{Object};
+ghost use Rattle.pmb_json.specs.Lines.{AllMakeFormats, AreJsonLines};
 ghost use Rattle.pmb_json.specs.Pieces.{CanBeCutBehind, EachSaysNoMore, IsNumber, SaysNoMore};
 ghost use Rattle.pmb_json.specs.SoFar.{HasWrittenJson};
 ghost use Rattle.pmb_stream.specs.Spans.{after_spans, span_objects, transactions_in};
@@ -27,6 +29,9 @@ use pmb_bus::laws::{
     texts_may_be_cut_between_words,
 };
 use pmb_late::laws::{all_that_is_known_is_the_context, pieces_say_what_the_whole_says};
+use pmb_object::laws::{spelling_fits_in_line, spelling_is_json};
+use pmb_objects::laws::{all_objects_are_json, objects_are_json};
+use pmb_places::laws::places_are_in_range;
 use pmb_spans::laws::{each_list_has_spans, one_list_of_spans, spans_may_be_cut, spans_move};
 
 /// Spans that are moved have the same transactions, and count the same.
@@ -65,6 +70,22 @@ pub fn some_json()
 {
     ended_words_lead_on();
     each_list_has_spans();
+}
+
+/// Each line that is written for bytes is JSON, an object with distinct keys in printable ASCII, and all
+/// that is written is such lines, each with its LF: of a whole capture, and so far. So it is whatever was
+/// chosen and whatever the bytes are, under a profile that is accepted, whose coefficients make formats.
+pub fn each_line_is_json()
+    ensures whole { (choice : ChoiceData) (profile : List DeviceParts) (after : BadWords) (bytes text : List ℕ) (tally : Tally)
+        → IsBus profile → AllMakeFormats profile → AreBytes bytes → WritesJson choice profile after bytes text tally → AreJsonLines text }
+    ensures so_far { (choice : ChoiceData) (profile : List DeviceParts) (after : BadWords) (bytes text : List ℕ)
+        → IsBus profile → AllMakeFormats profile → AreBytes bytes → HasWrittenJson choice profile after bytes text → AreJsonLines text }
+{
+    spelling_is_json();
+    spelling_fits_in_line();
+    objects_are_json();
+    all_objects_are_json();
+    places_are_in_range();
 }
 
 /// What a piece of a capture says of values the whole says: each `value` and each `number` of an object

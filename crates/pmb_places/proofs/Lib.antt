@@ -5,3 +5,4 @@ pub mod Behind
 pub mod OpenWords
 pub mod ShortWords
 pub mod Tails
+pub mod Bounds

@@ -1,4 +1,5 @@
 pub mod Text
 pub mod Places
 pub mod OpenWord
+pub mod Bounds
 pub mod machine

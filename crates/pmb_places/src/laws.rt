@@ -1,9 +1,11 @@
 //! Laws over the definitions. Each function is its contract, and does nothing.
 
 ghost use Rattle.std.specs.Prelude.{◌≡◌, ◌+◌, ◌++◌, ◌∷◌, [], ℕ, List, length, slice_index_or, false, true};
+ghost use Rattle.std.specs.List.{AllByRecursion};
 ghost use Rattle.pmb_bus.specs.Text.{EndsBetween, ends_in_comment, front_word, in_comment, is_separator, is_word, open_word, words};
 ghost use Rattle.pmb_places.specs.declared.places.Place.{Place};
-ghost use Rattle.pmb_places.specs.Places.{place_behind, place_of_last_word, places_from, word_places};
+ghost use Rattle.pmb_places.specs.Bounds.{IsInRange};
+ghost use Rattle.pmb_places.specs.Places.{end_of_last_word, place_behind, place_of_last_word, places_from, word_places};
 
 /// Each word has a place, and nothing else has, in a text and behind a front that ends between words.
 pub fn each_word_has_a_place()
@@ -58,4 +60,13 @@ pub fn open_words_stand_in_front()
     ensures ended { (text more : List ℕ) (b : ℕ) → is_word (open_word text) ≡ true → open_word (text ++ b ∷ []) ≡ []
         → front_word (open_word text ++ b ∷ more) ≡ open_word text }
     ensures last { (text : List ℕ) → front_word (open_word text) ≡ open_word text }
+{}
+
+/// The place behind a text, those of its words, and that behind its last one have numbers from 1 on, of
+/// 64 bits: they stay at the greatest `u64`.
+pub fn places_are_in_range()
+    ensures behind { (text : List ℕ) → IsInRange (place_behind text) }
+    ensures words { (front text : List ℕ) → AllByRecursion IsInRange (places_from front text) }
+    ensures last { (text : List ℕ) → IsInRange (place_of_last_word text) }
+    ensures end { (text : List ℕ) → IsInRange (end_of_last_word text) }
 {}

@@ -1,0 +1,20 @@
+-- By what the laws of lower crates say.
+use Rattle.pmb_json.proofs.JsonLines.{SpellsJson, text_is_json, text_so_far_is_json}
+use Rattle.pmb_json.proofs.JsonSpans.{Below}
+use Rattle.pmb_json.proofs.laws.each_line_is_json.Goals as goal
+
+pub returns : goal.returns
+returns c =
+    let below : Below = record {
+      packet = c.all_objects_are_json.ensures.packet;
+      refusal = c.objects_are_json.ensures.refusal;
+      bad_token = c.objects_are_json.ensures.bad_token;
+      last = c.all_objects_are_json.ensures.last;
+      behind = c.places_are_in_range.ensures.behind;
+      words = c.places_are_in_range.ensures.words;
+      end = c.places_are_in_range.ensures.end;
+    } in
+    let spells : SpellsJson = record { json = c.spelling_is_json.ensures; line = c.spelling_fits_in_line.ensures } in record {
+      whole = λ choice profile after bytes text tally bus formats small. text_is_json below choice profile bus formats spells after bytes text tally small;
+      so_far = λ choice profile after bytes text bus formats small. text_so_far_is_json below choice profile bus formats spells after bytes text small;
+    }
