@@ -6,6 +6,7 @@ pub mod Faults
 pub mod Told
 pub mod Standing
 pub mod Digits
+pub mod TwoDigits
 pub mod WordLemmas
 pub mod Endings
 pub mod Taken

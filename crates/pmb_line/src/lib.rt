@@ -14,6 +14,7 @@
 //! ```
 #![tactic(auto)]
 
+mod byte_text;
 mod kept_lines;
 pub mod laws;
 mod line_fault;

@@ -2,11 +2,11 @@
 
 ghost use Rattle.std.specs.Prelude.{◌≡◌, ◌+◌, ◌*◌, ◌≤◌, ◌++◌, ◌∷◌, [], length, map, codes, true, false};
 ghost use Rattle.std.specs.List.{flat_map};
-ghost use Rattle.hex.specs.Hex.{encode_lower};
 ghost use Rattle.pmb_transaction.specs.Transaction.{part_data, transaction_data};
 ghost use Rattle.pmb_line.specs.machine.Written.{behind};
 ghost use Rattle.pmb_line.specs.Spelling.{line, mark, bytes as bytes_tokens, part as part_tokens, parts as parts_tokens, part_before};
 
+use crate::byte_text::append_byte;
 use arrayvec::{ArrayString, ArrayVec};
 use pmb_transaction::{Part, Transaction};
 
@@ -85,12 +85,15 @@ pub fn append_line<const N: usize>(transaction: &Transaction, out: &mut ArrayVec
     }
 }
 
+// Appends a short text. Each caller names it, so that the compiler makes a move or two of the pushes.
 #[inline]
 fn append<const N: usize>(out: &mut ArrayVec<u8, N>, text: &[u8])
     requires { length out.old.items + length text.now ≤ N }
     ensures { out.new.items ≡ out.old.items ++ text.now }
 {
-    let _ = out.try_extend_from_slice(text);
+    for byte in text {
+        out.push(*byte);
+    }
 }
 
 // Appends a space and two digits for each byte.
@@ -104,18 +107,8 @@ fn append_bytes<const N: usize>(out: &mut ArrayVec<u8, N>, bytes: &[u8])
     }
 }
 
-#[inline]
-fn append_byte<const N: usize>(out: &mut ArrayVec<u8, N>, byte: u8)
-    requires { length out.old.items + 3 ≤ N }
-    ensures text { out.new.items ≡ out.old.items ++ (codes " " ++ encode_lower (byte ∷ [])) }
-    ensures len { length out.new.items ≡ length out.old.items + 3 }
-{
-    let mut text = [b' '; 3];
-    let _ = hex::encode_to_slice([byte], &mut text[1..]);
-    append(out, &text);
-}
-
 // Appends a word where it is so.
+#[inline]
 fn append_mark<const N: usize>(out: &mut ArrayVec<u8, N>, word: &[u8], is_so: bool)
     requires { length out.old.items + length word.now ≤ N }
     ensures marked { is_so ≡ true → out.new.items ≡ out.old.items ++ word.now }

@@ -1,5 +1,6 @@
 pub mod Texts
 pub mod OneLine
+pub mod SetBits
 pub mod StatusLemmas
 pub mod Standings
 pub mod Notes

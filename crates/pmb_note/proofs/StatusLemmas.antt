@@ -1,10 +1,10 @@
 -- The names of status bits are short and have no LF.
-use Rattle.std.proofs.Common.{◌≡◌, ◌≢◌, Bor, option_map, ℕ, ◌+◌, ◌≤◌, sym, subst, Bool, true, false, ◌&&◌, cond, Option, Some, None, List, [], ◌∷◌, ◌++◌, length, reverse, nat_eq, slice_get, refl, ap, arith}
+use Rattle.std.proofs.Common.{◌≡◌, ◌≢◌, Bor, option_map, ℕ, ◌≤◌, sym, subst, Bool, true, false, ◌&&◌, cond, Option, Some, None, List, [], ◌∷◌, length, reverse, nat_eq, slice_get, refl}
 use Rattle.std.specs.Option.{option_flatten, IfSome}
 use Rattle.std.specs.List.{list_all}
 use Rattle.std.specs.Prelude.{nat_le, zero, suc}
 use Rattle.std.proofs.lemmas.Bool.{and_parts, leb-true}
-use Rattle.pmb_note.specs.Note.{set_bit_text, set_bits_text, status_text}
+use Rattle.pmb_note.specs.Note.{status_text}
 use Rattle.pmb_note.proofs.OneLine.{no_lf}
 use Rattle.pmb_command.specs.StatusBits.{BitNames, status_bits, bit_text}
 
@@ -64,13 +64,6 @@ short_name None code bit is = tt
 short_name (Some text) code bit is = subst (λ (name : Option (List ℕ)). IfSome name (λ t. length t ≤ 17)) (sym is) (names_are_short code bit)
 
 -- ---- texts of registers
-
--- the highest of some bits, and those below it
-pub highest_first : (code value bits less : ℕ) → less + 1 ≡ bits → set_bit_text code value less ++ set_bits_text code value less ≡ set_bits_text code value bits
-highest_first code value zero less is = absurd (omega (arith, is))
-highest_first code value (suc bits) less is =
-    let same : less ≡ bits = omega (arith, is) in
-    ap (λ (n : ℕ). set_bit_text code value n ++ set_bits_text code value n) same
 
 -- a register has one byte or two
 pub no_register : (code : ℕ) (bytes : List ℕ) → length bytes ≢ 1 → length bytes ≢ 2 → status_text code bytes ≡ []

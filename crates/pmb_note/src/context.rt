@@ -148,7 +148,9 @@ fn take_parts(profile: &Profile, pagings: &mut [Paging], parts: &[Part])
     }
 }
 
-// Takes bytes of the register with a code of the device with an address.
+// Takes bytes of the register with a code of the device with an address. Few packets tell PAGE or
+// VOUT_MODE, so that the test alone stands in each caller.
+#[inline]
 fn take_bytes(profile: &Profile, pagings: &mut [Paging], addr: u8, code: u8, bytes: &[u8])
     ensures { (now : DeviceParts → PagingData) → Keeps pagings.old profile.now now
         → Keeps pagings.new profile.now (λ device. after_told device (now device) (record { addr = addr; code = code; bytes = bytes.now })) }
@@ -156,14 +158,22 @@ fn take_bytes(profile: &Profile, pagings: &mut [Paging], addr: u8, code: u8, byt
     let [value] = bytes else {
         return;
     };
-    if !is_paging(code) {
-        return;
+    if is_paging(code) {
+        take_value(profile, pagings, addr, code, *value);
     }
+}
+
+// Takes a value of one byte of the register with a code of the device with an address.
+#[inline(never)]
+fn take_value(profile: &Profile, pagings: &mut [Paging], addr: u8, code: u8, value: u8)
+    ensures { (now : DeviceParts → PagingData) → Keeps pagings.old profile.now now
+        → Keeps pagings.new profile.now (λ device. after_told device (now device) (record { addr = addr; code = code; bytes = value ∷ [] })) }
+{
     let Some(device) = profile.device(addr) else {
         return;
     };
     let place = usize::from(addr);
     if place < pagings.len() {
-        pagings[place].take(device, code, *value);
+        pagings[place].take(device, code, value);
     }
 }

@@ -1,8 +1,8 @@
 //! The set bits of status registers.
 
-ghost use Rattle.std.specs.Prelude.{◌≡◌, ◌+◌, ◌*◌, ◌<◌, ◌≤◌, IfSome, length, option_map};
+ghost use Rattle.std.specs.Prelude.{◌≡◌, ◌+◌, ◌*◌, ◌^◌, ◌<◌, ◌≤◌, ◌++◌, IfSome, codes, length, option_map};
 ghost use Rattle.pmb_command.specs.StatusBits.{bit_text};
-ghost use Rattle.pmb_note.specs.Note.{is_set, named_bit, register_text, set_bit_text, set_bits_text, status_text};
+ghost use Rattle.pmb_note.specs.Note.{named_bit, register_text, set_bits_text, status_text};
 ghost use Rattle.pmb_note.specs.machine.Written.{Appends};
 
 use crate::text::append;
@@ -25,6 +25,7 @@ pub(crate) fn append_status<const N: usize>(out: &mut ArrayVec<u8, N>, code: u8,
 // Appends the set bits of a register of so many bits.
 fn append_register<const N: usize>(out: &mut ArrayVec<u8, N>, code: u8, bits: u8, value: u16)
     requires few { bits ≤ 16 }
+    requires within { value < 2 ^ bits }
     requires room { length out.old.items + 288 ≤ N }
     ensures { Appends (register_text code bits value) 288 out.old.items out.new.items }
 {
@@ -35,36 +36,53 @@ fn append_register<const N: usize>(out: &mut ArrayVec<u8, N>, code: u8, bits: u8
     }
 }
 
-// Appends the set bits among the lowest, so many, from the highest down.
+// Appends the set bits of a value of so many bits, from the highest down, and goes to each at once.
 fn append_set_bits<const N: usize>(out: &mut ArrayVec<u8, N>, code: u8, bits: u8, value: u16)
     requires few { bits ≤ 16 }
+    requires within { value < 2 ^ bits }
     requires room { length out.old.items + 18 * bits ≤ N }
     ensures { Appends (set_bits_text code value bits) (18 * bits) out.old.items out.new.items }
 {
-    if bits > 0 {
-        append_set_bit(out, code, bits - 1, value);
-        append_set_bits(out, code, bits - 1, value);
+    if value > 0 {
+        let bit = highest_bit(value, bits);
+        append_set_bit(out, code, bit);
+        append_set_bits(out, code, bit, without(value, bit));
     }
 }
 
-// Appends a bit where it is set.
-fn append_set_bit<const N: usize>(out: &mut ArrayVec<u8, N>, code: u8, bit: u8, value: u16)
+// The highest bit that is set in a value of so many bits.
+#[inline]
+fn highest_bit(value: u16, bits: u8) -> u8
+    requires some { 0 < value }
+    requires few { bits ≤ 16 }
+    requires within { value < 2 ^ bits }
+    ensures within { result < bits }
+    ensures set { 2 ^ result ≤ value }
+    ensures highest { value < 2 * 2 ^ result }
+{
+    15 - value.leading_zeros() as u8
+}
+
+// A value without its highest bit.
+#[inline]
+fn without(value: u16, bit: u8) -> u16
+    requires few { bit < 16 }
+    requires set { 2 ^ bit ≤ value }
+    requires highest { value < 2 * 2 ^ bit }
+    ensures others { result + 2 ^ bit ≡ value }
+    ensures within { result < 2 ^ bit }
+{
+    value - (1 << bit)
+}
+
+// Appends a bit that is set.
+fn append_set_bit<const N: usize>(out: &mut ArrayVec<u8, N>, code: u8, bit: u8)
     requires few { bit < 16 }
     requires room { length out.old.items + 18 ≤ N }
-    ensures { Appends (set_bit_text code value bit) 18 out.old.items out.new.items }
+    ensures { Appends (codes " " ++ named_bit (bit_text code bit) bit) 18 out.old.items out.new.items }
 {
-    if is_set(value, bit) {
-        append(out, " ");
-        append_bit(out, code, bit);
-    }
-}
-
-#[inline]
-fn is_set(value: u16, bit: u8) -> bool
-    requires { bit < 16 }
-    ensures { result ≡ is_set value bit }
-{
-    (value >> bit) % 2 == 1
+    append(out, " ");
+    append_bit(out, code, bit);
 }
 
 // Appends the name of a bit, or its number where it has none.

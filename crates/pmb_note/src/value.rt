@@ -11,7 +11,7 @@ use crate::text::append;
 use arrayvec::ArrayVec;
 use pmb_command::{Entry, Kind};
 use pmb_table::DeviceProfile;
-use pmb_value::{Direct, Format, Linear11, vout_format};
+use pmb_value::{Format, Linear11, vout_format};
 
 /// Whether the words of an output voltage are signed, in the linear formats of VOUT_MODE.
 #[derive(Clone, Copy, Debug, PartialEq, Eq)]
@@ -34,34 +34,27 @@ pub(crate) fn append_value<const N: usize>(
     ensures { Appends (value_text mode device.now (entry_parts entry.now) bytes.now) 320 out.old.items out.new.items }
 {
     append(out, entry.name.as_str());
-    append_data(
-        out,
-        mode,
-        device.vout_direct(),
-        entry.code,
-        entry.kind,
-        bytes,
-    );
+    append_data(out, mode, device, entry.code, entry.kind, bytes);
 }
 
 // Appends what the kind of a command tells of its data.
 fn append_data<const N: usize>(
     out: &mut ArrayVec<u8, N>,
     mode: Option<u8>,
-    coefficients: Option<Direct>,
+    device: &DeviceProfile,
     code: u8,
     kind: Kind,
     bytes: &[u8],
 )
     requires { length out.old.items + 288 ≤ N }
-    ensures { Appends (data_text coefficients mode code kind bytes.now) 288 out.old.items out.new.items }
+    ensures { Appends (data_text device.now.vout_direct mode code kind bytes.now) 288 out.old.items out.new.items }
 {
     match kind {
         Kind::Raw => {}
         // A fixed exponent binds the writer alone: every word has its value.
         Kind::Linear11 | Kind::Linear11Fixed(_) => append_quantity(out, &Linear11, bytes),
-        Kind::Vout => append_voltage(out, mode, Sign::Unsigned, coefficients, bytes),
-        Kind::VoutSigned => append_voltage(out, mode, Sign::Signed, coefficients, bytes),
+        Kind::Vout => append_voltage(out, mode, Sign::Unsigned, device, bytes),
+        Kind::VoutSigned => append_voltage(out, mode, Sign::Signed, device, bytes),
         Kind::Direct(format) => append_quantity(out, &format, bytes),
         Kind::Status => append_status(out, code, bytes),
     }
@@ -93,20 +86,14 @@ fn append_voltage<const N: usize>(
     out: &mut ArrayVec<u8, N>,
     mode: Option<u8>,
     sign: Sign,
-    coefficients: Option<Direct>,
+    device: &DeviceProfile,
     bytes: &[u8],
 )
     requires { length out.old.items + 46 ≤ N }
-    ensures { Appends (of_word (vout_text mode (is_signed sign) coefficients) bytes.now) 46 out.old.items out.new.items }
+    ensures { Appends (of_word (vout_text mode (is_signed sign) device.now.vout_direct) bytes.now) 46 out.old.items out.new.items }
 {
     match bytes {
-        [low, high] => append_word(
-            out,
-            mode,
-            sign,
-            coefficients,
-            u16::from_le_bytes([*low, *high]),
-        ),
+        [low, high] => append_word(out, mode, sign, device, u16::from_le_bytes([*low, *high])),
         _ => {}
     }
 }
@@ -116,17 +103,17 @@ fn append_word<const N: usize>(
     out: &mut ArrayVec<u8, N>,
     mode: Option<u8>,
     sign: Sign,
-    coefficients: Option<Direct>,
+    device: &DeviceProfile,
     word: u16,
 )
     requires { length out.old.items + 46 ≤ N }
-    ensures { Appends (vout_text mode (is_signed sign) coefficients word) 46 out.old.items out.new.items }
+    ensures { Appends (vout_text mode (is_signed sign) device.now.vout_direct word) 46 out.old.items out.new.items }
 {
     let Some(mode) = mode else {
         append(out, " raw");
         return;
     };
-    match vout_format(mode, sign == Sign::Signed, coefficients) {
+    match vout_format(mode, sign == Sign::Signed, device.vout_direct()) {
         Ok(format) => append_decoded(out, &format, word),
         Err(_) => append(out, " raw"),
     }
