@@ -1,9 +1,16 @@
 -- Two texts end to end, of which the first ends between words.
-use Rattle.std.proofs.Common.{◌≡◌, ℕ, ◌+◌, Bool, false, List, [], ◌∷◌, ◌++◌, length, refl, sym, ap, subst, ◌∙◌}
+use Rattle.std.proofs.Common.{◌≡◌, ℕ, ◌+◌, ◌-◌, ◌^◌, min, Bool, false, List, [], ◌∷◌, ◌++◌, length, refl, sym, ap, subst, ◌∙◌, arith}
 use Rattle.std.proofs.lemmas.List.{append_assoc, length-append}
 use Rattle.pmb_bus.specs.declared.event.Event.{Event}
 use Rattle.pmb_bus.specs.Text.{AreTokens, EndsBetween, FirstBadWord, Spells, ends_in_comment, ends_in_comment_from, last_run, open_word}
-use Rattle.pmb_bus.proofs.Fronts.{words_between}
+use Rattle.pmb_bus.specs.declared.lexer.Place.{Place}
+use Rattle.pmb_bus.specs.declared.lexer.Place.TheVariants as places
+use Rattle.pmb_bus.specs.declared.lexer.Lexer.{Lexer}
+use Rattle.pmb_bus.specs.Count.{capped}
+use Rattle.pmb_bus.specs.machine.Standing.{IsPlace, LexerStandsAt}
+use Rattle.pmb_bus.proofs.Fronts.{words_between, words_ended}
+use Rattle.pmb_bus.proofs.Spelling.{spells_ended}
+use Rattle.pmb_bus.proofs.Stands.{begins_spelled}
 use Rattle.pmb_bus.proofs.Splits.{glue, glue-nil}
 use Rattle.pmb_bus.proofs.Tokens.{AreTokens-append}
 use Rattle.pmb_bus.proofs.Words.{cut_by, ends_in_comment_by, ends_in_comment_from-append, open_word-append, runs_from}
@@ -25,6 +32,36 @@ between_behind front back first second = (
       ∙ second.0,
   ends_in_comment_from-append false front back ∙ ap (λ (inside : Bool). ends_in_comment_from inside back) first.1 ∙ second.1,
 )
+
+-- between words there is one place
+between_stays : (place : Place) (n m : ℕ) (text longer : List ℕ) → EndsBetween text → IsPlace place n text → EndsBetween longer → IsPlace place m longer
+between_stays places.Between n m text longer between is here = here
+between_stays places.Comment n m text longer between is here = cc (between.1, is.1)
+between_stays (places.One at first) n m text longer between is here = cc (between.0, is.0)
+between_stays (places.Two at byte) n m text longer between is here = cc (between.0, is.2)
+between_stays (places.Faulted fault) n m text longer between is here = absurd is
+
+-- bytes are counted, up to the greatest u64
+counts_on : (used n more : ℕ) → used ≡ capped n → min (used + more) (2 ^ 64 - 1) ≡ capped (n + more)
+counts_on used n more same = omega arith
+
+-- a lexer behind bytes that were read elsewhere
+pub stands_behind_skipped : (before after : Lexer) (n : ℕ) (text bytes : List ℕ) (events more : List Event) → LexerStandsAt before n text events
+    → after ≡ record { place = before.place; used = min (before.used + length bytes) (2 ^ 64 - 1) } → EndsBetween text → EndsBetween bytes → Spells bytes more
+    → LexerStandsAt after (n + length bytes) (text ++ bytes) (events ++ more)
+stands_behind_skipped before after n text bytes events more stands is first second spells =
+    let here = between_behind text bytes first second in
+    let all = spelled text bytes events more first (spells_ended text events stands.ended first.0) spells in
+    let counted = stands.counted in
+    subst (λ (lexer : Lexer). LexerStandsAt lexer (n + length bytes) (text ++ bytes) (events ++ more)) (sym is)
+    (
+    record {
+      ended = subst (λ (ws : List (List ℕ)). AreTokens ws (events ++ more)) (words_ended (text ++ bytes) here.0) all;
+      begins = begins_spelled (text ++ bytes) (events ++ more) all;
+      counted = counts_on before.used n (length bytes) counted;
+      place = between_stays before.place n (n + length bytes) text (text ++ bytes) first stands.place here;
+    }
+    )
 
 -- the first bad word of the second
 pub bad : (front back : List ℕ) (events more : List Event) (place : ℕ) → EndsBetween front → Spells front events

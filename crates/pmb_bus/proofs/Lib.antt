@@ -11,6 +11,7 @@ pub mod Lengthens
 pub mod Classes
 pub mod FrontTokens
 pub mod Feeds
+pub mod Decided
 pub mod Division
 pub mod Codes
 pub mod Remainders

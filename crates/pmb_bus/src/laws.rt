@@ -29,6 +29,12 @@ pub fn ended_words_lead_on()
         ⊎ (((event : Event) × Spells text (events ++ event ∷ [])) ⊎ ((place : ℕ) × FirstBadWord text events place)) }
 {}
 
+/// Each text spells events, or has a first bad word.
+pub fn each_text_is_read()
+    ensures { (text : List ℕ) → ((events : List Event) × Spells text events)
+        ⊎ ((events : List Event) × (place : ℕ) × FirstBadWord text events place) }
+{}
+
 /// A text has one first bad word at most, and the same events in front of it.
 pub fn one_bad_word()
     ensures { (text : List ℕ) (a b : List Event) (i j : ℕ) → FirstBadWord text a i → FirstBadWord text b j

@@ -9,10 +9,10 @@
 //! once, where it and its separator lie in the next three bytes, and `feed_acked` a byte and its ACK,
 //! in five. All else goes byte by byte.
 
-ghost use Rattle.std.specs.Prelude.{◌≡◌, ◌↔◌, ◌+◌, ◌<◌, ◌≤◌, ℕ, IsSome, IfSome, None, length, true, false, List, [], Err};
+ghost use Rattle.std.specs.Prelude.{◌≡◌, ◌↔◌, ◌+◌, ◌<◌, ◌≤◌, ◌++◌, ℕ, IsSome, IfSome, None, length, true, false, List, [], Err};
 ghost use Rattle.pmb_bus.specs.declared.event.Event.{Event as BusEvent};
 ghost use Rattle.pmb_bus.specs.Count.{capped};
-ghost use Rattle.pmb_bus.specs.Text.{ends_in_comment, EndsBetween};
+ghost use Rattle.pmb_bus.specs.Text.{ends_in_comment, EndsBetween, Spells};
 ghost use Rattle.pmb_bus.specs.Lexer.{LexerStandsAt, IsFaulted, Feeds, BeginsAcked, FeedsAcked, Finishes};
 ghost use Rattle.pmb_bus.specs.machine.Bytes.{ends_word};
 ghost use Rattle.pmb_bus.specs.machine.Standing.{IsPlace};
@@ -193,6 +193,29 @@ impl Lexer {
         let byte = front_acked(bytes)?;
         self.used = self.used.saturating_add(5);
         Some(byte)
+    }
+
+    /// Whether the text so far ends between words: no word and no comment is under way, and no fault
+    /// was met.
+    #[inline(always)]
+    pub fn is_between(&self) -> bool
+        ensures between { (n : ℕ) (text : List ℕ) (events : List BusEvent) → LexerStandsAt self.now n text events
+            → (result ≡ true) ↔ EndsBetween text }
+        ensures faulted { (fault : LexFault) → IsFaulted self.now fault → result ≡ false }
+    {
+        matches!(self.place, Place::Between)
+    }
+
+    /// Passes over bytes of the text that were read elsewhere. They begin and end between words, and
+    /// spell events.
+    #[inline(always)]
+    pub fn skip(&mut self, bytes: &[u8])
+        ensures stands { (n : ℕ) (text : List ℕ) (events more : List BusEvent) → LexerStandsAt self.old n text events
+            → EndsBetween text → EndsBetween bytes.now → Spells bytes.now more
+            → LexerStandsAt self.new (n + length bytes.now) (text ++ bytes.now) (events ++ more) }
+        ensures faulted { (fault : LexFault) → IsFaulted self.old fault → IsFaulted self.new fault }
+    {
+        self.used = self.used.saturating_add(bytes.len() as u64);
     }
 
     // Takes the next piece of the text, one byte after the other.

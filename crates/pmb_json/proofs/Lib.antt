@@ -11,7 +11,6 @@ pub mod Fronts
 pub mod Running
 pub mod BadLines
 pub mod OneText
-pub mod Decided
 pub mod SomeText
 pub mod Pieces
 pub mod Cut

@@ -21,6 +21,12 @@ use Rattle.pmb_reader.specs.Refusal.{refusal_data}
 pub use Rattle.pmb_reader.specs.Standing.{Standing, Open, Held, Passing}
 pub use Rattle.pmb_reader.specs.machine.Standing.{ReaderStandsAt, last_read}
 
+-- between two packets
+abbrev pub IsBetween : Standing → Type 0
+IsBetween (Open n events) = events ≡ []
+IsBetween (Held n refusal) = ⊥
+IsBetween (Passing n) = ⊥
+
 -- where it stands behind an event that is passed over
 abbrev pub behind_passed : ℕ → Event → Standing
 behind_passed n Start = Passing (n + 1)

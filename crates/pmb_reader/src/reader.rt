@@ -4,7 +4,7 @@
 //! to the next STOP. The packet under way is an [`UnderWay`], which alone knows what a packet is; here
 //! events are counted and refusals are kept.
 
-ghost use Rattle.std.specs.Prelude.{◌≡◌, ◌+◌, ℕ, None, List, [], length};
+ghost use Rattle.std.specs.Prelude.{◌≡◌, ◌↔◌, ◌+◌, ℕ, None, List, [], length, true};
 ghost use Rattle.pmb_bus.specs.declared.event.Event.{Event as BusEvent};
 ghost use Rattle.pmb_bus.specs.Kinds.{AreKindsOf};
 ghost use Rattle.pmb_command.specs.Parts.{DeviceParts};
@@ -12,7 +12,7 @@ ghost use Rattle.pmb_transaction.specs.Capture.{MayFollow};
 ghost use Rattle.pmb_transaction.specs.Reading.{RefusedAt};
 ghost use Rattle.pmb_transaction.specs.Transaction.{transaction_data};
 ghost use Rattle.pmb_reader.specs.Refusal.{refusal_data};
-ghost use Rattle.pmb_reader.specs.Reader.{Standing, Open, Held, Passing, ReaderStandsAt, CanCome, ReaderFinishes, IsHeldAt, ReaderTakes, behind_passed, behind_resync, last_read};
+ghost use Rattle.pmb_reader.specs.Reader.{Standing, Open, Held, Passing, ReaderStandsAt, CanCome, ReaderFinishes, IsBetween, IsHeldAt, ReaderTakes, behind_passed, behind_resync, last_read};
 
 use crate::refusal::Refusal;
 use pmb_bus::{Event, Kinds};
@@ -121,6 +121,29 @@ impl<'p> Reader<'p> {
             Mode::Held(_) => Kinds::empty(),
             Mode::Passing => Kinds::all(),
         }
+    }
+
+    /// Whether it stands between two packets: no packet is under way, no refusal is held, and no event
+    /// is passed over.
+    #[inline(always)]
+    pub fn is_between(&self) -> bool
+        ensures { (profile : List DeviceParts) (standing : Standing) → ReaderStandsAt profile self.now standing
+            → (result ≡ true) ↔ IsBetween standing }
+    {
+        match self.mode {
+            Mode::Open => self.under_way.is_between(),
+            Mode::Held(_) | Mode::Passing => false,
+        }
+    }
+
+    /// Passes over the events of whole packets that were read elsewhere, between two packets. It takes
+    /// how many events they are.
+    #[inline(always)]
+    pub fn skip(&mut self, events: usize)
+        ensures { (profile : List DeviceParts) (n : ℕ) → ReaderStandsAt profile self.old (Open n [])
+            → ReaderStandsAt profile self.new (Open (n + events) []) }
+    {
+        self.used = self.used.saturating_add(events as u64);
     }
 
     /// The end of the capture.

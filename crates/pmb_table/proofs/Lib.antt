@@ -3,4 +3,5 @@ pub mod StandardList
 pub mod CommandMaps
 pub mod CommandSteps
 pub mod DeviceSteps
+pub mod Places
 pub mod TakenCodes

@@ -1,14 +1,17 @@
 -- The list of the standard commands, code by code.
-use Rattle.std.proofs.Common.{◌≡◌, ℕ, zero, suc, ◌+◌, ◌<◌, List, [], ◌∷◌, ◌++◌, map, filter_map, Option, None, Some, refl, sym, ap, subst, ◌∙◌, arith, add-one, add-zero, zero-add}
+use Rattle.std.proofs.Common.{◌≡◌, ℕ, zero, suc, ◌+◌, ◌<◌, List, [], ◌∷◌, ◌++◌, map, filter_map, length, Option, None, Some, inr, ⊎_elim, refl, sym, ap, subst, ◌∙◌, arith, add-one, add-zero, zero-add}
 use Rattle.std.specs.List.{AllByRecursion, range_with_len, cons_option}
 use Rattle.std.proofs.lemmas.Bool.{ne_eqb}
 use Rattle.std.proofs.lemmas.List.{map-append, append-nil}
 use Rattle.std.proofs.lemmas.List.Elements.{filter_map-append}
+use Rattle.pmb_command.specs.Bus.{IsCommand}
 use Rattle.pmb_command.specs.Commands.{standard_entry}
 use Rattle.pmb_command.specs.Entry.{EntryParts}
-use Rattle.pmb_command.specs.Parts.{CommandParts}
+use Rattle.pmb_command.specs.Parts.{CommandParts, HaveOwnCodes}
 use Rattle.pmb_table.specs.Profile.{put, standard_commands}
 use Rattle.pmb_command.specs.Standard.{IsStandardAt}
+use Rattle.pmb_table.specs.machine.CommandMap.{without_initial}
+use Rattle.pmb_table.specs.machine.StandardCommands.{AreAllOrNone}
 
 -- what is said of each standard entry
 abbrev pub AreSound : Type 0
@@ -73,3 +76,34 @@ put-standard sound n e has =
     let same : 0 + n ≡ e.code = omega (arith, (sound n e has).same_code) in
     put-above (bare e) (standard_from 0 n) (subst (λ k. AllByRecursion (λ x. x.entry.code < k) (standard_from 0 n)) same (below sound 0 n))
     ∙ sym (standard_from-more n (Some e) has)
+
+-- ---- copies
+
+-- none of them has initial bytes
+bare-without_initial : (es : List EntryParts) → map without_initial (map bare es) ≡ map bare es
+bare-without_initial [] = refl
+bare-without_initial (e ∷ es) = ap (λ cs. bare e ∷ cs) (bare-without_initial es)
+
+-- so their copy is the same
+pub standard-without_initial : (n : ℕ) → n ≡ 256 → map without_initial standard_commands ≡ standard_commands
+standard-without_initial n all =
+    subst (λ cs. map without_initial cs ≡ cs) (standard_from-all n all) (bare-without_initial (filter_map standard_entry (range_with_len 0 n)))
+
+-- where some are kept, all are
+pub all_of_some : (cs : List CommandParts) → AreAllOrNone cs → 0 < length cs → cs ≡ standard_commands
+all_of_some cs kept some = ⊎_elim (λ none. let empty : length cs ≡ 0 = ap length none in absurd (omega arith)) (λ all. all) kept.all_or_none
+
+-- so a copy of them is them
+pub copy-standard : (cs copy : List CommandParts) → cs ≡ standard_commands → copy ≡ map without_initial cs → copy ≡ standard_commands
+copy-standard cs copy all is = is ∙ ap (map without_initial) all ∙ standard-without_initial 256 refl
+
+pub copy_same : (cs copy : List CommandParts) → cs ≡ standard_commands → copy ≡ map without_initial cs → cs ≡ copy
+copy_same cs copy all is = all ∙ sym (copy-standard cs copy all is)
+
+-- and can be kept
+pub kept_copy : (cs copy : List CommandParts) → cs ≡ standard_commands → HaveOwnCodes cs → AllByRecursion IsCommand cs → copy ≡ map without_initial cs → AreAllOrNone copy
+kept_copy cs copy all own_codes accepted is = record {
+  all_or_none = inr (copy-standard cs copy all is);
+  own_codes = subst HaveOwnCodes (copy_same cs copy all is) own_codes;
+  accepted = subst (AllByRecursion IsCommand) (copy_same cs copy all is) accepted;
+}

@@ -14,39 +14,24 @@ ghost use Rattle.pmb_table.specs.Profile.{at_command, at_top, placed, standard_c
 use crate::command_map::CommandMap;
 use crate::fault::ProfileFault;
 use crate::place;
+use crate::standard_commands::StandardCommands;
 use arrayvec::ArrayVec;
-use pmb_command::{laws, standard};
 use pmb_keys::{Command, FaultKind, read_command};
 use std::alloc::{AllocError, Global};
 use toml::Value;
 
-/// The standard commands, in the order of their codes.
-fn standard_ones(alloc: Global) -> Result<CommandMap, AllocError>
-    ensures commands { IfOk result (λ commands. commands ≡ standard_commands) }
-    ensures own_codes { IfOk result HaveOwnCodes }
-    ensures accepted { IfOk result (λ commands. AllByRecursion IsCommand commands) }
-{
-    laws::standard_entries_are_sound();
-    let mut commands = CommandMap::new(alloc);
-    for code in 0u16..256 {
-        if let Some(entry) = standard(code as u8) {
-            commands.put(Command {
-                entry,
-                initial: None,
-            })?;
-        }
-    }
-    Ok(commands)
-}
-
 /// The commands of a device before the tables of the profile: the standard ones, or none.
-pub(crate) fn first_commands(alloc: Global, has_standard: bool) -> Result<CommandMap, AllocError>
+pub(crate) fn first_commands(
+    alloc: Global,
+    standard: &mut StandardCommands,
+    has_standard: bool,
+) -> Result<CommandMap, AllocError>
     ensures commands { IfOk result (λ commands. commands ≡ (if has_standard then standard_commands else [])) }
     ensures own_codes { IfOk result HaveOwnCodes }
     ensures accepted { IfOk result (λ commands. AllByRecursion IsCommand commands) }
 {
     if has_standard {
-        standard_ones(alloc)
+        standard.commands(alloc)
     } else {
         Ok(CommandMap::new(alloc))
     }

@@ -15,6 +15,7 @@ use crate::device_commands::{first_commands, read_commands};
 use crate::device_profile::DeviceProfile;
 use crate::fault::ProfileFault;
 use crate::place;
+use crate::standard_commands::StandardCommands;
 use arrayvec::ArrayVec;
 use pmb_keys::{FaultKind, read_device_keys};
 use std::alloc::Global;
@@ -36,6 +37,7 @@ fn addresses_of(devices: &[DeviceProfile]) -> ArrayVec<u8, 64>
 /// memory is taken.
 fn read_device(
     alloc: Global,
+    standard: &mut StandardCommands,
     before: &[DeviceProfile],
     value: &Value,
 ) -> Result<DeviceProfile, ProfileFault>
@@ -51,7 +53,7 @@ fn read_device(
         Ok(keys) => keys,
         Err(what) => return Err(place::in_device(number, what)),
     };
-    let first = match first_commands(alloc, keys.standard) {
+    let first = match first_commands(alloc, standard, keys.standard) {
         Ok(first) => first,
         Err(error) => return Err(place::no_memory(error)),
     };
@@ -73,8 +75,9 @@ pub(crate) fn read_devices(
     ensures devices { IfOk result (λ devices. AllByRecursion IsDevice devices.items) }
 {
     let mut devices = Vec::new(alloc);
+    let mut standard = StandardCommands::new(alloc);
     for value in values {
-        let device = match read_device(alloc, devices.as_slice(), value) {
+        let device = match read_device(alloc, &mut standard, devices.as_slice(), value) {
             Ok(device) => device,
             Err(fault) => return Err(fault),
         };

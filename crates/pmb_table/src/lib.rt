@@ -24,6 +24,7 @@ pub mod laws;
 mod place;
 mod profile;
 mod sample;
+mod standard_commands;
 
 pub use device_profile::DeviceProfile;
 pub use fault::ProfileFault;

@@ -1,13 +1,18 @@
 //! The devices of a bus, as a profile describes them.
+//!
+//! Each packet looks a device up by its address, so `places` says for each address where its device
+//! stands. An address without a device has a place too, which says nothing: `place_of` looks whether
+//! the device there has the address.
 
-ghost use Rattle.std.specs.Prelude.{◌≡◌, ◌⊎◌, ◌≤◌, length, option_map, slice_get, Ok, Err, IfOk, IfErr, IfSome, IsUtf8};
+ghost use Rattle.std.specs.Prelude.{◌≡◌, ◌⊎◌, ◌≤◌, length, option_map, slice_get, Ok, Err, Some, IfOk, IfErr, IfNone, IfSome, IsUtf8};
 ghost use Rattle.std.specs.List.{AllByRecursion};
 ghost use Rattle.toml.specs.View.{view, items_view, table_view};
-ghost use Rattle.pmb_command.specs.Parts.{device_with};
 ghost use Rattle.pmb_table.specs.Profile.{Says, at_top, device_array_rule, device_items, profile_of};
 ghost use Rattle.pmb_keys.specs.Rules.{bind};
 ghost use Rattle.pmb_command.specs.Bus.{IsBus, IsDevice};
-ghost use Rattle.pmb_command.specs.Parts.{HaveOwnAddresses};
+ghost use Rattle.pmb_command.specs.Parts.{HaveOwnAddresses, IsNew, device_with};
+ghost use Rattle.pmb_table.specs.machine.Places.{ArePlaces};
+ghost use Rattle.pmb_table.specs.machine.Profile.{addresses_of};
 
 use crate::device_profile::DeviceProfile;
 use crate::device_reader::read_devices;
@@ -22,22 +27,27 @@ use toml::{Table, Value};
 /// How many devices a profile may have.
 const MAX_DEVICES: usize = 64;
 
+/// How many numbers a byte can be: an address has seven bits, but any byte can be looked up.
+const BYTES: usize = 256;
+
 /// The devices of a bus in their order, no two of which have one address.
 #[derive(Debug, Drop)]
 pub struct Profile {
     devices: Vec<DeviceProfile>,
+    /// For the address of each device its index.
+    places: [u8; BYTES],
 }
 
 impl Model for Profile {
     ghost use Rattle.std.specs.Prelude.{List};
-    ghost use Rattle.pmb_command.specs.Bus.{IsBus};
     ghost use Rattle.pmb_command.specs.Parts.{DeviceParts};
+    ghost use Rattle.pmb_table.specs.machine.Profile.{IsFoundByAddress};
 
     ghost Value = { List DeviceParts };
 
     ghost view = { λ p. p.devices.items };
 
-    ghost invariant = { λ p. IsBus p.devices.items };
+    ghost invariant = { λ p. IsFoundByAddress p.devices.items p.places };
 }
 
 /// The values of an array of devices.
@@ -62,6 +72,20 @@ fn device_values(table: &Table) -> Result<&[Value], FaultKind>
     array_rule(present(table, "device")?)
 }
 
+/// The index of each device, at its address.
+fn places_of(devices: &[DeviceProfile]) -> [u8; BYTES]
+    requires few { length devices.now ≤ 64 }
+    requires own_addresses { HaveOwnAddresses devices.now }
+    ensures { ArePlaces result (addresses_of devices.now) }
+{
+    let mut places = [0; BYTES];
+    for i in 0..devices.len() {
+        let address = devices[i].address();
+        places[address as usize] = i as u8;
+    }
+    places
+}
+
 /// Reads the devices of a document's table. A fault at its top is told before memory is taken.
 fn read_profile(alloc: Global, table: &Table) -> Result<Profile, ProfileFault>
     ensures read { (result ≡ Err (at_top FaultKind.OutOfMemory)) ⊎ (result ≡ profile_of (table_view table.now)) }
@@ -72,7 +96,10 @@ fn read_profile(alloc: Global, table: &Table) -> Result<Profile, ProfileFault>
         Err(what) => return Err(place::outside(what)),
     };
     match read_devices(alloc, values) {
-        Ok(devices) => Ok(Profile { devices }),
+        Ok(devices) => {
+            let places = places_of(devices.as_slice());
+            Ok(Profile { devices, places })
+        }
         Err(fault) => Err(fault),
     }
 }
@@ -111,16 +138,27 @@ impl Profile {
         self.devices.get(index)
     }
 
+    /// The index of the device with an address.
+    fn place_of(&self, address: u8) -> Option<usize>
+        ensures found { IfSome result (λ place. slice_get (addresses_of self.now) place ≡ Some address) }
+        ensures absent { IfNone result (IsNew address (addresses_of self.now)) }
+        ensures own_addresses { HaveOwnAddresses self.now }
+    {
+        let place = self.places[address as usize] as usize;
+        let device = self.device_at(place)?;
+        if device.address() == address {
+            Some(place)
+        } else {
+            None
+        }
+    }
+
     /// The device with an address.
     pub fn device(&self, address: u8) -> Option<&DeviceProfile>
         ensures device { option_map (λ d. d.now) result ≡ device_with address self.now }
         ensures accepted { IfSome result (λ d. IsDevice d.now) }
     {
-        for device in &self.devices {
-            if device.address() == address {
-                return Some(device);
-            }
-        }
-        None
+        let place = self.place_of(address)?;
+        self.device_at(place)
     }
 }

@@ -1,9 +1,13 @@
-use Rattle.std.proofs.Common.{ap, ◌∙◌, option_map}
-use Rattle.pmb_keys.specs.CommandView.{command_parts}
-use Rattle.pmb_table.proofs.CommandMaps.{command_with-lookup, parts_of_ref}
+use Rattle.std.proofs.Common.{◌≡◌, ◌∙◌, None, rules, sym}
+use Rattle.pmb_command.specs.Parts.{command_with}
+use Rattle.pmb_table.proofs.Places.{find-at, find-new}
 use Rattle.pmb_table.proofs.command_map.CommandMap.get.Goals as goal
+
+pub returns-in_err-place : goal.returns-in_err-place
+returns-in_err-place c =
+    let none : command_with c.args.code c.args.self.now ≡ None = find-new (λ x. x.entry.code) c.args.self.now c.args.code c.in_err-place.ensures.absent in
+    rw none (search rules)
 
 pub returns : goal.returns
 returns c =
-    rw (← c.self.view_is)
-    (parts_of_ref c.get.result ∙ ap (option_map command_parts) c.get.ensures.value ∙ command_with-lookup c.args.code c.self.inside.commands.entries c.self.invariant)
+    c.at.ensures ∙ sym (find-at (λ x. x.entry.code) c.args.self.now c.in_ok-place.place c.args.code c.place_of.ensures.own_codes c.in_ok-place.ensures.found)

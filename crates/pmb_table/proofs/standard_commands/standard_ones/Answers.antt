@@ -5,8 +5,8 @@ use Rattle.std.specs.List.{AllByRecursion}
 use Rattle.pmb_command.specs.Bus.{IsCommand}
 use Rattle.pmb_table.proofs.Accepted.{IsCommand-put}
 use Rattle.pmb_table.proofs.StandardList.{bare, put-standard, standard_from-all, standard_from-none}
-use Rattle.pmb_table.proofs.device_commands.standard_ones.Goals as goal
-use Rattle.pmb_table.proofs.device_commands.standard_ones.Goals.{in-Some+in_ok-put, in_default}
+use Rattle.pmb_table.proofs.standard_commands.standard_ones.Goals as goal
+use Rattle.pmb_table.proofs.standard_commands.standard_ones.Goals.{in-Some+in_ok-put, in_default}
 
 pub loop-code-preserved : goal.loop-code-preserved
 loop-code-preserved c =

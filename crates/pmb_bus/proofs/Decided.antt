@@ -6,7 +6,7 @@ use Rattle.pmb_bus.specs.Event.{event_of}
 use Rattle.pmb_bus.specs.LexFault.{OpenWordIsBad}
 use Rattle.pmb_bus.specs.Text.{AreTokens, EndedWordsSpell, FirstBadWord, Spells, ends_in_comment, in_comment, is_separator, is_word, open_word}
 use Rattle.pmb_bus.proofs.Fronts.{from_the_front, open_word_is_bad}
-use Rattle.pmb_bus.proofs.Spelling.{no_word, one_word, outside_of_word}
+use Rattle.pmb_bus.proofs.Spelling.{ended_words_lead_on, no_word, one_word, outside_of_word}
 use Rattle.pmb_bus.proofs.Splits.{glue}
 use Rattle.pmb_bus.proofs.Stands.{ended_by}
 use Rattle.pmb_bus.proofs.Tokens.{cases_Option, cases_word}
@@ -71,14 +71,12 @@ decided text = from_the_front IsDecided (inl ([], refl)) one_byte_more text
 abbrev pub IsRead : List ℕ → Type 0
 IsRead text = ((events : List Event) × Spells text events) ⊎ ((events : List Event) × (place : ℕ) × FirstBadWord text events place)
 
-pub each_text_is_read : ((text : List ℕ) (events : List Event) → EndedWordsSpell text events
-    → Spells text events ⊎ (((event : Event) × Spells text (events ++ event ∷ [])) ⊎ ((place : ℕ) × FirstBadWord text events place)))
-    → (text : List ℕ) → IsRead text
-each_text_is_read lead_on text =
+pub each_text_is_read : (text : List ℕ) → IsRead text
+each_text_is_read text =
     elim (decided text) [
       | inr bad ↦ inr (bad.0, bad.1, subst (λ (all : List ℕ). FirstBadWord all bad.0 bad.1) (append-nil text) (bad.2 []))
       | inl ended ↦
-          elim (lead_on text ended.0 ended.1) [
+          elim (ended_words_lead_on text ended.0 ended.1) [
             | inl spells ↦ inl (ended.0, spells)
             | inr last ↦
                 elim last [

@@ -1,0 +1,241 @@
+-- The legs of common packets, and the packets of such legs.
+use Rattle.std.proofs.Common.{◌≡◌, ℕ, ◌+◌, ◌*◌, ◌≤◌, Bool, true, false, List, [], ◌∷◌, ◌++◌, length, nat_eq, refl, sym, ap, subst, ◌∙◌, arith, length-append}
+use Rattle.std.proofs.lemmas.List.{append-nil}
+use Rattle.std.specs.List.{IsDistinct}
+use Rattle.pmb_bus.specs.declared.event.Event.{Event}
+use Rattle.pmb_bus.specs.declared.event.Event.TheVariants.{Stop}
+use Rattle.pmb_bus.specs.Address.{write_address, read_address}
+use Rattle.pmb_bus.specs.Event.{AreBytes, canonical_text}
+use Rattle.pmb_bus.specs.Pec.{pec}
+use Rattle.pmb_command.specs.declared.form.Form.{Form}
+use Rattle.pmb_command.specs.declared.form.Form.TheVariants.{Zero, One, Two, Four, Eight, Block}
+use Rattle.pmb_command.specs.Bus.{IsBus}
+use Rattle.pmb_command.specs.Parts.{DeviceParts}
+use Rattle.pmb_command.specs.Wire.{AreByteValues, Fits, wire}
+use Rattle.pmb_transaction.specs.Transaction.{PartData, ReadData, TransactionData, Write, Read}
+use Rattle.pmb_transaction.specs.Body.{checked}
+use Rattle.pmb_transaction.specs.Packet.{Packet, acked, leg, nacked}
+use Rattle.pmb_common.specs.declared.legs.Legs.{Legs}
+use Rattle.pmb_common.specs.declared.legs.Legs.TheVariants.{Written, Both}
+use Rattle.pmb_common.specs.Common.{BeginsCommon, IsCommon, OneRead, OneWritten, TakesPacket, device_read, one_part_written, read_events}
+use Rattle.pmb_common.specs.Legs.{IsOfLegs, SayLegs, leg_events}
+use Rattle.pmb_common.proofs.Ends.{length-read_text, length-written_text}
+use Rattle.pmb_common.proofs.Found.{read_has_data}
+
+length-acked : (bytes : List ℕ) → length (acked bytes) ≡ 2 * length bytes
+length-acked [] = refl
+length-acked (b ∷ bytes) = omega (arith, length-acked bytes)
+
+-- ---- from legs to the packet
+
+-- one address is none twice
+one_address : (address : ℕ) → IsDistinct nat_eq (address ∷ [])
+unfolding IsDistinct
+one_address address = (tt, tt)
+
+-- the write of one part
+pub takes_write : (profile : List DeviceParts) (text rest : List ℕ) (address code : ℕ) (data_bytes : List ℕ) (with_pec : Bool) (bytes : List ℕ) (used count : ℕ)
+    → OneWritten profile address code data_bytes with_pec bytes → text ≡ canonical_text (leg_events Written bytes) ++ rest
+    → used ≡ 4 + 5 * length bytes → count ≡ 2 + 2 * length bytes
+    → TakesPacket profile text used count (Write (record { addr = address; code = code; bytes = data_bytes; pec = with_pec } ∷ []))
+takes_write profile text rest address code data_bytes with_pec bytes used count says split long many = record {
+  common = one_part_written (record { addr = address; code = code; bytes = data_bytes; pec = with_pec });
+  events = leg bytes ++ Stop ∷ [];
+  packet = record {
+    some = omega arith;
+    few = omega arith;
+    distinct = one_address address;
+    legs = leg bytes;
+    each = (
+      leg bytes,
+      [],
+      sym (append-nil (leg bytes)),
+      record { device = says.device; body = says.body; known = says.known; allowed = says.allowed; spelled = ap leg says.spelled },
+      refl,
+    );
+    spelled = refl;
+  };
+  rest = rest;
+  split = split;
+  bytes = long ∙ sym (length-written_text bytes);
+  all = omega (arith, many, length-append (acked bytes) (Stop ∷ []), length-acked bytes);
+}
+
+-- the read
+length-nacked : (bytes : List ℕ) → length (nacked bytes) ≡ 2 * length bytes
+length-nacked [] = refl
+length-nacked (b ∷ []) = refl
+length-nacked (b ∷ c ∷ bytes) = omega (arith, length-nacked (c ∷ bytes))
+
+length-read_events : (a b c : ℕ) (reply : List ℕ) → length (read_events (a ∷ b ∷ c ∷ reply)) ≡ 9 + 2 * length reply
+length-read_events a b c reply = omega (arith, length-append (nacked reply) (Stop ∷ []), length-nacked reply)
+
+pub takes_read : (profile : List DeviceParts) (text rest : List ℕ) (address code : ℕ) (data_bytes : List ℕ) (with_pec : Bool) (bytes : List ℕ) (used count : ℕ)
+    → OneRead profile address code data_bytes with_pec bytes → text ≡ canonical_text (leg_events Both bytes) ++ rest
+    → used ≡ 6 + 5 * length bytes → count ≡ 3 + 2 * length bytes
+    → TakesPacket profile text used count (Read (record { addr = address; code = code; reply = data_bytes; pec = with_pec }))
+takes_read profile text rest address code data_bytes with_pec bytes used count says split long many =
+    let before = write_address address ∷ code ∷ read_address address ∷ [] in
+    let reply = checked with_pec before (wire says.form data_bytes) in
+    let same : read_events bytes ≡ read_events (write_address address ∷ code ∷ read_address address ∷ reply) = ap read_events says.spelled in
+    record {
+      common = device_read (record { addr = address; code = code; reply = data_bytes; pec = with_pec });
+      events = read_events bytes;
+      packet = record {
+        device = says.device;
+        form = says.form;
+        known = says.known;
+        read = says.read;
+        fits = says.fits;
+        mode = says.mode;
+        spelled = same;
+      };
+      rest = rest;
+      split = split;
+      bytes = omega (
+        arith,
+        long,
+        ap length says.spelled,
+        ap (λ (events : List Event). length (canonical_text events)) same,
+        length-read_text (write_address address) code (read_address address) reply,
+      );
+      all = omega (
+        arith,
+        many,
+        ap length says.spelled,
+        ap length same,
+        length-read_events (write_address address) code (read_address address) reply,
+      );
+    }
+
+-- ---- from the packet to its legs
+
+-- The legs that stand in front of a text, and what they say.
+pub record CommonLegs (profile : List DeviceParts) (text : List ℕ) : Type 0 where
+  pub legs : Legs
+  pub all : List ℕ
+  pub rest : List ℕ
+  pub are : IsOfLegs legs all
+  pub say : SayLegs profile legs all
+  pub split : text ≡ canonical_text (leg_events legs all) ++ rest
+
+-- the bytes of events
+bytes_of_acked : (bytes : List ℕ) (more : List Event) → AreBytes (acked bytes ++ more) → AreByteValues bytes
+bytes_of_acked [] more small = tt
+bytes_of_acked (b ∷ bytes) more small = (small.0, bytes_of_acked bytes more small.1)
+
+bytes_of_nacked : (bytes : List ℕ) (more : List Event) → AreBytes (nacked bytes ++ more) → AreByteValues bytes
+bytes_of_nacked [] more small = tt
+bytes_of_nacked (b ∷ []) more small = (small.0, tt)
+bytes_of_nacked (b ∷ c ∷ bytes) more small = (small.0, bytes_of_nacked (c ∷ bytes) more small.1)
+
+read_bytes : (a b c : ℕ) (reply : List ℕ) → AreBytes (read_events (a ∷ b ∷ c ∷ reply)) → AreByteValues (a ∷ b ∷ c ∷ reply)
+read_bytes a b c reply small = (small.0, (small.1.0, (small.1.1.0, bytes_of_nacked reply (Stop ∷ []) small.1.1.1)))
+
+-- how many bytes data have on the wire
+few_on_wire : (form : Form) (data_bytes : List ℕ) → Fits form data_bytes → length (wire form data_bytes) ≤ 256
+few_on_wire Zero data_bytes fits = omega (arith, fits.taken)
+few_on_wire One data_bytes fits = omega (arith, fits.taken)
+few_on_wire Two data_bytes fits = omega (arith, fits.taken)
+few_on_wire Four data_bytes fits = omega (arith, fits.taken)
+few_on_wire Eight data_bytes fits = omega (arith, fits.taken)
+few_on_wire Block data_bytes fits = omega (arith, fits.taken)
+
+some_on_wire : (form : Form) (data_bytes : List ℕ) → Fits form data_bytes → (form ≡ Zero → ⊥) → 1 ≤ length (wire form data_bytes)
+some_on_wire Zero data_bytes fits not_zero = absurd (not_zero refl)
+some_on_wire One data_bytes fits not_zero = omega (arith, fits.taken)
+some_on_wire Two data_bytes fits not_zero = omega (arith, fits.taken)
+some_on_wire Four data_bytes fits not_zero = omega (arith, fits.taken)
+some_on_wire Eight data_bytes fits not_zero = omega (arith, fits.taken)
+some_on_wire Block data_bytes fits not_zero = omega arith
+
+-- and how many with a packet error code
+few_checked : (with_pec : Bool) (before bytes : List ℕ) → length (checked with_pec before bytes) ≤ length bytes + 1
+few_checked false before bytes = omega arith
+few_checked true before bytes = omega (arith, length-append bytes (pec (before ++ bytes) ∷ []))
+
+some_checked : (with_pec : Bool) (before bytes : List ℕ) → length bytes ≤ length (checked with_pec before bytes)
+some_checked false before bytes = omega arith
+some_checked true before bytes = omega (arith, length-append bytes (pec (before ++ bytes) ∷ []))
+
+module _ (profile : List DeviceParts) (bus : IsBus profile)
+    (are_bytes : (t : TransactionData) (events : List Event) → Packet profile t events → AreBytes events) (text : List ℕ) where
+  -- those of a write
+  write_legs : (part : PartData) (events : List Event) (rest : List ℕ) → Packet profile (Write (part ∷ [])) events → text ≡ canonical_text events ++ rest
+      → CommonLegs profile text
+  write_legs part events rest packet split =
+      let here = packet.each.3 in
+      let all = write_address part.addr ∷ here.body in
+      let first : packet.legs ≡ leg all =
+      packet.each.2 ∙ ap (λ (l : List Event). packet.each.0 ++ l) packet.each.4 ∙ append-nil packet.each.0 ∙ here.spelled in
+      let spelled : events ≡ leg all ++ Stop ∷ [] = packet.spelled ∙ ap (λ (l : List Event). l ++ Stop ∷ []) first in
+      let small : AreBytes (leg all ++ Stop ∷ []) = subst AreBytes spelled (are_bytes (Write (part ∷ [])) events packet) in
+      record {
+        legs = Written;
+        all = all;
+        rest = rest;
+        are = record {
+          small = bytes_of_acked all (Stop ∷ []) small;
+          enough = omega arith;
+          few = omega (
+            arith,
+            ap length here.allowed.spelled,
+            few_checked part.pec (write_address here.device.address ∷ []) (part.code ∷ wire here.allowed.form part.bytes),
+            few_on_wire here.allowed.form part.bytes here.allowed.fits,
+          );
+        };
+        say = (
+          part.addr,
+          part.code,
+          part.bytes,
+          part.pec,
+          record { device = here.device; body = here.body; known = here.known; allowed = here.allowed; spelled = refl },
+        );
+        split = split ∙ ap (λ (l : List Event). canonical_text l ++ rest) spelled;
+      }
+
+  -- those of a read
+  read_legs : (t : ReadData) (events : List Event) (rest : List ℕ) → Packet profile (Read t) events → text ≡ canonical_text events ++ rest
+      → CommonLegs profile text
+  read_legs t events rest packet split =
+      let before = write_address t.addr ∷ t.code ∷ read_address t.addr ∷ [] in
+      let reply = checked t.pec before (wire packet.form t.reply) in
+      let all = write_address t.addr ∷ t.code ∷ read_address t.addr ∷ reply in
+      let small : AreBytes (read_events all) = subst AreBytes packet.spelled (are_bytes (Read t) events packet) in
+      let at_least : 1 ≤ length (wire packet.form t.reply) =
+      some_on_wire packet.form t.reply packet.fits (read_has_data profile t.addr t.code packet.device packet.form bus packet.known packet.read) in
+      record {
+        legs = Both;
+        all = all;
+        rest = rest;
+        are = record {
+          small = read_bytes (write_address t.addr) t.code (read_address t.addr) reply small;
+          enough = omega (arith, at_least, some_checked t.pec before (wire packet.form t.reply));
+          few = omega (arith, few_checked t.pec before (wire packet.form t.reply), few_on_wire packet.form t.reply packet.fits);
+        };
+        say = (
+          t.addr,
+          t.code,
+          t.reply,
+          t.pec,
+          record {
+            device = packet.device;
+            form = packet.form;
+            known = packet.known;
+            read = packet.read;
+            fits = packet.fits;
+            mode = packet.mode;
+            spelled = refl;
+          },
+        );
+        split = split ∙ ap (λ (l : List Event). canonical_text l ++ rest) packet.spelled;
+      }
+
+  legs_of : (t : TransactionData) (events : List Event) (rest : List ℕ) → IsCommon t → Packet profile t events → text ≡ canonical_text events ++ rest
+      → CommonLegs profile text
+  legs_of t events rest (one_part_written part) packet split = write_legs part events rest packet split
+  legs_of t events rest (device_read read) packet split = read_legs read events rest packet split
+
+  -- The legs of a common packet in front of a text.
+  pub common_legs : BeginsCommon profile text → CommonLegs profile text
+  common_legs begins = legs_of begins.2 begins.3.events begins.3.rest begins.3.common begins.3.packet begins.3.split

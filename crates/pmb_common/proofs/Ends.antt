@@ -1,0 +1,64 @@
+-- The last byte that is read, and the text of both legs.
+use Rattle.std.proofs.Common.{◌≡◌, ℕ, ◌+◌, ◌*◌, List, [], ◌∷◌, ◌++◌, length, refl, ap, ◌∙◌, arith, append_assoc, length-append}
+use Rattle.hex.specs.Hex.{encode_with}
+use Rattle.pmb_bus.specs.declared.event.Event.{Event}
+use Rattle.pmb_bus.specs.declared.event.Event.TheVariants.{Start, Byte, Ack, Nack, Stop}
+use Rattle.pmb_bus.specs.Event.{canonical_text}
+use Rattle.pmb_transaction.specs.Packet.{acked, nacked, leg}
+use Rattle.pmb_common.specs.Common.{read_events}
+use Rattle.pmb_common.specs.Front.{acked_text, end_text}
+use Rattle.pmb_common.proofs.Texts.{text-append, length-acked_text}
+
+-- bytes, by their last one
+pub record Ended (bytes : List ℕ) : Type 0 where
+  pub front : List ℕ
+  pub last : ℕ
+  pub whole : bytes ≡ front ++ last ∷ []
+
+one_in_front : (byte : ℕ) (bytes : List ℕ) → Ended bytes → Ended (byte ∷ bytes)
+one_in_front byte bytes ended = record { front = byte ∷ ended.front; last = ended.last; whole = ap (λ (l : List ℕ). byte ∷ l) ended.whole }
+
+pub ends : (byte : ℕ) (bytes : List ℕ) → Ended (byte ∷ bytes)
+ends byte [] = record { front = []; last = byte; whole = refl }
+ends byte (next ∷ bytes) = one_in_front byte (next ∷ bytes) (ends next bytes)
+
+-- the events of bytes that are read
+nacked-last : (front : List ℕ) (last : ℕ) → nacked (front ++ last ∷ []) ≡ acked front ++ Byte last ∷ Nack ∷ []
+nacked-last [] last = refl
+nacked-last (byte ∷ []) last = refl
+nacked-last (byte ∷ next ∷ front) last = ap (λ (events : List Event). Byte byte ∷ Ack ∷ events) (nacked-last (next ∷ front) last)
+
+read_end : (front : List ℕ) (last : ℕ) → canonical_text (nacked (front ++ last ∷ []) ++ Stop ∷ []) ≡ acked_text front ++ end_text last
+read_end front last =
+    ap (λ (events : List Event). canonical_text (events ++ Stop ∷ [])) (nacked-last front last)
+    ∙ ap canonical_text (append_assoc (acked front) (Byte last ∷ Nack ∷ []) (Stop ∷ []))
+    ∙ text-append (acked front) (Byte last ∷ Nack ∷ Stop ∷ [])
+
+-- The text of both legs, by the bytes of the first, those behind the second START but for the last, and
+-- the last.
+pub read_text : (a b c : ℕ) (front : List ℕ) (last : ℕ)
+    → canonical_text (read_events (a ∷ b ∷ c ∷ front ++ last ∷ []))
+    ≡ canonical_text (Start ∷ []) ++ acked_text (a ∷ b ∷ []) ++ canonical_text (Start ∷ []) ++ acked_text (c ∷ front) ++ end_text last
+unfolding encode_with
+read_text a b c front last =
+    ap (λ (text : List ℕ). canonical_text (Start ∷ []) ++ acked_text (a ∷ b ∷ []) ++ canonical_text (Start ∷ []) ++ acked_text (c ∷ []) ++ text) (read_end front last)
+
+-- and that of a written one
+pub written_text : (bytes : List ℕ) → canonical_text (leg bytes ++ Stop ∷ []) ≡ canonical_text (Start ∷ []) ++ acked_text bytes ++ canonical_text (Stop ∷ [])
+written_text bytes = ap (λ (text : List ℕ). canonical_text (Start ∷ []) ++ text) (text-append (acked bytes) (Stop ∷ []))
+
+-- ---- how long they are
+
+pub length-written_text : (bytes : List ℕ) → length (canonical_text (leg bytes ++ Stop ∷ [])) ≡ 4 + 5 * length bytes
+length-written_text bytes =
+    ap length (written_text bytes) ∙ omega (arith, length-append (acked_text bytes) (canonical_text (Stop ∷ [])), length-acked_text bytes)
+
+length-nacked_text : (bytes : List ℕ) → length (canonical_text (nacked bytes ++ Stop ∷ [])) ≡ 2 + 5 * length bytes
+unfolding encode_with
+length-nacked_text [] = refl
+length-nacked_text (b ∷ []) = refl
+length-nacked_text (b ∷ c ∷ bytes) = omega (arith, length-nacked_text (c ∷ bytes))
+
+pub length-read_text : (a b c : ℕ) (reply : List ℕ) → length (canonical_text (read_events (a ∷ b ∷ c ∷ reply))) ≡ 21 + 5 * length reply
+unfolding encode_with
+length-read_text a b c reply = omega (arith, length-nacked_text reply)

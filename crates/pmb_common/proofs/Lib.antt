@@ -1,0 +1,12 @@
+pub mod Beginnings
+pub mod Behind
+pub mod Between
+pub mod Digits
+pub mod Texts
+pub mod Fronts
+pub mod FrontWords
+pub mod Ends
+pub mod Wires
+pub mod Found
+pub mod CommonLegs
+pub mod Spelled

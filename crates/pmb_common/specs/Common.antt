@@ -1,0 +1,64 @@
+-- Common packets, and what it means that one is taken at once from a text.
+use Rattle.std.specs.Prelude.{◌≡◌, ℕ, Bool, Some, List, [], ◌∷◌, ◌++◌, length, take, drop}
+use Rattle.pmb_bus.specs.declared.event.Event.{Event}
+use Rattle.pmb_bus.specs.declared.event.Event.TheVariants.{Stop}
+use Rattle.pmb_bus.specs.Address.{write_address, read_address}
+use Rattle.pmb_bus.specs.Event.{canonical_text}
+use Rattle.pmb_command.specs.declared.form.Form.{Form}
+use Rattle.pmb_command.specs.Parts.{DeviceParts, device_with}
+use Rattle.pmb_command.specs.PecMode.{AllowsPec}
+use Rattle.pmb_command.specs.Wire.{Fits, wire}
+use Rattle.pmb_transaction.specs.Transaction.{PartData, ReadData, TransactionData, Write, Read}
+use Rattle.pmb_transaction.specs.Body.{forms, checked, WriteBody}
+use Rattle.pmb_transaction.specs.Packet.{Packet, leg, nacked}
+
+-- The table of the transactions whose packets are taken at once, in every form of their data, with or
+-- without a packet error code (SMBus 3.0 section 6.5). Each byte is acknowledged, but for the last one
+-- that is read.
+pub data IsCommon : TransactionData → Type 0 where
+  -- S addr+W A code A data A .. [pec A] P
+  one_part_written : (part : PartData) → IsCommon (Write (part ∷ []))
+  -- S addr+W A code A S addr+R A reply A .. [pec] N P
+  device_read : (t : ReadData) → IsCommon (Read t)
+
+-- A text begins with the text of a common packet, the canonical text of its events: so many bytes, and
+-- so many events.
+pub record TakesPacket (profile : List DeviceParts) (text : List ℕ) (used : ℕ) (count : ℕ) (t : TransactionData) : Type 0 where
+  pub common : IsCommon t
+  pub events : List Event
+  pub packet : Packet profile t events
+  pub rest : List ℕ
+  pub split : text ≡ canonical_text events ++ rest
+  pub bytes : used ≡ length (canonical_text events)
+  pub all : count ≡ length events
+
+-- a text begins with the text of some common packet
+abbrev pub BeginsCommon : List DeviceParts → List ℕ → Type 0
+BeginsCommon profile text = (used : ℕ) × (count : ℕ) × (t : TransactionData) × TakesPacket profile text used count t
+
+-- ---- the bytes of a packet, its address bytes too
+
+-- The events of two legs, two bytes in the first and the others in the second: those that are read have
+-- NACK behind the last.
+abbrev pub read_events : List ℕ → List Event
+read_events bytes = leg (take 2 bytes) ++ (leg (take 1 (drop 2 bytes)) ++ nacked (drop 3 bytes)) ++ Stop ∷ []
+
+module _ (profile : List DeviceParts) (address : ℕ) (code : ℕ) (bytes : List ℕ) (with_pec : Bool) (all : List ℕ) where
+  -- those of a written leg
+  pub record OneWritten : Type 0 where
+    pub device : DeviceParts
+    pub body : List ℕ
+    pub known : device_with address profile ≡ Some device
+    pub allowed : WriteBody device code bytes with_pec body
+    pub spelled : all ≡ write_address address ∷ body
+
+  -- those of both legs of a read
+  pub record OneRead : Type 0 where
+    pub device : DeviceParts
+    pub form : Form
+    pub known : device_with address profile ≡ Some device
+    pub read : (forms device code).read ≡ Some form
+    pub fits : Fits form bytes
+    pub mode : AllowsPec device.pec with_pec
+    pub spelled : all ≡ write_address address ∷ code ∷ read_address address
+        ∷ checked with_pec (write_address address ∷ code ∷ read_address address ∷ []) (wire form bytes)

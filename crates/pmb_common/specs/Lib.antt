@@ -1,0 +1,4 @@
+pub mod Codes
+pub mod Common
+pub mod Front
+pub mod Legs

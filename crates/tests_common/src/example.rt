@@ -1,0 +1,28 @@
+//! The program of `pmb_common`'s documentation, and its law.
+
+use pmb_common::{Common, Taken, laws};
+use pmb_line::line_of;
+use pmb_table::{Profile, SAMPLE};
+use std::test::Fail;
+
+#[test]
+fn takes_a_write(rt: HostRuntime) -> Result<(), Fail> {
+    let profile = Profile::from_toml(rt.alloc(), SAMPLE.as_bytes())?;
+    let mut common = Common::new();
+    let taken = common.take(&profile, b"S b0 A 03 A P\nS b0 ");
+    assert_eq!(rt;
+        taken,
+        Some(Taken {
+            used: 14,
+            events: 6
+        })
+    );
+    assert_eq!(rt; line_of(common.packet()).as_str(), "write 58 03");
+    assert_eq!(rt; common.take(&profile, b"S b0 "), None);
+    Ok(())
+}
+
+#[test]
+fn calls_the_law() {
+    laws::common_packets_are_read();
+}
