@@ -112,6 +112,18 @@ impl<O: Output> Visitor for Account<O> {
         self.output.put_packet(transaction, waiting, writer)
     }
 
+    fn visit_whole<W: Sink>(
+        &mut self,
+        _bytes: &[u8],
+        _count: usize,
+        transaction: &Transaction,
+        waiting: &mut Waiting,
+        writer: &mut W,
+    ) -> Result<(), RunFault> {
+        self.tally.count_packet();
+        self.output.put_packet(transaction, waiting, writer)
+    }
+
     fn visit_refusal<W: Sink>(
         &mut self,
         _event: Event,

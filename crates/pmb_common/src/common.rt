@@ -4,7 +4,7 @@
 //! them behind, and nothing is read from them. What `kept` says changes only once all of the packet is
 //! accepted. Neither is cleared for a packet.
 
-ghost use Rattle.std.specs.Prelude.{◌≡◌, ◌≤◌, ◌++◌, List, ℕ, None, IsSome, IfSome, length};
+ghost use Rattle.std.specs.Prelude.{◌≡◌, ◌<◌, ◌≤◌, ◌++◌, List, ℕ, None, IsSome, IfSome, length};
 ghost use Rattle.pmb_bus.specs.Event.{canonical_text};
 ghost use Rattle.pmb_transaction.specs.Transaction.{NoAlert as says_no_alert, transaction_data};
 ghost use Rattle.pmb_common.specs.Common.{BeginsCommon, TakesPacket};
@@ -67,6 +67,7 @@ impl Common {
     /// and changes nothing.
     pub fn take(&mut self, profile: &Profile, text: &[u8]) -> Option<Taken>
         ensures takes { IfSome result (λ taken. TakesPacket profile.now text.now taken.used taken.events self.new) }
+        ensures some { IfSome result (λ taken. 0 < taken.used) }
         // A common packet that lies whole in front is taken.
         ensures answers { BeginsCommon profile.now text.now → IsSome result }
         ensures same { result ≡ None → self.new ≡ self.old }
@@ -84,6 +85,7 @@ fn keep(kept: &mut Kept, profile: &Profile, legs: Legs, bytes: &[u8]) -> Option<
     requires { length bytes.now ≤ 260 }
     ensures takes { (text rest : List ℕ) → text ≡ canonical_text (leg_events legs bytes.now) ++ rest
         → IfSome result (λ taken. TakesPacket profile.now text taken.used taken.events kept.new.last) }
+    ensures some { IfSome result (λ taken. 0 < taken.used) }
     ensures answers { SayLegs profile.now legs bytes.now → IsSome result }
     ensures same { result ≡ None → kept.new ≡ kept.old }
 {

@@ -1,6 +1,7 @@
 //! The law of common packets: each function is its contract, and does nothing.
 
 ghost use Rattle.std.specs.Prelude.{◌≡◌, ◌∷◌, [], List, ℕ, take};
+ghost use Rattle.pmb_bus.specs.Event.{canonical_text};
 ghost use Rattle.pmb_bus.specs.Text.{EndsBetween, Spells};
 ghost use Rattle.pmb_command.specs.Parts.{DeviceParts};
 ghost use Rattle.pmb_command.specs.Bus.{IsBus};
@@ -16,6 +17,8 @@ use pmb_transaction::laws::{captures_read_as_written, packet_ends_with_stop, pac
 pub fn common_packets_are_read()
     ensures spells { (profile : List DeviceParts) (text : List ℕ) (used count : ℕ) (t : TransactionData) → IsBus profile
         → (taken : TakesPacket profile text used count t) → Spells (take used text) taken.events }
+    ensures text { (profile : List DeviceParts) (text : List ℕ) (used count : ℕ) (t : TransactionData)
+        → (taken : TakesPacket profile text used count t) → take used text ≡ canonical_text taken.events }
     ensures between { (profile : List DeviceParts) (text : List ℕ) (used count : ℕ) (t : TransactionData)
         → TakesPacket profile text used count t → EndsBetween (take used text) }
     ensures reads { (profile : List DeviceParts) (text : List ℕ) (used count : ℕ) (t : TransactionData)

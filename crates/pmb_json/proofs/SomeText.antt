@@ -1,5 +1,5 @@
 -- Something is written for any bytes.
-use Rattle.std.proofs.Common.{◌≡◌, ℕ, suc, zero, ◌+◌, ◌<◌, ◌≤◌, inl, inr, List, [], ◌∷◌, ◌++◌, filter, length, refl, sym, ◌∙◌, ap, append_assoc, arith, length-append}
+use Rattle.std.proofs.Common.{◌≡◌, ℕ, suc, zero, ◌+◌, ◌<◌, ◌≤◌, ◌⊎◌, inl, inr, List, [], ◌∷◌, ◌++◌, filter, length, refl, sym, ◌∙◌, ap, append_assoc, arith, length-append}
 use Rattle.pmb_bus.specs.declared.event.Event.{Event}
 use Rattle.pmb_bus.specs.Text.{FirstBadWord, Spells}
 use Rattle.pmb_command.specs.Parts.{DeviceParts}
@@ -15,8 +15,11 @@ use Rattle.pmb_objects.specs.Object.{Object, object_lines}
 use Rattle.pmb_stream.specs.Spans.{after_spans, event_place, span_objects}
 use Rattle.pmb_json.specs.Text.{BadLine, GoesOn, ObjectsFrom, WritesJson, bad_line_objects, behind_line}
 use Rattle.pmb_json.proofs.BadLines.{bad_word_of_line}
-use Rattle.pmb_json.proofs.Decided.{IsRead}
 use Rattle.pmb_json.proofs.Lines.{SplitsLine, split_line}
+
+-- a text spells events, or one of its words is the first that is no token
+abbrev pub IsRead : List ℕ → Type 0
+IsRead text = ((events : List Event) × Spells text events) ⊎ ((events : List Event) × (place : ℕ) × FirstBadWord text events place)
 
 module _ (choice : ChoiceData) (profile : List DeviceParts) (some_spans : (n : ℕ) (events : List Event) → (spans : List Span) × SpansFrom profile n events spans)
     (each_text_is_read : (text : List ℕ) → IsRead text) where

@@ -25,7 +25,7 @@ ghost use Rattle.pmb_json.specs.Text.{BadLine, ObjectsFrom, WritesJson};
 ghost use Rattle.pmb_json.specs.declared.bad_words.BadWords.{BadWords};
 
 use pmb_bus::laws::{
-    ended_words_lead_on, one_bad_word, one_spelling, spelled_has_no_bad_word,
+    each_text_is_read, one_bad_word, one_spelling, spelled_has_no_bad_word,
     texts_may_be_cut_between_words,
 };
 use pmb_late::laws::{all_that_is_known_is_the_context, pieces_say_what_the_whole_says};
@@ -68,7 +68,7 @@ pub fn some_json()
     ensures { (choice : ChoiceData) (profile : List DeviceParts) (after : BadWords) (bytes : List ℕ) → IsBus profile
         → (text : List ℕ) × (tally : Tally) × WritesJson choice profile after bytes text tally }
 {
-    ended_words_lead_on();
+    each_text_is_read();
     each_list_has_spans();
 }
 

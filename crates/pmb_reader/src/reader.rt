@@ -63,6 +63,15 @@ impl<'p> Reader<'p> {
         }
     }
 
+    /// The profile whose packets it reads.
+    #[inline(always)]
+    pub fn profile(&self) -> &'p Profile
+        ensures { (profile : List DeviceParts) (standing : Standing) → ReaderStandsAt profile self.now standing
+            → result.now ≡ profile }
+    {
+        self.under_way.profile()
+    }
+
     /// Takes one event.
     ///
     /// While a refusal is held, every call answers it and uses nothing.

@@ -1,3 +1,4 @@
 pub mod Passing
 pub mod Reporting
+pub mod Wholes
 pub mod Taking

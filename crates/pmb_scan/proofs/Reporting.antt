@@ -12,9 +12,11 @@ use Rattle.pmb_reader.specs.declared.reader.Took.TheVariants as answers
 use Rattle.pmb_reader.specs.declared.refusal.Refusal.{Refusal}
 use Rattle.pmb_reader.specs.Reader.{Standing, Open, Held, Passing, ReaderStandsAt, ReaderTakes, ReaderFinishes, behind_passed, last_read}
 use Rattle.pmb_reader.specs.Refusal.{refusal_data}
+use Rattle.pmb_transaction.specs.Packet.{Packet}
 use Rattle.pmb_transaction.specs.Reading.{RefusalData}
+use Rattle.pmb_transaction.specs.Transaction.{TransactionData}
 use Rattle.pmb_spans.specs.Spans.{Span, ReadSpan, RefusedSpan, TruncatedSpan, Spans, SpansFrom, is_whole}
-use Rattle.pmb_scan.specs.Reached.{Reached, IsReading, LeadsOn, EndsWith, SpansBehind, behind_bytes, behind_event, stands_behind}
+use Rattle.pmb_scan.specs.Reached.{Reached, IsReading, LeadsOn, EndsWith, SpansBehind, behind_bytes, behind_event, behind_whole, stands_behind}
 use Rattle.pmb_scan.specs.Scan.{end_spans}
 use Rattle.pmb_scan.specs.machine.Standing.{ReaderReached}
 use Rattle.pmb_scan.specs.machine.Reported.{ReportsAs, EndsPacket, IsRefused}
@@ -138,6 +140,25 @@ pub reports_used : (reached : Reached) (event : Event) (took : Took) (after : Re
 reports_used reached event answers.More after on used takes = reports_more reached event after on takes
 reports_used reached event answers.Packet after on used takes = reports_packet reached reached.standing event after refl on takes
 reports_used reached event (answers.Refused refusal) after on used takes = absurd (used refusal refl)
+
+-- ---- a whole packet at once
+
+-- it is read from where it began, with what follows
+pub reads_whole : (reached : Reached) (n : ℕ) (bytes : List ℕ) (events : List Event) (t : TransactionData) (after : Reader) → reached.standing ≡ Open n [] → LeadsOn reached
+    → Packet reached.profile t events → ReaderStandsAt reached.profile after (Open (n + length events) []) → ReaderReached after (behind_whole reached n bytes events t)
+reads_whole reached n bytes events t after same on packet stands =
+    let span = ReadSpan n events t in record {
+      stands = stands;
+      reads = record {
+        reading = tt;
+        leads = λ rest others reads.
+            subst (λ (es : List Event). Spans reached.profile es ((reached.spans ++ span ∷ []) ++ others)) (sym (append_assoc reached.events events rest))
+            (subst (λ (l : List Span). Spans reached.profile (reached.events ++ (events ++ rest)) l) (sym (append_assoc reached.spans (span ∷ []) others))
+            (on.leads (events ++ rest) (span ∷ others)
+            (subst (λ (s : Standing). SpansBehind reached.profile s (events ++ rest) (span ∷ others)) (sym same) (refl, rest, refl, packet, reads))));
+        whole = whole_more reached.spans span on.whole refl;
+      };
+    }
 
 -- ---- the end
 

@@ -1,5 +1,5 @@
 -- A piece of a text that is taken word by word.
-use Rattle.std.proofs.Common.{◌≡◌, ℕ, ◌+◌, ◌-◌, ◌≤◌, Some, map, inl, inr, Option, List, [], ◌∷◌, ◌++◌, length, get_or, take, drop, sym, ◌∙◌, ap, subst, refl, append_assoc, append-nil, length-append, length-take-le, take-append-drop, drop-drop, arith}
+use Rattle.std.proofs.Common.{◌≡◌, ℕ, ◌+◌, ◌-◌, ◌≤◌, None, Some, map, inl, inr, Option, List, [], ◌∷◌, ◌++◌, length, get_or, take, drop, sym, ◌∙◌, ap, subst, refl, append_assoc, append-nil, length-append, length-take-le, take-append-drop, drop-drop, arith}
 use Rattle.std.proofs.Math.Seq.{take-append-add}
 use Rattle.std.proofs.lemmas.Bool.{cases_Bool}
 use Rattle.std.proofs.lemmas.List.{length-map, take_all, take_more}
@@ -9,7 +9,7 @@ use Rattle.pmb_bus.specs.declared.lexer.Lexer.{Lexer}
 use Rattle.pmb_bus.specs.declared.lexer.LexFault.{LexFault}
 use Rattle.pmb_bus.specs.Lexer.{LexerStandsAt, NeedsMore, EndsWord, FeedsAcked, Refuses, IsFaultOf, OpenWordIsBad}
 use Rattle.pmb_bus.specs.Event.{event_of}
-use Rattle.pmb_bus.specs.Text.{BeginsText, EndedWordsSpell, Spells, ends_in_comment, in_comment, is_separator}
+use Rattle.pmb_bus.specs.Text.{BeginsText, EndedWordsSpell, EndsBetween, Spells, ends_in_comment, in_comment, is_separator}
 use Rattle.pmb_bus.proofs.Spelling.{spells_ended}
 use Rattle.pmb_bus.proofs.Words.{blank_out, comment_cuts, cut_by, longer_by}
 use Rattle.pmb_io.specs.Engines.{PutsOut}
@@ -17,10 +17,13 @@ use Rattle.pmb_io.specs.Outgoing.{PutsText}
 use Rattle.pmb_io.proofs.Writing.{writes_then, writes_nothing}
 use Rattle.pmb_reader.specs.declared.reader.Reader.{Reader}
 use Rattle.pmb_scan.specs.declared.scan.Scan.{Scan}
-use Rattle.pmb_scan.specs.Reached.{Reached, behind_bytes}
+use Rattle.pmb_reader.specs.Reader.{Open}
+use Rattle.pmb_scan.specs.Reached.{Reached, IsWhole, behind_bytes, behind_whole}
 use Rattle.pmb_scan.specs.Scan.{HasRead, ScanStandsAt, TakesAll, TakesEvent, StopsAtBadWord}
 use Rattle.pmb_scan.specs.machine.Standing.{ReaderReached}
+use Rattle.pmb_scan.specs.machine.Whole.{TakesWhole}
 use Rattle.pmb_scan.proofs.Reporting.{reads_on}
+use Rattle.pmb_transaction.specs.Transaction.{TransactionData}
 
 -- a count of the bytes used counts those of the text
 counts_text : (text rest : List ℕ) (used : ℕ) → used ≤ length rest → length text + used ≡ length (text ++ take used rest)
@@ -59,6 +62,11 @@ word_spells n text events piece used lexer event word =
     let all : text ++ take used piece ≡ (text ++ front) ++ last ∷ [] = ap (λ l. text ++ l) bytes ∙ sym (append_assoc text front (last ∷ [])) in
     subst (λ (t : List ℕ). Spells t (events ++ event ∷ [])) (sym all)
     (byte_spells (text ++ front) last events event word.before (subst (λ (t : List ℕ). EndedWordsSpell t (events ++ event ∷ [])) all word.stands.ended))
+
+-- what is nothing is none
+pub none_of : {A : Type 0} (x : Option A) → ((a : A) → x ≡ Some a → ⊥) → x ≡ None
+none_of None never = refl
+none_of (Some a) never = absurd (never a refl)
 
 module _ {V : Type 0} (Stands : V → V → Reached → List ℕ → Type 0) where
   -- a visitor is told of bytes
@@ -101,6 +109,11 @@ module _ {V : Type 0} (Stands : V → V → Reached → List ℕ → Type 0) whe
     puts = writes_nothing h w;
     visited = subst (λ (t : List ℕ). Stands start now reached t) (sym (append-nil text)) visited;
   }
+
+  -- by a scan that is the same
+  pub up_to_same : (start now : V) (reached : Reached) (piece rest : List ℕ) (h0 : Option (List ℕ)) (w0 : List ℕ) (h1 : Option (List ℕ)) (w1 text : List ℕ) (a b : Scan) → b ≡ a
+      → UpTo start now reached piece rest h0 w0 h1 w1 text a → UpTo start now reached piece rest h0 w0 h1 w1 text b
+  up_to_same start now reached piece rest h0 w0 h1 w1 text a b same so_far = subst (λ (s : Scan). UpTo start now reached piece rest h0 w0 h1 w1 text s) (sym same) so_far
 
   -- what an event comes to is no matter of the lexer's
   pub took_as : (a b : Scan) (before : V) (event : Event) (c d : Scan) (after : V) (h0 : Option (List ℕ)) (w0 : List ℕ) (h1 : Option (List ℕ)) (w1 : List ℕ)
@@ -183,6 +196,35 @@ module _ {V : Type 0} (Stands : V → V → Reached → List ℕ → Type 0) whe
       first.1 (counts_text there.text rest 3 fed.ends_byte.within) first.2 fed.ends_ack in
       up_to_word start v2 v3 v4 reached piece (drop 3 rest) left others 2 Ack h0 h2 h3 w0 w2 w3 text between after lexer first.0 word told_then
       took_ack same_lexer others_are (left_is ∙ sym (drop-drop 2 3 rest))
+
+  -- a visitor is told of a whole packet at once
+  abbrev pub ToldWhole : V → V → List ℕ → ℕ → TransactionData → Option (List ℕ) → List ℕ → Option (List ℕ) → List ℕ → Type 0
+  ToldWhole before after bytes count t h0 w0 h1 w1 = (start : V) (reached : Reached) (text : List ℕ) (n : ℕ) (events : List Event) → Stands start before reached text
+      → EndsBetween reached.text → Spells reached.text reached.events → reached.standing ≡ Open n [] → IsWhole reached.profile t events bytes → count ≡ length events
+      → PutsOut (λ more. Stands start after (behind_whole reached n bytes events t) (text ++ more)) h0 w0 h1 w1
+
+  -- a whole packet of it is taken
+  pub up_to_whole : (start v0 v1 : V) (reached : Reached) (piece rest left bytes : List ℕ) (used count : ℕ) (h0 h1 h2 : Option (List ℕ)) (w0 w1 w2 text : List ℕ) (scan after : Scan)
+      → (so_far : UpTo start v0 reached piece rest h0 w0 h1 w1 text scan) → TakesWhole so_far.there rest used count after
+      → ToldWhole v0 v1 bytes count after.common h1 w1 h2 w2 → bytes ≡ take used rest → left ≡ drop used rest
+      → UpTo start v1 reached piece left h0 w0 h2 w2 text after
+  up_to_whole start v0 v1 reached piece rest left bytes used count h0 h1 h2 w0 w1 w2 text scan after so_far taken told bytes_are left_is =
+      let there = so_far.there in
+      let t = after.common in
+      let behind = behind_whole there taken.n bytes taken.events t in
+      let puts = told start there (text ++ so_far.more) taken.n taken.events so_far.visited taken.between taken.spells taken.standing
+      (subst (λ (l : List ℕ). IsWhole there.profile t taken.events l) (sym bytes_are) taken.whole) taken.counted in record {
+        used = so_far.used ++ take used rest;
+        there = behind;
+        more = so_far.more ++ puts.text;
+        split = so_far.split ∙ (ap (λ l. so_far.used ++ l) (sym (take-append-drop used rest) ∙ ap (λ l. take used rest ++ l) (sym left_is))
+            ∙ sym (append_assoc so_far.used (take used rest) left));
+        profile = so_far.profile;
+        is_text = ap (λ l. there.text ++ l) bytes_are ∙ (ap (λ l. l ++ take used rest) so_far.is_text ∙ append_assoc reached.text so_far.used (take used rest));
+        stands = subst (λ (l : List ℕ). ScanStandsAt after (behind_whole there taken.n l taken.events t)) (sym bytes_are) taken.stands;
+        puts = writes_then _ _ _ _ _ _ _ _ so_far.puts puts.writes;
+        visited = subst (λ (l : List ℕ). Stands start v1 behind l) (append_assoc text so_far.more puts.text) puts.holds;
+      }
 
   -- all of it is taken
   pub takes_all : (start v0 v1 : V) (reached : Reached) (piece rest bytes : List ℕ) (used : ℕ) (h0 h1 : Option (List ℕ)) (w0 w1 text : List ℕ) (scan after : Scan)

@@ -1,9 +1,12 @@
 -- How far a capture was scanned, and what each visit adds.
 use Rattle.std.specs.Prelude.{◌≡◌, ℕ, ◌+◌, List, [], ◌∷◌, ◌++◌, filter, length}
 use Rattle.pmb_bus.specs.declared.event.Event.{Event}
+use Rattle.pmb_bus.specs.Event.{canonical_text}
 use Rattle.pmb_command.specs.Parts.{DeviceParts}
+use Rattle.pmb_common.specs.Common.{IsCommon}
 use Rattle.pmb_reader.specs.Reader.{Standing, Open, Held, Passing, behind_passed}
 use Rattle.pmb_spans.specs.Spans.{Span, ReadSpan, RefusedSpan, Spans, SpansFrom, is_whole}
+use Rattle.pmb_transaction.specs.Packet.{Packet}
 use Rattle.pmb_transaction.specs.Reading.{BehindStop, RefusalData}
 use Rattle.pmb_transaction.specs.Transaction.{TransactionData}
 
@@ -46,6 +49,15 @@ behind_packet reached n front event t = record reached {
   standing = Open (n + length front + 1) [];
 }
 
+-- A whole packet at once, which began behind n events: its bytes, its events and its transaction.
+abbrev pub behind_whole : Reached → ℕ → List ℕ → List Event → TransactionData → Reached
+behind_whole reached n bytes events t = record reached {
+  text = reached.text ++ bytes;
+  events = reached.events ++ events;
+  spans = reached.spans ++ ReadSpan n events t ∷ [];
+  standing = Open (n + length events) [];
+}
+
 -- An event that is refused, behind those of a packet that began behind n events.
 abbrev pub behind_refusal : Reached → ℕ → List Event → Event → RefusalData → Reached
 behind_refusal reached n front event refusal = record reached {
@@ -53,6 +65,12 @@ behind_refusal reached n front event refusal = record reached {
   spans = reached.spans ++ RefusedSpan n front event refusal ∷ [];
   standing = behind_passed (n + length front) event;
 }
+
+-- Bytes are the text of a whole common packet of a transaction, which has these events.
+pub record IsWhole (profile : List DeviceParts) (t : TransactionData) (events : List Event) (bytes : List ℕ) : Type 0 where
+  pub common : IsCommon t
+  pub packet : Packet profile t events
+  pub text : bytes ≡ canonical_text events
 
 -- ---- what the whole capture reads as
 

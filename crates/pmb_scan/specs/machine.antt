@@ -1,3 +1,4 @@
 -- What private fields say of what was given so far. No public contract needs these to be understood.
 pub mod Standing
 pub mod Reported
+pub mod Whole

@@ -1,29 +1,32 @@
 //! From the text of a capture to what comes of it.
 //!
 //! Most events complete nothing, so what a packet or a refusal wants is done in functions of their
-//! own, which are not inlined: an event pays for none of it. `take_words` takes one word, or a byte and
-//! its ACK, in a turn. A way to take the text of a whole packet at once, between two packets, belongs
-//! in front of these.
+//! own, which are not inlined: an event pays for none of it. `take_words` takes a whole common packet
+//! in a turn, where one lies in front, or a byte and its ACK, or one word.
 
-ghost use Rattle.std.specs.Prelude.{◌≡◌, ◌++◌, ◌∷◌, [], ◌≤◌, ℕ, List, OnOk, IfOk, length, drop};
+ghost use Rattle.std.specs.Prelude.{◌≡◌, ◌++◌, ◌∷◌, [], ◌≤◌, ◌<◌, ℕ, List, None, OnOk, IfOk, IfSome, length, drop};
 ghost use Rattle.pmb_bus.specs.declared.event.Event.{Event as BusEvent};
-ghost use Rattle.pmb_bus.specs.Text.{Spells};
+ghost use Rattle.pmb_bus.specs.Text.{EndsBetween, Spells};
 ghost use Rattle.pmb_bus.specs.declared.event.Event.TheVariants.{Ack, Byte};
 ghost use Rattle.pmb_io.specs.Calls.{WriterTells};
 ghost use Rattle.pmb_io.specs.Engines.{PutsOut};
 ghost use Rattle.pmb_reader.specs.Reader.{Open, last_read};
 ghost use Rattle.pmb_reader.specs.Refusal.{refusal_data};
-ghost use Rattle.pmb_scan.specs.Reached.{Reached, at_start, behind_packet, behind_refusal};
+ghost use Rattle.pmb_scan.specs.Reached.{Reached, IsWhole, at_start, behind_packet, behind_refusal, behind_whole};
 ghost use Rattle.pmb_scan.specs.Scan.{HasRead, ScanStandsAt, TakesEnd, TakesEvent, TakesPiece, Truncates};
+ghost use Rattle.pmb_scan.specs.machine.Whole.{TakesWhole};
 ghost use Rattle.pmb_transaction.specs.Packet.{Packet};
 ghost use Rattle.pmb_transaction.specs.Reading.{RefusedAt};
 
 use crate::reported::report;
 use crate::visitor::Visitor;
 use pmb_bus::{Event, LexFault, Lexer, Step};
+use pmb_common::laws::common_packets_are_read;
+use pmb_common::{Common, Taken as Whole};
 use pmb_io::{RunFault, Sink, Waiting};
 use pmb_reader::{Reader, Refusal, Took};
 use pmb_table::Profile;
+use pmb_table::laws::accepted_bus;
 
 /// How far a piece of a text was taken.
 #[derive(Clone, Copy, Debug, PartialEq, Eq)]
@@ -40,6 +43,8 @@ pub enum Taken {
 pub struct Scan<'p> {
     lexer: Lexer,
     reader: Reader<'p>,
+    /// The last packet that was taken at once.
+    common: Common,
 }
 
 impl<'p> Scan<'p> {
@@ -51,6 +56,7 @@ impl<'p> Scan<'p> {
         Scan {
             lexer: Lexer::new(),
             reader: Reader::new(profile),
+            common: Common::new(),
         }
     }
 
@@ -76,6 +82,11 @@ impl<'p> Scan<'p> {
     {
         let mut rest = piece;
         'words: loop {
+            if let Some(whole) = self.take_whole(rest) {
+                self.visit_whole(&rest[..whole.used], whole.events, visitor, waiting, writer)?;
+                rest = &rest[whole.used..];
+                continue;
+            }
             match self.lexer.feed_acked(rest) {
                 Some(byte) => {
                     visitor.visit_bytes(&rest[..3]);
@@ -101,6 +112,28 @@ impl<'p> Scan<'p> {
                 }
             }
         }
+    }
+
+    /// Takes the common packet in front of a piece at once, between two packets and two words. It
+    /// returns `None` where no such packet lies whole in front, and then nothing has changed.
+    #[inline(always)]
+    fn take_whole(&mut self, piece: &[u8]) -> Option<Whole>
+        ensures takes { (reached : Reached) → ScanStandsAt self.old reached
+            → IfSome result (λ whole. TakesWhole reached piece.now whole.used whole.events self.new) }
+        ensures within { IfSome result (λ whole. whole.used ≤ length piece.now) }
+        ensures some { IfSome result (λ whole. 0 < whole.used) }
+        ensures same { result ≡ None → self.new ≡ self.old }
+    {
+        common_packets_are_read();
+        if !self.lexer.is_between() || !self.reader.is_between() {
+            return None;
+        }
+        let profile = self.reader.profile();
+        accepted_bus(profile);
+        let whole = self.common.take(profile, piece)?;
+        self.lexer.skip(&piece[..whole.used]);
+        self.reader.skip(whole.events);
+        Some(whole)
     }
 
     /// Takes the end of the text, which ends a word under way, and answers the fault of one that is
@@ -161,6 +194,26 @@ impl<'p> Scan<'p> {
             Took::Packet => self.visit_packet(visitor, waiting, writer),
             Took::Refused(refusal) => visit_refusal(event, refusal, visitor, waiting, writer),
         }
+    }
+
+    /// Tells a visitor of the packet that was taken at once last.
+    #[inline(always)]
+    fn visit_whole<V: Visitor, W: Sink>(
+        &self,
+        bytes: &[u8],
+        count: usize,
+        visitor: &mut V,
+        waiting: &mut Waiting,
+        writer: &mut W,
+    ) -> Result<(), RunFault>
+        ensures visits { (start : V) (reached : Reached) (text : List ℕ) (n : ℕ) (events : List BusEvent) → V.Stands start visitor.old reached text
+            → EndsBetween reached.text → Spells reached.text reached.events → reached.standing ≡ Open n []
+            → IsWhole reached.profile self.now.common events bytes.now → count ≡ length events
+            → OnOk result (PutsOut (λ more. V.Stands start visitor.new (behind_whole reached n bytes.now events self.now.common) (text ++ more))
+            (W.told writer.old).held waiting.old.items (W.told writer.new).held waiting.new.items) }
+        ensures failed { WriterTells (W.told writer.old) (W.told writer.new) result }
+    {
+        visitor.visit_whole(bytes, count, self.common.packet(), waiting, writer)
     }
 
     /// Tells a visitor of the packet that ended last.

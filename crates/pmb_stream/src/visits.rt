@@ -155,6 +155,22 @@ impl<'p> Visitor for Stream<'p> {
         Ok(())
     }
 
+    fn visit_whole<W: Sink>(
+        &mut self,
+        bytes: &[u8],
+        count: usize,
+        transaction: &Transaction,
+        waiting: &mut Waiting,
+        writer: &mut W,
+    ) -> Result<(), RunFault> {
+        packet_ends_with_stop();
+        self.visit_bytes(&bytes[..2]);
+        self.visit_event(Event::Start);
+        self.put_packet(transaction, waiting, writer)?;
+        self.take_line(&bytes[2..], count - 1, transaction);
+        Ok(())
+    }
+
     fn visit_refusal<W: Sink>(
         &mut self,
         event: Event,

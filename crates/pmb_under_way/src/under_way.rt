@@ -89,6 +89,15 @@ impl<'p> UnderWay<'p> {
         }
     }
 
+    /// The profile whose packets it takes.
+    #[inline(always)]
+    pub fn profile(&self) -> &'p Profile
+        ensures { (profile : List DeviceParts) (events : List BusEvent) → StandsIn profile self.now events
+            → result.now ≡ profile }
+    {
+        self.profile
+    }
+
     /// Drops the packet under way.
     pub fn restart(&mut self)
         ensures { (profile : List DeviceParts) (events : List BusEvent) → StandsIn profile self.old events

@@ -46,6 +46,20 @@ impl Visitor for Log {
         Ok(())
     }
 
+    fn visit_whole<W: Sink>(
+        &mut self,
+        bytes: &[u8],
+        _count: usize,
+        _transaction: &Transaction,
+        _waiting: &mut Waiting,
+        _writer: &mut W,
+    ) -> Result<(), RunFault> {
+        let _ = self.bytes.try_extend_from_slice(bytes);
+        self.append(bytes.strip_suffix(b"P\n").unwrap_or(bytes));
+        self.append(b"packet ");
+        Ok(())
+    }
+
     fn visit_refusal<W: Sink>(
         &mut self,
         event: Event,

@@ -1,0 +1,19 @@
+-- What it comes to that a whole common packet is taken at once.
+use Rattle.std.specs.Prelude.{◌≡◌, ℕ, List, [], length, take}
+use Rattle.pmb_bus.specs.declared.event.Event.{Event}
+use Rattle.pmb_bus.specs.Text.{EndsBetween, Spells}
+use Rattle.pmb_reader.specs.Reader.{Open}
+use Rattle.pmb_scan.specs.declared.scan.Scan.{Scan}
+use Rattle.pmb_scan.specs.Reached.{Reached, IsWhole, behind_whole}
+use Rattle.pmb_scan.specs.machine.Standing.{ScanStandsAt}
+
+-- A scan stood between two packets, and took one in front of a piece: so many bytes and events of it.
+pub record TakesWhole (reached : Reached) (piece : List ℕ) (used : ℕ) (count : ℕ) (after : Scan) : Type 0 where
+  pub n : ℕ
+  pub events : List Event
+  pub standing : reached.standing ≡ Open n []
+  pub between : EndsBetween reached.text
+  pub spells : Spells reached.text reached.events
+  pub whole : IsWhole reached.profile after.common events (take used piece)
+  pub counted : count ≡ length events
+  pub stands : ScanStandsAt after (behind_whole reached n (take used piece) events after.common)
