@@ -17,7 +17,7 @@ pub record IsJsonLine (line : List ℕ) : Type 0 where
   pub spells : IsJsonText line value
   pub printable : FitsInLine line
 
--- A text of JSON Lines: it is such lines one behind the other, each with a LF at its end, and nothing else.
+-- JSON Lines: such lines in order, each followed by a LF, and nothing else.
 pub record AreJsonLines (text : List ℕ) : Type 0 where
   pub lines : List (List ℕ)
   pub each : AllByRecursion IsJsonLine lines

@@ -74,7 +74,8 @@ pub fn some_json()
 
 /// Each line that is written for bytes is JSON, an object with distinct keys in printable ASCII, and all
 /// that is written is such lines, each with its LF: of a whole capture, and so far. So it is whatever was
-/// chosen and whatever the bytes are, under a profile that is accepted, whose coefficients make formats.
+/// chosen and whatever bytes were read, under a profile that is accepted and whose coefficients have 16
+/// bits.
 pub fn each_line_is_json()
     ensures whole { (choice : ChoiceData) (profile : List DeviceParts) (after : BadWords) (bytes text : List ℕ) (tally : Tally)
         → IsBus profile → AllMakeFormats profile → AreBytes bytes → WritesJson choice profile after bytes text tally → AreJsonLines text }

@@ -153,7 +153,8 @@ IsHighSurrogate unit = (0xd800 ≤ unit) × (unit < 0xdc00)
 abbrev pub IsLowSurrogate : ℕ → Type 0
 IsLowSurrogate unit = (0xdc00 ≤ unit) × (unit < 0xe000)
 
--- a text spells a character in a string
+-- A text spells a character in a string. RFC 8259 also lets an escape stand for one half of a pair
+-- alone, which is no character; here none does.
 pub data SpellsCharacter (c : ℕ) (text : List ℕ) : Type 0 where
   itself : IsUnescaped c → text ≡ c ∷ [] → SpellsCharacter c text
   by_letter : (letter : ℕ) → letter_escape letter ≡ Some c → text ≡ codes "\\" ++ letter ∷ [] → SpellsCharacter c text

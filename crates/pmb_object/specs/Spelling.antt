@@ -1,4 +1,4 @@
--- The one spelling of a value that is written: on one line, with no blank, in ASCII alone.
+-- The one spelling of a value that is written: on one line, with blanks in strings alone, in ASCII.
 use Rattle.std.specs.Prelude.{ℕ, ◌<◌, ◌≤◌, ◌==◌, ◌&&◌, not, nat_le, Bool, true, false, if◌then◌else◌, List, [], ◌∷◌, ◌++◌, codes, ⊤}
 use Rattle.std.specs.List.{AllByRecursion, flat_map}
 use Rattle.hex.specs.Hex.{encode_lower}

@@ -11,7 +11,8 @@ ghost use Rattle.pmb_object.specs.Member.{AreWritable, IsPart, Member, are_disti
 ghost use Rattle.pmb_object.specs.ReadBack.{read_value};
 ghost use Rattle.pmb_object.specs.Spelling.{AreBytes, FitsInLine, IsWritable, quoted, spelled};
 
-/// What is spelled is JSON, and spells that value.
+/// What is spelled is JSON, and spells that value, if its numbers are numbers of JSON and its strings
+/// hold bytes (`IsWritable`).
 pub fn spelling_is_json()
     ensures { (value : Json) → IsWritable value → Spells value (spelled value) }
 {}
@@ -21,7 +22,7 @@ pub fn line_is_json()
     ensures { (members : List Member) → AreWritable members → IsJsonText (object_line members) (object_of members) }
 {}
 
-/// The reader of the crate `json`, which was held to other readers over many texts, reads what is
+/// The reader of the crate `json`, which was compared with other readers over many texts, reads what is
 /// spelled as that value, where it is nested no deeper than that reader goes.
 pub fn spelling_reads_back()
     ensures { (value : Json) → IsWritable value → depth (read_value value) ≤ max_depth

@@ -4,8 +4,8 @@
 //! [`end`] write its braces and the LF of its line; a function for each kind of value writes a
 //! member: [`number_member`], [`number_text_member`], [`text_member`], [`hex_member`],
 //! [`bool_member`], [`null_member`]. [`begin_array`], [`text_item`] and [`end_array`] write one
-//! whose value is an array of texts. What is written has no blank, and is printable ASCII: in a
-//! string, each other byte is `\u00` and its two digits, and so are `"` and `\`.
+//! whose value is an array of texts. What is written has blanks in strings alone, and is printable
+//! ASCII: in a string, each other byte is `\u00` and its two digits, and so are `"` and `\`.
 //!
 //! Each says how many bytes it may need, for which the caller makes room, and what it appends: the
 //! text of that member in that [`Place`]. By the [`laws`], such texts one after the other are the

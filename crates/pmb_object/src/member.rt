@@ -14,7 +14,7 @@ use arrayvec::ArrayVec;
 /// The most bytes of a key with what stands around it: a comma, its quotes, a colon.
 pub const KEY: usize = 16 + 4;
 
-/// The most bytes of a member whose value is a number.
+/// The most bytes of a member whose value is a `u64`; not of a number that is told as a text.
 pub const NUMBER_MEMBER: usize = KEY + 20;
 
 /// The most bytes of a member whose value is a text, beside those of the text.
