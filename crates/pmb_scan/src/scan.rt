@@ -81,34 +81,42 @@ impl<'p> Scan<'p> {
         ensures failed { WriterTells (W.told writer.old) (W.told writer.new) result }
     {
         let mut rest = piece;
-        'words: loop {
+        'packets: loop {
             if let Some(whole) = self.take_whole(rest) {
                 self.visit_whole(&rest[..whole.used], whole.events, visitor, waiting, writer)?;
                 rest = &rest[whole.used..];
                 continue;
             }
-            match self.lexer.feed_acked(rest) {
-                Some(byte) => {
-                    visitor.visit_bytes(&rest[..3]);
-                    self.take_event(Event::Byte(byte), visitor, waiting, writer)?;
-                    visitor.visit_bytes(&rest[3..5]);
-                    self.take_event(Event::Ack, visitor, waiting, writer)?;
-                    rest = &rest[5..];
-                }
-                None => {
-                    let lexed = self.lexer.feed(rest);
-                    visitor.visit_bytes(&rest[..lexed.used]);
-                    match lexed.step {
-                        Step::Need => return Ok(Taken::All),
-                        Step::Event(event) => self.take_event(event, visitor, waiting, writer)?,
-                        Step::Fault(fault) => {
-                            return Ok(Taken::Fault {
-                                used: piece.len() - rest.len() + lexed.used,
-                                fault,
-                            });
+            // Up to the next STOP no packet begins.
+            'words: loop {
+                match self.lexer.feed_acked(rest) {
+                    Some(byte) => {
+                        visitor.visit_bytes(&rest[..3]);
+                        self.take_event(Event::Byte(byte), visitor, waiting, writer)?;
+                        visitor.visit_bytes(&rest[3..5]);
+                        self.take_event(Event::Ack, visitor, waiting, writer)?;
+                        rest = &rest[5..];
+                    }
+                    None => {
+                        let lexed = self.lexer.feed(rest);
+                        visitor.visit_bytes(&rest[..lexed.used]);
+                        match lexed.step {
+                            Step::Need => return Ok(Taken::All),
+                            Step::Event(event) => {
+                                self.take_event(event, visitor, waiting, writer)?;
+                                rest = &rest[lexed.used..];
+                                if let Event::Stop = event {
+                                    break;
+                                }
+                            }
+                            Step::Fault(fault) => {
+                                return Ok(Taken::Fault {
+                                    used: piece.len() - rest.len() + lexed.used,
+                                    fault,
+                                });
+                            }
                         }
                     }
-                    rest = &rest[lexed.used..];
                 }
             }
         }
@@ -125,6 +133,9 @@ impl<'p> Scan<'p> {
         ensures same { result ≡ None → self.new ≡ self.old }
     {
         common_packets_are_read();
+        if !begins_common(piece) {
+            return None;
+        }
         if !self.lexer.is_between() || !self.reader.is_between() {
             return None;
         }
@@ -232,6 +243,12 @@ impl<'p> Scan<'p> {
     {
         visitor.visit_packet(self.reader.packet(), waiting, writer)
     }
+}
+
+/// Whether a piece begins as a common packet does: with START and two acknowledged bytes.
+#[inline(always)]
+fn begins_common(piece: &[u8]) -> bool {
+    matches!(piece, [b'S', _, _, _, _, b'A', _, _, _, _, b'A', ..])
 }
 
 /// Tells a visitor of a refusal.
