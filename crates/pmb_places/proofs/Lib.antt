@@ -4,5 +4,7 @@ pub mod Fronts
 pub mod Behind
 pub mod OpenWords
 pub mod ShortWords
+pub mod Joins
+pub mod Lines
 pub mod Tails
 pub mod Bounds

@@ -3,11 +3,13 @@
 ghost use Rattle.std.specs.Prelude.{◌≡◌, ◌+◌, ◌++◌, ◌∷◌, [], ℕ, List, length, slice_index_or, false, true};
 ghost use Rattle.std.specs.List.{AllByRecursion};
 ghost use Rattle.pmb_bus.specs.Text.{EndsBetween, ends_in_comment, front_word, in_comment, is_separator, is_word, open_word, words};
+ghost use Rattle.pmb_places.specs.declared.open_word.OpenWord.{OpenWord};
 ghost use Rattle.pmb_places.specs.declared.places.Place.{Place};
 ghost use Rattle.pmb_places.specs.Bounds.{IsInRange};
+ghost use Rattle.pmb_places.specs.OpenWord.{OpenWordStandsAt};
 ghost use Rattle.pmb_places.specs.Places.{end_of_last_word, place_behind, place_of_last_word, places_from, word_places};
 
-/// Each word has a place, and nothing else has, in a text and behind a front that ends between words.
+/// There are as many places as words, in a text and behind a front that ends between words.
 pub fn each_word_has_a_place()
     ensures whole { (text : List ℕ) → length (word_places text) ≡ length (words text) }
     ensures behind { (front text : List ℕ) → EndsBetween front → length (places_from front text) ≡ length (words text) }
@@ -62,8 +64,16 @@ pub fn open_words_stand_in_front()
     ensures last { (text : List ℕ) → front_word (open_word text) ≡ open_word text }
 {}
 
-/// The place behind a text, those of its words, and that behind its last one have numbers from 1 on, of
-/// 64 bits: they stay at the greatest `u64`.
+/// Two texts that end between words, one after the other, end between words too. There an
+/// [`OpenWord`](crate::OpenWord) keeps nothing: it stands at every text that ends so.
+pub fn texts_end_between_words()
+    ensures both { (front back : List ℕ) → EndsBetween front → EndsBetween back → EndsBetween (front ++ back) }
+    ensures kept { (word : OpenWord) (text other : List ℕ) → OpenWordStandsAt word text → EndsBetween text → EndsBetween other
+        → OpenWordStandsAt word other }
+{}
+
+/// Each place, of what follows a text, of its words and of what follows its last word, has a line and a
+/// column from 1 to 2^64 - 1.
 pub fn places_are_in_range()
     ensures behind { (text : List ℕ) → IsInRange (place_behind text) }
     ensures words { (front text : List ℕ) → AllByRecursion IsInRange (places_from front text) }

@@ -1,8 +1,8 @@
 //! Places of words in the text of a capture, by line and column, and the word under way at its end.
 //!
-//! [`Places`] is given the bytes of a text in pieces of any size. It says where the next byte stands,
-//! where the last word began and where it ended. [`OpenWord`] is given them too, and keeps the first
-//! bytes of the word that is under way.
+//! [`Places`] is given the bytes of a text in pieces of any size, or the rest of a line of canonical text
+//! by its length. It says where the next byte stands, where the last word began and where it ended.
+//! [`OpenWord`] is given the bytes too, and keeps the first ones of the word that is under way.
 //!
 //! ```rust
 //! let mut places = Places::new();

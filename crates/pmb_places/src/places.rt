@@ -2,12 +2,17 @@
 //!
 //! `Places` keeps the places of three bytes and whether the last byte was one of a word or of a
 //! comment, and nothing else of the text. Most bytes come as a short word and the space behind it,
-//! which `take` takes at once; all others come one after the other.
+//! which `take` takes at once; all others come one after the other. Of a line of canonical text the
+//! length alone says where its last word stands, so `take_line` needs no bytes.
 
-ghost use Rattle.std.specs.Prelude.{◌≡◌, ◌++◌, ◌∷◌, [], ℕ, List, true, false};
-ghost use Rattle.pmb_bus.specs.Text.{is_separator};
+ghost use Rattle.std.specs.Prelude.{◌≡◌, ◌++◌, ◌∷◌, [], ℕ, List, length, true, false};
+ghost use Rattle.std.specs.List.{Contains};
+ghost use Rattle.pmb_bus.specs.declared.event.Event.{Event as BusEvent};
+ghost use Rattle.pmb_bus.specs.declared.event.Event.TheVariants.{Stop};
+ghost use Rattle.pmb_bus.specs.Event.{AreBytes, canonical_text};
+ghost use Rattle.pmb_bus.specs.Text.{EndsBetween, is_separator};
 ghost use Rattle.pmb_places.specs.Places.{PlacesStandAt, end_of_last_word, place_after, place_behind, place_of_last_word};
-ghost use Rattle.pmb_places.specs.machine.Standing.{after_byte, behind_word, inside_behind, place_beside};
+ghost use Rattle.pmb_places.specs.machine.Standing.{after_byte, behind_line, behind_word, further_along, inside_behind, place_beside};
 
 use crate::short_word::{ShortWord, short_word};
 
@@ -29,6 +34,17 @@ impl Place {
         Place {
             line: self.line,
             column: self.column.saturating_add(1),
+        }
+    }
+
+    /// The place so many bytes further along the same line.
+    #[inline]
+    fn further_along(self, bytes: usize) -> Place
+        ensures { result ≡ further_along self bytes }
+    {
+        Place {
+            line: self.line,
+            column: self.column.saturating_add(bytes as u64),
         }
     }
 
@@ -130,7 +146,29 @@ impl Places {
         }
     }
 
-    /// Takes a word of this line, which ends there, and a space.
+    /// Takes the rest of a line, given only its length in bytes. It follows a text that ends between
+    /// words, and is the canonical text of events of which the last one, and no other, is STOP.
+    #[inline]
+    pub fn take_line(&mut self, bytes: usize)
+        ensures { (text : List ℕ) (events : List BusEvent) → PlacesStandAt self.old text → EndsBetween text
+            → AreBytes events → (Contains events Stop → ⊥) → bytes ≡ length (canonical_text (events ++ Stop ∷ []))
+            → PlacesStandAt self.new (text ++ canonical_text (events ++ Stop ∷ [])) }
+    {
+        self.take_last_word(self.here.further_along(bytes.saturating_sub(2)));
+    }
+
+    /// Takes all up to a last word of one byte, which stands there, that word, and LF.
+    #[inline]
+    fn take_last_word(&mut self, word: Place)
+        ensures { self.new ≡ behind_line word }
+    {
+        self.word = word;
+        self.end = word.beside();
+        self.here = self.end.after(b'\n');
+        self.inside = Inside::Between;
+    }
+
+    /// Takes a word of this line that ends at `end`, and one space.
     #[inline]
     fn take_word(&mut self, end: Place)
         ensures { self.new ≡ behind_word self.old end }

@@ -14,8 +14,8 @@ pub(crate) enum ShortWord {
     Other,
 }
 
-/// Whether a byte goes on with a word wherever it stands in no comment: the separators and `#` have
-/// lower numbers.
+/// Whether a byte's number is above that of `#`. Then it is one of a word wherever it stands in no
+/// comment: the separators and `#` have lower numbers.
 #[inline]
 fn is_plain(byte: u8) -> bool
     ensures { result ≡ is_plain byte }

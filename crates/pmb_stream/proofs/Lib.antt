@@ -6,5 +6,6 @@ pub mod Starts
 pub mod Places
 pub mod Standing
 pub mod Told
+pub mod Wholes
 pub mod Ends
 pub mod Counts

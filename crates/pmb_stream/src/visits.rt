@@ -1,8 +1,11 @@
 //! What a scan tells.
 
-ghost use Rattle.std.specs.Prelude.{◌≡◌, ◌+◌, ◌∷◌, [], ◌++◌, ℕ, List, Some, take};
+ghost use Rattle.std.specs.Prelude.{◌≡◌, ◌+◌, ◌∷◌, [], ◌++◌, ℕ, List, Some, length, take};
+ghost use Rattle.std.specs.List.{Contains};
 ghost use Rattle.pmb_bus.specs.declared.event.Event.{Event as BusEvent};
-ghost use Rattle.pmb_bus.specs.Text.{Spells};
+ghost use Rattle.pmb_bus.specs.declared.event.Event.TheVariants.{Stop};
+ghost use Rattle.pmb_bus.specs.Event.{AreBytes, canonical_text};
+ghost use Rattle.pmb_bus.specs.Text.{EndsBetween, Spells};
 ghost use Rattle.pmb_io.specs.Count.{capped};
 ghost use Rattle.pmb_objects.specs.Counts.{after_packet, after_refusal};
 ghost use Rattle.pmb_places.specs.Places.{PlacesStandAt, place_of_last_word};
@@ -18,12 +21,14 @@ ghost use Rattle.pmb_stream.specs.machine.Knowing.{IsCleared, KeepsUnderWay, pas
 
 use crate::stream::{Begun, STARTS, Stream};
 use pmb_bus::Event;
+use pmb_bus::laws::texts_may_be_cut_between_words;
 use pmb_io::{RunFault, Sink, Waiting};
-use pmb_places::laws::the_last_word_stands_there;
+use pmb_places::laws::{texts_end_between_words, the_last_word_stands_there};
 use pmb_reader::Refusal;
 use pmb_scan::Visitor;
+use pmb_table::laws::accepted_bus;
 use pmb_transaction::Transaction;
-use pmb_transaction::laws::packet_ends_with_stop;
+use pmb_transaction::laws::{packet_ends_with_stop, packets_are_bytes};
 
 impl<'p> Stream<'p> {
     /// Takes an event that ends no packet, and is not refused.
@@ -104,6 +109,22 @@ impl<'p> Stream<'p> {
         self.clear();
     }
 
+    /// Takes the rest of a packet's line, given only its length in bytes and how many events it spells
+    /// before STOP, of which nothing is kept. STOP is left for `take_packet` to count.
+    #[inline]
+    fn take_line(&mut self, bytes: usize, count: usize)
+        ensures knows { (b : Before) (front : List BusEvent) → StreamKnows b self.old → EndsBetween b.read → AreBytes front → (Contains front Stop → ⊥)
+            → bytes ≡ length (canonical_text (front ++ Stop ∷ [])) → count ≡ length front
+            → StreamKnows (record b { read = b.read ++ canonical_text (front ++ Stop ∷ []); n = b.n + length front }) self.new }
+        ensures same { IsSame self.old self.new }
+        ensures passing { self.new.passing ≡ self.old.passing }
+    {
+        texts_may_be_cut_between_words();
+        texts_end_between_words();
+        self.places.take_line(bytes);
+        self.count = self.count.saturating_add(count as u64);
+    }
+
     /// Takes an event that is refused, the first that is passed over, and forgets the packet.
     fn take_refused(&mut self, event: Event)
         ensures knows { (b : Before) (front : List BusEvent) → StreamKnows b self.old → SaidStandsAt self.old.said front
@@ -163,11 +184,17 @@ impl<'p> Visitor for Stream<'p> {
         waiting: &mut Waiting,
         writer: &mut W,
     ) -> Result<(), RunFault> {
+        accepted_bus(self.profile);
+        packets_are_bytes();
         packet_ends_with_stop();
-        self.visit_bytes(&bytes[..2]);
+        texts_may_be_cut_between_words();
+        texts_end_between_words();
+        // Of the text the objects need only where START stands, which is kept as for any packet.
+        self.visit_bytes(b"S ");
         self.visit_event(Event::Start);
         self.put_packet(transaction, waiting, writer)?;
-        self.take_line(&bytes[2..], count - 1, transaction);
+        self.take_line(bytes.len().saturating_sub(2), count.saturating_sub(2));
+        self.take_packet(transaction);
         Ok(())
     }
 

@@ -24,4 +24,5 @@ fn calls_each_law() {
     laws::open_words_stand_there();
     laws::open_words_go_on();
     laws::open_words_stand_in_front();
+    laws::texts_end_between_words();
 }

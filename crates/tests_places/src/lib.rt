@@ -4,6 +4,8 @@
 #[cfg(test)]
 mod example;
 #[cfg(test)]
+mod lines;
+#[cfg(test)]
 mod open_words;
 #[cfg(test)]
 mod rows;

@@ -4,7 +4,7 @@ use Rattle.pmb_bus.specs.Event.{character}
 use Rattle.pmb_places.specs.declared.short_word.ShortWord.{ShortWord}
 use Rattle.pmb_places.specs.declared.short_word.ShortWord.TheVariants.{One, Two, Other}
 
--- a byte goes on with a word wherever it stands in no comment
+-- enough for a byte outside comments to be one of a word
 abbrev pub is_plain : ℕ → Bool
 is_plain b = nat_lt (character "#") b
 

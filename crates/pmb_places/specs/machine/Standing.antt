@@ -49,6 +49,16 @@ place_beside place = record { line = place.line; column = capped (place.column +
 abbrev pub behind_word : Places → Place → Places
 behind_word p end = record { here = place_beside end; word = p.here; end = end; inside = Between }
 
+-- ---- the rest of a line at once
+
+-- the place so many bytes further along the same line
+abbrev pub further_along : Place → ℕ → Place
+further_along place n = record { line = place.line; column = capped (place.column + n) }
+
+-- behind a word of one byte that stands there, and LF
+abbrev pub behind_line : Place → Places
+behind_line word = record { here = place_after (place_beside word) (character "\n"); word = word; end = place_beside word; inside = Between }
+
 pub record PlacesStandAt (places : Places) (text : List ℕ) : Type 0 where
   pub here : places.here ≡ place_behind text
   pub word : places.word ≡ place_of_last_word text
