@@ -4,6 +4,8 @@ examples, and on random inputs from a fixed seed.
     python3 .ci/calls.py PROGRAM [COUNT]
 """
 
+import glob
+import json
 import os
 import random
 import subprocess
@@ -22,6 +24,7 @@ BAD += ["ulinear16:128", "ulinear16:-0", "slinear16:0015", "vout:1", "vout:g0", 
 BAD += ["vout:60", "vout:80", "vout:ff", "vout:FF", "direct:0,1,2", "direct:1,2", "direct:1,2,10"]
 BAD += ["direct:0,0,10", "direct:1,2,3,4", "direct:32768,0,0", "direct:1,,1", " linear11"]
 BAD += ["ulinear16:" + "0" * 40 + "1", "ulinear16:99999999999999999999", "ulinear16:\u0661"]
+ROOT = os.path.join(os.path.dirname(os.path.abspath(__file__)), os.pardir)
 failed = 0
 
 
@@ -142,6 +145,108 @@ def compare_packets(program):
     check(count >= 4, f"only {count} packets in the examples have an error code")
 
 
+def ran(program, command, profile, text, flags=()):
+    """What the program writes of an input, and what it says."""
+    given = profile + b"\n%%\n" + text
+    done = subprocess.run([program, command, *flags], input=given, capture_output=True)
+    return done.returncode, done.stdout.decode(), done.stderr.decode().strip()
+
+
+def flags_of(options):
+    flags = [f"--{name.replace('_', '-')}" for name, value in options.items() if value is True]
+    flags += [f"--digits={options.get('digits', 6)}"]
+    return flags + [f"--device={address:02x}" for address in options.get("devices", ())]
+
+
+def compare_whole(program, command, profile, text, options={}):
+    """One input, from Python and by the program."""
+    if command == "json":
+        status, right, said = ran(program, command, profile, text, flags_of(options))
+    else:
+        status, right, said = ran(program, command, profile, text)
+    call = getattr(pmb, command)
+    what = f"{command} of {text[:60]!r} under {profile[:60]!r}"
+    try:
+        found = call(profile, text, **options)
+    except pmb.ProfileError as error:
+        place = "" if error.place == "profile" else " in " + error.place
+        check(said == f"pmb: profile: {error.fault}{place}", f"{what}: {error}, and not {said}")
+        return
+    except pmb.LineError as error:
+        line = right.partition(f"# line {error.line}: ")
+        check(command == "build" and line[2].split("\n")[0] == error.fault, f"{what}: {error}")
+        check("# line" not in line[0], f"{what}: {error} is not the first")
+        found = pmb.build(profile, text, strict=False)
+    check(found == right, f"{what}: {found[:200]!r}, and not {right[:200]!r}")
+    check(status == (1 if found.refusals else 0), f"{what}: {found.refusals} refusals, status {status}")
+    if command == "json":
+        objects = [json.loads(line) for line in right.splitlines()]
+        objects = [it for it in objects if it["kind"] not in ("device", "end")]
+        check(list(pmb.transactions(profile, text, **options)) == objects, f"transactions: {what}")
+
+
+def read(*names):
+    with open(os.path.join(ROOT, *names), "rb") as file:
+        return file.read()
+
+
+def examples():
+    """The examples: the commands that take one, its profile and its text."""
+    sample = read("docs", "profiles.md").split(b"## The sample profile")[1].split(b"```\n")[1]
+    captures, lines, requests = ("show", "check", "json"), ("build",), ("run",)
+    for folder, commands in (
+        ("captures", captures),
+        ("sessions", captures),
+        ("profiles", captures),
+        ("transactions", lines),
+        ("requests", requests),
+    ):
+        for name in sorted(glob.glob(os.path.join(ROOT, "examples", folder, "*.txt"))):
+            own = name[:-4] + ".toml"
+            profile = read(own) if os.path.exists(own) else sample
+            if folder == "requests":
+                profile = read("examples", "sessions", "power_up.toml")
+            yield commands, profile, read(name)
+
+
+def disturbed(r, text):
+    """The text with some words dropped, doubled, or in the place of others, and a byte changed."""
+    words = text.split(b" ")
+    for _ in range(r.randrange(4)):
+        at, other = r.randrange(len(words)), r.randrange(len(words))
+        words[at : at + 1] = r.choice([[], [words[at]] * 2, [words[other]]]) or [b""]
+    text = bytearray(b" ".join(words))
+    if text and r.randrange(3) == 0:
+        text[r.randrange(len(text))] = r.choice(b"\n #SPAN0f\xff\0\"z")
+    return bytes(text)
+
+
+def compare_wholes(program, count):
+    r = random.Random(2026)
+    kept = list(examples())
+    for commands, profile, text in kept:
+        for command in commands:
+            compare_whole(program, command, profile, text)
+            compare_whole(program, command, profile, b"")
+            compare_whole(program, command, b"", text)
+    for _ in range(count // 20):
+        commands, profile, text = r.choice(kept)
+        command = r.choice(commands)
+        at = r.randrange(len(text))
+        text = disturbed(r, text[at : at + r.randrange(600)])
+        options = {}
+        if command == "json":
+            options = {"digits": r.randrange(13), "keep_going": r.randrange(2) == 1}
+            options["late"] = r.randrange(2) == 1
+            options["fixed_vout_mode"] = options["late"] and r.randrange(2) == 1
+            options["devices"] = r.sample([0x10, 0x40, 0x58, 0x4F], r.randrange(3))
+        if r.randrange(8) == 0:
+            profile = disturbed(r, profile)
+        # (a profile in front of an input ends at its first line %%)
+        if b"%%" not in profile:
+            compare_whole(program, command, profile, text, options)
+
+
 def compare_kinds():
     """What else is taken as a quantity or a format."""
     check(pmb.encode("linear11", 12) == pmb.encode("linear11", Fraction(24, 2)) == 0xD300, "12")
@@ -170,10 +275,15 @@ def compare_kinds():
 
 
 def compare_threads():
+    commands, profile, text = next(examples())
+    shown = pmb.show(profile, text)
+
     def work(right):
         for code in range(0, 65536, 97):
             if pmb.encode("vout:17", pmb.decode("vout:17", code)) != code:
                 right.append(code)
+            if code % 8 == 0 and pmb.show(profile, text) != shown:
+                right.append("show")
 
     wrong = []
     threads = [threading.Thread(target=work, args=(wrong,)) for _ in range(4)]
@@ -189,6 +299,7 @@ def main():
     compare(program, int(sys.argv[2]) if len(sys.argv) > 2 else 10000)
     compare_names(program)
     compare_packets(program)
+    compare_wholes(program, int(sys.argv[2]) if len(sys.argv) > 2 else 10000)
     compare_kinds()
     compare_threads()
     ran = subprocess.run([program, "--version"], capture_output=True)

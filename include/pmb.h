@@ -3,13 +3,15 @@
  * Link with release/libpmb.a or release/libpmb.so. docs/library.md begins with a first program.
  *
  * For every function here:
- *  - It takes no memory from the heap, keeps nothing between calls and starts nothing. It uses
- *    less than 2 KB of stack. It needs memcpy and memmove of the C library, and nothing else of it.
- *  - It may be called from several threads side by side, and from a signal handler. Two calls at
- *    one time may not write to the same place.
+ *  - It keeps nothing between calls and starts nothing. It may be called from several threads side by
+ *    side. Two calls at one time may not write to the same place.
  *  - No pointer may be null, also where a length is 0. Behind a pointer with a length there are
  *    that many bytes, up to 2^63 - 1. What a call writes to does not overlap what it reads.
  *  - Every value is allowed. What is out of range is told by a status.
+ *
+ * There are two parts. Up to the line "whole inputs" below, for each function:
+ *  - It takes no memory from the heap, and uses less than 2 KB of stack. It needs memcpy and memmove
+ *    of the C library, and nothing else of it. It may be called from a signal handler.
  *  - A call whose status is not PMB_OK leaves what it would have written as it was. Only `length` is
  *    written always.
  */
@@ -64,8 +66,14 @@ enum pmb_status {
     PMB_TOO_LARGE = 14,
     /* The standard has no name there. */
     PMB_NO_NAME = 15,
-    /* The text and the NUL after it don't fit into the room. */
-    PMB_NO_ROOM = 16
+    /* The text, and the NUL after it where it has one, don't fit into the room. */
+    PMB_NO_ROOM = 16,
+    /* The profile has a fault, which the result tells with its place. */
+    PMB_BAD_PROFILE = 17,
+    /* malloc or realloc refused memory. */
+    PMB_NO_MEMORY = 18,
+    /* The choice: one of its numbers is none that its field has. */
+    PMB_BAD_CHOICE = 19
 };
 
 /* A quantity: an exact fraction, without a unit. What is given may be any fraction, of any signs.
@@ -143,6 +151,95 @@ int32_t pmb_command_name(uint8_t code, char *text, size_t room, size_t *length);
  * characters it has, also where they don't fit; 0 where there is no name.
  * Returns PMB_NO_NAME, or else PMB_NO_ROOM. */
 int32_t pmb_bit_name(uint8_t code, uint8_t bit, char *text, size_t room, size_t *length);
+
+/* ---- whole inputs
+ *
+ * Each of these writes what the subcommand of `pmb` of that name writes, of an input that is in memory
+ * as a whole, under a profile: a TOML document, docs/profiles.md. Captures, lines and requests are
+ * those of docs/text.md. For each function:
+ *  - It returns how many bytes the text has, also where they don't fit. What fits stands at the start
+ *    of the room, without a NUL, and the rest of the room stays. A room of 0 bytes tells the length.
+ *  - The status in `told` is PMB_OK; or PMB_NO_ROOM where the text doesn't fit; or PMB_BAD_PROFILE or
+ *    PMB_NO_MEMORY, and then the room stays and the length is 0.
+ *  - It takes memory for the profile by malloc and realloc, pmb_run for its devices too, and frees
+ *    all of it before it returns; what is read and written takes none. It uses less than 320 KB of
+ *    stack. It may not be called from a signal handler.
+ *  - It needs malloc, realloc and free of the C library, memcpy and the like.
+ */
+
+/* What is wrong with a profile (docs/profiles.md has the rules in their order). */
+enum pmb_fault {
+    PMB_NOT_TOML = 1,
+    PMB_UNKNOWN_KEY = 2,
+    PMB_MISSING_KEY = 3,
+    PMB_WRONG_TYPE = 4,
+    PMB_TOO_MANY_DEVICES = 5,
+    PMB_BAD_ADDRESS = 6,
+    PMB_ADDRESS_TWICE = 7,
+    PMB_BAD_VALUE = 8,
+    PMB_BAD_PAGES = 9,
+    PMB_UNKNOWN_NAME = 10,
+    PMB_BAD_NAME = 11,
+    PMB_BAD_FORM = 12,
+    PMB_BAD_COEFFICIENTS = 13,
+    PMB_CODE_TWICE = 14,
+    PMB_BAD_INITIAL = 15
+};
+
+/* What a call over a whole input came to. */
+typedef struct pmb_result {
+    int32_t status;
+    /* One of enum pmb_fault where the status is PMB_BAD_PROFILE, and else 0. */
+    int32_t fault;
+    /* In which device of the profile, and in which command of that device, the fault is, both counted
+     * from 0; -1 where it is in none. */
+    int32_t device;
+    int32_t command;
+    /* How many bytes the text has; what the call returns. */
+    size_t length;
+    /* How many packets a capture has and how many refusals, a word that is no token among them; how
+     * many lines were built or requests done, and how many had a fault, were refused or failed. */
+    uint64_t packets;
+    uint64_t refusals;
+} pmb_result;
+
+/* Writes a line for each packet of a capture, with what it says, and for each refusal. */
+size_t pmb_show(const char *profile, size_t profile_length, const char *capture,
+                size_t capture_length, char *out, size_t room, pmb_result *told);
+
+/* Writes a line for each refusal of a capture, and one with the numbers of packets and refusals. */
+size_t pmb_check(const char *profile, size_t profile_length, const char *capture,
+                 size_t capture_length, char *out, size_t room, pmb_result *told);
+
+/* Writes the events of the packet of each transaction line, or the line's fault. */
+size_t pmb_build(const char *profile, size_t profile_length, const char *lines,
+                 size_t lines_length, char *out, size_t room, pmb_result *told);
+
+/* Runs requests against the simulated devices of the profile, as they are first made, and writes what
+ * is recorded of each on the bus, and its result. */
+size_t pmb_run(const char *profile, size_t profile_length, const char *requests,
+               size_t requests_length, char *out, size_t room, pmb_result *told);
+
+/* What is known of PAGE and VOUT_MODE of the devices where a capture begins: all, since it begins with
+ * their power-up; VOUT_MODE alone, which is the profile's on each page; or nothing. */
+enum pmb_start { PMB_ALL_KNOWN = 0, PMB_LATE_FIXED_MODE = 1, PMB_LATE = 2 };
+
+/* What is done behind a word that is no token: reading ends, or goes on with the next line. */
+enum pmb_bad_words { PMB_END = 0, PMB_GO_ON = 1 };
+
+/* How the objects of a capture are wanted. */
+typedef struct pmb_choice {
+    uint8_t digits;    /* the most digits after the point of a number, 0 to 12; the program has 6 */
+    uint8_t start;     /* one of enum pmb_start */
+    uint8_t bad_words; /* one of enum pmb_bad_words */
+} pmb_choice;
+
+/* Writes the objects of a capture (docs/json.md), each as a line of JSON. Of packets and refusals
+ * those of devices at the given addresses are wanted, and all where no address is given.
+ * The status is PMB_BAD_CHOICE, before all others, for a choice that says nothing. */
+size_t pmb_json(const char *profile, size_t profile_length, const char *capture,
+                size_t capture_length, const pmb_choice *choice, const uint8_t *devices,
+                size_t devices_length, char *out, size_t room, pmb_result *told);
 
 #ifdef __cplusplus
 }

@@ -15,7 +15,7 @@ INFO = "pmb-{}.dist-info".format(VERSION)
 METADATA = """Metadata-Version: 2.1
 Name: pmb
 Version: {}
-Summary: The proved PMBus codec: numbers, packet error codes and names
+Summary: The proved PMBus codec: numbers, packets, captures and simulated devices
 Requires-Python: >=3.8
 """.format(VERSION)
 WHEEL = """Wheel-Version: 1.0

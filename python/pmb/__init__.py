@@ -1,4 +1,5 @@
-"""The proved PMBus codec: numbers, packet error codes and names.
+"""The proved PMBus codec: numbers, packet error codes and names; captures, packets and simulated
+devices under a profile.
 
     >>> import pmb
     >>> pmb.decode("linear11", 0xd300)
@@ -7,27 +8,42 @@
     '0x69a'
     >>> hex(pmb.pec(bytes.fromhex("b0 21 00 18")))
     '0xf8'
+    >>> profile = "[[device]]\\naddress = 0x58\\npec = 'optional'"
+    >>> pmb.build(profile, "write 58 21 00 18")
+    'S b0 A 21 A 00 A 18 A P\\n'
+    >>> [it["value"] for it in pmb.transactions(profile, "S b0 A 21 A 00 A 18 A P")]
+    ['12']
 
 Every call may be made from several threads side by side.
 """
 
 import ctypes
+import json as _json
 import os
 import re
 from decimal import Decimal
 from fractions import Fraction
-from typing import NamedTuple, Optional, Union
+from typing import Any, Dict, Iterable, Iterator, NamedTuple, Optional, Union
 
 __all__ = [
     "Error",
     "Format",
+    "LineError",
+    "ProfileError",
+    "Text",
     "bit_name",
+    "build",
+    "check",
     "command_name",
     "decode",
     "encode",
+    "json",
     "pec",
     "quantity",
     "quantity_text",
+    "run",
+    "show",
+    "transactions",
     "version",
 ]
 
@@ -48,7 +64,13 @@ _FAULTS = {
     13: "ZeroDenominator",
     14: "TooLarge",
 }
-_OK, _NO_NAME = 0, 15
+_OK, _NO_NAME, _NO_ROOM, _BAD_PROFILE, _NO_MEMORY, _BAD_CHOICE = 0, 15, 16, 17, 18, 19
+
+# The names of the faults of profiles, by the library's numbers.
+_PROFILE_FAULTS = (
+    "NotToml UnknownKey MissingKey WrongType TooManyDevices BadAddress AddressTwice BadValue BadPages "
+    "UnknownName BadName BadForm BadCoefficients CodeTwice BadInitial"
+).split()
 
 _LINEAR11, _LINEAR11_FIXED, _ULINEAR16, _SLINEAR16, _DIRECT, _VOUT, _VOUT_SIGNED = range(7)
 
@@ -64,6 +86,43 @@ class Error(ValueError):
         super().__init__("{} in {}".format(fault, place))
         self.fault = fault
         self.place = place
+
+
+class ProfileError(Error):
+    """A profile has a fault: `fault` is its name, as `BadPages`, and `place` is `profile`, or `device
+    0`, or `device 0 command 2`. `device` and `command` are the numbers, counted from 0, or `None`."""
+
+    def __init__(self, fault: str, device: Optional[int], command: Optional[int]) -> None:
+        place = "profile"
+        if device is not None:
+            place = "device {}".format(device)
+        if command is not None:
+            place += " command {}".format(command)
+        super().__init__(fault, place)
+        self.device = device
+        self.command = command
+
+
+class LineError(Error):
+    """A line can't be built: `fault` is its fault as the program prints it, as `BadWord at 8`, and
+    `place` is `line 2`. `line` is the number, counted from 1."""
+
+    def __init__(self, fault: str, line: int) -> None:
+        super().__init__(fault, "line {}".format(line))
+        self.line = line
+
+
+class Text(str):
+    """What a call wrote, and how many packets and refusals it counted."""
+
+    packets: int
+    refusals: int
+
+    def __new__(cls, text: str, packets: int, refusals: int) -> "Text":
+        made = super().__new__(cls, text)
+        made.packets = packets
+        made.refusals = refusals
+        return made
 
 
 class Format(NamedTuple):
@@ -137,6 +196,26 @@ class _Quantity(ctypes.Structure):
     _fields_ = [("numerator", ctypes.c_int64), ("denominator", ctypes.c_int64)]
 
 
+class _Choice(ctypes.Structure):
+    _fields_ = [
+        ("digits", ctypes.c_uint8),
+        ("start", ctypes.c_uint8),
+        ("bad_words", ctypes.c_uint8),
+    ]
+
+
+class _Result(ctypes.Structure):
+    _fields_ = [
+        ("status", ctypes.c_int32),
+        ("fault", ctypes.c_int32),
+        ("device", ctypes.c_int32),
+        ("command", ctypes.c_int32),
+        ("length", ctypes.c_size_t),
+        ("packets", ctypes.c_uint64),
+        ("refusals", ctypes.c_uint64),
+    ]
+
+
 def _load() -> ctypes.CDLL:
     here = os.path.dirname(os.path.abspath(__file__))
     beside = os.path.join(here, "libpmb.so")
@@ -145,6 +224,9 @@ def _load() -> ctypes.CDLL:
     status, byte, size = ctypes.c_int32, ctypes.c_uint8, ctypes.c_size_t
     format_at, quantity_at = ctypes.POINTER(_Format), ctypes.POINTER(_Quantity)
     code_at, size_at, text = ctypes.POINTER(ctypes.c_uint16), ctypes.POINTER(size), ctypes.c_char_p
+    room = [text, size, ctypes.POINTER(_Result)]
+    whole = [text, size, text, size]
+    choice = [ctypes.POINTER(_Choice), text, size]
     for name, result, arguments in (
         ("pmb_version", ctypes.c_uint32, []),
         ("pmb_pec", byte, [byte, text, size]),
@@ -154,6 +236,11 @@ def _load() -> ctypes.CDLL:
         ("pmb_quantity_text", status, [_Quantity, text, size, size_at]),
         ("pmb_command_name", status, [byte, text, size, size_at]),
         ("pmb_bit_name", status, [byte, byte, text, size, size_at]),
+        ("pmb_show", size, whole + room),
+        ("pmb_check", size, whole + room),
+        ("pmb_build", size, whole + room),
+        ("pmb_run", size, whole + room),
+        ("pmb_json", size, whole + choice + room),
     ):
         function = getattr(library, name)
         function.restype = result
@@ -253,6 +340,104 @@ def bit_name(code: int, bit: int) -> Optional[str]:
     room, length = ctypes.create_string_buffer(33), ctypes.c_size_t()
     status = _LIBRARY.pmb_bit_name(code, bit, room, len(room), ctypes.byref(length))
     return None if status == _NO_NAME else room.value.decode("ascii")
+
+
+def show(profile: Union[str, bytes], capture: Union[str, bytes]) -> Text:
+    """What `pmb show` writes of a capture: a line for each packet, with what it says, and for each
+    refusal. Raises a `ProfileError`."""
+    return _whole(_LIBRARY.pmb_show, profile, capture)
+
+
+def check(profile: Union[str, bytes], capture: Union[str, bytes]) -> Text:
+    """What `pmb check` writes of a capture: a line for each refusal, and one with the numbers of
+    packets and refusals, which the text has as `packets` and `refusals` too. Raises a
+    `ProfileError`."""
+    return _whole(_LIBRARY.pmb_check, profile, capture)
+
+
+def build(profile: Union[str, bytes], lines: Union[str, bytes], strict: bool = True) -> Text:
+    """The events of the packets of transaction lines, as `pmb build` writes them.
+
+    Raises a `ProfileError`, and a `LineError` for the first line that has a fault. Where it is not
+    `strict` the text has a comment for each such line.
+    """
+    text = _whole(_LIBRARY.pmb_build, profile, lines)
+    if strict and text.refusals:
+        found = re.search("^# line ([0-9]+): (.*)$", text, re.MULTILINE)
+        if found:
+            raise LineError(found.group(2), int(found.group(1)))
+    return text
+
+
+def run(profile: Union[str, bytes], requests: Union[str, bytes]) -> Text:
+    """What `pmb run` writes of request lines: what is recorded of each on a bus of simulated devices,
+    and its result. Raises a `ProfileError`."""
+    return _whole(_LIBRARY.pmb_run, profile, requests)
+
+
+def json(
+    profile: Union[str, bytes],
+    capture: Union[str, bytes],
+    devices: Iterable[int] = (),
+    digits: int = 6,
+    late: bool = False,
+    fixed_vout_mode: bool = False,
+    keep_going: bool = False,
+) -> Text:
+    """What `pmb json` writes of a capture: JSON Lines.
+
+    The objects of these devices are wanted, and all where none is named. Numbers have at most so many
+    digits after the point, 0 to 12. `late` says that the capture begins in the middle, so that PAGE
+    and VOUT_MODE are unknown at first; `fixed_vout_mode`, beside it, that VOUT_MODE is the profile's;
+    `keep_going` that reading goes on with the next line after a word that is no token. Raises a
+    `ProfileError`.
+    """
+    if not 0 <= digits <= 12:
+        raise ValueError("digits are from 0 to 12")
+    if fixed_vout_mode and not late:
+        raise ValueError("fixed_vout_mode needs late")
+    start = (1 if fixed_vout_mode else 2) if late else 0
+    choice = _Choice(digits, start, int(keep_going))
+    wanted = bytes(devices)
+    return _whole(_LIBRARY.pmb_json, profile, capture, ctypes.byref(choice), wanted, len(wanted))
+
+
+def transactions(
+    profile: Union[str, bytes],
+    capture: Union[str, bytes],
+    devices: Iterable[int] = (),
+    digits: int = 6,
+    late: bool = False,
+    fixed_vout_mode: bool = False,
+    keep_going: bool = False,
+) -> Iterator[Dict[str, Any]]:
+    """The packets of a capture in their order, and its refusals and bad words: dicts, those of `pmb
+    json` without the counts at the end. Arguments and errors are those of `json`."""
+    text = json(profile, capture, devices, digits, late, fixed_vout_mode, keep_going)
+    objects = (_json.loads(line) for line in text.splitlines())
+    return (it for it in objects if it["kind"] not in ("device", "end"))
+
+
+def _bytes(text: Union[str, bytes]) -> bytes:
+    return text.encode("utf-8", "surrogatepass") if isinstance(text, str) else bytes(text)
+
+
+def _whole(function: Any, profile: Union[str, bytes], text: Union[str, bytes], *more: Any) -> Text:
+    toml, given, told = _bytes(profile), _bytes(text), _Result()
+    size = 4096 + 4 * len(given)
+    while True:
+        room = ctypes.create_string_buffer(size)
+        function(toml, len(toml), given, len(given), *more, room, size, ctypes.byref(told))
+        if told.status != _NO_ROOM:
+            break
+        size = told.length
+    if told.status == _NO_MEMORY:
+        raise MemoryError("no memory for the profile")
+    if told.status == _BAD_PROFILE:
+        device = None if told.device < 0 else told.device
+        command = None if told.command < 0 else told.command
+        raise ProfileError(_PROFILE_FAULTS[told.fault - 1], device, command)
+    return Text(room.raw[: told.length].decode("ascii"), told.packets, told.refusals)
 
 
 def _integer(text: str, bits: int) -> int:

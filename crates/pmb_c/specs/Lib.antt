@@ -3,3 +3,6 @@ pub mod Format
 pub mod Quantity
 pub mod Number
 pub mod Room
+pub mod Choice
+pub mod Result
+pub mod Whole

@@ -24,3 +24,6 @@ number_of (status.Quantity ZeroDenominator) = pos 13
 number_of (status.Quantity TooLarge) = pos 14
 number_of status.NoName = pos 15
 number_of status.NoRoom = pos 16
+number_of status.BadProfile = pos 17
+number_of status.NoMemory = pos 18
+number_of status.BadChoice = pos 19

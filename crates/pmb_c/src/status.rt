@@ -18,8 +18,14 @@ pub enum Status {
     Quantity(QuantityFault),
     /// The standard has no such name.
     NoName,
-    /// The text and the NUL after it don't fit into the caller's room.
+    /// The text, and the NUL after it where it has one, don't fit into the caller's room.
     NoRoom,
+    /// The profile has a fault.
+    BadProfile,
+    /// There was no memory.
+    NoMemory,
+    /// The choice of JSON has a number that none of its fields has.
+    BadChoice,
 }
 
 impl Status {
@@ -45,6 +51,9 @@ impl Status {
             Status::Quantity(QuantityFault::TooLarge) => 14,
             Status::NoName => 15,
             Status::NoRoom => 16,
+            Status::BadProfile => 17,
+            Status::NoMemory => 18,
+            Status::BadChoice => 19,
         }
     }
 }

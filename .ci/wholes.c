@@ -1,0 +1,421 @@
+/* Calls each function over whole inputs of pmb.h at its limits, alone and from four threads, and, with
+ * REFUSES defined and the linker's --wrap of malloc, realloc and free, with each allocation refused.
+ * What is expected is worked out by hand from the standard and the rules in docs/. C99 and C++. */
+#include <pthread.h>
+#include <stdio.h>
+#include <stdlib.h>
+#include <string.h>
+
+#include "pmb.h"
+
+#define THREADS 4
+#define MOST 4096
+#ifndef STACK
+#define STACK (1 << 20)
+#endif
+
+static int fail(const char *what, int line)
+{
+    fprintf(stderr, "wholes: line %d: %s\n", line, what);
+    return 1;
+}
+
+#define EXPECT(holds)                                                                              \
+    do {                                                                                           \
+        if (!(holds)) return fail(#holds, __LINE__);                                               \
+    } while (0)
+
+/* ---- the allocations of the library */
+
+/* Counted where `counting` is set: how many there were, and how many blocks are not freed. That with
+ * the number `refused` is refused, and all later ones too where `later` is set. */
+static int counting, later;
+static long allocations, live, refused;
+
+#ifdef REFUSES
+#ifdef __cplusplus
+extern "C" {
+#endif
+void *__real_malloc(size_t size);
+void *__real_realloc(void *old, size_t size);
+void __real_free(void *old);
+void *__wrap_malloc(size_t size);
+void *__wrap_realloc(void *old, size_t size);
+void __wrap_free(void *old);
+#ifdef __cplusplus
+}
+#endif
+
+static int refuses(void)
+{
+    allocations++;
+    return allocations == refused || (later && refused != 0 && allocations > refused);
+}
+
+void *__wrap_malloc(size_t size)
+{
+    void *block;
+    if (!counting) return __real_malloc(size);
+    block = refuses() ? NULL : __real_malloc(size);
+    live += block != NULL;
+    return block;
+}
+
+void *__wrap_realloc(void *old, size_t size)
+{
+    void *block;
+    if (!counting) return __real_realloc(old, size);
+    block = refuses() ? NULL : __real_realloc(old, size);
+    live += block != NULL && old == NULL;
+    return block;
+}
+
+void __wrap_free(void *old)
+{
+    if (counting) live -= old != NULL;
+    __real_free(old);
+}
+#endif
+
+/* ---- what is called */
+
+static const char profile[] = "[[device]]\n"
+                              "address = 0x58\n"
+                              "pec = \"optional\"\n"
+                              "[[device.command]]\n"
+                              "name = \"READ_VIN\"\n"
+                              "initial = \"00d3\"\n";
+
+enum call { SHOW, CHECK, BUILD, RUN, JSON };
+
+typedef struct input {
+    enum call call;
+    const char *text;
+    const char *right;
+    uint64_t packets, refusals;
+} input;
+
+/* VOUT_COMMAND 1800h by VOUT_MODE 17h: 6144 / 512 V. The packet error code of b0 21 00 18 is f8. */
+#define PACKET "S b0 A 21 A 00 A 18 A f8 A P\n"
+
+static const input inputs[] = {
+    {SHOW, "", "", 0, 0},
+    {SHOW, PACKET, "write 58 21 00 18 pec # VOUT_COMMAND 12\n", 1, 0},
+    {SHOW, PACKET "hm " PACKET, "write 58 21 00 18 pec # VOUT_COMMAND 12\n# bad token at byte 29\n", 1, 1},
+    {CHECK, "", "packets 0 refusals 0\n", 0, 0},
+    {CHECK, PACKET PACKET, "packets 2 refusals 0\n", 2, 0},
+    {CHECK, "S S", "# refusal at 1: WrongEvent, expected Byte\npackets 0 refusals 1\n", 0, 1},
+    {BUILD, "", "", 0, 0},
+    {BUILD, "write 58 03\r\n\nwrite 58", "S b0 A 03 A P\n# line 3: BadWord at 8\n", 1, 1},
+    {BUILD, "write 58 21 00 18 pec\n", PACKET, 1, 0},
+    {RUN, "", "", 0, 0},
+    /* d300h in LINEAR11: the exponent -6 and the mantissa 768. */
+    {RUN, "get 58 88\nget 59 88\n",
+     "S b0 A 88 A S b1 A 00 A d3 N P\n# 12\n# line 2: UnknownDevice\n", 1, 1},
+    {JSON, "", "{\"kind\":\"end\",\"packets\":0,\"refusals\":0,\"bad_tokens\":0}\n", 0, 0},
+    {JSON, PACKET,
+     "{\"at\":0,\"line\":1,\"column\":1,\"kind\":\"write\",\"device\":\"58\",\"code\":\"21\","
+     "\"command\":\"VOUT_COMMAND\",\"page\":0,\"bytes\":\"0018\",\"pec\":true,\"value\":\"12\","
+     "\"number\":12}\n"
+     "{\"kind\":\"device\",\"device\":\"58\",\"writes\":1,\"reads\":0,\"calls\":0,\"refused\":0,"
+     "\"refusals\":0}\n"
+     "{\"kind\":\"end\",\"packets\":1,\"refusals\":0,\"bad_tokens\":0}\n",
+     1, 0},
+};
+
+static const pmb_choice usual = {6, PMB_ALL_KNOWN, PMB_END};
+static const uint8_t none[1] = {0};
+
+static size_t call_on(enum call call, const char *toml, size_t toml_length, const char *text,
+                      size_t length, char *out, size_t room, pmb_result *told)
+{
+    switch (call) {
+    case SHOW: return pmb_show(toml, toml_length, text, length, out, room, told);
+    case CHECK: return pmb_check(toml, toml_length, text, length, out, room, told);
+    case BUILD: return pmb_build(toml, toml_length, text, length, out, room, told);
+    case RUN: return pmb_run(toml, toml_length, text, length, out, room, told);
+    case JSON: break;
+    }
+    return pmb_json(toml, toml_length, text, length, &usual, none, 0, out, room, told);
+}
+
+static int all_are(const char *bytes, size_t length, char byte)
+{
+    size_t i;
+    for (i = 0; i < length; i++)
+        if (bytes[i] != byte) return 0;
+    return 1;
+}
+
+static int tells(const pmb_result *told, int status, int fault, int device, int command,
+                 size_t length, uint64_t packets, uint64_t refusals)
+{
+    return told->status == status && told->fault == fault && told->device == device &&
+           told->command == command && told->length == length && told->packets == packets &&
+           told->refusals == refusals;
+}
+
+/* ---- rooms of each size */
+
+static int rooms_of(const input *it)
+{
+    const size_t length = strlen(it->right), most = length + 3;
+    size_t room;
+    for (room = 0; room <= most; room++) {
+        char bytes[MOST];
+        const size_t kept = room < length ? room : length;
+        pmb_result told;
+        EXPECT(most + 2 <= MOST);
+        memset(bytes, '~', sizeof bytes);
+        memset(&told, 0x5a, sizeof told);
+        EXPECT(call_on(it->call, profile, sizeof profile - 1, it->text, strlen(it->text), bytes + 1,
+                       room, &told) == length);
+        EXPECT(tells(&told, room < length ? PMB_NO_ROOM : PMB_OK, 0, -1, -1, length, it->packets,
+                     it->refusals));
+        EXPECT(bytes[0] == '~' && memcmp(bytes + 1, it->right, kept) == 0);
+        EXPECT(all_are(bytes + 1 + kept, sizeof bytes - 1 - kept, '~'));
+    }
+    return 0;
+}
+
+static int rooms(void)
+{
+    size_t i;
+    for (i = 0; i < sizeof inputs / sizeof *inputs; i++)
+        if (rooms_of(&inputs[i])) return fail(inputs[i].right, __LINE__);
+    return 0;
+}
+
+/* ---- bad profiles */
+
+#define DEVICE "[[device]]\naddress = 0x10\npec = \"off\"\n"
+#define COMMAND "[[device.command]]\n"
+
+static const struct bad {
+    const char *toml;
+    int fault, device, command;
+} bad_profiles[] = {
+    {"", PMB_MISSING_KEY, -1, -1},
+    {"device", PMB_NOT_TOML, -1, -1},
+    {"\xff", PMB_NOT_TOML, -1, -1},
+    {"devices = []", PMB_UNKNOWN_KEY, -1, -1},
+    {"device = 1", PMB_WRONG_TYPE, -1, -1},
+    {"device = [1]", PMB_WRONG_TYPE, 0, -1},
+    {"[[device]]\npages = 1", PMB_MISSING_KEY, 0, -1},
+    {"[[device]]\naddress = 0x0c\npec = \"off\"", PMB_BAD_ADDRESS, 0, -1},
+    {DEVICE DEVICE, PMB_ADDRESS_TWICE, 1, -1},
+    {DEVICE "vout_mode = 256", PMB_BAD_VALUE, 0, -1},
+    {DEVICE "pages = 33", PMB_BAD_PAGES, 0, -1},
+    {"[[device]]\naddress = 0x11\npec = \"on\"\n" DEVICE COMMAND "name = \"NO_SUCH\"", PMB_UNKNOWN_NAME, 1, 0},
+    {DEVICE COMMAND "name = \"PAGE\"\n" COMMAND "code = 0xd0\nname = \"x\"", PMB_BAD_NAME, 0, 1},
+    {DEVICE COMMAND "code = 0xd0\nname = \"X\"\nwrite = \"three\"", PMB_BAD_FORM, 0, 0},
+    {DEVICE "vout_direct = { m = 0, b = 0, r = 0 }", PMB_BAD_COEFFICIENTS, 0, -1},
+    {DEVICE COMMAND "name = \"PAGE\"\n" COMMAND "name = \"PAGE\"", PMB_CODE_TWICE, 0, 1},
+    {DEVICE COMMAND "name = \"READ_VIN\"\ninitial = \"00\"", PMB_BAD_INITIAL, 0, 0},
+};
+
+static int is_refused(const char *toml, size_t length, int fault, int device, int command)
+{
+    int call;
+    for (call = SHOW; call <= JSON; call++) {
+        char bytes[64];
+        pmb_result told;
+        memset(bytes, '~', sizeof bytes);
+        memset(&told, 0x5a, sizeof told);
+        EXPECT(call_on((enum call)call, toml, length, PACKET, sizeof PACKET - 1, bytes, sizeof bytes,
+                       &told) == 0);
+        EXPECT(tells(&told, PMB_BAD_PROFILE, fault, device, command, 0, 0, 0));
+        EXPECT(all_are(bytes, sizeof bytes, '~'));
+    }
+    return 0;
+}
+
+static int faults(void)
+{
+    char many[1024] = "device = [";
+    size_t i;
+    for (i = 0; i < sizeof bad_profiles / sizeof *bad_profiles; i++) {
+        const struct bad *bad = &bad_profiles[i];
+        if (is_refused(bad->toml, strlen(bad->toml), bad->fault, bad->device, bad->command))
+            return fail(bad->toml, __LINE__);
+    }
+    for (i = 0; i < 64; i++) strcat(many, "1,");
+    strcat(many, "1]");
+    return is_refused(many, strlen(many), PMB_TOO_MANY_DEVICES, -1, -1);
+}
+
+/* Arrays, tables and dotted keys may be 80 deep, which takes most of the stack. */
+static int nested(void)
+{
+    static const char *const opens[] = {"[", "{a=", ".a"}, *const ends[] = {"]", "}", ""};
+    size_t kind;
+    for (kind = 0; kind < 3; kind++) {
+        size_t depth, i;
+        for (depth = 79; depth <= 81; depth++) {
+            const int is_toml = depth + (kind == 2) <= 80;
+            char toml[512] = "device";
+            if (kind < 2) strcat(toml, " = ");
+            for (i = 0; i < depth; i++) strcat(toml, opens[kind]);
+            strcat(toml, kind == 0 ? "" : kind == 1 ? "1" : " = 1");
+            for (i = 0; i < depth; i++) strcat(toml, ends[kind]);
+            if (is_refused(toml, strlen(toml), is_toml ? PMB_WRONG_TYPE : PMB_NOT_TOML,
+                           is_toml && kind == 0 ? 0 : -1, -1))
+                return fail(toml, __LINE__);
+        }
+    }
+    return 0;
+}
+
+/* ---- choices of JSON */
+
+static int choices(void)
+{
+    unsigned digits, start, bad_words;
+    for (digits = 0; digits < 256; digits++)
+        for (start = 0; start < 256; start = start < 4 ? start + 1 : start + 251)
+            for (bad_words = 0; bad_words < 256; bad_words = bad_words < 3 ? bad_words + 1 : 256) {
+                const int says = digits <= 12 && start <= 2 && bad_words <= 1;
+                pmb_choice choice;
+                char bytes[8] = "~~~~~~~";
+                pmb_result told;
+                choice.digits = (uint8_t)digits;
+                choice.start = (uint8_t)start;
+                choice.bad_words = (uint8_t)bad_words;
+                /* (the choice is looked at before the profile, here one of no device) */
+                pmb_json("device=[]", 9, "", 0, &choice, none, 0, bytes, 0, &told);
+                EXPECT(told.status == (says ? PMB_NO_ROOM : PMB_BAD_CHOICE));
+                if (!says) EXPECT(tells(&told, PMB_BAD_CHOICE, 0, -1, -1, 0, 0, 0));
+                if (!says && digits < 16) {
+                    pmb_json("", 0, "", 0, &choice, none, 0, bytes, sizeof bytes, &told);
+                    EXPECT(told.status == PMB_BAD_CHOICE && strcmp(bytes, "~~~~~~~") == 0);
+                }
+            }
+    return 0;
+}
+
+/* Which objects are wanted, what is known at first, and where reading goes on. */
+static int json_as_chosen(void)
+{
+    static const char end[] = "{\"kind\":\"end\",\"packets\":2,\"refusals\":0,\"bad_tokens\":0}\n";
+    static const uint8_t others[] = {0x59, 0xff, 0};
+    pmb_choice choice = usual;
+    char bytes[MOST];
+    pmb_result told;
+    size_t length = pmb_json(profile, sizeof profile - 1, PACKET PACKET, 2 * (sizeof PACKET - 1),
+                             &choice, others, sizeof others, bytes, sizeof bytes, &told);
+    EXPECT(told.status == PMB_OK && length == sizeof end - 1 && memcmp(bytes, end, length) == 0);
+    /* VOUT_MODE isn't known, so the voltage isn't either; with the profile's it is. */
+    choice.start = PMB_LATE;
+    length = pmb_json(profile, sizeof profile - 1, PACKET, sizeof PACKET - 1, &choice, none, 0, bytes,
+                      sizeof bytes - 1, &told);
+    bytes[length] = 0;
+    EXPECT(told.status == PMB_OK && strstr(bytes, "\"raw\":\"unknown\"") != NULL);
+    choice.start = PMB_LATE_FIXED_MODE;
+    length = pmb_json(profile, sizeof profile - 1, PACKET, sizeof PACKET - 1, &choice, none, 0, bytes,
+                      sizeof bytes - 1, &told);
+    bytes[length] = 0;
+    EXPECT(told.status == PMB_OK && strstr(bytes, "\"value\":\"12\"") != NULL);
+    EXPECT(pmb_json(profile, sizeof profile - 1, "hm\n" PACKET, sizeof PACKET + 2, &usual, none, 0,
+                    bytes, sizeof bytes, &told) > 0);
+    EXPECT(told.packets == 0 && told.refusals == 1);
+    choice.bad_words = PMB_GO_ON;
+    EXPECT(pmb_json(profile, sizeof profile - 1, "hm\n" PACKET, sizeof PACKET + 2, &choice, none, 0,
+                    bytes, sizeof bytes, &told) > 0);
+    EXPECT(told.packets == 1 && told.refusals == 1);
+    return 0;
+}
+
+/* ---- an input of 2 MB, and a line that is too long */
+
+static int large(void)
+{
+    static const char line[] = "write 58 21 00 18 pec # VOUT_COMMAND 12\n";
+    const size_t times = (2 << 20) / (sizeof PACKET - 1), length = times * (sizeof PACKET - 1);
+    const size_t right = times * (sizeof line - 1);
+    char *text = (char *)malloc(length), *out = (char *)malloc(right);
+    pmb_result told;
+    size_t i;
+    EXPECT(text != NULL && out != NULL);
+    for (i = 0; i < times; i++) memcpy(text + i * (sizeof PACKET - 1), PACKET, sizeof PACKET - 1);
+    EXPECT(pmb_show(profile, sizeof profile - 1, text, length, out, right, &told) == right);
+    EXPECT(tells(&told, PMB_OK, 0, -1, -1, right, times, 0));
+    for (i = 0; i < times; i++)
+        EXPECT(memcmp(out + i * (sizeof line - 1), line, sizeof line - 1) == 0);
+    EXPECT(pmb_show(profile, sizeof profile - 1, text, length, out, right - 1, &told) == right);
+    EXPECT(told.status == PMB_NO_ROOM);
+    memset(text, 'w', 32769);
+    i = pmb_build(profile, sizeof profile - 1, text, 32769, out, right, &told);
+    EXPECT(i == strlen("# line 1: TooLong at 32768\n") && told.refusals == 1);
+    EXPECT(memcmp(out, "# line 1: TooLong at 32768\n", i) == 0);
+    free(text);
+    free(out);
+    return 0;
+}
+
+/* ---- each allocation refused */
+
+#ifdef REFUSES
+static int refusals_of(const input *it)
+{
+    long most;
+    char bytes[MOST];
+    pmb_result told;
+    allocations = live = refused = 0;
+    call_on(it->call, profile, sizeof profile - 1, it->text, strlen(it->text), bytes, sizeof bytes,
+            &told);
+    most = allocations;
+    EXPECT(told.status == PMB_OK && told.length == strlen(it->right) && live == 0 && most > 0);
+    for (refused = 1; refused <= most; refused++) {
+        memset(bytes, '~', sizeof bytes);
+        allocations = 0;
+        call_on(it->call, profile, sizeof profile - 1, it->text, strlen(it->text), bytes, sizeof bytes,
+                &told);
+        EXPECT(live == 0 && tells(&told, PMB_NO_MEMORY, 0, -1, -1, 0, 0, 0));
+        EXPECT(all_are(bytes, sizeof bytes, '~'));
+    }
+    return 0;
+}
+
+static int refusals(void)
+{
+    size_t i;
+    int failed = 0;
+    counting = 1;
+    for (later = 0; later <= 1 && !failed; later++)
+        for (i = 0; i < sizeof inputs / sizeof *inputs && !failed; i++)
+            if (refusals_of(&inputs[i])) failed = fail(inputs[i].right, __LINE__);
+    counting = 0;
+    return failed;
+}
+#endif
+
+static void *all(void *result)
+{
+    *(int *)result = rooms() || faults() || nested() || choices() || json_as_chosen() || large();
+    return result;
+}
+
+int main(void)
+{
+    pthread_t threads[THREADS];
+    pthread_attr_t small;
+    int results[THREADS], alone, i, failed;
+    all(&alone);
+    failed = alone;
+#ifdef REFUSES
+    failed |= refusals();
+#else
+    (void)counting, (void)later, (void)allocations, (void)live, (void)refused;
+#endif
+    if (pthread_attr_init(&small) || pthread_attr_setstacksize(&small, STACK))
+        return fail("pthread_attr", __LINE__);
+    for (i = 0; i < THREADS; i++)
+        if (pthread_create(&threads[i], &small, all, &results[i]))
+            return fail("pthread_create", __LINE__);
+    for (i = 0; i < THREADS; i++) {
+        pthread_join(threads[i], NULL);
+        failed |= results[i];
+    }
+    pthread_attr_destroy(&small);
+    return failed;
+}

@@ -1,0 +1,74 @@
+//! What C chooses of JSON.
+
+ghost use Rattle.std.specs.Prelude.{◌≡◌, option_map};
+ghost use Rattle.pmb_c.specs.Choice.{bad_words_of, chosen, start_of};
+
+use pmb_decimal::Digits;
+use pmb_json::BadWords;
+use pmb_late::Start;
+
+/// How the objects of a capture are wanted.
+#[repr(C)]
+#[derive(Clone, Copy)]
+pub struct PmbChoice {
+    /// The most digits after the point of a number, from 0 to 12.
+    pub digits: u8,
+    /// What is known of PAGE and VOUT_MODE where the capture begins: 0 for both, 1 for VOUT_MODE alone,
+    /// 2 for neither.
+    pub start: u8,
+    /// What is done behind a word that is no token: 0 to end there, 1 to go on with the next line.
+    pub bad_words: u8,
+}
+
+/// The same by names.
+#[derive(Clone, Copy)]
+pub(crate) struct Chosen {
+    pub(crate) digits: Digits,
+    pub(crate) start: Start,
+    pub(crate) bad_words: BadWords,
+}
+
+impl PmbChoice {
+    /// What it chooses; `None` where one of its numbers says nothing.
+    pub(crate) fn chosen(&self) -> Option<Chosen>
+        ensures { result ≡ chosen self.now }
+    {
+        let Some(digits) = Digits::new(self.digits) else {
+            return None;
+        };
+        let Some(start) = start(self.start) else {
+            return None;
+        };
+        let Some(bad_words) = bad_words(self.bad_words) else {
+            return None;
+        };
+        Some(Chosen {
+            digits,
+            start,
+            bad_words,
+        })
+    }
+}
+
+/// What is known where the capture begins.
+fn start(number: u8) -> Option<Start>
+    ensures { result ≡ start_of number }
+{
+    match number {
+        0 => Some(Start::AllKnown),
+        1 => Some(Start::LateFixedMode),
+        2 => Some(Start::Late),
+        _ => None,
+    }
+}
+
+/// What is done behind a word that is no token.
+fn bad_words(number: u8) -> Option<BadWords>
+    ensures { result ≡ bad_words_of number }
+{
+    match number {
+        0 => Some(BadWords::End),
+        1 => Some(BadWords::GoOn),
+        _ => None,
+    }
+}

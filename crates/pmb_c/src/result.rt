@@ -1,0 +1,135 @@
+//! What is told of a whole input.
+
+ghost use Rattle.std.specs.Prelude.{◌≡◌, ℤ, negsuc, pos};
+ghost use Rattle.pmb_c.specs.Result.{fault_number, place_of, result_of, result_of_fault, result_of_put, result_of_status};
+
+use crate::status::Status;
+use pmb_table::{FaultKind, ProfileFault};
+use pmb_whole::{Put, WholeFault};
+
+/// What a call over a whole input came to, and what it tells of it.
+#[repr(C)]
+#[derive(Clone, Copy)]
+pub struct PmbResult {
+    /// What the call came to.
+    pub status: i32,
+    /// What is wrong with the profile, from 1 on; 0 where nothing is.
+    pub fault: i32,
+    /// In which device that is, counted from 0; -1 where it is in none.
+    pub device: i32,
+    /// In which command of that device, counted from 0; -1 where it is in none.
+    pub command: i32,
+    /// How many bytes the text has, also where they don't fit.
+    pub length: usize,
+    /// How many packets there were.
+    pub packets: u64,
+    /// How many refusals there were.
+    pub refusals: u64,
+}
+
+impl PmbResult {
+    /// What is told where the room has so many bytes.
+    pub(crate) fn of(outcome: Result<Put, WholeFault>, room: usize) -> PmbResult
+        ensures { result ≡ result_of room outcome }
+    {
+        match outcome {
+            Ok(put) => PmbResult::of_put(put, room),
+            Err(WholeFault::Profile(fault)) => PmbResult::of_fault(fault),
+            Err(WholeFault::Memory | WholeFault::Write) => PmbResult::of_status(Status::NoMemory),
+        }
+    }
+
+    /// Nothing was written, for this reason.
+    pub(crate) fn of_status(status: Status) -> PmbResult
+        ensures { result ≡ result_of_status status }
+    {
+        PmbResult {
+            status: status.number(),
+            fault: 0,
+            device: -1,
+            command: -1,
+            length: 0,
+            packets: 0,
+            refusals: 0,
+        }
+    }
+
+    /// A text was written, as far as it fits.
+    fn of_put(put: Put, room: usize) -> PmbResult
+        ensures { result ≡ result_of_put room put }
+    {
+        let status = if put.length > room {
+            Status::NoRoom
+        } else {
+            Status::Done
+        };
+        PmbResult {
+            status: status.number(),
+            fault: 0,
+            device: -1,
+            command: -1,
+            length: put.length,
+            packets: put.tally.packets,
+            refusals: put.tally.refusals,
+        }
+    }
+
+    /// The profile has a fault.
+    fn of_fault(fault: ProfileFault) -> PmbResult
+        ensures { result ≡ result_of_fault fault }
+    {
+        PmbResult {
+            status: Status::BadProfile.number(),
+            fault: number_of(fault.what),
+            device: device_of(fault.device),
+            command: command_of(fault.command),
+            length: 0,
+            packets: 0,
+            refusals: 0,
+        }
+    }
+}
+
+/// The place of a device, or -1.
+fn device_of(device: Option<u8>) -> i32
+    ensures { result ≡ place_of device }
+{
+    match device {
+        Some(device) => device as i32,
+        None => -1,
+    }
+}
+
+/// The place of a command, or -1.
+fn command_of(command: Option<u16>) -> i32
+    ensures { result ≡ place_of command }
+{
+    match command {
+        Some(command) => command as i32,
+        None => -1,
+    }
+}
+
+/// The number that the header gives a fault.
+fn number_of(what: FaultKind) -> i32
+    ensures { result ≡ fault_number what }
+{
+    match what {
+        FaultKind::NotToml => 1,
+        FaultKind::UnknownKey => 2,
+        FaultKind::MissingKey => 3,
+        FaultKind::WrongType => 4,
+        FaultKind::TooManyDevices => 5,
+        FaultKind::BadAddress => 6,
+        FaultKind::AddressTwice => 7,
+        FaultKind::BadValue => 8,
+        FaultKind::BadPages => 9,
+        FaultKind::UnknownName => 10,
+        FaultKind::BadName => 11,
+        FaultKind::BadForm => 12,
+        FaultKind::BadCoefficients => 13,
+        FaultKind::CodeTwice => 14,
+        FaultKind::BadInitial => 15,
+        FaultKind::OutOfMemory => 16,
+    }
+}

@@ -1,0 +1,5 @@
+pub mod Fault
+pub mod Profile
+pub mod Work
+pub mod Whole
+pub mod Put

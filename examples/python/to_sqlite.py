@@ -1,0 +1,60 @@
+"""Captures into SQLite: each packet is a row, with the exact value as a text, the nearest number, and
+the whole object.
+
+    pip install ./python && python3 examples/python/to_sqlite.py
+    python3 examples/python/to_sqlite.py PROFILE CAPTURE DATABASE
+
+Without words it takes the power-up of examples/sessions, and a database in memory.
+"""
+
+import json
+import os
+import sqlite3
+import sys
+
+import pmb
+
+SESSIONS = os.path.join(os.path.dirname(os.path.abspath(__file__)), os.pardir, "sessions")
+COLUMNS = ("at", "line", "kind", "device", "command", "page", "value", "number")
+
+
+def read(name):
+    with open(name, "rb") as file:
+        return file.read()
+
+
+def load(database, profile, capture):
+    """Puts the packets and refusals of a capture into the table `packets`."""
+    database.execute(
+        "CREATE TABLE IF NOT EXISTS packets (at INTEGER, line INTEGER, kind TEXT, device TEXT, "
+        "command TEXT, page, value TEXT, number REAL, object TEXT)"
+    )
+    rows = (
+        [it.get(column) for column in COLUMNS] + [json.dumps(it)]
+        for it in pmb.transactions(profile, capture)
+    )
+    database.executemany("INSERT INTO packets VALUES (?, ?, ?, ?, ?, ?, ?, ?, ?)", rows)
+    database.commit()
+
+
+def main():
+    profile, capture, name = (sys.argv[1:] + [None] * 3)[:3]
+    profile = profile or os.path.join(SESSIONS, "power_up.toml")
+    capture = capture or os.path.join(SESSIONS, "power_up.txt")
+    database = sqlite3.connect(name or ":memory:")
+    try:
+        load(database, read(profile), read(capture))
+    except pmb.ProfileError as error:
+        sys.exit("{}: {}".format(profile, error))
+    for device, page, value in database.execute(
+        "SELECT device, page, value FROM packets WHERE command = 'READ_VOUT' ORDER BY at"
+    ):
+        print(device, page, value)
+    for kind, count in database.execute(
+        "SELECT kind, count(*) FROM packets GROUP BY kind ORDER BY kind"
+    ):
+        print(kind, count)
+
+
+if __name__ == "__main__":
+    main()
