@@ -1,9 +1,9 @@
 -- Lines of a text that grows by a byte, and lines of which only a front is kept.
-use Rattle.std.proofs.Common.{◌≡◌, ◌≢◌, ℕ, zero, suc, ◌<◌, Bool, true, false, cond, eqb, nat_lt, List, [], ◌∷◌, ◌++◌, length, take, refl, sym, ap, ◌∙◌, inl, inr, arith, eq-eqb}
+use Rattle.std.proofs.Common.{◌≡◌, ◌≢◌, ℕ, zero, suc, ◌<◌, Bool, true, false, cond, eqb, nat_lt, List, [], ◌∷◌, ◌++◌, length, slice_index, take, drop, ◌+◌, ◌-◌, add-one, drop-cons, take-append-drop, length-drop, refl, sym, ap, ◌∙◌, inl, inr, append_assoc, append-nil, arith, eq-eqb}
 use Rattle.std.proofs.lemmas.Bool.{cases_lt, cases_eq, ne_eqb}
 use Rattle.std.proofs.lemmas.Bool.Decides.{nat_tests}
 use Rattle.std.proofs.lemmas.List.{take_all}
-use Rattle.pmb_io.specs.Lines.{Cut, IsCut, carriage_return, cut, ended_line, last_line, line_feed, longer, without_cr}
+use Rattle.pmb_io.specs.Lines.{Cut, HasNoLf, IsCut, carriage_return, cut, ended_line, last_line, line_feed, longer, without_cr}
 use Rattle.pmb_io.specs.machine.Lines.{ended_kept, last_kept}
 
 -- a cut with one byte more in front
@@ -46,6 +46,31 @@ unfolding cut
 cut-with_byte [] last other = let test : eqb last line_feed ≡ false = ne_eqb last line_feed other in rw test refl
 cut-with_byte (byte ∷ bytes) last other =
     ap (after_byte (eqb byte 10) byte) (cut-with_byte bytes last other) ∙ after_byte-with_byte (eqb byte 10) byte last (cut bytes)
+
+-- and so do bytes without an LF
+pub cut-with_bytes : (bytes more : List ℕ) → HasNoLf more → cut (bytes ++ more) ≡ record { ended = (cut bytes).ended; rest = (cut bytes).rest ++ more }
+cut-with_bytes bytes [] none = ap cut (append-nil bytes) ∙ ap (λ (rest : List ℕ). record { ended = (cut bytes).ended; rest = rest }) (sym (append-nil (cut bytes).rest))
+cut-with_bytes bytes (byte ∷ more) none =
+    ap cut (sym (append_assoc bytes (byte ∷ []) more)) ∙ (cut-with_bytes (bytes ++ byte ∷ []) more none.1
+    ∙ (ap (λ (c : Cut). record { ended = c.ended; rest = c.rest ++ more }) (cut-with_byte bytes byte none.0)
+    ∙ ap (λ (rest : List ℕ). record { ended = (cut bytes).ended; rest = rest }) (append_assoc (cut bytes).rest (byte ∷ []) more)))
+
+-- the bytes in front of the first LF have none
+pub none_in_front : (bytes : List ℕ) (count : ℕ) → ((at : ℕ) → at < count → slice_index bytes at ≢ line_feed) → HasNoLf (take count bytes)
+none_in_front bytes zero none = tt
+none_in_front [] (suc count) none = tt
+none_in_front (byte ∷ bytes) (suc count) none = (none 0 (omega arith), none_in_front bytes count (λ at below. none (suc at) (omega arith)))
+
+-- a piece that is cut behind the first LF of its rest
+pub cut_behind : (piece front rest : List ℕ) (len : ℕ) → piece ≡ front ++ rest → len < length rest → slice_index rest len ≡ line_feed
+    → piece ≡ (front ++ (take len rest ++ line_feed ∷ [])) ++ take (length rest - (len + 1)) (drop (len + 1) rest)
+cut_behind piece front rest len whole within lf =
+    let behind : take (length rest - (len + 1)) (drop (len + 1) rest) ≡ drop (len + 1) rest = take_all _ _ (omega (arith, length-drop (len + 1) rest)) in
+    let from_lf : drop len rest ≡ line_feed ∷ drop (len + 1) rest = cc (drop-cons rest len 0 within, lf, add-one len) in
+    let at_lf : rest ≡ (take len rest ++ line_feed ∷ []) ++ drop (len + 1) rest =
+    sym (take-append-drop len rest) ∙ (ap (λ (l : List ℕ). take len rest ++ l) from_lf ∙ sym (append_assoc (take len rest) (line_feed ∷ []) (drop (len + 1) rest))) in
+    whole ∙ (ap (λ (l : List ℕ). front ++ l) at_lf ∙ (sym (append_assoc front (take len rest ++ line_feed ∷ []) (drop (len + 1) rest))
+    ∙ ap (λ (l : List ℕ). (front ++ (take len rest ++ line_feed ∷ [])) ++ l) (sym behind)))
 
 -- ---- a cut text
 
@@ -90,23 +115,6 @@ no_return_kept (byte ∷ []) none = elim (cases_eq byte carriage_return) [
 no_return_kept (byte ∷ next ∷ line) none = ap (λ l. byte ∷ l) (no_return_kept (next ∷ line) (λ front is. none (byte ∷ front) (ap (λ l. byte ∷ l) is)))
 
 -- ---- lines of which a front is kept
-
-take_none : (n : ℕ) → take {A = ℕ} n [] ≡ []
-take_none zero = refl
-take_none (suc n) = refl
-
--- a byte more is kept where there is room
-kept_push : (line : List ℕ) (byte n : ℕ) → length (take n line) < n → take n line ++ byte ∷ [] ≡ take n (line ++ byte ∷ [])
-kept_push [] byte zero room = absurd (omega arith)
-kept_push [] byte (suc n) room = ap (λ l. byte ∷ l) (sym (take_none n))
-kept_push (b ∷ line) byte zero room = absurd (omega arith)
-kept_push (b ∷ line) byte (suc n) room = ap (λ l. b ∷ l) (kept_push line byte n (omega arith))
-
--- and nowhere else
-kept_full : (line : List ℕ) (byte n : ℕ) → length (take n line) ≡ n → take n line ≡ take n (line ++ byte ∷ [])
-kept_full line byte zero full = refl
-kept_full [] byte (suc n) full = absurd (omega arith)
-kept_full (b ∷ line) byte (suc n) full = ap (λ l. b ∷ l) (kept_full line byte n (omega arith))
 
 -- a front that is whole, or of a line that is too long
 pub ended_kept_is : (most : ℕ) (line : List ℕ) → ended_kept (take most line) (nat_lt most (length line)) ≡ ended_line most line

@@ -1,14 +1,19 @@
 -- Lines that are handed on as their bytes come.
-use Rattle.std.proofs.Common.{◌≡◌, ◌≢◌, ℕ, Bool, false, nat_lt, List, [], ◌∷◌, ◌++◌, length, map, take, sym, ◌∙◌, ap, subst, arith}
+use Rattle.std.proofs.Common.{◌≡◌, ℕ, Bool, false, nat_lt, List, [], ◌∷◌, ◌++◌, length, map, take, refl, sym, ◌∙◌, ap, subst, append_assoc, arith}
 use Rattle.std.proofs.Math.Seq.{take-nil}
 use Rattle.std.proofs.lemmas.Bool.Decides.{nat_tests}
-use Rattle.std.proofs.lemmas.List.{map-append}
-use Rattle.pmb_io.specs.Lines.{Cut, TextLine, cut, ended_line, ended_lines, line_feed}
+use Rattle.std.proofs.lemmas.List.{length-take, map-append}
+use Rattle.pmb_io.specs.Lines.{Cut, HasNoLf, TextLine, cut, ended_line, ended_lines, line_feed}
 use Rattle.pmb_io.specs.machine.Lines.{StandsInLine, ended_kept}
-use Rattle.pmb_io.proofs.LineLemmas.{cut-with_byte, cut-with_lf, ended_kept_is}
+use Rattle.pmb_io.proofs.LineLemmas.{cut-with_bytes, cut-with_lf, ended_kept_is}
 
 none_longer : (most : ℕ) → nat_lt most 0 ≡ false
 none_longer most = grind (arith, nat_tests)
+
+-- of the line under way nothing came yet
+nothing_came : (most : ℕ) (rest : List ℕ) → [] ≡ take most rest → false ≡ nat_lt most (length rest) → rest ≡ []
+nothing_came most [] kept short = refl
+nothing_came most (byte ∷ rest) kept short = absurd (grind (arith, nat_tests, ap length kept, length-take most (byte ∷ rest), short))
 
 module _ (Given : List TextLine → List ℕ → Type 0) (most : ℕ) where
   -- nothing was given yet
@@ -16,12 +21,12 @@ module _ (Given : List TextLine → List ℕ → Type 0) (most : ℕ) where
   unfolding cut
   stands_fresh line none given = record { kept = none ∙ sym (take-nil most); longer = sym (none_longer most); given = given }
 
-  -- a byte that is no LF belongs to the line under way
-  pub keeps_byte : (bytes text line : List ℕ) (is_longer : Bool) (byte : ℕ) → byte ≢ line_feed
-      → line ≡ take most ((cut bytes).rest ++ byte ∷ []) → is_longer ≡ nat_lt most (length ((cut bytes).rest ++ byte ∷ []))
-      → Given (ended_lines most bytes) text → StandsInLine Given most line is_longer (bytes ++ byte ∷ []) text
-  keeps_byte bytes text line is_longer byte other kept longer given =
-      let cut_is = cut-with_byte bytes byte other in record {
+  -- bytes without an LF belong to the line under way
+  pub keeps_bytes : (bytes text line : List ℕ) (is_longer : Bool) (more : List ℕ) → HasNoLf more
+      → line ≡ take most ((cut bytes).rest ++ more) → is_longer ≡ nat_lt most (length ((cut bytes).rest ++ more))
+      → Given (ended_lines most bytes) text → StandsInLine Given most line is_longer (bytes ++ more) text
+  keeps_bytes bytes text line is_longer more none kept longer given =
+      let cut_is = cut-with_bytes bytes more none in record {
         kept = kept ∙ sym (ap (λ (c : Cut). take most c.rest) cut_is);
         longer = longer ∙ sym (ap (λ (c : Cut). nat_lt most (length c.rest)) cut_is);
         given = subst (λ (c : Cut). Given (map (ended_line most) c.ended) text) (sym cut_is) given;
@@ -45,4 +50,20 @@ module _ (Given : List TextLine → List ℕ → Type 0) (most : ℕ) where
         longer = sym (ap (λ (c : Cut). nat_lt most (length c.rest)) cut_is ∙ none_longer most);
         given = subst (λ (b : ℕ). Given (ended_lines most (bytes ++ b ∷ [])) text) (sym lf)
             (subst (λ (lines : List TextLine). Given lines text) (sym (ended_by_lf bytes line is_longer kept longer)) given);
+      }
+
+  -- a line that came whole in front of an LF
+  pub after_whole : (bytes text line more : List ℕ) (is_longer : Bool) → HasNoLf more → line ≡ [] → is_longer ≡ false
+      → line ≡ take most (cut bytes).rest → is_longer ≡ nat_lt most (length (cut bytes).rest)
+      → Given (ended_lines most bytes ++ ended_line most more ∷ []) text → StandsInLine Given most line is_longer (bytes ++ (more ++ line_feed ∷ [])) text
+  after_whole bytes text line more is_longer no_lf none short kept longer given =
+      let rest_none = nothing_came most (cut bytes).rest (sym none ∙ kept) (sym short ∙ longer) in
+      let front_is : cut (bytes ++ more) ≡ record { ended = (cut bytes).ended; rest = more } =
+      cut-with_bytes bytes more no_lf ∙ ap (λ (rest : List ℕ). record { ended = (cut bytes).ended; rest = rest ++ more }) rest_none in
+      let cut_is : cut (bytes ++ (more ++ line_feed ∷ [])) ≡ record { ended = (cut bytes).ended ++ more ∷ []; rest = [] } =
+      ap cut (sym (append_assoc bytes more (line_feed ∷ []))) ∙ (cut-with_lf (bytes ++ more) ∙ ap (λ (c : Cut). record { ended = c.ended ++ c.rest ∷ []; rest = [] }) front_is) in record {
+        kept = none ∙ (sym (take-nil most) ∙ sym (ap (λ (c : Cut). take most c.rest) cut_is));
+        longer = short ∙ (sym (none_longer most) ∙ sym (ap (λ (c : Cut). nat_lt most (length c.rest)) cut_is));
+        given = subst (λ (lines : List TextLine). Given lines text)
+            (sym (ap (λ (c : Cut). map (ended_line most) c.ended) cut_is ∙ map-append (ended_line most) (cut bytes).ended (more ∷ []))) given;
       }

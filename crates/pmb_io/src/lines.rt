@@ -1,12 +1,12 @@
 //! The lines of an input, from its pieces.
 //!
-//! Of the line under way only as much is kept as a line may have, and whether it has more. It is
-//! handed on when its LF comes, or the end.
+//! A line that lies whole in a piece is lent from there. Of one that is cut by pieces as much is kept
+//! as a line may have, and whether it has more: it is handed on when its LF comes, or the end.
 
 ghost use Rattle.std.specs.Prelude.{◌≡◌, ℕ, ◌++◌, ◌∷◌, [], false, List, OnOk, length, nat_lt, take};
 ghost use Rattle.pmb_io.specs.Calls.{WriterTells};
 ghost use Rattle.pmb_io.specs.Engines.{PutsOut};
-ghost use Rattle.pmb_io.specs.Lines.{TextLine, lines_of, lines_task};
+ghost use Rattle.pmb_io.specs.Lines.{HasNoLf, line_feed, line_text, lines_of, lines_task};
 ghost use Rattle.pmb_io.specs.machine.Lines.{StandsInLine, ended_kept};
 
 use crate::engine::{Engine, Flow};
@@ -16,6 +16,7 @@ use crate::line_task::LineTask;
 use crate::outgoing::Waiting;
 use crate::sink::Sink;
 use arrayvec::ArrayVec;
+use memchr::memchr;
 
 /// The lines of an input, handed to a task one after the other, as an [`Engine`] for
 /// [`each_piece`](crate::each_piece). A line has at most `MOST` bytes, a CR at its end counted; of a
@@ -49,56 +50,54 @@ impl<T: LineTask, const MOST: usize> Lines<T, MOST> {
         &self.task
     }
 
-    /// Takes a byte: an LF ends the line under way.
-    fn take_byte<W: Sink>(
+    /// Takes the bytes before an LF, which ends the line under way. A line that lies whole in a piece
+    /// is handed on from there.
+    fn take_ended<W: Sink>(
         &mut self,
-        byte: u8,
+        bytes: &[u8],
         waiting: &mut Waiting,
         writer: &mut W,
     ) -> Result<(), RunFault>
-        ensures takes { (start : T) (bytes text : List ℕ) → StandsInLine (T.Stands start self.old.task) MOST self.old.line.items self.old.is_longer bytes text
-            → OnOk result (PutsOut (λ more. StandsInLine (T.Stands start self.new.task) MOST self.new.line.items self.new.is_longer (bytes ++ byte ∷ []) (text ++ more))
+        requires { HasNoLf bytes.now }
+        ensures takes { (start : T) (before text : List ℕ) → StandsInLine (T.Stands start self.old.task) MOST self.old.line.items self.old.is_longer before text
+            → OnOk result (PutsOut (λ more. StandsInLine (T.Stands start self.new.task) MOST self.new.line.items self.new.is_longer (before ++ (bytes.now ++ line_feed ∷ [])) (text ++ more))
             (W.told writer.old).held waiting.old.items (W.told writer.new).held waiting.new.items) }
         ensures failed { WriterTells (W.told writer.old) (W.told writer.new) result }
     {
-        if byte != b'\n' {
-            self.keep(byte);
-            return Ok(());
+        if self.line.is_empty() && !self.is_longer {
+            let line = ended_line(bytes, bytes.len() > MOST);
+            return self.task.take_line(line, waiting, writer);
         }
-        self.take_ended(waiting, writer)?;
+        self.keep(bytes);
+        let line = ended_line(self.line.as_slice(), self.is_longer);
+        self.task.take_line(line, waiting, writer)?;
         self.line.clear();
         self.is_longer = false;
         Ok(())
     }
 
-    /// Keeps a byte of the line under way, where it has room.
-    #[inline]
-    fn keep(&mut self, byte: u8)
+    /// Keeps bytes of the line under way, as far as it has room.
+    fn keep(&mut self, bytes: &[u8])
         ensures task { self.new.task ≡ self.old.task }
-        ensures kept { (rest : List ℕ) → self.old.line.items ≡ take MOST rest → self.new.line.items ≡ take MOST (rest ++ byte ∷ []) }
+        ensures kept { (rest : List ℕ) → self.old.line.items ≡ take MOST rest → self.new.line.items ≡ take MOST (rest ++ bytes.now) }
         ensures longer { (rest : List ℕ) → self.old.line.items ≡ take MOST rest → self.old.is_longer ≡ nat_lt MOST (length rest)
-            → self.new.is_longer ≡ nat_lt MOST (length (rest ++ byte ∷ [])) }
+            → self.new.is_longer ≡ nat_lt MOST (length (rest ++ bytes.now)) }
     {
-        if self.line.is_full() {
-            self.is_longer = true;
-        } else {
-            self.line.push(byte);
-        }
+        let room = self.line.remaining_capacity();
+        self.is_longer = self.is_longer || bytes.len() > room;
+        let kept = bytes.len().min(room);
+        let _ = self.line.try_extend_from_slice(&bytes[..kept]);
     }
+}
 
-    /// Hands on the line under way, which an LF ended.
-    #[inline(never)]
-    fn take_ended<W: Sink>(&mut self, waiting: &mut Waiting, writer: &mut W) -> Result<(), RunFault>
-        ensures takes { (start : T) (lines : List TextLine) (text : List ℕ) → T.Stands start self.old.task lines text
-            → OnOk result (PutsOut (λ more. T.Stands start self.new.task (lines ++ ended_kept self.old.line.items self.old.is_longer ∷ []) (text ++ more))
-            (W.told writer.old).held waiting.old.items (W.told writer.new).held waiting.new.items) }
-        ensures failed { WriterTells (W.told writer.old) (W.told writer.new) result }
-    {
-        if self.is_longer {
-            return self.task.take_line(Line::TooLong, waiting, writer);
-        }
-        self.task
-            .take_line(Line::Ended(self.line.as_slice()), waiting, writer)
+/// The line that an LF ended, of which these bytes are kept.
+fn ended_line(kept: &[u8], is_longer: bool) -> Line<'_>
+    ensures { line_text result ≡ ended_kept kept.now is_longer }
+{
+    if is_longer {
+        Line::TooLong
+    } else {
+        Line::Ended(kept)
     }
 }
 
@@ -115,9 +114,12 @@ impl<T: LineTask, const MOST: usize> Engine for Lines<T, MOST> {
         waiting: &mut Waiting,
         writer: &mut W,
     ) -> Result<Flow, RunFault> {
-        for byte in piece {
-            self.take_byte(*byte, waiting, writer)?;
+        let mut rest = piece;
+        while let Some(len) = memchr(b'\n', rest) {
+            self.take_ended(&rest[..len], waiting, writer)?;
+            rest = &rest[len + 1..];
         }
+        self.keep(rest);
         Ok(Flow::More)
     }
 

@@ -12,6 +12,7 @@ pub mod Endings
 pub mod Taken
 pub mod Legs
 pub mod Firsts
+pub mod FrontWords
 pub mod Writings
 pub mod Uniqueness
 pub mod PacketsWithin

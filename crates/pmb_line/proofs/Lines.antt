@@ -14,7 +14,8 @@ use Rattle.pmb_line.specs.Token.{token_of, token_text, byte_of_digits, or_keywor
 use Rattle.pmb_line.specs.Spelling.{ArePartBytes, HasBytes, HasLine, SpellsTransaction, bytes, mark, part, parts, part_before, tokens, line, spaced}
 use Rattle.pmb_line.specs.machine.Reading.{ends_line_word}
 use Rattle.pmb_line.specs.machine.Written.{behind}
-use Rattle.pmb_line.proofs.WordLemmas.{AllGo, EndsWord, word_then}
+use Rattle.pmb_line.specs.machine.Front.{EndsWord}
+use Rattle.pmb_line.proofs.WordLemmas.{AllGo, word_then}
 
 -- ---- digits
 

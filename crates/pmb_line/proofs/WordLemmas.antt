@@ -7,6 +7,7 @@ use Rattle.std.proofs.lemmas.Bool.Decides.{nat_tests}
 use Rattle.pmb_line.specs.Words.{Word, bounds, is_blank, is_comment, lengthened, word_behind, words_from, without_cr}
 use Rattle.std.proofs.Math.Seq.{take-length}
 use Rattle.pmb_line.specs.machine.Reading.{ends_line_word}
+use Rattle.pmb_line.specs.machine.Front.{EndsWord}
 
 -- a blank is passed over
 pub pass_blank : (at b : ℕ) (rest : List ℕ) → is_blank b ≡ true → words_from at (b ∷ rest) ≡ words_from (at + 1) rest
@@ -68,10 +69,6 @@ joined : (at b : ℕ) (text : List ℕ) (ws : List Word) → lengthened at b (re
 joined at b text ws =
     let same : (at + 1 == at + 1) ≡ true = grind (arith, nat_tests) in
     ap (λ v. if v then record { at = at; text = b ∷ text } ∷ ws else record { at = at; text = b ∷ [] } ∷ record { at = at + 1; text = text } ∷ ws) same
-
--- a text at whose front a word ends
-abbrev pub EndsWord : List ℕ → Type 0
-EndsWord text = 0 < length text → ends_line_word (slice_index text 0) ≡ true
 
 ended : (at : ℕ) (text : List ℕ) → EndsWord text → BeginFrom (at + 1) (words_from at text)
 ended at [] ends = tt

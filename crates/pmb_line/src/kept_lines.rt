@@ -6,6 +6,7 @@ ghost use Rattle.pmb_line.specs.LineFault.{IsLineFault, Parses};
 
 use crate::line_fault::LineFault;
 use crate::line_reader::read_line;
+use crate::words::blanks;
 use pmb_table::Profile;
 use pmb_transaction::Transaction;
 
@@ -17,6 +18,7 @@ pub struct LineReader {
     read: Transaction,
     call: Transaction,
     refused: Transaction,
+    alert: Transaction,
     other: Transaction,
 }
 
@@ -28,6 +30,7 @@ impl LineReader {
             read: Transaction::NoAlert,
             call: Transaction::NoAlert,
             refused: Transaction::NoAlert,
+            alert: Transaction::NoAlert,
             other: Transaction::NoAlert,
         }
     }
@@ -41,13 +44,15 @@ impl LineReader {
         ensures ok { IfOk result (λ t. Parses profile.now line.now (transaction_data t.now)) }
         ensures err { IfErr result (IsLineFault profile.now line.now) }
     {
-        // Any of them would do, since a line is read into each alike: the front of the line, and not
-        // its first word, tells the kind soon enough.
-        let slot = match line {
+        // Any of them would do, since a line is read into each alike: the first letters, and not the
+        // first word, tell the kind soon enough.
+        let slot = match &line[blanks(line)..] {
             [b'w', ..] => &mut self.write,
             [b'r', b'e', b'a', ..] => &mut self.read,
             [b'r', b'e', b'f', ..] => &mut self.refused,
             [b'c', ..] => &mut self.call,
+            [b'a', b'l', b'e', b'r', b't', b' ', b'n', ..] => &mut self.other,
+            [b'a', ..] => &mut self.alert,
             _ => &mut self.other,
         };
         match read_line(profile, line, slot) {

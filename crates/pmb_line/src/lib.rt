@@ -15,6 +15,7 @@
 #![tactic(auto)]
 
 mod byte_text;
+mod front_word;
 mod kept_lines;
 pub mod laws;
 mod line_fault;

@@ -208,7 +208,7 @@ fn alert_into(words: &mut Words, into: &mut Transaction) -> Result<(), WordFault
             take_end(words)
         }
         Token::Nobody => {
-            *into = Transaction::NoAlert;
+            keep_no_alert(into);
             take_end(words)
         }
         _ => Err(WordFault::BadWord(word.at)),
@@ -229,4 +229,14 @@ fn keep_alert(byte: u8, pec: bool, into: &mut Transaction)
         return;
     }
     *into = Transaction::Alert { byte, pec };
+}
+
+/// Keeps that nobody answered there. A transaction of another kind is large to write over.
+fn keep_no_alert(into: &mut Transaction)
+    ensures { into.new ≡ Transaction.NoAlert }
+{
+    if let Transaction::NoAlert = into {
+        return;
+    }
+    *into = Transaction::NoAlert;
 }

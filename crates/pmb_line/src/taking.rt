@@ -20,8 +20,20 @@ impl ByteWord {
     ghost use Rattle.pmb_line.specs.machine.Pieces.{TakesByte};
 
     /// Takes a word that is a byte.
-    #[inline]
+    #[inline(always)]
     pub(crate) fn take(words: &mut Words) -> Result<ByteWord, WordFault>
+        ensures takes { TakesByte (left words.old) (end words.old) result (left words.new) }
+        ensures end { end words.new ≡ end words.old }
+    {
+        match words.next_byte() {
+            Some(word) => Ok(word),
+            None => ByteWord::take_any(words),
+        }
+    }
+
+    /// The same for a word that may stand otherwise than in most lines.
+    #[inline(never)]
+    fn take_any(words: &mut Words) -> Result<ByteWord, WordFault>
         ensures takes { TakesByte (left words.old) (end words.old) result (left words.new) }
         ensures end { end words.new ≡ end words.old }
     {

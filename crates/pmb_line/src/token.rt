@@ -68,7 +68,7 @@ fn digit(byte: u8) -> Option<u8>
 
 /// The byte that two digits spell.
 #[inline]
-fn byte(word: &[u8]) -> Option<u8>
+pub(crate) fn byte(word: &[u8]) -> Option<u8>
     ensures { SpellsByte word.now result }
 {
     let [high, low] = word else {

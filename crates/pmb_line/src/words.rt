@@ -4,6 +4,8 @@ ghost use Rattle.std.specs.Prelude.{◌≡◌, ℕ, ◌+◌, ◌^◌, ◌<◌, �
 ghost use Rattle.pmb_line.specs.Words.{bounds, is_blank as is_blank_byte, word_behind, line_words, words_from, without_cr};
 ghost use Rattle.pmb_line.specs.machine.Reading.{ends_line_word};
 
+use crate::front_word::{FrontWord, common_byte, common_keyword};
+use crate::taking::ByteWord;
 use crate::token::{Token, token_of};
 
 /// A word of a line: the offset of its first byte, and its bytes.
@@ -38,6 +40,7 @@ pub struct Words<'a> {
 impl<'a> Words<'a> {
     ghost use Rattle.std.specs.Prelude.{◌≡◌, None, Some, IfSome, ◌∷◌};
     ghost use Rattle.pmb_line.specs.Left.{end, text_word, words_left};
+    ghost use Rattle.pmb_line.specs.machine.Front.{IsFront};
     ghost use Rattle.pmb_line.specs.machine.Left.{left};
 
     /// The words of a line. A CR at its end is no part of it.
@@ -82,8 +85,40 @@ impl<'a> Words<'a> {
     }
 
     /// Takes the next word, and tells what it says.
-    #[inline]
+    #[inline(always)]
     pub(crate) fn next(&mut self) -> Option<Located>
+        ensures some { IfSome result (λ word. left self.old ≡ word ∷ left self.new) }
+        ensures none { result ≡ None → left self.old ≡ [] }
+        ensures stays { result ≡ None → left self.new ≡ [] }
+        ensures end { end self.new ≡ end self.old }
+    {
+        if self.rest.is_empty() {
+            return None;
+        }
+        if let Some(byte) = common_byte(self.rest) {
+            return Some(self.take_front(FrontWord::common_byte(byte)));
+        }
+        if let Some(front) = common_keyword(self.rest) {
+            return Some(self.take_front(front));
+        }
+        self.next_any()
+    }
+
+    /// Takes the next word where it is a byte that stands as in most lines. Else it is still to come.
+    #[inline(always)]
+    pub(crate) fn next_byte(&mut self) -> Option<ByteWord>
+        ensures some { IfSome result (λ word. left self.old ≡ record { at = word.at; token = Some (Token.Byte word.byte) } ∷ left self.new) }
+        ensures none { result ≡ None → self.new ≡ self.old }
+        ensures end { end self.new ≡ end self.old }
+    {
+        let byte = common_byte(self.rest)?;
+        let word = self.take_front(FrontWord::common_byte(byte));
+        Some(ByteWord { at: word.at, byte })
+    }
+
+    /// Takes the next word, which stands as in few lines.
+    #[inline(never)]
+    fn next_any(&mut self) -> Option<Located>
         ensures some { IfSome result (λ word. left self.old ≡ word ∷ left self.new) }
         ensures none { result ≡ None → left self.old ≡ [] }
         ensures stays { result ≡ None → left self.new ≡ [] }
@@ -96,6 +131,25 @@ impl<'a> Words<'a> {
             at: word.at,
             token: token_of(word.text),
         })
+    }
+
+    /// Takes the word that comes first.
+    #[inline]
+    fn take_front(&mut self, front: FrontWord) -> Located
+        requires { IsFront self.old.rest.now front }
+        ensures first { left self.old ≡ result ∷ left self.new }
+        ensures says { result.token ≡ Some front.token }
+        ensures end { end self.new ≡ end self.old }
+    {
+        let word = Located {
+            at: self.at + front.start,
+            token: Some(front.token),
+        };
+        *self = Words {
+            at: self.at + front.end,
+            rest: &self.rest[front.end..],
+        };
+        word
     }
 }
 
@@ -153,7 +207,7 @@ fn ends_word(byte: u8) -> bool
 
 /// How many blanks stand in front of a text.
 #[inline]
-fn blanks(text: &[u8]) -> usize
+pub(crate) fn blanks(text: &[u8]) -> usize
     ensures within { result ≤ length text.now }
     ensures passed { (at : ℕ) → words_from at text.now ≡ words_from (at + result) (drop result text.now) }
     ensures stops { result < length text.now → is_blank_byte (slice_index text.now result) ≡ false }

@@ -1,3 +1,4 @@
 pub mod Invalid
+pub mod Text
 pub mod Typed
 pub mod machine

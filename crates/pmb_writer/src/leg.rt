@@ -1,9 +1,12 @@
 //! A leg of a packet, byte by byte.
 
-ghost use Rattle.std.specs.Prelude.{◌≡◌, ℕ, [], ◌∷◌, false, MatchOption};
-ghost use Rattle.pmb_bus.specs.declared.event.Event.TheVariants.{Byte};
-ghost use Rattle.pmb_writer.specs.machine.Legs.{answered_by, code_before, code_on, leg_data, with_byte, with_code};
+ghost use Rattle.std.specs.Prelude.{◌≡◌, ℕ, ◌+◌, ◌≤◌, [], ◌∷◌, ◌++◌, false, length, MatchOption};
+ghost use Rattle.pmb_bus.specs.declared.event.Event.TheVariants.{Byte, Start};
+ghost use Rattle.pmb_bus.specs.Event.{canonical_text};
+ghost use Rattle.pmb_writer.specs.machine.Legs.{IsWhole, answered_by, code_before, code_on, leg_data, leg_events, with_byte, with_code};
 
+use crate::text::{append_code, append_each, append_event, append_some};
+use arrayvec::ArrayVec;
 use pmb_bus::{Event, pec_next};
 
 /// What is left of a leg behind its START: an address, a command code, the count of a block, data
@@ -99,5 +102,27 @@ impl<'a> Leg<'a> {
             && self.data.is_empty()
             && !self.pec;
         if is_last { self.last } else { Event::Ack }
+    }
+
+    /// Appends the canonical text of a whole leg with its START, behind bytes with the code `crc`.
+    /// Returns the code of the bytes so far.
+    #[inline(never)]
+    pub fn append<const N: usize>(&self, crc: u8, text: &mut ArrayVec<u8, N>) -> u8
+        requires whole { IsWhole self.now }
+        requires room { length text.old.items + 1314 ≤ N }
+        ensures text { text.new.items ≡ text.old.items ++ canonical_text (Start ∷ leg_events (code_before self.now.goes_on crc) (leg_data self.now)) }
+        ensures code { result ≡ code_on (code_before self.now.goes_on crc) (leg_data self.now).bytes }
+        ensures longer { length text.new.items ≤ length text.old.items + 1314 }
+    {
+        let address = self.address.unwrap();
+        append_event(Event::Start, text);
+        append_event(Event::Byte(address), text);
+        let with_address = pec_next(self.code_before(crc), address);
+        let with_code = append_some(self.code, with_address, text);
+        let with_count = append_some(self.count, with_code, text);
+        let whole = append_each(self.data, with_count, text);
+        append_code(self.pec, whole, text);
+        append_event(self.last, text);
+        whole
     }
 }

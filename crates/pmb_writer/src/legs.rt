@@ -1,13 +1,16 @@
 //! The legs of a transaction's packet, in order.
 
-ghost use Rattle.std.specs.Prelude.{◌≡◌, ◌≤◌, [], ◌∷◌, ◌++◌, false, length, map, MatchOption};
+ghost use Rattle.std.specs.Prelude.{◌≡◌, ◌+◌, ◌*◌, ◌≤◌, [], ◌∷◌, ◌++◌, false, true, length, map, option_map, IfSome, List, MatchOption};
 ghost use Rattle.std.specs.Option.{option_to_list};
-ghost use Rattle.pmb_transaction.specs.Transaction.{part_data, transaction_data, Call, Read, Refused};
+ghost use Rattle.pmb_bus.specs.Event.{canonical_text};
+ghost use Rattle.pmb_transaction.specs.Transaction.{part_data, transaction_data, Call, Read, Refused, Write};
 ghost use Rattle.pmb_writer.specs.Invalid.{forms_at};
-ghost use Rattle.pmb_writer.specs.machine.Legs.{asked_leg, leg_data, legs_data, legs_of, part_leg, reply_leg, wire_of};
+ghost use Rattle.pmb_writer.specs.machine.Legs.{AreWhole, IsWhole, LegData, asked_leg, leg_data, legs_data, legs_events, legs_of, part_leg, reply_leg, wire_of};
 
 use crate::commands::forms_of;
 use crate::leg::Leg;
+use crate::text::append_event;
+use arrayvec::ArrayVec;
 use pmb_bus::{ALERT_ADDRESS, Event, read_address, write_address};
 use pmb_command::{Form, Shape};
 use pmb_table::Profile;
@@ -51,7 +54,8 @@ pub(crate) struct Legs<'a> {
 
 /// The leg of a part.
 fn part_leg<'a>(profile: &Profile, part: &'a Part) -> Leg<'a>
-    ensures { leg_data result ≡ part_leg profile.now (part_data part.now) }
+    ensures leg { leg_data result ≡ part_leg profile.now (part_data part.now) }
+    ensures whole { IsWhole result }
 {
     let forms = forms_at(profile, part.addr, part.code);
     let data = part.bytes.as_slice();
@@ -81,11 +85,45 @@ impl<'a> Legs<'a> {
         }
         self.second.take()
     }
+
+    /// Appends the canonical text of the packet of these legs.
+    #[inline(always)]
+    pub fn append<const N: usize>(&self, text: &mut ArrayVec<u8, N>)
+        requires whole { AreWhole self.now }
+        requires room { length text.old.items + (1314 * length (legs_data self.now) + 3) ≤ N }
+        ensures { text.new.items ≡ text.old.items ++ canonical_text (legs_events true 0 (legs_data self.now)) }
+    {
+        let mut crc = 0;
+        for part in self.parts {
+            crc = append_leg(&Some(part_leg(self.profile, part)), crc, text);
+        }
+        let before_second = append_leg(&self.first, crc, text);
+        append_leg(&self.second, before_second, text);
+        append_event(Event::Stop, text);
+    }
+}
+
+/// Appends the canonical text of a leg, where there is one, behind bytes with the code `crc`. Returns
+/// the code of the bytes so far.
+#[inline(always)]
+fn append_leg<const N: usize>(leg: &Option<Leg>, crc: u8, text: &mut ArrayVec<u8, N>) -> u8
+    requires whole { IfSome leg.now IsWhole }
+    requires room { length text.old.items + 1314 * length (option_to_list leg.now) ≤ N }
+    ensures text { (others : List LegData) → text.new.items ++ canonical_text (legs_events true result others)
+        ≡ text.old.items ++ canonical_text (legs_events true crc (option_to_list (option_map leg_data leg.now) ++ others)) }
+    ensures longer { length text.new.items ≤ length text.old.items + 1314 * length (option_to_list leg.now) }
+{
+    match leg {
+        Some(leg) => leg.append(crc, text),
+        None => crc,
+    }
 }
 
 /// A leg that is written, to which each answer is ACK, with a code and the data behind it.
 fn asked_leg<'a>(address: u8, code: u8, count: Option<u8>, bytes: &'a [u8]) -> Leg<'a>
-    ensures { leg_data result ≡ asked_leg address (code ∷ (option_to_list count ++ bytes.now)) }
+    requires { length bytes.now ≤ 258 }
+    ensures leg { leg_data result ≡ asked_leg address (code ∷ (option_to_list count ++ bytes.now)) }
+    ensures whole { IsWhole result }
 {
     Leg {
         address: Some(write_address(address)),
@@ -98,7 +136,9 @@ fn asked_leg<'a>(address: u8, code: u8, count: Option<u8>, bytes: &'a [u8]) -> L
 
 /// A leg that is read, the last byte of which NACK answers.
 fn reply_leg<'a>(address: u8, count: Option<u8>, bytes: &'a [u8], pec: bool) -> Leg<'a>
-    ensures { leg_data result ≡ reply_leg address (option_to_list count ++ bytes.now) pec }
+    requires { length bytes.now ≤ 258 }
+    ensures leg { leg_data result ≡ reply_leg address (option_to_list count ++ bytes.now) pec }
+    ensures whole { IsWhole result }
 {
     Leg {
         address: Some(read_address(address)),
@@ -113,7 +153,9 @@ fn reply_leg<'a>(address: u8, count: Option<u8>, bytes: &'a [u8], pec: bool) -> 
 
 /// A leg of an address and bytes behind it, the last of which NACK answers.
 fn refused_leg<'a>(address: u8, bytes: &'a [u8], pec: bool) -> Leg<'a>
-    ensures { leg_data result ≡ record { bytes = address ∷ bytes.now; pec = pec; last = Event.Nack; goes_on = false } }
+    requires { length bytes.now ≤ 258 }
+    ensures leg { leg_data result ≡ record { bytes = address ∷ bytes.now; pec = pec; last = Event.Nack; goes_on = false } }
+    ensures whole { IsWhole result }
 {
     Leg {
         address: Some(address),
@@ -124,10 +166,32 @@ fn refused_leg<'a>(address: u8, bytes: &'a [u8], pec: bool) -> Leg<'a>
     }
 }
 
+/// The legs of a write.
+#[inline]
+pub(crate) fn write_legs<'a>(profile: &'a Profile, parts: &'a [Part]) -> Legs<'a>
+    ensures legs { legs_data result ≡ legs_of profile.now (Write (map part_data parts.now)) }
+    ensures whole { AreWhole result }
+{
+    Legs {
+        profile,
+        parts,
+        first: None,
+        second: None,
+    }
+}
+
 /// The legs of a read.
-fn read_legs<'a>(profile: &'a Profile, addr: u8, code: u8, reply: &'a [u8], pec: bool) -> Legs<'a>
+#[inline]
+pub(crate) fn read_legs<'a>(
+    profile: &'a Profile,
+    addr: u8,
+    code: u8,
+    reply: &'a [u8],
+    pec: bool,
+) -> Legs<'a>
     requires { length reply.now ≤ 255 }
-    ensures { legs_data result ≡ legs_of profile.now (Read (record { addr = addr; code = code; reply = reply.now; pec = pec })) }
+    ensures legs { legs_data result ≡ legs_of profile.now (Read (record { addr = addr; code = code; reply = reply.now; pec = pec })) }
+    ensures whole { AreWhole result }
 {
     let forms = forms_at(profile, addr, code);
     Legs {
@@ -149,7 +213,8 @@ fn call_legs<'a>(
 ) -> Legs<'a>
     requires sent { length bytes.now ≤ 255 }
     requires replied { length reply.now ≤ 255 }
-    ensures { legs_data result ≡ legs_of profile.now (Call (record { addr = addr; code = code; bytes = bytes.now; reply = reply.now; pec = pec })) }
+    ensures legs { legs_data result ≡ legs_of profile.now (Call (record { addr = addr; code = code; bytes = bytes.now; reply = reply.now; pec = pec })) }
+    ensures whole { AreWhole result }
 {
     let forms = forms_at(profile, addr, code);
     Legs {
@@ -168,7 +233,9 @@ fn refused_legs<'a>(
     sent: &'a [u8],
     at_read: bool,
 ) -> Legs<'a>
-    ensures { legs_data result ≡ legs_of profile.now (Refused (record { parts = map part_data parts.now; addr = addr; sent = sent.now; at_read = at_read })) }
+    requires { length sent.now ≤ 258 }
+    ensures legs { legs_data result ≡ legs_of profile.now (Refused (record { parts = map part_data parts.now; addr = addr; sent = sent.now; at_read = at_read })) }
+    ensures whole { AreWhole result }
 {
     if at_read {
         Legs {
@@ -193,7 +260,9 @@ fn refused_legs<'a>(
 
 /// The one leg at the Alert Response Address, with what is read there.
 fn alert_legs<'a>(profile: &'a Profile, reply: &'a [u8], pec: bool) -> Legs<'a>
-    ensures { legs_data result ≡ record { bytes = 0x19 ∷ reply.now; pec = pec; last = Event.Nack; goes_on = false } ∷ [] }
+    requires { length reply.now ≤ 258 }
+    ensures legs { legs_data result ≡ record { bytes = 0x19 ∷ reply.now; pec = pec; last = Event.Nack; goes_on = false } ∷ [] }
+    ensures whole { AreWhole result }
 {
     Legs {
         profile,
@@ -205,15 +274,11 @@ fn alert_legs<'a>(profile: &'a Profile, reply: &'a [u8], pec: bool) -> Legs<'a>
 
 /// The legs of a transaction's packet.
 pub(crate) fn legs_of<'a>(profile: &'a Profile, transaction: &'a Transaction) -> Legs<'a>
-    ensures { legs_data result ≡ legs_of profile.now (transaction_data transaction.now) }
+    ensures legs { legs_data result ≡ legs_of profile.now (transaction_data transaction.now) }
+    ensures whole { AreWhole result }
 {
     match transaction {
-        Transaction::Write { parts } => Legs {
-            profile,
-            parts: parts.as_slice(),
-            first: None,
-            second: None,
-        },
+        Transaction::Write { parts } => write_legs(profile, parts.as_slice()),
         Transaction::Read {
             addr,
             code,

@@ -1,7 +1,8 @@
 //! Transactions as packets: which transactions have one, and its events.
 //!
 //! [`check`] answers whether a transaction has a packet under a profile, else the first of its
-//! faults. [`events_of`] gives the packet's events, one after the other, and takes no memory.
+//! faults. [`events_of`] gives the packet's events, one after the other, and takes no memory;
+//! [`append_packet`] writes their canonical text at once.
 //!
 //! ```rust
 //! let mut parts = ArrayVec::new();
@@ -23,8 +24,10 @@ pub mod laws;
 mod leg;
 mod legs;
 mod refused;
+mod text;
 mod validity;
 
 pub use events::{Events, events_of};
 pub use invalid::Invalid;
+pub use text::{append_event, append_packet, most_text};
 pub use validity::check;

@@ -21,7 +21,7 @@ read = \"eight\"
 ";
 
 /// Lines under the sample profile.
-static SAMPLES: [Row; 74] = [
+static SAMPLES: [Row; 85] = [
     // Each kind.
     ("write 58 21 00 18 pec", "write 58 21 00 18 pec"),
     ("write 58 03 + 59 03", "write 58 03 + 59 03"),
@@ -54,6 +54,18 @@ static SAMPLES: [Row; 74] = [
     ("# write 58 03", "Blank"),
     ("\r", "Blank"),
     ("\r\r", "BadWord at 0"),
+    // Words that stand almost as in most lines.
+    (" alert b0", "alert b0"),
+    ("alert  none", "alert none"),
+    ("write\t58 03", "write 58 03"),
+    ("read 58 88 :  00 d3", "read 58 88 : 00 d3"),
+    ("read 58 88 : 00 d3 pec ", "read 58 88 : 00 d3 pec"),
+    ("read 58 88 : 00 d3 pe", "BadWord at 19"),
+    ("read 58 88 :00 d3", "BadWord at 11"),
+    ("reads 58 88 : 00 d3", "BadWord at 0"),
+    ("writes 58 03", "BadWord at 0"),
+    ("write 58 211 00", "BadWord at 9"),
+    ("write 58 21 00 1", "BadWord at 15"),
     // Words that are missing: the place is the line's length.
     ("write", "BadWord at 5"),
     ("write\r", "BadWord at 5"),

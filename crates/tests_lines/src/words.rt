@@ -45,6 +45,8 @@ fn a_kept_transaction(rt: HostRuntime) -> Result<(), Fail> {
     let lines = [
         "write 58 21 00 18 pec + 59 03",
         "write 5a 03 pec",
+        "write 58 9a + 59 9a 01 02 + 5a 03 04 pec",
+        "write 58 03",
         "read 58 88 : 00 d3",
         "read 58 99 :",
         "call 58 06 01 : 02 pec",

@@ -1,5 +1,6 @@
 -- What is left to be written: legs, each as its bytes, and the packet error code so far.
-use Rattle.std.specs.Prelude.{ℕ, ◌%◌, Bool, true, false, Option, Some, None, List, [], ◌∷◌, ◌++◌, map, bit_xor, option_map}
+use Rattle.std.specs.Prelude.{ℕ, ◌≤◌, length, IsSome, IfSome, ◌%◌, Bool, true, false, Option, Some, None, List, [], ◌∷◌, ◌++◌, map, bit_xor, option_map}
+use Rattle.std.specs.List.{flat_map}
 use Rattle.std.specs.Option.{option_to_list}
 use Rattle.pmb_bus.specs.Address.{write_address, read_address, alert_address}
 use Rattle.pmb_bus.specs.Pec.{pec}
@@ -32,11 +33,20 @@ abbrev pub with_code : Bool → ℕ → List ℕ → List ℕ
 with_code false crc bytes = bytes
 with_code true crc bytes = bytes ++ code_on crc bytes ∷ []
 
+-- a packet error code, where one follows
+abbrev pub code_behind : Bool → ℕ → List ℕ
+code_behind false code = []
+code_behind true code = code ∷ []
+
 -- each byte, followed by ACK but for the last, which another answer may follow
 abbrev pub answered_by : Event → List ℕ → List Event
 answered_by last [] = []
 answered_by last (b ∷ []) = Byte b ∷ last ∷ []
 answered_by last (b ∷ c ∷ bytes) = Byte b ∷ Ack ∷ answered_by last (c ∷ bytes)
+
+-- bytes behind another one, each behind the ACK of the byte before
+abbrev pub behind_acks : List ℕ → List Event
+behind_acks bytes = flat_map (λ b. Ack ∷ Byte b ∷ []) bytes
 
 -- the code with which a leg begins
 abbrev pub code_before : Bool → ℕ → ℕ
@@ -107,6 +117,16 @@ leg_data l = record {
   last = l.last;
   goes_on = l.goes_on;
 }
+
+-- a leg of which nothing is written, with the most bytes behind the address that one has
+pub record IsWhole (l : Leg) : Type 0 where
+  pub begins : IsSome l.address
+  pub few : length l.«data».now ≤ 258
+
+-- the two behind the parts, where there are any
+pub record AreWhole (l : Legs) : Type 0 where
+  pub first : IfSome l.first IsWhole
+  pub second : IfSome l.second IsWhole
 
 -- with one more byte in front
 abbrev pub with_byte : ℕ → LegData → LegData

@@ -1,61 +1,49 @@
-use Rattle.std.proofs.Common.{◌≡◌, ℕ, ◌≤◌, ◌<◌, Some, List, [], ◌∷◌, ◌++◌, map, length, refl, sym, ap, subst, ◌∙◌, arith}
-use Rattle.std.proofs.lemmas.Bool.Decides.{nat_tests}
-use Rattle.std.proofs.lemmas.List.{map-append, length-map}
-use Rattle.std.proofs.lemmas.Result.{err_from_is_err_and}
+use Rattle.std.proofs.Common.{◌≡◌, ℕ, ◌<◌, ◌+◌, Some, List, [], ◌∷◌, ◌++◌, map, take, drop, length, refl, sym, ap, subst, ◌∙◌, arith}
+use Rattle.std.proofs.lemmas.List.{map-append, length-map, length-set, length-take-le, take_more_set}
+use Rattle.std.proofs.Math.Seq.{take-append_seam}
+use Rattle.std.specs.List.{refill}
+use Rattle.std.specs.Prelude.{slice_set}
 use Rattle.pmb_transaction.specs.Transaction.{PartData, part_data}
 use Rattle.pmb_line.specs.declared.token.Token.TheVariants.{Byte}
 use Rattle.pmb_line.specs.machine.Left.{left, end}
-use Rattle.pmb_line.specs.machine.Pieces.{IsByteToken, ReadsPart}
-use Rattle.pmb_line.specs.machine.Reading.{LineStandsAt, HasRoomForPart, write_next, write_code, write_data, part_with}
-use Rattle.pmb_line.proofs.Standing.{bytes_on, full_word, misses_of, next_of, no_byte, too_many}
-use Rattle.pmb_line.proofs.Endings.{part_end}
+use Rattle.pmb_line.specs.machine.Pieces.{ReadsPart}
+use Rattle.pmb_line.specs.machine.Reading.{LineStandsAt, HasRoomForPart, write_next, write_code}
+use Rattle.pmb_line.proofs.Standing.{full_word, next_of}
 use Rattle.pmb_line.proofs.reading.read_part.Goals as goal
 
-pub returns-then-is_full-clause-reads : goal.returns-then-is_full-clause-reads
-returns-then-is_full-clause-reads c all stands =
-    let ps : List PartData = map part_data c.args.parts.now.items in
+-- an item is put over another one, and is the last of those up to it
+put_at : {X : Type 0} (items slice : List X) (number : ℕ) (item : X) → slice ≡ items → number < length items
+    → take (number + 1) (refill (length items) items (slice_set slice number item)) ≡ take number items ++ item ∷ []
+put_at {X} items slice number item same there =
+    let long : length (slice_set items number item) ≡ length items = length-set items number item in
+    ap (λ (s : List X). take (number + 1) (refill (length items) items (slice_set s number item))) same
+    ∙ (ap (λ n. take (number + 1) (take n (slice_set items number item ++ drop (length (slice_set items number item)) items))) (sym long)
+    ∙ (ap (take (number + 1)) (take-append_seam (slice_set items number item) (drop (length (slice_set items number item)) items)) ∙ take_more_set items number item there))
+
+pub have_part-requires-clause-few : goal.have_part-requires-clause-few
+have_part-requires-clause-few c = omega (arith, c.if-number-ge16.false)
+
+pub returns-then-number-ge16-clause-reads : goal.returns-then-number-ge16-clause-reads
+returns-then-number-ge16-clause-reads c all stands =
+    let front = take c.args.number c.args.parts.now.items in
+    let ps : List PartData = map part_data front in
     let a = c.in_ok-addr.addr in
-    let long : length c.args.parts.now.items ≡ 16 = grind (arith, nat_tests) in
+    let long : length front ≡ c.args.number = length-take-le c.args.number c.args.parts.now.items c.requires in
     full_word all (end c.args.words.now) (write_next ps) (write_code ps a.byte) (record { at = a.at; token = Some (Byte a.byte) }) (left c.args.words.now) (left c.take.new.words) _
     stands c.in_ok-addr.ensures.takes refl
-    (λ (room : HasRoomForPart 16 ps []). absurd (omega (arith, room.few, length-map c.args.parts.now.items part_data, long))) refl
-
-pub returns-in_err-code-clause-reads : goal.returns-in_err-code-clause-reads
-returns-in_err-code-clause-reads c all stands =
-    let ps : List PartData = map part_data c.args.parts.now.items in
-    let a = c.in_ok-addr.addr in
-    let few : length c.args.parts.now.items < 16 = grind (arith, nat_tests) in
-    let room : (bs : List ℕ) → length bs ≤ 255 → HasRoomForPart 16 ps bs = λ bs le. record { few = omega (arith, length-map c.args.parts.now.items part_data, few); each = stands.room.each; few_bytes = le } in
-    let at_code : LineStandsAt all (write_code ps a.byte) (left c.take.new.words) = next_of all (write_next ps) (write_code ps a.byte) _ _ _ stands c.in_ok-addr.ensures.takes refl (room [] (omega arith)) in
-    let p = err_from_is_err_and c.from_residual-in_err-code.result c.from_residual-in_err-code.ensures.1 in
-    rw (p.1, p.2) (misses_of all (end c.args.words.now) _ (write_code ps a.byte) IsByteToken _ _ c.take.ensures.end at_code (λ e. cc e) refl (λ word rest same not. no_byte _ word.token not) c.in_err-code.ensures.takes)
-
-pub returns-in_err-take_bytes-clause-reads : goal.returns-in_err-take_bytes-clause-reads
-returns-in_err-take_bytes-clause-reads c all stands =
-    let ps : List PartData = map part_data c.args.parts.now.items in
-    let a = c.in_ok-addr.addr in
-    let few : length c.args.parts.now.items < 16 = grind (arith, nat_tests) in
-    let room : (bs : List ℕ) → length bs ≤ 255 → HasRoomForPart 16 ps bs = λ bs le. record { few = omega (arith, length-map c.args.parts.now.items part_data, few); each = stands.room.each; few_bytes = le } in
-    let at_code : LineStandsAt all (write_code ps a.byte) (left c.take.new.words) = next_of all (write_next ps) (write_code ps a.byte) _ _ _ stands c.in_ok-addr.ensures.takes refl (room [] (omega arith)) in
-    let d = c.in_ok-code.code in
-    let at_data : LineStandsAt all (write_data ps a.byte d.byte []) (left c.take-2.new.words) = next_of all (write_code ps a.byte) (write_data ps a.byte d.byte []) _ _ _ at_code c.in_ok-code.ensures.takes refl (room [] (omega arith)) in
-    let at_new : LineStandsAt all (write_data ps a.byte d.byte c.new.result.items) (left c.take-2.new.words) = subst (λ bs. LineStandsAt all (write_data ps a.byte d.byte bs) (left c.take-2.new.words)) (sym c.new.ensures) at_data in
-    let p = err_from_is_err_and c.from_residual-in_err-take_bytes.result c.from_residual-in_err-take_bytes.ensures.1 in
-    rw (p.1, p.2) (too_many all (end c.args.words.now) (write_data ps a.byte d.byte) (λ bs b. refl) 255 _ _ _ _ at_new c.in_err-take_bytes.ensures.takes (room _) (λ bs (r : HasRoomForPart 16 ps bs). r.few_bytes))
+    (λ (room : HasRoomForPart 16 ps []). absurd (omega (arith, room.few, length-map front part_data, long, c.if-number-ge16.true))) refl
 
 pub returns-clause-reads : goal.returns-clause-reads
 returns-clause-reads c all stands =
-    let ps : List PartData = map part_data c.args.parts.now.items in
-    let a = c.in_ok-addr.addr in
-    let few : length c.args.parts.now.items < 16 = grind (arith, nat_tests) in
-    let room : (bs : List ℕ) → length bs ≤ 255 → HasRoomForPart 16 ps bs = λ bs le. record { few = omega (arith, length-map c.args.parts.now.items part_data, few); each = stands.room.each; few_bytes = le } in
-    let at_code : LineStandsAt all (write_code ps a.byte) (left c.take.new.words) = next_of all (write_next ps) (write_code ps a.byte) _ _ _ stands c.in_ok-addr.ensures.takes refl (room [] (omega arith)) in
-    let d = c.in_ok-code.code in
-    let at_data : LineStandsAt all (write_data ps a.byte d.byte []) (left c.take-2.new.words) = next_of all (write_code ps a.byte) (write_data ps a.byte d.byte []) _ _ _ at_code c.in_ok-code.ensures.takes refl (room [] (omega arith)) in
-    let at_new : LineStandsAt all (write_data ps a.byte d.byte c.new.result.items) (left c.take-2.new.words) = subst (λ bs. LineStandsAt all (write_data ps a.byte d.byte bs) (left c.take-2.new.words)) (sym c.new.ensures) at_data in
-    let bs = c.take_bytes.new.bytes.items in
-    let at_end : LineStandsAt all (write_data ps a.byte d.byte bs) (left c.take_bytes.new.words) =
-    bytes_on all (write_data ps a.byte d.byte) (λ bs b. refl) _ _ _ _ at_new c.in_ok-take_bytes.ensures.takes.0 (room bs c.take_bytes.ensures.fits) in
-    let pushed : map part_data c.push.new.self.items ≡ ps ++ part_with a.byte d.byte bs c.take_pec.result ∷ [] = ap (map part_data) c.push.ensures.items ∙ map-append part_data c.args.parts.now.items _ in
-    subst (λ qs. ReadsPart all (end c.args.words.now) qs c.take_plus.result (left c.take_plus.new.words)) (sym pushed)
-    (part_end all (end c.args.words.now) ps a.byte d.byte bs c.take_pec.result _ _ _ c.take_plus.result at_end c.in_ok-take_bytes.ensures.takes.1 c.take_pec.ensures.takes c.take_plus.ensures.takes)
+    let front = take c.args.number c.args.parts.now.items in
+    let ps : List PartData = map part_data front in
+    let a = c.in_ok-addr.addr.byte in
+    let long : length front ≡ c.args.number = length-take-le c.args.number c.args.parts.now.items c.requires in
+    let room : HasRoomForPart 16 ps [] = record { few = omega (arith, length-map front part_data, long, c.if-number-ge16.false); each = stands.room.each; few_bytes = omega arith } in
+    let at_code : LineStandsAt all (write_code ps a) (left c.take.new.words) = next_of all (write_next ps) (write_code ps a) _ _ _ stands c.in_ok-addr.ensures.takes refl room in
+    let read : ReadsPart all (end c.args.words.now) (ps ++ part_data c.read_data.new.part ∷ []) c.read_data.result (left c.read_data.new.words) =
+    subst (λ n. ReadsPart all n (ps ++ part_data c.read_data.new.part ∷ []) c.read_data.result (left c.read_data.new.words)) c.take.ensures.end (c.read_data.ensures.reads all ps at_code) in
+    subst (λ qs. ReadsPart all (end c.args.words.now) qs c.read_data.result (left c.read_data.new.words))
+    (sym (ap (map part_data) (put_at c.have_part.new.parts.items c.as_mut_slice.result.now c.args.number c.read_data.new.part c.as_mut_slice.ensures.value c.have_part.ensures.there)
+    ∙ (map-append part_data (take c.args.number c.have_part.new.parts.items) (c.read_data.new.part ∷ []) ∙ ap (λ parts. map part_data parts ++ part_data c.read_data.new.part ∷ []) c.have_part.ensures.same)))
+    read

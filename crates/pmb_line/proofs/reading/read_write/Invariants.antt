@@ -1,4 +1,4 @@
-use Rattle.std.proofs.Common.{◌≡◌, ◌+◌, List, length, map, Bool, true, false, ℕ, []}
+use Rattle.std.proofs.Common.{◌≡◌, ◌+◌, ◌≤◌, List, length, map, take, Bool, true, false, ℕ, []}
 use Rattle.pmb_transaction.specs.Transaction.{part_data}
 use Rattle.pmb_line.specs.declared.words.Located.{Located}
 use Rattle.pmb_line.specs.machine.Left.{left, end}
@@ -9,7 +9,9 @@ use Rattle.pmb_line.proofs.reading.read_write.Given as goal
 -- a part comes, or all of them have come
 abbrev pub invariant-loop-goes_on : goal.invariant-loop-goes_on
 invariant-loop-goes_on l = record {
-  stands : (all : List Located) → LineStandsAt all (write_next []) (left l.fn.words) → WritesOn all (map part_data l.parts.items) l.goes_on (left l.words);
+  stands : (all : List Located) → LineStandsAt all (write_next []) (left l.fn.words) → WritesOn all (map part_data (take l.count l.parts.items)) l.goes_on (left l.words);
+  there : l.count ≤ length l.parts.items;
+  few : l.count ≤ 16;
   ends : end l.words ≡ end l.fn.words;
 }
 

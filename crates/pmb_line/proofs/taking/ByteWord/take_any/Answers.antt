@@ -1,7 +1,7 @@
 use Rattle.std.proofs.Common.{refl}
 use Rattle.pmb_line.specs.machine.Left.{left}
 use Rattle.pmb_line.specs.machine.Pieces.{other}
-use Rattle.pmb_line.proofs.taking.ByteWord.take.Goals as goal
+use Rattle.pmb_line.proofs.taking.ByteWord.take_any.Goals as goal
 
 pub returns-in_default-token-clause-takes : goal.returns-in_default-token-clause-takes
 returns-in_default-token-clause-takes c = other c.in-Some.word (left c.next.new.self) c.in-Some.ensures.some (λ is. cc (is.1, c.in_default-token.is)) refl
