@@ -1,5 +1,5 @@
 -- The legs of common packets, and the packets of such legs.
-use Rattle.std.proofs.Common.{◌≡◌, ℕ, ◌+◌, ◌*◌, ◌≤◌, Bool, true, false, List, [], ◌∷◌, ◌++◌, length, nat_eq, refl, sym, ap, subst, ◌∙◌, arith, length-append}
+use Rattle.std.proofs.Common.{◌≡◌, ℕ, ◌+◌, ◌*◌, ◌≤◌, inl, inr, Bool, true, false, List, [], ◌∷◌, ◌++◌, length, nat_eq, refl, sym, ap, subst, ◌∙◌, arith, append_assoc, length-append}
 use Rattle.std.proofs.lemmas.List.{append-nil}
 use Rattle.std.specs.List.{IsDistinct}
 use Rattle.pmb_bus.specs.declared.event.Event.{Event}
@@ -12,15 +12,16 @@ use Rattle.pmb_command.specs.declared.form.Form.TheVariants.{Zero, One, Two, Fou
 use Rattle.pmb_command.specs.Bus.{IsBus}
 use Rattle.pmb_command.specs.Parts.{DeviceParts}
 use Rattle.pmb_command.specs.Wire.{AreByteValues, Fits, wire}
-use Rattle.pmb_transaction.specs.Transaction.{PartData, ReadData, TransactionData, Write, Read}
+use Rattle.pmb_transaction.specs.Transaction.{PartData, ReadData, CallData, TransactionData, Write, Read, Call}
 use Rattle.pmb_transaction.specs.Body.{checked}
 use Rattle.pmb_transaction.specs.Packet.{Packet, acked, leg, nacked}
 use Rattle.pmb_common.specs.declared.legs.Legs.{Legs}
 use Rattle.pmb_common.specs.declared.legs.Legs.TheVariants.{Written, Both}
-use Rattle.pmb_common.specs.Common.{BeginsCommon, IsCommon, OneRead, OneWritten, TakesPacket, device_read, one_part_written, read_events}
+use Rattle.pmb_common.specs.Common.{BeginsCommon, IsCommon, OneCalled, OneRead, OneWritten, TakesPacket, device_called, device_read, one_part_written, read_events}
 use Rattle.pmb_common.specs.Legs.{IsOfLegs, SayLegs, leg_events}
-use Rattle.pmb_common.proofs.Ends.{length-read_text, length-written_text}
-use Rattle.pmb_common.proofs.Found.{read_has_data}
+use Rattle.pmb_common.proofs.Ends.{both, both_events, length-both_text, length-written_text}
+use Rattle.pmb_common.proofs.Found.{call_has_data, read_has_data}
+use Rattle.pmb_common.proofs.Texts.{small-append}
 
 length-acked : (bytes : List ℕ) → length (acked bytes) ≡ 2 * length bytes
 length-acked [] = refl
@@ -67,46 +68,76 @@ length-nacked [] = refl
 length-nacked (b ∷ []) = refl
 length-nacked (b ∷ c ∷ bytes) = omega (arith, length-nacked (c ∷ bytes))
 
-length-read_events : (a b c : ℕ) (reply : List ℕ) → length (read_events (a ∷ b ∷ c ∷ reply)) ≡ 9 + 2 * length reply
-length-read_events a b c reply = omega (arith, length-append (nacked reply) (Stop ∷ []), length-nacked reply)
+length-both : (front : List ℕ) (to_read : ℕ) (reply : List ℕ) → length (both front to_read reply) ≡ 5 + 2 * length front + 2 * length reply
+length-both front to_read reply =
+    let second = leg (to_read ∷ []) ++ nacked reply in
+    omega (
+      arith,
+      length-append (acked front ++ second) (Stop ∷ []),
+      length-append (acked front) second,
+      length-acked front,
+      length-nacked reply,
+    )
 
-pub takes_read : (profile : List DeviceParts) (text rest : List ℕ) (address code : ℕ) (data_bytes : List ℕ) (with_pec : Bool) (bytes : List ℕ) (used count : ℕ)
-    → OneRead profile address code data_bytes with_pec bytes → text ≡ canonical_text (leg_events Both bytes) ++ rest
-    → used ≡ 6 + 5 * length bytes → count ≡ 3 + 2 * length bytes
-    → TakesPacket profile text used count (Read (record { addr = address; code = code; reply = data_bytes; pec = with_pec }))
-takes_read profile text rest address code data_bytes with_pec bytes used count says split long many =
-    let before = write_address address ∷ code ∷ read_address address ∷ [] in
-    let reply = checked with_pec before (wire says.form data_bytes) in
-    let same : read_events bytes ≡ read_events (write_address address ∷ code ∷ read_address address ∷ reply) = ap read_events says.spelled in
+-- the packet of both legs
+takes_both : (profile : List DeviceParts) (text rest : List ℕ) (t : TransactionData) (front : List ℕ) (to_read : ℕ) (reply bytes : List ℕ)
+    (written used count : ℕ) → IsCommon t → Packet profile t (both front to_read reply) → bytes ≡ front ++ to_read ∷ reply → written ≡ length front
+    → text ≡ canonical_text (leg_events (Both written) bytes) ++ rest → used ≡ 6 + 5 * length bytes → count ≡ 3 + 2 * length bytes
+    → TakesPacket profile text used count t
+takes_both profile text rest t front to_read reply bytes written used count common packet spelled long split used_bytes many =
+    let same : read_events written bytes ≡ both front to_read reply =
+    ap (λ (n : ℕ). read_events n bytes) long ∙ ap (read_events (length front)) spelled ∙ both_events front to_read reply in
+    let bytes_long : length bytes ≡ length front + 1 + length reply = omega (arith, ap length spelled, length-append front (to_read ∷ reply)) in
     record {
-      common = device_read (record { addr = address; code = code; reply = data_bytes; pec = with_pec });
-      events = read_events bytes;
-      packet = record {
-        device = says.device;
-        form = says.form;
-        known = says.known;
-        read = says.read;
-        fits = says.fits;
-        mode = says.mode;
-        spelled = same;
-      };
+      common = common;
+      events = both front to_read reply;
+      packet = packet;
       rest = rest;
-      split = split;
-      bytes = omega (
-        arith,
-        long,
-        ap length says.spelled,
-        ap (λ (events : List Event). length (canonical_text events)) same,
-        length-read_text (write_address address) code (read_address address) reply,
-      );
-      all = omega (
-        arith,
-        many,
-        ap length says.spelled,
-        ap length same,
-        length-read_events (write_address address) code (read_address address) reply,
-      );
+      split = split ∙ ap (λ (events : List Event). canonical_text events ++ rest) same;
+      bytes = omega (arith, used_bytes, bytes_long, length-both_text front to_read reply);
+      all = omega (arith, many, bytes_long, length-both front to_read reply);
     }
+
+pub takes_read : (profile : List DeviceParts) (text rest : List ℕ) (address code : ℕ) (data_bytes : List ℕ) (with_pec : Bool) (bytes : List ℕ)
+    (written used count : ℕ) → OneRead profile address code data_bytes with_pec bytes → written ≡ 2
+    → text ≡ canonical_text (leg_events (Both written) bytes) ++ rest → used ≡ 6 + 5 * length bytes → count ≡ 3 + 2 * length bytes
+    → TakesPacket profile text used count (Read (record { addr = address; code = code; reply = data_bytes; pec = with_pec }))
+takes_read profile text rest address code data_bytes with_pec bytes written used count says two split used_bytes many =
+    let t : ReadData = record { addr = address; code = code; reply = data_bytes; pec = with_pec } in
+    let front = write_address address ∷ code ∷ [] in
+    let reply = checked with_pec (front ++ read_address address ∷ []) (wire says.form data_bytes) in
+    takes_both profile text rest (Read t) front (read_address address) reply bytes written used count (device_read t)
+    (record {
+      device = says.device;
+      form = says.form;
+      known = says.known;
+      read = says.read;
+      fits = says.fits;
+      mode = says.mode;
+      spelled = refl;
+    }) says.spelled two split used_bytes many
+
+-- the call
+pub takes_call : (profile : List DeviceParts) (text rest : List ℕ) (address code : ℕ) (sent data_bytes : List ℕ) (with_pec : Bool) (bytes : List ℕ)
+    (written used count : ℕ) → OneCalled profile address code data_bytes with_pec bytes sent written
+    → text ≡ canonical_text (leg_events (Both written) bytes) ++ rest → used ≡ 6 + 5 * length bytes → count ≡ 3 + 2 * length bytes
+    → TakesPacket profile text used count (Call (record { addr = address; code = code; bytes = sent; reply = data_bytes; pec = with_pec }))
+takes_call profile text rest address code sent data_bytes with_pec bytes written used count says split used_bytes many =
+    let t : CallData = record { addr = address; code = code; bytes = sent; reply = data_bytes; pec = with_pec } in
+    let front = write_address address ∷ code ∷ wire says.form sent in
+    let reply = checked with_pec (front ++ read_address address ∷ []) (wire says.form data_bytes) in
+    let long : written ≡ length front = omega (arith, says.first) in
+    takes_both profile text rest (Call t) front (read_address address) reply bytes written used count (device_called t)
+    (record {
+      device = says.device;
+      form = says.form;
+      known = says.known;
+      called = says.called;
+      sent = says.sends;
+      replied = says.fits;
+      mode = says.mode;
+      spelled = refl;
+    }) says.spelled long split used_bytes many
 
 -- ---- from the packet to its legs
 
@@ -129,8 +160,16 @@ bytes_of_nacked [] more small = tt
 bytes_of_nacked (b ∷ []) more small = (small.0, tt)
 bytes_of_nacked (b ∷ c ∷ bytes) more small = (small.0, bytes_of_nacked (c ∷ bytes) more small.1)
 
-read_bytes : (a b c : ℕ) (reply : List ℕ) → AreBytes (read_events (a ∷ b ∷ c ∷ reply)) → AreByteValues (a ∷ b ∷ c ∷ reply)
-read_bytes a b c reply small = (small.0, (small.1.0, (small.1.1.0, bytes_of_nacked reply (Stop ∷ []) small.1.1.1)))
+behind_acked : (bytes : List ℕ) (more : List Event) → AreBytes (acked bytes ++ more) → AreBytes more
+behind_acked [] more small = small
+behind_acked (b ∷ bytes) more small = behind_acked bytes more small.1
+
+bytes_of_both : (front : List ℕ) (to_read : ℕ) (reply : List ℕ) → AreBytes (both front to_read reply) → AreByteValues (front ++ to_read ∷ reply)
+bytes_of_both front to_read reply small =
+    let behind = (leg (to_read ∷ []) ++ nacked reply) ++ Stop ∷ [] in
+    let both_small : AreBytes (acked front ++ behind) = subst AreBytes (append_assoc (acked front) (leg (to_read ∷ []) ++ nacked reply) (Stop ∷ [])) small in
+    let second = behind_acked front behind both_small in
+    small-append front (to_read ∷ reply) (bytes_of_acked front behind both_small) (second.0, bytes_of_nacked reply (Stop ∷ []) second.1)
 
 -- how many bytes data have on the wire
 few_on_wire : (form : Form) (data_bytes : List ℕ) → Fits form data_bytes → length (wire form data_bytes) ≤ 256
@@ -194,47 +233,100 @@ module _ (profile : List DeviceParts) (bus : IsBus profile)
         split = split ∙ ap (λ (l : List Event). canonical_text l ++ rest) spelled;
       }
 
+  -- those of both legs
+  both_legs : (t : TransactionData) (events : List Event) (rest : List ℕ) (front : List ℕ) (to_read : ℕ) (reply : List ℕ) → Packet profile t events
+      → events ≡ both front to_read reply → 1 ≤ length reply → length front + length reply ≤ 515
+      → SayLegs profile (Both (length front)) (front ++ to_read ∷ reply) → text ≡ canonical_text events ++ rest → CommonLegs profile text
+  both_legs t events rest front to_read reply packet spelled some few say split =
+      let all = front ++ to_read ∷ reply in
+      let long : length all ≡ length front + 1 + length reply = omega (arith, length-append front (to_read ∷ reply)) in
+      record {
+        legs = Both (length front);
+        all = all;
+        rest = rest;
+        are = record {
+          small = bytes_of_both front to_read reply (subst AreBytes spelled (are_bytes t events packet));
+          enough = omega (arith, long, some);
+          few = omega (arith, long, few);
+        };
+        say = say;
+        split = split ∙ ap (λ (l : List Event). canonical_text l ++ rest) (spelled ∙ sym (both_events front to_read reply));
+      }
+
   -- those of a read
   read_legs : (t : ReadData) (events : List Event) (rest : List ℕ) → Packet profile (Read t) events → text ≡ canonical_text events ++ rest
       → CommonLegs profile text
   read_legs t events rest packet split =
-      let before = write_address t.addr ∷ t.code ∷ read_address t.addr ∷ [] in
+      let front = write_address t.addr ∷ t.code ∷ [] in
+      let before = front ++ read_address t.addr ∷ [] in
       let reply = checked t.pec before (wire packet.form t.reply) in
-      let all = write_address t.addr ∷ t.code ∷ read_address t.addr ∷ reply in
-      let small : AreBytes (read_events all) = subst AreBytes packet.spelled (are_bytes (Read t) events packet) in
-      let at_least : 1 ≤ length (wire packet.form t.reply) =
+      let on_wire : 1 ≤ length (wire packet.form t.reply) =
       some_on_wire packet.form t.reply packet.fits (read_has_data profile t.addr t.code packet.device packet.form bus packet.known packet.read) in
-      record {
-        legs = Both;
-        all = all;
-        rest = rest;
-        are = record {
-          small = read_bytes (write_address t.addr) t.code (read_address t.addr) reply small;
-          enough = omega (arith, at_least, some_checked t.pec before (wire packet.form t.reply));
-          few = omega (arith, few_checked t.pec before (wire packet.form t.reply), few_on_wire packet.form t.reply packet.fits);
-        };
-        say = (
-          t.addr,
-          t.code,
-          t.reply,
-          t.pec,
-          record {
-            device = packet.device;
-            form = packet.form;
-            known = packet.known;
-            read = packet.read;
-            fits = packet.fits;
-            mode = packet.mode;
-            spelled = refl;
-          },
-        );
-        split = split ∙ ap (λ (l : List Event). canonical_text l ++ rest) packet.spelled;
-      }
+      both_legs (Read t) events rest front (read_address t.addr) reply packet packet.spelled
+      (omega (arith, on_wire, some_checked t.pec before (wire packet.form t.reply)))
+      (omega (arith, few_checked t.pec before (wire packet.form t.reply), few_on_wire packet.form t.reply packet.fits))
+      (inl (
+        refl,
+        t.addr,
+        t.code,
+        t.reply,
+        t.pec,
+        record {
+          device = packet.device;
+          form = packet.form;
+          known = packet.known;
+          read = packet.read;
+          fits = packet.fits;
+          mode = packet.mode;
+          spelled = refl;
+        },
+      ))
+      split
+
+  -- those of a call
+  call_legs : (t : CallData) (events : List Event) (rest : List ℕ) → Packet profile (Call t) events → text ≡ canonical_text events ++ rest
+      → CommonLegs profile text
+  call_legs t events rest packet split =
+      let front = write_address t.addr ∷ t.code ∷ wire packet.form t.bytes in
+      let before = front ++ read_address t.addr ∷ [] in
+      let reply = checked t.pec before (wire packet.form t.reply) in
+      let not_zero : packet.form ≡ Zero → ⊥ = call_has_data profile t.addr t.code packet.device packet.form bus packet.known packet.called in
+      let sent_on_wire : 1 ≤ length (wire packet.form t.bytes) = some_on_wire packet.form t.bytes packet.sent not_zero in
+      let on_wire : 1 ≤ length (wire packet.form t.reply) = some_on_wire packet.form t.reply packet.replied not_zero in
+      both_legs (Call t) events rest front (read_address t.addr) reply packet packet.spelled
+      (omega (arith, on_wire, some_checked t.pec before (wire packet.form t.reply)))
+      (omega (
+        arith,
+        few_checked t.pec before (wire packet.form t.reply),
+        few_on_wire packet.form t.reply packet.replied,
+        few_on_wire packet.form t.bytes packet.sent,
+      ))
+      (inr (
+        omega (arith, sent_on_wire),
+        t.addr,
+        t.code,
+        t.bytes,
+        t.reply,
+        t.pec,
+        record {
+          device = packet.device;
+          form = packet.form;
+          known = packet.known;
+          called = packet.called;
+          sends = packet.sent;
+          fits = packet.replied;
+          mode = packet.mode;
+          first = omega arith;
+          spelled = refl;
+        },
+      ))
+      split
 
   legs_of : (t : TransactionData) (events : List Event) (rest : List ℕ) → IsCommon t → Packet profile t events → text ≡ canonical_text events ++ rest
       → CommonLegs profile text
   legs_of t events rest (one_part_written part) packet split = write_legs part events rest packet split
   legs_of t events rest (device_read read) packet split = read_legs read events rest packet split
+  legs_of t events rest (device_called call) packet split = call_legs call events rest packet split
 
   -- The legs of a common packet in front of a text.
   pub common_legs : BeginsCommon profile text → CommonLegs profile text

@@ -6,8 +6,9 @@ use Rattle.std.proofs.lemmas.Bool.{eqb-true}
 use Rattle.std.proofs.lemmas.Option.{same_Some}
 use Rattle.pmb_command.specs.declared.form.Form.{Form}
 use Rattle.pmb_command.specs.declared.form.Form.TheVariants.{Zero}
+use Rattle.pmb_command.specs.Entry.{EntryParts}
 use Rattle.pmb_command.specs.Bus.{IsBus, IsCommand, IsDevice}
-use Rattle.pmb_command.specs.Fitting.{reads_data}
+use Rattle.pmb_command.specs.Fitting.{calls_fit, reads_data}
 use Rattle.pmb_command.specs.Parts.{CommandParts, DeviceParts, command_with, device_with}
 use Rattle.pmb_transaction.specs.Body.{forms, shape_of}
 
@@ -40,12 +41,18 @@ addressed profile to_write (Some device) view even is =
     let own : (view device).address ≡ to_write / 2 = address_of_found (to_write / 2) profile (view device) (sym is) in
     (omega (arith, own, even), ap (λ (a : ℕ). device_with a profile) own ∙ sym is)
 
--- ---- what is read has data
+-- ---- what is read has data, and what is called
 
 -- no data are read in the form without any
 has_data : (form : Form) → reads_data (Some form) ≡ true → form ≡ Zero → ⊥
 has_data form reads none =
     let no_data : reads_data (Some Zero) ≡ true = ap (λ (f : Form). reads_data (Some f)) (sym none) ∙ reads in
+    cc no_data
+
+-- and no call is made in it
+sends_data : (form : Form) → calls_fit (Some form) ≡ true → form ≡ Zero → ⊥
+sends_data form calls none =
+    let no_data : calls_fit (Some Zero) ≡ true = ap (λ (f : Form). calls_fit (Some f)) (sym none) ∙ calls in
     cc no_data
 
 read_of : (command : Option CommandParts) (form : Form) → ((c : CommandParts) → command ≡ Some c → IsCommand c) → (shape_of command).read ≡ Some form
@@ -54,9 +61,35 @@ read_of None form each read none = cc read
 read_of (Some command) form each read none =
     has_data form (ap reads_data (sym read) ∙ (each command refl).entry.fitting.read_data) none
 
+call_of : (command : Option CommandParts) (form : Form) → ((c : CommandParts) → command ≡ Some c → IsCommand c) → (shape_of command).call ≡ Some form
+    → form ≡ Zero → ⊥
+call_of None form each call none = cc call
+call_of (Some command) form each call none =
+    sends_data form (ap calls_fit (sym call) ∙ (each command refl).entry.fitting.call_form) none
+
+-- a device's command is one that a device may have
+command_of : (profile : List DeviceParts) (address code : ℕ) (device : DeviceParts) → IsBus profile → device_with address profile ≡ Some device
+    → (c : CommandParts) → command_with code device.commands ≡ Some c → IsCommand c
+command_of profile address code device bus known command is =
+    let accepted = of_found IsDevice (λ (d : DeviceParts). nat_eq d.address address) profile device bus.devices known in
+    of_found IsCommand (λ (c : CommandParts). nat_eq c.entry.code code) device.commands command accepted.commands is
+
 pub read_has_data : (profile : List DeviceParts) (address code : ℕ) (device : DeviceParts) (form : Form) → IsBus profile
     → device_with address profile ≡ Some device → (forms device code).read ≡ Some form → form ≡ Zero → ⊥
 read_has_data profile address code device form bus known read none =
-    let accepted = of_found IsDevice (λ (d : DeviceParts). nat_eq d.address address) profile device bus.devices known in
-    read_of (command_with code device.commands) form
-    (λ command is. of_found IsCommand (λ (c : CommandParts). nat_eq c.entry.code code) device.commands command accepted.commands is) read none
+    read_of (command_with code device.commands) form (command_of profile address code device bus known) read none
+
+pub call_has_data : (profile : List DeviceParts) (address code : ℕ) (device : DeviceParts) (form : Form) → IsBus profile
+    → device_with address profile ≡ Some device → (forms device code).call ≡ Some form → form ≡ Zero → ⊥
+call_has_data profile address code device form bus known call none =
+    call_of (command_with code device.commands) form (command_of profile address code device bus known) call none
+
+call_of_entry : (command : Option CommandParts) (entry : EntryParts) (form : Form) → Some entry ≡ option_map (λ c. c.entry) command
+    → entry.shape.call ≡ Some form → (shape_of command).call ≡ Some form
+call_of_entry None entry form is call = cc is
+call_of_entry (Some command) entry form is call = ap (λ (e : EntryParts). e.shape.call) (sym (same_Some entry command.entry is)) ∙ call
+
+-- the form in which a device's command is called, by its entry
+pub call_form : (device : DeviceParts) (code : ℕ) (entry : EntryParts) (form : Form) → Some entry ≡ option_map (λ c. c.entry) (command_with code device.commands)
+    → entry.shape.call ≡ Some form → (forms device code).call ≡ Some form
+call_form device code entry form is call = call_of_entry (command_with code device.commands) entry form is call

@@ -1,12 +1,13 @@
 -- Legs in front of a text, by what was taken of it.
-use Rattle.std.proofs.Common.{◌≡◌, ℕ, ◌≤◌, List, [], ◌∷◌, ◌++◌, length, sym, ap, ◌∙◌, arith, append_assoc, length-append}
-use Rattle.hex.specs.Hex.{encode_with}
+use Rattle.std.proofs.Common.{◌≡◌, ℕ, ◌≤◌, Option, Some, None, List, [], ◌∷◌, ◌++◌, length, sym, ap, ◌∙◌, arith, append_assoc}
+use Rattle.std.specs.Prelude.{IfSome}
 use Rattle.pmb_bus.specs.declared.event.Event.TheVariants.{Start, Stop}
 use Rattle.pmb_bus.specs.Event.{canonical_text}
-use Rattle.pmb_common.specs.declared.legs.Legs.TheVariants.{Written, Both}
+use Rattle.pmb_common.specs.declared.legs.Legs.{Legs}
+use Rattle.pmb_common.specs.declared.legs.Legs.TheVariants.{Written}
 use Rattle.pmb_common.specs.Common.{read_events}
 use Rattle.pmb_common.specs.Front.{TakenFront, acked_text, end_text}
-use Rattle.pmb_common.specs.Legs.{BeginsWithLegs, leg_events}
+use Rattle.pmb_common.specs.Legs.{BeginsWithLegs, TakenSecond, leg_events}
 use Rattle.pmb_common.proofs.Ends.{read_text, written_text}
 
 abbrev pub start : List ℕ
@@ -28,35 +29,38 @@ written_there text first behind rest old new none begins taken ends =
     (rest, split ∙ sym joined)
 
 -- the text of both, by what was taken of each
-both_text : (front back : List ℕ) (last : ℕ) → length front ≡ 2 → 1 ≤ length back
-    → canonical_text (read_events ((front ++ back) ++ last ∷ [])) ≡ start ++ (acked_text front ++ (start ++ (acked_text back ++ end_text last)))
-unfolding encode_with
-both_text [] back last two some = absurd (omega (arith, two))
-both_text (a ∷ []) back last two some = absurd (omega (arith, two))
-both_text (a ∷ b ∷ []) [] last two some = absurd (omega (arith, some))
-both_text (a ∷ b ∷ []) (c ∷ back) last two some = read_text a b c back last
-both_text (a ∷ b ∷ c ∷ front) back last two some = absurd (omega (arith, two))
+both_text : (front back : List ℕ) (last : ℕ) → 1 ≤ length back
+    → canonical_text (read_events (length front) ((front ++ back) ++ last ∷ [])) ≡ start ++ (acked_text front ++ (start ++ (acked_text back ++ end_text last)))
+both_text front [] last some = absurd (omega (arith, some))
+both_text front (to_read ∷ back) last some =
+    ap (λ (l : List ℕ). canonical_text (read_events (length front) l)) (append_assoc front (to_read ∷ back) (last ∷ [])) ∙ read_text front to_read back last
 
 regroup : (a b c d rest : List ℕ) → (a ++ (b ++ (c ++ d))) ++ rest ≡ a ++ (b ++ (c ++ (d ++ rest)))
 regroup a b c d rest = simp append_assoc
 
 -- both legs
-pub both_there : (text first behind second end rest old front bytes new : List ℕ) (last : ℕ) → old ≡ [] → text ≡ start ++ first
-    → TakenFront first old front behind → behind ≡ start ++ second → length front ≡ 2 → TakenFront second front bytes end → 3 ≤ length bytes
-    → end ≡ end_text last ++ rest → new ≡ bytes ++ last ∷ [] → BeginsWithLegs Both new text
-both_there text first behind second end rest old front bytes new last none begins one again two other three ends whole =
+pub both_there : (text first behind second old front new : List ℕ) (legs : Legs) → old ≡ [] → text ≡ start ++ first
+    → TakenFront first old front behind → behind ≡ start ++ second → TakenSecond legs second front new → BeginsWithLegs legs new text
+both_there text first behind second old front new legs none begins one again other =
     let same : one.more ≡ front = sym (one.added ∙ ap (λ (l : List ℕ). l ++ one.more) none) in
-    let some : 1 ≤ length other.more = omega (arith, ap length other.added, length-append front other.more, two, three) in
-    let all : new ≡ (front ++ other.more) ++ last ∷ [] = whole ∙ ap (λ (l : List ℕ). l ++ last ∷ []) other.added in
-    let split : text ≡ start ++ (acked_text front ++ (start ++ (acked_text other.more ++ (end_text last ++ rest)))) =
+    let split : text ≡ start ++ (acked_text front ++ (start ++ (acked_text other.back ++ (end_text other.last ++ other.rest)))) =
     begins
     ∙ ap (λ (l : List ℕ). start ++ l) one.split
     ∙ ap (λ (l : List ℕ). start ++ (acked_text l ++ behind)) same
     ∙ ap (λ (l : List ℕ). start ++ (acked_text front ++ l)) again
-    ∙ ap (λ (l : List ℕ). start ++ (acked_text front ++ (start ++ l))) other.split
-    ∙ ap (λ (l : List ℕ). start ++ (acked_text front ++ (start ++ (acked_text other.more ++ l)))) ends in
-    let joined : canonical_text (leg_events Both new) ++ rest ≡ start ++ (acked_text front ++ (start ++ (acked_text other.more ++ (end_text last ++ rest)))) =
-    ap (λ (l : List ℕ). canonical_text (read_events l) ++ rest) all
-    ∙ ap (λ (l : List ℕ). l ++ rest) (both_text front other.more last two some)
-    ∙ ap (λ (l : List ℕ). start ++ l) (regroup (acked_text front) start (acked_text other.more) (end_text last) rest) in
-    (rest, split ∙ sym joined)
+    ∙ ap (λ (l : List ℕ). start ++ (acked_text front ++ (start ++ l))) other.split in
+    let joined : canonical_text (leg_events legs new) ++ other.rest
+    ≡ start ++ (acked_text front ++ (start ++ (acked_text other.back ++ (end_text other.last ++ other.rest)))) =
+    ap (λ (l : Legs). canonical_text (leg_events l new) ++ other.rest) other.both
+    ∙ ap (λ (l : List ℕ). canonical_text (read_events (length front) l) ++ other.rest) other.added
+    ∙ ap (λ (l : List ℕ). l ++ other.rest) (both_text front other.back other.last other.some)
+    ∙ ap (λ (l : List ℕ). start ++ l) (regroup (acked_text front) start (acked_text other.back) (end_text other.last) other.rest) in
+    (other.rest, split ∙ sym joined)
+
+-- where they are found
+pub both_found : (text first behind second old front new : List ℕ) (result : Option Legs) → old ≡ [] → text ≡ start ++ first
+    → TakenFront first old front behind → behind ≡ start ++ second → IfSome result (λ legs. TakenSecond legs second front new)
+    → IfSome result (λ legs. BeginsWithLegs legs new text)
+both_found text first behind second old front new None none begins one again other = tt
+both_found text first behind second old front new (Some legs) none begins one again other =
+    both_there text first behind second old front new legs none begins one again other

@@ -1,7 +1,7 @@
 -- Data in a form in front of bytes, and the packet error code behind them.
 use Rattle.std.proofs.Common.{◌≡◌, ℕ, ◌+◌, ◌<◌, ◌≤◌, zero, suc, Bool, true, false, List, [], ◌∷◌, ◌++◌, length, get_or, take, drop, refl, sym, ap, ◌∙◌, arith, length-append}
 use Rattle.std.proofs.lemmas.List.{append-nil, length-take-le, take-append-drop}
-use Rattle.std.proofs.Math.Seq.{take-add, take-append_seam, drop-append_seam}
+use Rattle.std.proofs.Math.Seq.{take-add, take-length, take-append_seam, drop-append_seam}
 use Rattle.pmb_command.specs.declared.form.Form.{Form}
 use Rattle.pmb_command.specs.declared.form.Form.TheVariants.{Zero, One, Two, Four, Eight, Block}
 use Rattle.pmb_command.specs.Wire.{AreByteValues, Fits, wire, wire_length}
@@ -50,6 +50,13 @@ within Four bytes small there = record { data_bytes = take 4 bytes; fits = recor
 within Eight bytes small there = record { data_bytes = take 8 bytes; fits = record { small = small-take 8 bytes small; taken = length-take-le 8 bytes there }; spelled = refl }
 within Block [] small there = absurd (omega (arith, there))
 within Block (count ∷ bytes) small there = block_within count bytes small.0 small.1 (omega (arith, there))
+
+-- those whose wire the bytes are
+pub whole : (form : Form) (bytes : List ℕ) → AreByteValues bytes → wire_length form bytes ≡ length bytes
+    → (data_bytes : List ℕ) × Fits form data_bytes × (bytes ≡ wire form data_bytes)
+whole form bytes small long =
+    let found = within form bytes small (omega (arith, long)) in
+    (found.data_bytes, found.fits, sym (ap (λ (n : ℕ). take n bytes) long ∙ take-length bytes) ∙ found.spelled)
 
 -- a wire tells its length, whatever follows
 pub wire_ends : (form : Form) (data_bytes more : List ℕ) → Fits form data_bytes → wire_length form (wire form data_bytes ++ more) ≡ length (wire form data_bytes)

@@ -1,5 +1,5 @@
 -- Common packets, and what it means that one is taken at once from a text.
-use Rattle.std.specs.Prelude.{◌≡◌, ℕ, Bool, Some, List, [], ◌∷◌, ◌++◌, length, take, drop}
+use Rattle.std.specs.Prelude.{◌≡◌, ℕ, ◌+◌, Bool, Some, List, [], ◌∷◌, ◌++◌, length, take, drop}
 use Rattle.pmb_bus.specs.declared.event.Event.{Event}
 use Rattle.pmb_bus.specs.declared.event.Event.TheVariants.{Stop}
 use Rattle.pmb_bus.specs.Address.{write_address, read_address}
@@ -8,7 +8,7 @@ use Rattle.pmb_command.specs.declared.form.Form.{Form}
 use Rattle.pmb_command.specs.Parts.{DeviceParts, device_with}
 use Rattle.pmb_command.specs.PecMode.{AllowsPec}
 use Rattle.pmb_command.specs.Wire.{Fits, wire}
-use Rattle.pmb_transaction.specs.Transaction.{PartData, ReadData, TransactionData, Write, Read}
+use Rattle.pmb_transaction.specs.Transaction.{PartData, ReadData, CallData, TransactionData, Write, Read, Call}
 use Rattle.pmb_transaction.specs.Body.{forms, checked, WriteBody}
 use Rattle.pmb_transaction.specs.Packet.{Packet, leg, nacked}
 
@@ -20,6 +20,8 @@ pub data IsCommon : TransactionData → Type 0 where
   one_part_written : (part : PartData) → IsCommon (Write (part ∷ []))
   -- S addr+W A code A S addr+R A reply A .. [pec] N P
   device_read : (t : ReadData) → IsCommon (Read t)
+  -- S addr+W A code A data A .. S addr+R A reply A .. [pec] N P
+  device_called : (t : CallData) → IsCommon (Call t)
 
 -- A text begins with the text of a common packet, the canonical text of its events: so many bytes, and
 -- so many events.
@@ -38,10 +40,11 @@ BeginsCommon profile text = (used : ℕ) × (count : ℕ) × (t : TransactionDat
 
 -- ---- the bytes of a packet, its address bytes too
 
--- The events of two legs, two bytes in the first and the others in the second: those that are read have
--- NACK behind the last.
-abbrev pub read_events : List ℕ → List Event
-read_events bytes = leg (take 2 bytes) ++ (leg (take 1 (drop 2 bytes)) ++ nacked (drop 3 bytes)) ++ Stop ∷ []
+-- The events of two legs, so many bytes in the first and the others in the second: those that are read
+-- have NACK behind the last.
+abbrev pub read_events : ℕ → List ℕ → List Event
+read_events written bytes =
+    leg (take written bytes) ++ (leg (take 1 (drop written bytes)) ++ nacked (drop 1 (drop written bytes))) ++ Stop ∷ []
 
 module _ (profile : List DeviceParts) (address : ℕ) (code : ℕ) (bytes : List ℕ) (with_pec : Bool) (all : List ℕ) where
   -- those of a written leg
@@ -62,3 +65,16 @@ module _ (profile : List DeviceParts) (address : ℕ) (code : ℕ) (bytes : List
     pub mode : AllowsPec device.pec with_pec
     pub spelled : all ≡ write_address address ∷ code ∷ read_address address
         ∷ checked with_pec (write_address address ∷ code ∷ read_address address ∷ []) (wire form bytes)
+
+  -- those of both legs of a call, which sends data; the first leg has `written` bytes
+  pub record OneCalled (sent : List ℕ) (written : ℕ) : Type 0 where
+    pub device : DeviceParts
+    pub form : Form
+    pub known : device_with address profile ≡ Some device
+    pub called : (forms device code).call ≡ Some form
+    pub sends : Fits form sent
+    pub fits : Fits form bytes
+    pub mode : AllowsPec device.pec with_pec
+    pub first : written ≡ 2 + length (wire form sent)
+    pub spelled : all ≡ write_address address ∷ code ∷ wire form sent ++ read_address address
+        ∷ checked with_pec (write_address address ∷ code ∷ wire form sent ++ read_address address ∷ []) (wire form bytes)

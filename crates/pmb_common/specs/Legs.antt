@@ -1,5 +1,5 @@
 -- The legs of a common packet: their bytes, address bytes too, and their events.
-use Rattle.std.specs.Prelude.{◌≡◌, ◌≤◌, ℕ, Bool, List, [], ◌∷◌, ◌++◌, length}
+use Rattle.std.specs.Prelude.{◌≡◌, ◌≤◌, ◌<◌, ℕ, ◌+◌, ◌⊎◌, Bool, Option, Some, List, [], ◌∷◌, ◌++◌, length}
 use Rattle.pmb_bus.specs.declared.event.Event.{Event}
 use Rattle.pmb_bus.specs.declared.event.Event.TheVariants.{Stop}
 use Rattle.pmb_bus.specs.Event.{canonical_text}
@@ -8,30 +8,54 @@ use Rattle.pmb_command.specs.Wire.{AreByteValues}
 use Rattle.pmb_transaction.specs.Packet.{leg}
 use Rattle.pmb_common.specs.declared.legs.Legs.{Legs}
 use Rattle.pmb_common.specs.declared.legs.Legs.TheVariants.{Written, Both}
-use Rattle.pmb_common.specs.Common.{OneRead, OneWritten, read_events}
+use Rattle.pmb_common.specs.Front.{acked_text, end_text}
+use Rattle.pmb_common.specs.Common.{OneCalled, OneRead, OneWritten, read_events}
 
 -- the events of legs with these bytes, up to STOP
 abbrev pub leg_events : Legs → List ℕ → List Event
 leg_events Written bytes = leg bytes ++ Stop ∷ []
-leg_events Both bytes = read_events bytes
+leg_events (Both written) bytes = read_events written bytes
 
--- how many bytes the legs have at least: those that are read have one behind both addresses and the
--- code
+-- how many bytes the legs have at least: in one that is read, one stands behind the address
 abbrev pub least : Legs → ℕ
 least Written = 0
-least Both = 4
+least (Both written) = written + 2
 
 -- Bytes of a packet's legs.
 pub record IsOfLegs (legs : Legs) (bytes : List ℕ) : Type 0 where
   pub small : AreByteValues bytes
   pub enough : least legs ≤ length bytes
-  pub few : length bytes ≤ 260
+  pub few : length bytes ≤ 516
 
 -- The text of legs with these bytes stands in front of a text.
 abbrev pub BeginsWithLegs : Legs → List ℕ → List ℕ → Type 0
 BeginsWithLegs legs bytes text = (rest : List ℕ) × (text ≡ canonical_text (leg_events legs bytes) ++ rest)
 
--- what legs with these bytes say
+-- A second leg was taken from the front of a text, and its bytes put behind those of the first.
+pub record TakenSecond (legs : Legs) (text : List ℕ) (first : List ℕ) (all : List ℕ) : Type 0 where
+  pub back : List ℕ
+  pub last : ℕ
+  pub rest : List ℕ
+  pub some : 1 ≤ length back
+  pub both : legs ≡ Both (length first)
+  pub added : all ≡ (first ++ back) ++ last ∷ []
+  pub split : text ≡ acked_text back ++ (end_text last ++ rest)
+
+-- Bytes of a second leg, which find room behind those of the first.
+pub record IsSecond (first : List ℕ) (back : List ℕ) (last : ℕ) : Type 0 where
+  pub some : 1 ≤ length back
+  pub small : AreByteValues back
+  pub small_last : last < 256
+  pub few : length (first ++ back) ≤ 515
+
+-- Such a leg in front of a text is taken.
+abbrev pub FindsSecond : List ℕ → List ℕ → List ℕ → Option Legs → Type 0
+FindsSecond text first new result = (back : List ℕ) (last : ℕ) (rest : List ℕ) → IsSecond first back last → text ≡ acked_text back ++ (end_text last ++ rest)
+    → (result ≡ Some (Both (length first))) × (new ≡ (first ++ back) ++ last ∷ [])
+
+-- What legs with these bytes say. A first leg of two bytes is that of a read: a call sends data.
 abbrev pub SayLegs : List DeviceParts → Legs → List ℕ → Type 0
 SayLegs profile Written bytes = (address : ℕ) × (code : ℕ) × (data_bytes : List ℕ) × (with_pec : Bool) × OneWritten profile address code data_bytes with_pec bytes
-SayLegs profile Both bytes = (address : ℕ) × (code : ℕ) × (data_bytes : List ℕ) × (with_pec : Bool) × OneRead profile address code data_bytes with_pec bytes
+SayLegs profile (Both written) bytes =
+    ((written ≡ 2) × (address : ℕ) × (code : ℕ) × (reply : List ℕ) × (with_pec : Bool) × OneRead profile address code reply with_pec bytes)
+    ⊎ ((2 < written) × (address : ℕ) × (code : ℕ) × (sent : List ℕ) × (reply : List ℕ) × (with_pec : Bool) × OneCalled profile address code reply with_pec bytes sent written)

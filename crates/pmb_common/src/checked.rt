@@ -35,6 +35,17 @@ fn has_code(bytes: &[u8], behind: &[u8]) -> Option<bool>
     }
 }
 
+/// The data in a form whose wire these bytes are.
+pub(crate) fn whole_data(form: Form, bytes: &[u8]) -> Option<&[u8]>
+    ensures says { IfSome result (λ found. Fits form found.now × (bytes.now ≡ wire form found.now)) }
+    ensures found { (data_bytes : List ℕ) → Fits form data_bytes → bytes.now ≡ wire form data_bytes → IsSome result }
+{
+    if form.wire_length(bytes) != bytes.len() {
+        return None;
+    }
+    Some(form.data_within(bytes))
+}
+
 /// The data that stand in a packet's bytes from an index on, in a form, up to the end or up to a packet
 /// error code that is right and that the mode allows.
 #[inline]

@@ -4,14 +4,14 @@
 //! them behind, and nothing is read from them. What `kept` says changes only once all of the packet is
 //! accepted. Neither is cleared for a packet.
 
-ghost use Rattle.std.specs.Prelude.{◌≡◌, ◌<◌, ◌≤◌, ◌++◌, List, ℕ, None, IsSome, IfSome, length};
+ghost use Rattle.std.specs.Prelude.{◌≡◌, ◌<◌, ◌≤◌, ◌+◌, ◌*◌, ◌++◌, List, ℕ, None, IsSome, IfSome, length};
 ghost use Rattle.pmb_bus.specs.Event.{canonical_text};
 ghost use Rattle.pmb_transaction.specs.Transaction.{NoAlert as says_no_alert, transaction_data};
 ghost use Rattle.pmb_common.specs.Common.{BeginsCommon, TakesPacket};
 ghost use Rattle.pmb_common.specs.Legs.{SayLegs, leg_events};
 
 use crate::legs::{Legs, front_legs};
-use crate::packets::{read, written};
+use crate::packets::{called, read, written};
 use crate::words::PacketBytes;
 use pmb_kept::Kept;
 use pmb_table::Profile;
@@ -79,10 +79,23 @@ impl Common {
     }
 }
 
+// How much of a text both legs with these bytes are.
+#[inline]
+fn both_legs(bytes: &[u8]) -> Taken
+    requires { length bytes.now ≤ 516 }
+    ensures used { result.used ≡ 6 + 5 * length bytes.now }
+    ensures events { result.events ≡ 3 + 2 * length bytes.now }
+{
+    Taken {
+        used: 6 + 5 * bytes.len(),
+        events: 3 + 2 * bytes.len(),
+    }
+}
+
 // Keeps the transaction of legs with these bytes, where they are those of one.
 #[inline]
 fn keep(kept: &mut Kept, profile: &Profile, legs: Legs, bytes: &[u8]) -> Option<Taken>
-    requires { length bytes.now ≤ 260 }
+    requires { length bytes.now ≤ 516 }
     ensures takes { (text rest : List ℕ) → text ≡ canonical_text (leg_events legs bytes.now) ++ rest
         → IfSome result (λ taken. TakesPacket profile.now text taken.used taken.events kept.new.last) }
     ensures some { IfSome result (λ taken. 0 < taken.used) }
@@ -100,13 +113,21 @@ fn keep(kept: &mut Kept, profile: &Profile, legs: Legs, bytes: &[u8]) -> Option<
                 events: 2 + 2 * bytes.len(),
             })
         }
-        Legs::Both => {
-            let said = read(profile, bytes)?;
-            kept.end_read(said.address, said.code, said.data.bytes, said.data.pec);
-            Some(Taken {
-                used: 6 + 5 * bytes.len(),
-                events: 3 + 2 * bytes.len(),
-            })
+        Legs::Both { written } => {
+            if written == 2 {
+                let said = read(profile, bytes)?;
+                kept.end_read(said.address, said.code, said.data.bytes, said.data.pec);
+                return Some(both_legs(bytes));
+            }
+            let said = called(profile, bytes, written)?;
+            kept.end_call(
+                said.address,
+                said.code,
+                said.sent,
+                said.reply.bytes,
+                said.reply.pec,
+            );
+            Some(both_legs(bytes))
         }
     }
 }

@@ -2,7 +2,7 @@
 
 ghost use Rattle.std.specs.Prelude.{◌≡◌, List, ℕ, Some, [], ◌++◌, IfSome};
 ghost use Rattle.pmb_bus.specs.Event.{canonical_text};
-ghost use Rattle.pmb_common.specs.Legs.{BeginsWithLegs, IsOfLegs, leg_events};
+ghost use Rattle.pmb_common.specs.Legs.{BeginsWithLegs, FindsSecond, IsOfLegs, TakenSecond, leg_events};
 
 use crate::words::{PacketBytes, behind_start, behind_stop, front_last, take_acked};
 
@@ -11,8 +11,8 @@ use crate::words::{PacketBytes, behind_start, behind_stop, front_last, take_acke
 pub(crate) enum Legs {
     /// One that is written.
     Written,
-    /// A written one, two bytes, and one that is read.
-    Both,
+    /// A written one of this many bytes, and one that is read.
+    Both { written: usize },
 }
 
 /// The legs in front of a text, up to STOP, where they are those of a common packet. Their bytes are put
@@ -30,17 +30,37 @@ pub(crate) fn front_legs(text: &[u8], bytes: &mut PacketBytes) -> Option<Legs>
         return Some(Legs::Written);
     }
     let second = behind_start(behind)?;
-    if bytes.len() != 2 {
-        return None;
+    if bytes.len() == 2 {
+        return take_second(second, bytes);
     }
-    let end = take_acked(second, bytes);
+    take_reply(second, bytes)
+}
+
+/// Takes the second leg in front of a text, up to STOP, and puts its bytes behind those of the first.
+#[inline(always)]
+fn take_second(text: &[u8], bytes: &mut PacketBytes) -> Option<Legs>
+    ensures spelled { IfSome result (λ legs. TakenSecond legs text.now bytes.old.items bytes.new.items) }
+    ensures found { FindsSecond text.now bytes.old.items bytes.new.items result }
+{
+    let written = bytes.len();
+    let end = take_acked(text, bytes);
     let last = front_last(end)?;
-    if bytes.len() < 3 {
+    if bytes.len() == written {
         return None;
     }
     if bytes.is_full() {
         return None;
     }
     bytes.push(last);
-    Some(Legs::Both)
+    Some(Legs::Both { written })
+}
+
+/// Takes the second leg of a call. Calls are rare, so this is not inlined: only a read, whose first leg
+/// has two bytes, has `take_second` in place.
+#[inline(never)]
+fn take_reply(text: &[u8], bytes: &mut PacketBytes) -> Option<Legs>
+    ensures spelled { IfSome result (λ legs. TakenSecond legs text.now bytes.old.items bytes.new.items) }
+    ensures found { FindsSecond text.now bytes.old.items bytes.new.items result }
+{
+    take_second(text, bytes)
 }

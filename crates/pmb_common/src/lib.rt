@@ -1,9 +1,9 @@
 //! Whole common packets, taken at once from the text of a capture.
 //!
-//! Most of a capture is writes to one device and reads, every byte acknowledged. Where the canonical
-//! text of such a packet lies whole in front of a piece, [`Common::take`] takes it at once: one space
-//! between words, digits in lower case and a LF after STOP. All else is left to be taken event by
-//! event, and nothing has changed then.
+//! Most of a capture is writes to one device, reads and process calls, every byte acknowledged. Where
+//! the canonical text of such a packet lies whole in front of a piece, [`Common::take`] takes it at
+//! once: one space between words, digits in lower case and a LF after STOP. All else is left to be
+//! taken event by event, and nothing has changed then.
 //!
 //! ```rust
 //! let profile = Profile::from_toml(rt.alloc(), SAMPLE.as_bytes())?;

@@ -5,9 +5,9 @@
 ghost use Rattle.std.specs.Prelude.{◌≡◌, Bool, IfSome, IsSome, List, Some, ℕ, option_map};
 ghost use Rattle.pmb_bus.specs.Address.{write_address};
 ghost use Rattle.pmb_command.specs.Parts.{DeviceParts, device_with};
-ghost use Rattle.pmb_common.specs.Common.{OneWritten, OneRead};
+ghost use Rattle.pmb_common.specs.Common.{OneWritten, OneRead, OneCalled};
 
-use crate::checked::{Data, data_from};
+use crate::checked::{Data, data_from, whole_data};
 use pmb_bus::read_address;
 use pmb_table::{DeviceProfile, Profile};
 
@@ -17,6 +17,15 @@ pub(crate) struct Said<'b> {
     pub(crate) address: u8,
     pub(crate) code: u8,
     pub(crate) data: Data<'b>,
+}
+
+/// A device's address, a command code, the data that are sent and those of the reply.
+#[derive(Clone, Copy)]
+pub(crate) struct Call<'b> {
+    pub(crate) address: u8,
+    pub(crate) code: u8,
+    pub(crate) sent: &'b [u8],
+    pub(crate) reply: Data<'b>,
 }
 
 /// The device that a byte addresses for writing.
@@ -74,5 +83,32 @@ pub(crate) fn read<'b>(profile: &Profile, bytes: &'b [u8]) -> Option<Said<'b>>
         address: device.address(),
         code: *code,
         data,
+    })
+}
+
+/// What the two legs of a call say of these bytes, where the first leg has `written` of them: an address
+/// byte for writing, a code, the data in the form in which the device's command is called, the address
+/// byte of the same device for reading, the reply in that form too, and a packet error code or none.
+#[inline(never)]
+pub(crate) fn called<'b>(profile: &Profile, bytes: &'b [u8], written: usize) -> Option<Call<'b>>
+    ensures says { IfSome result (λ said. OneCalled profile.now said.address said.code said.reply.bytes.now said.reply.pec bytes.now said.sent.now written) }
+    ensures found { (address code : ℕ) (sent reply : List ℕ) (pec : Bool) → OneCalled profile.now address code reply pec bytes.now sent written → IsSome result }
+{
+    let [to_write, code, ..] = bytes else {
+        return None;
+    };
+    let device = addressed(profile, *to_write)?;
+    let to_read = *bytes.get(written)?;
+    if to_read != read_address(device.address()) {
+        return None;
+    }
+    let form = device.entry(*code)?.shape.call?;
+    let sent = whole_data(form, bytes.get(2..written)?)?;
+    let reply = data_from(form, device.pec(), bytes, written + 1)?;
+    Some(Call {
+        address: device.address(),
+        code: *code,
+        sent,
+        reply,
     })
 }

@@ -12,9 +12,9 @@ ghost use Rattle.pmb_common.specs.Front.{NoneAcked, TakenFront, acked_text, end_
 
 use arrayvec::ArrayVec;
 
-/// The bytes of a packet: up to two address bytes, a code, the count and the data of a block, and a
-/// packet error code.
-pub(crate) type PacketBytes = ArrayVec<u8, 260>;
+/// The bytes of a packet, up to those of a block process call: two address bytes, a code, two blocks of
+/// a count and 255 bytes each, and a packet error code.
+pub(crate) type PacketBytes = ArrayVec<u8, 516>;
 
 /// What is no digit.
 const NONE: u8 = 0xff;
@@ -140,7 +140,7 @@ pub(crate) fn behind_stop(text: &[u8]) -> Option<&[u8]>
 pub(crate) fn take_acked<'t>(text: &'t [u8], bytes: &mut PacketBytes) -> &'t [u8]
     ensures taken { TakenFront text.now bytes.old.items bytes.new.items result.now }
     // Where all find room, none is left.
-    ensures all { (front rest : List ℕ) → AreByteValues front → NoneAcked rest → length (bytes.old.items ++ front) ≤ 260
+    ensures all { (front rest : List ℕ) → AreByteValues front → NoneAcked rest → length (bytes.old.items ++ front) ≤ 516
         → text.now ≡ acked_text front ++ rest → (bytes.new.items ≡ bytes.old.items ++ front) × (result.now ≡ rest) }
 {
     let mut rest = text;

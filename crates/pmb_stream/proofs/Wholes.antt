@@ -7,7 +7,7 @@ use Rattle.pmb_bus.specs.declared.event.Event.TheVariants.{Start, Byte, Ack, Nac
 use Rattle.pmb_bus.specs.Event.{AreBytes, canonical_text, character, text_of}
 use Rattle.pmb_bus.specs.Text.{EndsBetween}
 use Rattle.pmb_command.specs.Parts.{DeviceParts}
-use Rattle.pmb_common.specs.Common.{IsCommon, device_read, one_part_written}
+use Rattle.pmb_common.specs.Common.{IsCommon, device_called, device_read, one_part_written}
 use Rattle.pmb_objects.specs.Counts.{after_packet}
 use Rattle.pmb_objects.specs.Object.{object_lines}
 use Rattle.pmb_objects.specs.Packets.{packet_objects}
@@ -67,6 +67,7 @@ begins profile t events (one_part_written part) packet =
     let (first, rest, split, leg, none) = packet.each in
     (_, packet.spelled ∙ ap (λ (legs : List Event). legs ++ Stop ∷ []) (split ∙ ap (λ (l : List Event). l ++ rest) leg.spelled))
 begins profile t events (device_read read) packet = (_, packet.spelled)
+begins profile t events (device_called call) packet = (_, packet.spelled)
 
 line_by : (front more : List Event) → HasNoStop front → AreBytes (front ++ Stop ∷ []) → front ++ Stop ∷ [] ≡ Start ∷ more → IsLine (front ++ Stop ∷ [])
 line_by [] more none small same = absurd (cc same)
@@ -89,6 +90,7 @@ objects_whole : (seen : SeenData) (place : ℕ → Place) (n : ℕ) (rest : List
     → kept_objects seen (begun_legs place n (Start ∷ [])) t ≡ packet_objects seen place n (Start ∷ rest) t
 objects_whole seen place n rest t (one_part_written part) = refl
 objects_whole seen place n rest t (device_read read) = refl
+objects_whole seen place n rest t (device_called call) = refl
 
 -- ---- its text
 

@@ -25,19 +25,15 @@ fn text_of(alloc: Global, events: &[Event]) -> Result<String, AllocError> {
 fn first_packet<'p>(reader: &mut Reader<'p>, text: &[u8]) -> Option<(usize, usize)> {
     let mut lexer = Lexer::new();
     let mut used = 0;
-    let mut count = 0;
-    for _ in 0..text.len() {
-        let lexed = lexer.feed(&text[used..]);
+    for count in 1..=text.len() {
+        let lexed = lexer.feed(text.get(used..)?);
         used += lexed.used;
         match lexed.step {
-            Step::Event(event) => {
-                count += 1;
-                match reader.take(event) {
-                    Took::More => {}
-                    Took::Packet => return Some((used, count)),
-                    Took::Refused(_) => return None,
-                }
-            }
+            Step::Event(event) => match reader.take(event) {
+                Took::More => {}
+                Took::Packet => return Some((used, count)),
+                Took::Refused(_) => return None,
+            },
             Step::Need | Step::Fault(_) => return None,
         }
     }
@@ -48,11 +44,8 @@ fn first_packet<'p>(reader: &mut Reader<'p>, text: &[u8]) -> Option<(usize, usiz
 fn is_common(transaction: &Transaction) -> bool {
     match transaction {
         Transaction::Write { parts } => parts.len() == 1,
-        Transaction::Read { .. } => true,
-        Transaction::Call { .. }
-        | Transaction::Refused { .. }
-        | Transaction::Alert { .. }
-        | Transaction::NoAlert => false,
+        Transaction::Read { .. } | Transaction::Call { .. } => true,
+        Transaction::Refused { .. } | Transaction::Alert { .. } | Transaction::NoAlert => false,
     }
 }
 
@@ -92,14 +85,14 @@ fn compare<R: Abort>(
 ) -> Result<usize, Fail> {
     let profile = Profile::from_toml(alloc, profile.as_bytes())?;
     let mut common = Common::new();
-    let mut taken = 0;
+    let mut taken = 0usize;
     for row in rows {
         let (capture, _) = *row;
         let events = events(alloc, capture)?;
         for from in 0..=events.len() {
             let (_, rest) = events.as_slice().split_at(from);
             let text = text_of(alloc, rest)?;
-            taken += agree(rt, &profile, &mut common, text.as_bytes());
+            taken = taken.saturating_add(agree(rt, &profile, &mut common, text.as_bytes()));
         }
     }
     Ok(taken)

@@ -12,7 +12,7 @@ use std::test::Fail;
 /// A text, what is taken of it, and the line of the transaction.
 type Row = (&'static str, usize, usize, &'static str);
 
-const TAKEN: [Row; 4] = [
+const TAKEN: [Row; 7] = [
     ("S b0 A 03 A P\n", 14, 6, "write 58 03"),
     ("S b0 A 03 A 46 A P\nS b0", 19, 8, "write 58 03 pec"),
     ("S b0 A 21 A 00 A 10 A P\n", 24, 10, "write 58 21 00 10"),
@@ -22,9 +22,27 @@ const TAKEN: [Row; 4] = [
         13,
         "read 58 88 : 00 08",
     ),
+    (
+        "S b0 A 1b A 01 A 7a A S b1 A 01 A 10 N P\n",
+        41,
+        17,
+        "call 58 1b 7a : 10",
+    ),
+    (
+        "S b0 A 1b A 01 A 7a A S b1 A 01 A 10 A 7a N P\n",
+        46,
+        19,
+        "call 58 1b 7a : 10 pec",
+    ),
+    (
+        "S b0 A 30 A 02 A d0 A 01 A S b1 A 05 A 03 A 00 A 02 A 00 A 01 N P\nS 19",
+        66,
+        27,
+        "call 58 30 d0 01 : 03 00 02 00 01",
+    ),
 ];
 
-const NOT_TAKEN: [&str; 18] = [
+const NOT_TAKEN: [&str; 26] = [
     "",
     "S",
     "S b0 A 03 A P",
@@ -49,6 +67,20 @@ const NOT_TAKEN: [&str; 18] = [
     // data too many, and too few
     "S b0 A 21 A 00 A 10 A 00 A 00 A P\n",
     "S b0 A 21 A 00 A P\n",
+    // another device replies than was called
+    "S b0 A 1b A 01 A 7a A S b3 A 01 A 10 N P\n",
+    // a command that isn't called
+    "S b0 A 21 A 00 A 10 A S b1 A 00 A 10 N P\n",
+    // fewer bytes are sent than the count says, and more
+    "S b0 A 1b A 02 A 7a A S b1 A 01 A 10 N P\n",
+    "S b0 A 1b A 00 A 7a A S b1 A 01 A 10 N P\n",
+    // a packet error code, a2, behind the written leg
+    "S b0 A 1b A 01 A 7a A a2 A S b1 A 01 A 10 N P\n",
+    // the packet error code of the call is 7a
+    "S b0 A 1b A 01 A 7a A S b1 A 01 A 10 A 7b N P\n",
+    // no code is sent, and no reply
+    "S b0 A S b1 A 01 A 10 N P\n",
+    "S b0 A 1b A 01 A 7a A S b1 N P\n",
     // the Alert Response Address
     "S 19 A b0 N P\n",
 ];
@@ -74,5 +106,35 @@ fn a_failed_try_changes_nothing(rt: HostRuntime) -> Result<(), Fail> {
         assert_eq!(rt; common.take(&profile, text.as_bytes()), None, "{text}");
         assert_eq!(rt; line_of(common.packet()).as_str(), "write 58 03", "{text}");
     }
+    Ok(())
+}
+
+/// The packet error code of a call that sends 255 bytes 11 with COEFFICIENTS, and of its reply of 255
+/// bytes 22.
+const FULL_BLOCKS_PEC: &str = "ad";
+
+#[test]
+fn takes_two_full_blocks(rt: HostRuntime) -> Result<(), Fail> {
+    let profile = Profile::from_toml(rt.alloc(), SAMPLE.as_bytes())?;
+    let mut common = Common::new();
+    let mut text = String::new(rt.alloc());
+    text.push_str("S b0 A 30 A ff A ")?;
+    for _ in 0..255 {
+        text.push_str("11 A ")?;
+    }
+    text.push_str("S b1 A ff A ")?;
+    for _ in 0..255 {
+        text.push_str("22 A ")?;
+    }
+    text.push_str(FULL_BLOCKS_PEC)?;
+    text.push_str(" N P\n")?;
+    // 516 bytes, each with ACK or NACK in five characters, two STARTs and a STOP, of two each
+    assert_eq!(rt;
+        common.take(&profile, text.as_bytes()),
+        Some(Taken {
+            used: 2586,
+            events: 1035
+        })
+    );
     Ok(())
 }

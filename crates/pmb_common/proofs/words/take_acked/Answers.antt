@@ -22,7 +22,7 @@ returns-then-is_full-clause-all c front rest small none room same =
     let less : length new < length (c.args.bytes.now.items ++ front) =
     room_left c.args.text.now c.args.bytes.now.items new at front rest c.loop-byte.invariant c.in-Some.byte (drop 5 at) small none same
     c.in-Some.ensures.small c.in-Some.ensures.spelled in
-    let full : length new ≡ 260 = eqb-true (length new) 260 (sym c.is_full.ensures.value ∙ c.if-is_full.true) in
+    let full : length new ≡ 516 = eqb-true (length new) 516 (sym c.is_full.ensures.value ∙ c.if-is_full.true) in
     absurd (omega (arith, less, full, room))
 
 pub returns-clause-all : goal.returns-clause-all
