@@ -162,7 +162,7 @@ int32_t pmb_bit_name(uint8_t code, uint8_t bit, char *text, size_t room, size_t 
  *  - The status in `told` is PMB_OK; or PMB_NO_ROOM where the text doesn't fit; or PMB_BAD_PROFILE or
  *    PMB_NO_MEMORY, and then the room stays and the length is 0.
  *  - It takes memory for the profile by malloc and realloc, pmb_run for its devices too, and frees
- *    all of it before it returns; what is read and written takes none. It uses less than 320 KB of
+ *    all of it before it returns; what is read and written takes none. It uses less than 448 KB of
  *    stack. It may not be called from a signal handler.
  *  - It needs malloc, realloc and free of the C library, memcpy and the like.
  */
