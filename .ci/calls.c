@@ -324,10 +324,187 @@ static int texts_out(void)
     return 0;
 }
 
+/* ---- events */
+
+#define MOST_EVENTS 64
+
+/* What a lexer came to: a letter or two digits for each event, and the last status. */
+typedef struct reading {
+    char events[3 * MOST_EVENTS + 1];
+    size_t count;
+    int32_t status;
+    pmb_lexer lexer;
+} reading;
+
+static void begin(reading *found)
+{
+    memset(found, 0, sizeof *found);
+    found->status = PMB_NO_EVENT;
+}
+
+/* Adds an event; 0 where it has senseless numbers. */
+static int add_event(reading *found, pmb_event event)
+{
+    static const char letters[] = {'S', 0, 'A', 'N', 'P'};
+    char *end = found->events + strlen(found->events);
+    if (event.kind > PMB_STOP || found->count == MOST_EVENTS) return 0;
+    if (event.kind != PMB_BYTE && event.byte != 0) return 0;
+    if (event.kind == PMB_BYTE) sprintf(end, "%02x ", event.byte);
+    else sprintf(end, "%c ", letters[event.kind]);
+    found->count++;
+    return 1;
+}
+
+/* Gives a piece of a text; 0 where a call does what it may not. The lexer is put aside each time. */
+static int give(reading *found, const char *piece, size_t length)
+{
+    while (found->status != PMB_BAD_TOKEN) {
+        const pmb_event before = {9, 9};
+        pmb_lexer lexer = found->lexer;
+        pmb_event event = before;
+        size_t used = 999;
+        found->status = pmb_lex(&lexer, piece, length, &used, &event);
+        if (used > length || lexer.used != found->lexer.used + used) return 0;
+        found->lexer = lexer;
+        if (found->status == PMB_OK) {
+            if (used == 0 || !add_event(found, event)) return 0;
+        } else if (event.kind != 9 || event.byte != 9) {
+            return 0;
+        }
+        if (found->status == PMB_NO_EVENT) return used == length;
+        piece += used;
+        length -= used;
+    }
+    return 1;
+}
+
+static int end_text(reading *found)
+{
+    pmb_event event = {9, 9};
+    found->status = pmb_lex_end(&found->lexer, &event);
+    if (found->status == PMB_OK) return add_event(found, event);
+    return event.kind == 9 && event.byte == 9;
+}
+
+/* Whether a text has these events and then this status, and where its bad token is: cut in each two
+ * places, and byte by byte. */
+static int reads(const char *text, const char *events, int32_t status, uint64_t at)
+{
+    const size_t length = strlen(text);
+    size_t first, second;
+    for (first = 0; first <= length; first++)
+        for (second = first; second <= length + 1; second++) {
+            reading found;
+            size_t i;
+            begin(&found);
+            if (second > length) {
+                /* (byte by byte from the first cut on) */
+                EXPECT(give(&found, text, first));
+                for (i = first; i < length; i++) EXPECT(give(&found, text + i, 1));
+            } else {
+                EXPECT(give(&found, text, first));
+                EXPECT(give(&found, text + first, second - first));
+                EXPECT(give(&found, text + second, length - second));
+            }
+            EXPECT(end_text(&found));
+            EXPECT(strcmp(found.events, events) == 0);
+            EXPECT(found.status == status);
+            EXPECT(status != PMB_BAD_TOKEN || found.lexer.at == at);
+            EXPECT(status == PMB_BAD_TOKEN || found.lexer.used == length);
+        }
+    return 0;
+}
+
+/* A lexer that has met a word that is no token stays there. */
+static int stays_bad(pmb_lexer lexer)
+{
+    pmb_lexer same = lexer;
+    pmb_event event = {9, 9};
+    size_t used = 999;
+    EXPECT(pmb_lex(&lexer, "S S ", 4, &used, &event) == PMB_BAD_TOKEN && used == 0);
+    EXPECT(pmb_lex(&lexer, "", 0, &used, &event) == PMB_BAD_TOKEN && used == 0);
+    EXPECT(pmb_lex_end(&lexer, &event) == PMB_BAD_TOKEN);
+    EXPECT(event.kind == 9 && event.byte == 9);
+    EXPECT(lexer.used == same.used && lexer.at == same.at && lexer.place == same.place);
+    EXPECT(lexer.first == same.first && lexer.second == same.second);
+    return 0;
+}
+
+static int events(void)
+{
+    static const char *const bad[] = {"Q", "s ", "S b0A", "S 1 ", "S 1", "SS", "0g", "#\nx", "b0#\n1#"};
+    static const uint64_t places[] = {0, 0, 2, 2, 2, 0, 0, 2, 4};
+    size_t i;
+    EXPECT(sizeof(pmb_lexer) == 24 && sizeof(pmb_event) == 2);
+    EXPECT(!reads("", "", PMB_NO_EVENT, 0));
+    EXPECT(!reads("S b0 A 21 A 00 N P\n", "S b0 A 21 A 00 N P ", PMB_NO_EVENT, 0));
+    EXPECT(!reads("  S\tB0\r\nA", "S b0 A ", PMB_OK, 0));
+    EXPECT(!reads("#S\n\nS# A S\nfF#P", "S ff ", PMB_NO_EVENT, 0));
+    EXPECT(!reads("S ## #\n#\n 0f#", "S 0f ", PMB_NO_EVENT, 0));
+    EXPECT(!reads("S 0f", "S 0f ", PMB_OK, 0));
+    EXPECT(!reads("S b0 A zz A", "S b0 A ", PMB_BAD_TOKEN, 7));
+    EXPECT(!reads("S # b0 0\n b00 P", "S ", PMB_BAD_TOKEN, 10));
+    EXPECT(!reads("S b0 A 2", "S b0 A ", PMB_BAD_TOKEN, 7));
+    for (i = 0; i < sizeof bad / sizeof *bad; i++) {
+        reading found;
+        begin(&found);
+        EXPECT(give(&found, bad[i], strlen(bad[i])) && end_text(&found));
+        EXPECT(found.status == PMB_BAD_TOKEN && found.lexer.at == places[i]);
+        EXPECT(!stays_bad(found.lexer));
+    }
+    return 0;
+}
+
+/* Numbers that no call leaves in a lexer. */
+static int senseless(void)
+{
+    static const char *const pieces[] = {"", "A", " ", "#", "\n", "0 b", "zz", "P b0 "};
+    unsigned place, bytes;
+    size_t i;
+    for (place = 0; place < 256; place += place < 5 ? 1 : 25)
+        for (bytes = 0; bytes < 65536; bytes += place == 3 ? 13 : 257)
+            for (i = bytes % 4; i < sizeof pieces / sizeof *pieces; i += 4) {
+                const size_t length = strlen(pieces[i]);
+                pmb_event event = {9, 9};
+                size_t used = 999;
+                int32_t status;
+                pmb_lexer lexer;
+                memset(&lexer, 0, sizeof lexer);
+                lexer.used = UINT64_MAX - (bytes % 3);
+                lexer.at = bytes;
+                lexer.place = (uint8_t)place;
+                lexer.first = (uint8_t)(bytes >> 8);
+                lexer.second = (uint8_t)bytes;
+                if (place >= 4) EXPECT(!stays_bad(lexer));
+                status = pmb_lex(&lexer, pieces[i], length, &used, &event);
+                EXPECT(used <= length && lexer.used >= UINT64_MAX - 2);
+                EXPECT(status == PMB_OK || status == PMB_NO_EVENT || status == PMB_BAD_TOKEN);
+                EXPECT((status == PMB_OK) == (event.kind != 9));
+                EXPECT(status != PMB_NO_EVENT || used == length);
+                status = pmb_lex_end(&lexer, &event);
+                EXPECT(status == PMB_OK || status == PMB_NO_EVENT || status == PMB_BAD_TOKEN);
+            }
+    return 0;
+}
+
+/* Offsets stay at the greatest number of 64 bits. */
+static int far_offsets(void)
+{
+    pmb_lexer lexer;
+    pmb_event event;
+    size_t used;
+    memset(&lexer, 0, sizeof lexer);
+    lexer.used = UINT64_MAX - 1;
+    EXPECT(pmb_lex(&lexer, "S b", 3, &used, &event) == PMB_OK && lexer.used == UINT64_MAX);
+    EXPECT(pmb_lex(&lexer, "b", 1, &used, &event) == PMB_NO_EVENT && lexer.used == UINT64_MAX);
+    EXPECT(pmb_lex(&lexer, "z", 1, &used, &event) == PMB_BAD_TOKEN && lexer.at == UINT64_MAX);
+    return 0;
+}
+
 static void *all(void *result)
 {
     *(int *)result = pmb_version() != PMB_VERSION || pecs() || formats() || round_trips() ||
-                     texts_in() || texts_out();
+                     texts_in() || texts_out() || events() || senseless() || far_offsets();
     return result;
 }
 

@@ -8,6 +8,7 @@ import glob
 import json
 import os
 import random
+import re
 import subprocess
 import sys
 import threading
@@ -247,6 +248,41 @@ def compare_wholes(program, count):
             compare_whole(program, command, profile, text, options)
 
 
+def plain_events(text):
+    """The events of a text, and where its first word is that is no token, by the rules in words."""
+    blank = re.sub(rb"#[^\n]*", lambda comment: b" " * len(comment.group()), text)
+    letters = {b"S": "start", b"A": "ack", b"N": "nack", b"P": "stop"}
+    events = []
+    for word in re.finditer(rb"[^ \t\r\n]+", blank):
+        if word.group() in letters:
+            events.append((letters[word.group()], None))
+        elif re.fullmatch(rb"[0-9A-Fa-f]{2}", word.group()):
+            events.append(("byte", int(word.group(), 16)))
+        else:
+            return events, word.start()
+    return events, None
+
+
+def compare_events(count):
+    """The events of the examples' captures, whole, by lines and in pieces, some of them disturbed."""
+    r = random.Random(7)
+    texts = [text for commands, _, text in examples() if "show" in commands]
+    for at in range(count // 20):
+        text = texts[at] if at < len(texts) else disturbed(r, r.choice(texts)[: r.randrange(400)])
+        cuts = sorted(r.randrange(len(text) + 1) for _ in range(r.randrange(9)))
+        pieces = [text[a:b] for a, b in zip([0] + cuts, cuts + [len(text)])]
+        for given in (text, pieces, text.splitlines(True), [text[i : i + 1] for i in range(len(text))]):
+            found, bad = [], None
+            try:
+                for event in pmb.events(given):
+                    found.append(event)
+            except pmb.TokenError as error:
+                bad = error.at
+            check((found, bad) == plain_events(text), f"the events of {text[:60]!r}: {bad}")
+    lines = texts[0].decode().splitlines(True)
+    check(list(pmb.events(lines)) == list(pmb.events(texts[0])), "the events of a str")
+
+
 def compare_kinds():
     """What else is taken as a quantity or a format."""
     check(pmb.encode("linear11", 12) == pmb.encode("linear11", Fraction(24, 2)) == 0xD300, "12")
@@ -300,6 +336,7 @@ def main():
     compare_names(program)
     compare_packets(program)
     compare_wholes(program, int(sys.argv[2]) if len(sys.argv) > 2 else 10000)
+    compare_events(int(sys.argv[2]) if len(sys.argv) > 2 else 10000)
     compare_kinds()
     compare_threads()
     ran = subprocess.run([program, "--version"], capture_output=True)

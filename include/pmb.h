@@ -12,8 +12,8 @@
  * There are two parts. Up to the line "whole inputs" below, for each function:
  *  - It takes no memory from the heap, and uses less than 2 KB of stack. It needs memcpy and memmove
  *    of the C library, and nothing else of it. It may be called from a signal handler.
- *  - A call whose status is not PMB_OK leaves what it would have written as it was. Only `length` is
- *    written always.
+ *  - A call whose status is not PMB_OK leaves what it would have written as it was. Only `length`,
+ *    `used` and a lexer are written always.
  */
 #ifndef PMB_H
 #define PMB_H
@@ -73,7 +73,11 @@ enum pmb_status {
     /* malloc or realloc refused memory. */
     PMB_NO_MEMORY = 18,
     /* The choice: one of its numbers is none that its field has. */
-    PMB_BAD_CHOICE = 19
+    PMB_BAD_CHOICE = 19,
+    /* No event has ended in the text so far. */
+    PMB_NO_EVENT = 20,
+    /* A word of the text is no token. */
+    PMB_BAD_TOKEN = 21
 };
 
 /* A quantity: an exact fraction, without a unit. What is given may be any fraction, of any signs.
@@ -151,6 +155,42 @@ int32_t pmb_command_name(uint8_t code, char *text, size_t room, size_t *length);
  * characters it has, also where they don't fit; 0 where there is no name.
  * Returns PMB_NO_NAME, or else PMB_NO_ROOM. */
 int32_t pmb_bit_name(uint8_t code, uint8_t bit, char *text, size_t room, size_t *length);
+
+/* The kinds of events of a bus. */
+enum pmb_event_kind { PMB_START = 0, PMB_BYTE = 1, PMB_ACK = 2, PMB_NACK = 3, PMB_STOP = 4 };
+
+/* An event. */
+typedef struct pmb_event {
+    uint8_t kind; /* one of enum pmb_event_kind */
+    uint8_t byte; /* of PMB_BYTE, and else 0 */
+} pmb_event;
+
+/* A lexer of a capture's text (docs/text.md): where the text so far has ended. It has 24 bytes and
+ * no pointers, and may be copied. With all numbers 0, as of `pmb_lexer lexer = { 0 }`, it is one at
+ * the start of a text. Other numbers than those that a call left do no harm: a place of 2 or 3 stands
+ * for a text of the bytes `first`, or `first` and `second`; where no text begins so, or an event ends
+ * in it, and with a place above 4, it is as with 4. */
+typedef struct pmb_lexer {
+    uint64_t used;  /* how many bytes of the text were used; stays at 2^64 - 1 */
+    uint64_t at;    /* the offset of the first byte of the word under way, or that is no token */
+    uint8_t place;  /* 0 between words, 1 in a comment, 2 and 3 behind one and two bytes of a word,
+                     * 4 where a word is no token */
+    uint8_t first;  /* the first byte of the word under way */
+    uint8_t second; /* its second byte */
+} pmb_lexer;
+
+/* Reads the next piece of a text, up to and with the byte that ends its next event, or all of it.
+ * used is told how many bytes were read; those behind are to be given again, before what follows. A
+ * text may be cut anywhere: its events are the same.
+ * Returns PMB_OK, and writes the event; or PMB_NO_EVENT, where all is used; or PMB_BAD_TOKEN, where
+ * a word is no token: lexer->at is the offset in the text of its first byte, and each further call
+ * of this lexer returns the same and uses nothing. */
+int32_t pmb_lex(pmb_lexer *lexer, const char *piece, size_t length, size_t *used, pmb_event *event);
+
+/* The text ends, and with it the word under way.
+ * Returns PMB_OK, and writes that word's event; or PMB_NO_EVENT, where there was none; or
+ * PMB_BAD_TOKEN, as pmb_lex does. */
+int32_t pmb_lex_end(pmb_lexer *lexer, pmb_event *event);
 
 /* ---- whole inputs
  *

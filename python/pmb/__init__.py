@@ -13,6 +13,8 @@ devices under a profile.
     'S b0 A 21 A 00 A 18 A P\\n'
     >>> [it["value"] for it in pmb.transactions(profile, "S b0 A 21 A 00 A 18 A P")]
     ['12']
+    >>> [event.byte for event in pmb.events("S b0 A 21 A P") if event.kind == "byte"]
+    [176, 33]
 
 Every call may be made from several threads side by side.
 """
@@ -27,16 +29,19 @@ from typing import Any, Dict, Iterable, Iterator, NamedTuple, Optional, Union
 
 __all__ = [
     "Error",
+    "Event",
     "Format",
     "LineError",
     "ProfileError",
     "Text",
+    "TokenError",
     "bit_name",
     "build",
     "check",
     "command_name",
     "decode",
     "encode",
+    "events",
     "json",
     "pec",
     "quantity",
@@ -65,6 +70,10 @@ _FAULTS = {
     14: "TooLarge",
 }
 _OK, _NO_NAME, _NO_ROOM, _BAD_PROFILE, _NO_MEMORY, _BAD_CHOICE = 0, 15, 16, 17, 18, 19
+_NO_EVENT, _BAD_TOKEN = 20, 21
+
+# The kinds of events, by the library's numbers.
+_KINDS = ("start", "byte", "ack", "nack", "stop")
 
 # The names of the faults of profiles, by the library's numbers.
 _PROFILE_FAULTS = (
@@ -110,6 +119,23 @@ class LineError(Error):
     def __init__(self, fault: str, line: int) -> None:
         super().__init__(fault, "line {}".format(line))
         self.line = line
+
+
+class TokenError(Error):
+    """A word of a capture's text is no token: `fault` is `BadToken`, and `place` is `byte 5`. `at` is
+    the number of the word's first byte, counted from 0."""
+
+    def __init__(self, at: int) -> None:
+        super().__init__("BadToken", "byte {}".format(at))
+        self.at = at
+
+
+class Event(NamedTuple):
+    """An event of a bus: its kind is `start`, `byte`, `ack`, `nack` or `stop`; `byte` is the byte of a
+    `byte`, and else `None`."""
+
+    kind: str
+    byte: Optional[int] = None
 
 
 class Text(str):
@@ -196,6 +222,20 @@ class _Quantity(ctypes.Structure):
     _fields_ = [("numerator", ctypes.c_int64), ("denominator", ctypes.c_int64)]
 
 
+class _Lexer(ctypes.Structure):
+    _fields_ = [
+        ("used", ctypes.c_uint64),
+        ("at", ctypes.c_uint64),
+        ("place", ctypes.c_uint8),
+        ("first", ctypes.c_uint8),
+        ("second", ctypes.c_uint8),
+    ]
+
+
+class _Event(ctypes.Structure):
+    _fields_ = [("kind", ctypes.c_uint8), ("byte", ctypes.c_uint8)]
+
+
 class _Choice(ctypes.Structure):
     _fields_ = [
         ("digits", ctypes.c_uint8),
@@ -224,6 +264,7 @@ def _load() -> ctypes.CDLL:
     status, byte, size = ctypes.c_int32, ctypes.c_uint8, ctypes.c_size_t
     format_at, quantity_at = ctypes.POINTER(_Format), ctypes.POINTER(_Quantity)
     code_at, size_at, text = ctypes.POINTER(ctypes.c_uint16), ctypes.POINTER(size), ctypes.c_char_p
+    lexer_at, event_at = ctypes.POINTER(_Lexer), ctypes.POINTER(_Event)
     room = [text, size, ctypes.POINTER(_Result)]
     whole = [text, size, text, size]
     choice = [ctypes.POINTER(_Choice), text, size]
@@ -236,6 +277,8 @@ def _load() -> ctypes.CDLL:
         ("pmb_quantity_text", status, [_Quantity, text, size, size_at]),
         ("pmb_command_name", status, [byte, text, size, size_at]),
         ("pmb_bit_name", status, [byte, byte, text, size, size_at]),
+        ("pmb_lex", status, [lexer_at, ctypes.c_void_p, size, size_at, event_at]),
+        ("pmb_lex_end", status, [lexer_at, event_at]),
         ("pmb_show", size, whole + room),
         ("pmb_check", size, whole + room),
         ("pmb_build", size, whole + room),
@@ -342,6 +385,35 @@ def bit_name(code: int, bit: int) -> Optional[str]:
     return None if status == _NO_NAME else room.value.decode("ascii")
 
 
+def events(text: Union[str, bytes, Iterable[Union[str, bytes]]]) -> Iterator[Event]:
+    """The events of a capture's text, each as soon as its word has ended.
+
+    The text may come in pieces, cut anywhere: those of a list, or the lines of an open file. Raises a
+    `TokenError` at the first word that is no token.
+    """
+    pieces = [text] if isinstance(text, (str, bytes, bytearray)) else text
+    lexer, event, used = _Lexer(), _Event(), ctypes.c_size_t()
+    status = _NO_EVENT
+    for piece in pieces:
+        given = _bytes(piece)
+        at, end = ctypes.cast(given, ctypes.c_void_p).value or 0, len(given)
+        while True:
+            status = _LIBRARY.pmb_lex(
+                ctypes.byref(lexer), at, end, ctypes.byref(used), ctypes.byref(event)
+            )
+            if status != _OK:
+                break
+            yield _event(event)
+            at, end = at + used.value, end - used.value
+        if status == _BAD_TOKEN:
+            raise TokenError(lexer.at)
+    status = _LIBRARY.pmb_lex_end(ctypes.byref(lexer), ctypes.byref(event))
+    if status == _BAD_TOKEN:
+        raise TokenError(lexer.at)
+    if status == _OK:
+        yield _event(event)
+
+
 def show(profile: Union[str, bytes], capture: Union[str, bytes]) -> Text:
     """What `pmb show` writes of a capture: a line for each packet, with what it says, and for each
     refusal. Raises a `ProfileError`."""
@@ -416,6 +488,11 @@ def transactions(
     text = json(profile, capture, devices, digits, late, fixed_vout_mode, keep_going)
     objects = (_json.loads(line) for line in text.splitlines())
     return (it for it in objects if it["kind"] not in ("device", "end"))
+
+
+def _event(event: _Event) -> Event:
+    kind = _KINDS[event.kind]
+    return Event(kind, event.byte if kind == "byte" else None)
 
 
 def _bytes(text: Union[str, bytes]) -> bytes:

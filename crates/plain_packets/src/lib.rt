@@ -18,5 +18,5 @@ pub use legs::{
 };
 pub use packets::packet;
 pub use random::Random;
-pub use texts::{LONG_FORMS, SEVENTEEN_DEVICES, events};
+pub use texts::{LONG_FORMS, SEVENTEEN_DEVICES, events, part, seventeen_devices};
 pub use viability::{is_viable, kinds_after};

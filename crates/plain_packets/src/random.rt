@@ -1,5 +1,7 @@
 //! Numbers that follow no pattern, the same in each run.
 
+use pmb_table::Form;
+
 /// Numbers from a fixed seed (Marsaglia's xorshift of 32 bits).
 #[derive(Clone, Copy)]
 pub struct Random(u32);
@@ -31,5 +33,17 @@ impl Random {
     /// Any byte.
     pub fn byte(&mut self) -> u8 {
         (self.next() >> 24) as u8
+    }
+
+    /// The number of data bytes in a form; of a block some.
+    pub fn data_count(&mut self, form: Form) -> u8 {
+        match form {
+            Form::Zero => 0,
+            Form::One => 1,
+            Form::Two => 2,
+            Form::Four => 4,
+            Form::Eight => 8,
+            Form::Block => self.byte() & 3,
+        }
     }
 }

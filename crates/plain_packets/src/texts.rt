@@ -1,6 +1,8 @@
 //! Captures and profiles as rows of tests tell them.
 
+use arrayvec::ArrayVec;
 use pmb_bus::{Event, Lexer, Step};
+use pmb_transaction::Part;
 use std::alloc::{AllocError, Global};
 
 /// The events that a capture text spells.
@@ -20,6 +22,18 @@ pub fn events(alloc: Global, text: &str) -> Result<Vec<Event>, AllocError> {
         events.push(event)?;
     }
     Ok(events)
+}
+
+/// A part with data, as far as they fit.
+pub fn part(addr: u8, code: u8, data: &[u8], pec: bool) -> Part {
+    let mut bytes = ArrayVec::new();
+    let _ = bytes.try_extend_from_slice(data);
+    Part {
+        addr,
+        code,
+        bytes,
+        pec,
+    }
 }
 
 /// A device with commands of four and eight bytes, and one that is called with two.
@@ -62,3 +76,14 @@ pub const SEVENTEEN_DEVICES: &str = r#"device = [
     { address = 0x20, pec = 'off', standard = false, command = [{ code = 3, write = 'zero' }] },
 ]
 "#;
+
+/// Seventeen devices without packet error codes, from 10h on, with the commands of the standard.
+pub fn seventeen_devices(alloc: Global) -> Result<String, AllocError> {
+    let mut text = String::new(alloc);
+    for address in 0x10u8..0x21 {
+        text.push_str(format!(in alloc;
+            "[[device]]\naddress = {address}\npec = \"off\"\n"
+        )?.as_str())?;
+    }
+    Ok(text)
+}

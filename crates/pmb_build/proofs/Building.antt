@@ -1,8 +1,9 @@
 -- Lines that are built one after the other.
-use Rattle.std.proofs.Common.{◌≡◌, ℕ, ◌+◌, Bool, cond, List, [], ◌∷◌, ◌++◌, length, sym, ◌∙◌, ap, subst, append-nil, append_assoc, arith, count_by, length-append}
+use Rattle.std.proofs.Common.{◌≡◌, ℕ, ◌+◌, Bool, cond, List, [], ◌∷◌, ◌++◌, length, sym, ◌∙◌, ap, subst, arith, count_by, length-append}
 use Rattle.std.proofs.lemmas.List.Sums.{fold-append}
 use Rattle.std.specs.Borrow.{Bor}
 use Rattle.std.specs.Prelude.{Option}
+use Rattle.pmb_io.specs.Answers.{answers_after-push}
 use Rattle.pmb_io.specs.Count.{capped}
 use Rattle.pmb_io.specs.Engines.{PutsOut}
 use Rattle.pmb_io.specs.Lines.{TextLine}
@@ -10,7 +11,7 @@ use Rattle.pmb_io.specs.Tally.{IsTallyOf}
 use Rattle.pmb_io.specs.declared.tally.Tally.{Tally}
 use Rattle.pmb_command.specs.Parts.{DeviceParts}
 use Rattle.pmb_build.specs.Answer.{BuildAnswer, BuildsLine, BuildsText, Built, Refused, Nothing, answer_text, is_built, is_refused}
-use Rattle.pmb_build.specs.Lines.{BuildsCounted, BuildsEach, BuildsLines, answers_behind}
+use Rattle.pmb_build.specs.Lines.{BuildsEach}
 use Rattle.pmb_build.specs.declared.builder.Builder.{Builder}
 use Rattle.pmb_build.specs.machine.Building.{BuilderStands, BuilderTakes, counted_in}
 
@@ -21,17 +22,6 @@ answers-append profile [] others [] more each next = next
 answers-append profile [] others (answer ∷ answers) more each next = absurd each
 answers-append profile (line ∷ given) others [] more each next = absurd each
 answers-append profile (line ∷ given) others (answer ∷ answers) more each next = (each.0, answers-append profile given others answers more each.1 next)
-
--- the text of answers and of one more
-text-push : (before n : ℕ) (answers : List BuildAnswer) (answer : BuildAnswer) → n ≡ before + length answers + 1
-    → answers_behind before (answers ++ answer ∷ []) ≡ answers_behind before answers ++ answer_text (capped n) answer
-text-push before n [] answer count =
-    let same : before + 1 ≡ n = omega (arith, count) in
-    append-nil (answer_text (capped (before + 1)) answer) ∙ ap (λ (m : ℕ). answer_text (capped m) answer) same
-text-push before n (a ∷ answers) answer count =
-    let count_behind : n ≡ before + 1 + length answers + 1 = omega (arith, count) in
-    ap (λ (t : List ℕ). answer_text (capped (before + 1)) a ++ t) (text-push (before + 1) n answers answer count_behind)
-    ∙ sym (append_assoc (answer_text (capped (before + 1)) a) (answers_behind (before + 1) answers) (answer_text (capped n) answer))
 
 -- one answer more is counted
 one_more : (p : BuildAnswer → Bool) (answers : List BuildAnswer) (answer : BuildAnswer) → count_by p (answers ++ answer ∷ []) ≡ count_by p answers + cond (p answer) 1 0
@@ -71,7 +61,7 @@ answers_more start before after given text line answer number number_is same lin
         given = record {
           answers = was.answers ++ answer ∷ [];
           each = answers-append start.profile.now given (line ∷ []) was.answers (answer ∷ []) was.each (one, tt);
-          whole = (λ i. was.whole i ++ answer_text (numbered i) answer) ∙ sym (text-push 0 (length was.answers + 1) was.answers answer (omega arith));
+          whole = (λ i. was.whole i ++ answer_text (numbered i) answer) ∙ sym (answers_after-push answer_text was.answers answer);
         };
         counts = subst (λ (t : Tally). IsTallyOf (count_by is_built (was.answers ++ answer ∷ [])) (count_by is_refused (was.answers ++ answer ∷ [])) t) (sym tally_is)
             (counts_more before.tally was.answers answer stands.answered.counts);
@@ -93,14 +83,3 @@ puts_more start before counting after given text line said held_old waiting_old 
           (takes.tally ∙ ap (counted_in takes.answer) tally_is)
           (says takes.answer (subst (λ (p : List DeviceParts). BuildsText p said takes.answer) profile_is takes.answers)) stands;
     }
-
--- ---- what was built from the beginning
-
-pub answers_of : (profile : List DeviceParts) (start now : Builder) (given : List TextLine) (text : List ℕ) → start.profile.now ≡ profile → BuilderStands start now given text → BuildsLines profile given text
-answers_of profile start now given text is stands = subst (λ (p : List DeviceParts). BuildsLines p given text) is stands.answered.given
-
-pub answers_to : (profile : List DeviceParts) (start now : Builder) (tally : Tally) (given : List TextLine) (text : List ℕ) → start.profile.now ≡ profile → tally ≡ now.tally → BuilderStands start now given text
-    → BuildsCounted profile tally given text
-answers_to profile start now tally given text is same stands =
-    subst (λ (t : Tally). BuildsCounted profile t given text) (sym same)
-    (subst (λ (p : List DeviceParts). BuildsCounted p now.tally given text) is stands.answered)

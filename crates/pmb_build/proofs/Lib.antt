@@ -1,3 +1,4 @@
 pub mod Building
+pub mod CommonLines
 pub mod OneBuilding
 pub mod SomeText

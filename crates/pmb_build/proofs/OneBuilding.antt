@@ -1,13 +1,11 @@
 -- What is built of bytes is one text and one tally.
-use Rattle.std.proofs.Common.{◌≡◌, ℕ, ◌+◌, List, [], ◌∷◌, ◌++◌, refl, sym, ◌∙◌, ap, subst, append_assoc}
-use Rattle.std.specs.Prelude.{count_by}
+use Rattle.std.proofs.Common.{◌≡◌, ℕ, List, [], ◌∷◌, ◌++◌, refl, sym, ◌∙◌, ap, subst}
 use Rattle.pmb_bus.specs.declared.event.Event.{Event}
 use Rattle.pmb_command.specs.Parts.{DeviceParts}
-use Rattle.pmb_io.specs.Count.{capped}
-use Rattle.pmb_io.specs.Lines.{TextLine, ended_lines}
+use Rattle.pmb_io.specs.Answers as answers
+use Rattle.pmb_io.specs.Lines.{LinesGoOn, TextLine, ended_lines, lines_of}
 use Rattle.pmb_io.specs.Lines as lines
 use Rattle.pmb_io.specs.declared.tally.Tally.{Tally}
-use Rattle.pmb_io.proofs.LineFronts.{ended_lines_go_on}
 use Rattle.pmb_transaction.specs.Packet.{Packet}
 use Rattle.pmb_transaction.specs.Transaction.{TransactionData}
 use Rattle.pmb_line.specs.LineFault.{IsLineFault, Parses}
@@ -16,7 +14,7 @@ use Rattle.pmb_line.specs.Words.{texts, line_words}
 use Rattle.pmb_line.specs.declared.line_fault.LineFault.{LineFault}
 use Rattle.pmb_line.specs.declared.line_fault.LineFault.TheVariants as fault
 use Rattle.pmb_build.specs.Answer.{BuildAnswer, BuildsLine, BuildsText, Builds, Built, Refused, Nothing, answer_text, is_built, is_refused, most_build_line}
-use Rattle.pmb_build.specs.Lines.{BuildsCounted, BuildsEach, BuildsLines, BuildsEnded, BuildsInput, answers_behind}
+use Rattle.pmb_build.specs.Lines.{BuildsCounted, BuildsEach, BuildsLines, BuildsEnded, BuildsInput}
 
 module _ (profile : List DeviceParts) (one_transaction : (ws : List (List ℕ)) (t u : TransactionData) → SpellsTransaction ws t → SpellsTransaction ws u → t ≡ u)
     (one_packet : (t : TransactionData) (a b : List Event) → Packet profile t a → Packet profile t b → a ≡ b)
@@ -54,48 +52,30 @@ module _ (profile : List DeviceParts) (one_transaction : (ws : List (List ℕ)) 
   -- ---- one text
 
   pub one_text : (given : List TextLine) (a b : List ℕ) → BuildsLines profile given a → BuildsLines profile given b → a ≡ b
-  one_text given a b x y = x.whole ∙ ap (answers_behind 0) (same_each given x.answers y.answers x.each y.each) ∙ sym y.whole
+  one_text = answers.one_text answer_text (BuildsEach profile) same_each
 
   pub one_tally : (given : List TextLine) (a b : List ℕ) (s t : Tally) → BuildsCounted profile s given a → BuildsCounted profile t given b → s ≡ t
-  one_tally given a b s t x y =
-      let same = same_each given x.given.answers y.given.answers x.given.each y.given.each in
-      ap (λ (n : ℕ). record s { packets = n }) (x.counts.packets_counted ∙ ap (λ xs. capped (count_by is_built xs)) same ∙ sym y.counts.packets_counted)
-      ∙ ap (λ (n : ℕ). record t { refusals = n }) (x.counts.refusals_counted ∙ ap (λ xs. capped (count_by is_refused xs)) same ∙ sym y.counts.refusals_counted)
+  one_tally = answers.one_tally answer_text (BuildsEach profile) is_built is_refused same_each
 
   -- ---- fronts
 
   -- the answers to lines that begin some others
   record Front (given : List TextLine) (answers : List BuildAnswer) : Type 0 where
     front : List BuildAnswer
-    behind : List BuildAnswer
-    split : answers ≡ front ++ behind
+    after : List BuildAnswer
+    split : answers ≡ front ++ after
     each : BuildsEach profile given front
 
   front_of : (given others : List TextLine) (answers : List BuildAnswer) → BuildsEach profile (given ++ others) answers → Front given answers
-  front_of [] others answers each = record { front = []; behind = answers; split = refl; each = tt }
+  front_of [] others answers each = record { front = []; after = answers; split = refl; each = tt }
   front_of (line ∷ given) others [] each = absurd each
   front_of (line ∷ given) others (a ∷ answers) each =
-      let f = front_of given others answers each.1 in record { front = a ∷ f.front; behind = f.behind; split = ap (λ xs. a ∷ xs) f.split; each = (each.0, f.each) }
+      let f = front_of given others answers each.1 in record { front = a ∷ f.front; after = f.after; split = ap (λ xs. a ∷ xs) f.split; each = (each.0, f.each) }
 
-  -- a text goes on with another
-  abbrev pub GoesOn : List ℕ → List ℕ → Type 0
-  GoesOn front whole = (rest : List ℕ) × (whole ≡ front ++ rest)
-
-  text_goes_on : (before : ℕ) (front behind : List BuildAnswer) → GoesOn (answers_behind before front) (answers_behind before (front ++ behind))
-  text_goes_on before [] behind = (answers_behind before behind, refl)
-  text_goes_on before (a ∷ front) behind =
-      let on = text_goes_on (before + 1) front behind in
-      let first = answer_text (capped (before + 1)) a in
-      (on.0, ap (λ text. first ++ text) on.1 ∙ sym (append_assoc first (answers_behind (before + 1) front) on.0))
-
-  built_first : (given others : List TextLine) (a b : List ℕ) → BuildsLines profile given a → BuildsLines profile (given ++ others) b → GoesOn a b
-  built_first given others a b x y =
-      let f = front_of given others y.answers y.each in
-      let on = text_goes_on 0 f.front f.behind in
-      let same : answers_behind 0 f.front ≡ a = ap (answers_behind 0) (same_each given f.front x.answers f.each x.each) ∙ sym x.whole in
-      (on.0, y.whole ∙ ap (answers_behind 0) f.split ∙ on.1 ∙ ap (λ text. text ++ on.0) same)
-
-  pub ended_first : (bytes more a b : List ℕ) (tally : Tally) → BuildsEnded profile bytes a → BuildsInput profile tally (bytes ++ more) b → GoesOn a b
-  ended_first bytes more a b tally x y =
-      let on = ended_lines_go_on most_build_line bytes more in
-      built_first (ended_lines most_build_line bytes) on.0 a b x (subst (λ ls. BuildsLines profile ls b) on.1 y.given)
+  pub ended_first : (bytes more a b : List ℕ) (tally : Tally) → LinesGoOn (ended_lines most_build_line bytes) (lines_of most_build_line (bytes ++ more))
+      → BuildsEnded profile bytes a → BuildsInput profile tally (bytes ++ more) b → (rest : List ℕ) × (b ≡ a ++ rest)
+  ended_first bytes more a b tally on x y =
+      let given = ended_lines most_build_line bytes in
+      let all = subst (λ ls. BuildsLines profile ls b) on.1 y.given in
+      let f = front_of given on.0 all.answers all.each in
+      answers.front_text answer_text (BuildsEach profile) same_each given (given ++ on.0) a b f.front f.after f.each x all f.split

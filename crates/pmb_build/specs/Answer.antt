@@ -21,7 +21,7 @@ pub data BuildAnswer : Type 0 where
 
 -- ---- how it is written
 
--- the text of a fault, behind the number of its line
+-- the text of a fault, after the number of its line
 abbrev pub numbered_text : ℕ → List ℕ → List ℕ
 numbered_text number why = codes "# line " ++ (decimal number ++ (codes ": " ++ (why ++ codes "\n")))
 
@@ -75,7 +75,7 @@ module _ (profile : List DeviceParts) where
   BuildsText line (Refused why) = IsRefused line why
   BuildsText line Nothing = line_words line ≡ []
 
-  -- What is answered to a line. One of more bytes is too long behind the last that it may have,
+  -- What is answered to a line. One of more bytes is too long after the last that it may have,
   -- whatever it says.
   abbrev pub BuildsLine : lines.TextLine → BuildAnswer → Type 0
   BuildsLine (lines.Ended line) answer = BuildsText line answer

@@ -7,13 +7,15 @@ ghost use Rattle.pmb_io.specs.Engines.{PutsOut};
 ghost use Rattle.pmb_io.specs.Outgoing.{PutsText};
 ghost use Rattle.pmb_io.specs.Tally.{with_refusal};
 ghost use Rattle.pmb_line.specs.LineFault.{IsLineFault};
-ghost use Rattle.pmb_build.specs.Answer.{numbered_fault};
+ghost use Rattle.pmb_build.specs.Answer.{most_build_line, numbered_fault};
+ghost use Rattle.pmb_build.specs.Lines.{building};
 ghost use Rattle.pmb_build.specs.machine.Building.{BuilderStands, BuilderTakes};
 
+use crate::common_lines::QuickReader;
 use crate::fault_line::numbered_line;
 use crate::packet::put_packet;
 use pmb_io::{Line, LineTask, RunFault, Sink, Tally, Waiting, put};
-use pmb_line::{LineFault, LineReader};
+use pmb_line::LineFault;
 use pmb_table::Profile;
 
 /// The most bytes of a line, a CR at its end counted.
@@ -23,8 +25,7 @@ pub(crate) const MOST_BYTES: usize = 32768;
 #[derive(Drop)]
 pub(crate) struct Builder<'a> {
     profile: &'a Profile,
-    /// What lines are read into.
-    reader: LineReader,
+    reader: QuickReader,
     /// How many lines were taken; stays at the greatest `u64`.
     lines: u64,
     tally: Tally,
@@ -38,17 +39,10 @@ impl<'a> Builder<'a> {
     {
         Builder {
             profile,
-            reader: LineReader::new(),
+            reader: QuickReader::new(),
             lines: 0,
             tally: Tally::new(),
         }
-    }
-
-    /// How many lines had a packet, and how many a fault.
-    pub(crate) fn tally(&self) -> Tally
-        ensures { result ≡ self.now.tally }
-    {
-        self.tally
     }
 
     /// Counts a line, and puts out the packet that it spells, or its fault.
@@ -96,7 +90,17 @@ impl<'a> Builder<'a> {
 }
 
 impl<'a> LineTask for Builder<'a> {
+    ghost most = { most_build_line };
+
     ghost Stands = { BuilderStands };
+
+    ghost counted = { λ builder. builder.tally };
+
+    ghost job = { λ start. building start.profile.now };
+
+    ghost writes_all = { λ start now bytes text stands. stands.answered };
+
+    ghost writes_front = { λ start now bytes text stands. stands.answered.given };
 
     fn take_line<W: Sink>(
         &mut self,
@@ -110,5 +114,9 @@ impl<'a> LineTask for Builder<'a> {
             Line::Last(text) => self.take_text(text, waiting, writer),
             Line::TooLong => self.take_fault(LineFault::TooLong(MOST_BYTES), waiting, writer),
         }
+    }
+
+    fn tally(&self) -> Tally {
+        self.tally
     }
 }

@@ -6,6 +6,7 @@ ghost use Rattle.pmb_command.specs.Parts.{DeviceParts};
 ghost use Rattle.pmb_io.specs.declared.tally.Tally.{Tally};
 ghost use Rattle.pmb_build.specs.Lines.{BuildsEnded, BuildsInput};
 
+use pmb_io::laws::ended_lines_stay;
 use pmb_line::laws::{no_parse_with_a_fault, one_line_fault, one_transaction, parse_or_fault};
 use pmb_transaction::laws::one_packet;
 
@@ -35,6 +36,7 @@ pub fn ended_lines_come_first()
     ensures front { (profile : List DeviceParts) (bytes more a b : List ℕ) (tally : Tally) → IsBus profile
         → BuildsEnded profile bytes a → BuildsInput profile tally (bytes ++ more) b → (rest : List ℕ) × (b ≡ a ++ rest) }
 {
+    ended_lines_stay();
     one_transaction();
     one_packet();
     one_line_fault();

@@ -15,6 +15,7 @@
 #![tactic(auto)]
 
 mod builder;
+mod common_lines;
 mod fault_line;
 pub mod laws;
 mod lines;

@@ -10,6 +10,7 @@ ghost use Rattle.pmb_writer.specs.Invalid.{HasPacket};
 ghost use Rattle.pmb_build.specs.Answer.{IsPacketText};
 
 use pmb_bus::Event;
+use pmb_io::laws::texts_add_up;
 use pmb_io::{RunFault, Sink, Waiting, make_room};
 use pmb_table::Profile;
 use pmb_transaction::Transaction;
@@ -30,12 +31,13 @@ pub(crate) fn put_packet<W: Sink>(
         (W.told writer.old).held waiting.old.items (W.told writer.new).held waiting.new.items) }
     ensures failed { WriterTells (W.told writer.old) (W.told writer.new) result }
 {
+    texts_add_up();
     make_room(waiting, most_text(transaction), writer)?;
     append_packet(profile, transaction, waiting);
     Ok(())
 }
 
-/// Puts out the canonical text of an event. What waits is sent first where that doesn't fit behind it.
+/// Puts out the canonical text of an event. What waits is sent first where the text doesn't fit after it.
 ///
 /// # Errors
 ///

@@ -1,8 +1,3 @@
-pub mod Status
-pub mod Format
-pub mod Quantity
-pub mod Number
-pub mod Room
 pub mod Choice
 pub mod Result
 pub mod Whole

@@ -7,9 +7,9 @@ use Rattle.pmb_whole.specs.declared.fault.WholeFault.{WholeFault}
 use Rattle.pmb_whole.specs.declared.fault.WholeFault.TheVariants.{Profile, Memory, Write}
 use Rattle.pmb_whole.specs.declared.put.Put.{Put}
 use Rattle.pmb_c.specs.declared.result.PmbResult.{PmbResult}
-use Rattle.pmb_c.specs.declared.status.Status.{Status}
-use Rattle.pmb_c.specs.declared.status.Status.TheVariants as status
-use Rattle.pmb_c.specs.Status.{number_of}
+use Rattle.pmb_firmware.specs.declared.status.Status.{Status}
+use Rattle.pmb_firmware.specs.declared.status.Status.TheVariants as status
+use Rattle.pmb_firmware.specs.Status.{number_of}
 
 -- the numbers of the faults of profiles
 abbrev pub fault_number : FaultKind → ℤ

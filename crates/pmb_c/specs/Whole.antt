@@ -9,7 +9,7 @@ use Rattle.pmb_whole.specs.declared.fault.WholeFault.{WholeFault}
 use Rattle.pmb_whole.specs.declared.put.Put.{Put}
 use Rattle.pmb_c.specs.declared.choice.Chosen.{Chosen}
 use Rattle.pmb_c.specs.declared.result.PmbResult.{PmbResult}
-use Rattle.pmb_c.specs.declared.status.Status.TheVariants.{BadChoice}
+use Rattle.pmb_firmware.specs.declared.status.Status.TheVariants.{BadChoice}
 use Rattle.pmb_c.specs.Result.{result_of, result_of_status}
 
 -- The job's text for an input under a profile's text stands in the room, or the room stays: what is

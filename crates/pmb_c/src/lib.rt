@@ -1,10 +1,10 @@
 //! The library for C: thin exports over the crates that do the work.
 //!
-//! Without memory there are the packet error code, by byte and by bytes ([`pec`]), every number
-//! format in both directions ([`number`]), the texts of quantities ([`text`]) and the names of
-//! commands and of status bits ([`name`]), with the library's version ([`version`]). With memory for
-//! a profile, and the caller's room for what is written, there are `show`, `check`, `build`, `run`
-//! and `json` over whole inputs ([`whole`]).
+//! Without memory there are packet error codes, every number format in both directions, the texts of
+//! quantities, the names of commands and of status bits, and the events of a capture's text
+//! ([`firmware`]), with the library's version ([`version`]). With memory for a profile, and the
+//! caller's room for what is written, there are `show`, `check`, `build`, `run` and `json` over whole
+//! inputs ([`whole`]).
 //!
 //! A C caller is checked by nobody, so no export has a premise on values: each is itself the test
 //! of what it is given. What a C type can't say is the header's to say: no pointer is null, and
@@ -18,14 +18,7 @@
 #![tactic(auto)]
 
 mod choice;
-pub mod format;
-pub mod name;
-pub mod number;
-pub mod pec;
-pub mod quantity;
+pub mod firmware;
 mod result;
-mod room;
-pub mod status;
-pub mod text;
 pub mod version;
 pub mod whole;

@@ -3,7 +3,7 @@
 ghost use Rattle.std.specs.Prelude.{◌≡◌, ℤ, negsuc, pos};
 ghost use Rattle.pmb_c.specs.Result.{fault_number, place_of, result_of, result_of_fault, result_of_put, result_of_status};
 
-use crate::status::Status;
+use pmb_firmware::Status;
 use pmb_table::{FaultKind, ProfileFault};
 use pmb_whole::{Put, WholeFault};
 

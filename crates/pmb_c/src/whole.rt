@@ -14,7 +14,7 @@ ghost use Rattle.pmb_whole.specs.declared.work.Work.TheVariants as works;
 
 use crate::choice::PmbChoice;
 use crate::result::PmbResult;
-use crate::status::Status;
+use pmb_firmware::Status;
 use pmb_stream::Choice;
 use pmb_whole::{Work, put_json, put_whole};
 use std::alloc::Global;

@@ -1,15 +1,14 @@
 -- What is written where a text ends, or a word of it is no token.
-use Rattle.std.proofs.Common.{◌≡◌, ℕ, ◌+◌, Option, Some, None, Result, Ok, Err, OnOk, List, [], ◌∷◌, ◌++◌, length, map, append-nil, inl, inr, sym, ◌∙◌, ap, subst, refl, append_assoc, arith}
+use Rattle.std.proofs.Common.{◌≡◌, ℕ, ◌+◌, Option, Some, None, Result, OnOk, List, [], ◌∷◌, ◌++◌, length, map, append-nil, ◌⊎◌, inl, inr, sym, ◌∙◌, ap, subst, refl, append_assoc, arith}
 use Rattle.std.proofs.lemmas.List.{map-append}
 use Rattle.std.proofs.lemmas.Result.{on_ok_weaker}
+use Rattle.pmb_bus.specs.declared.event.Event.{Event}
 use Rattle.pmb_bus.specs.declared.lexer.LexFault.{LexFault}
 use Rattle.pmb_bus.specs.declared.lexer.LexFault.TheVariants.{BadToken}
 use Rattle.pmb_bus.specs.Lexer.{IsFaultOf, OpenWordIsBad}
-use Rattle.pmb_bus.specs.Text.{BeginsText, EndedWordsSpell, Spells}
+use Rattle.pmb_bus.specs.Text.{BeginsText, EndedWordsSpell, FirstBadWord, Spells}
 use Rattle.pmb_command.specs.Parts.{DeviceParts}
 use Rattle.pmb_io.specs.declared.tally.Tally.{Tally}
-use Rattle.pmb_io.specs.declared.fault.RunFault.{RunFault}
-use Rattle.pmb_io.specs.Calls.{WriterTells}
 use Rattle.pmb_io.specs.Count.{capped}
 use Rattle.pmb_io.specs.Outgoing.{PutsText}
 use Rattle.pmb_io.specs.Tally.{with_refusal}
@@ -18,13 +17,14 @@ use Rattle.pmb_reader.specs.declared.refusal.Refusal.{Refusal as HeldRefusal}
 use Rattle.pmb_reader.specs.Refusal.{refusal_data}
 use Rattle.pmb_scan.specs.Reached.{Reached, EndsWith}
 use Rattle.pmb_scan.specs.Scan.{Truncates, end_spans}
-use Rattle.pmb_spans.specs.Spans.{Span, outcome}
+use Rattle.pmb_spans.specs.Spans.{Span, Spans, outcome}
+use Rattle.pmb_spans.proofs.Outcomes.{spans_read}
 use Rattle.pmb_transaction.specs.Reading.{Outcome, Refusal, Reading}
 use Rattle.pmb_transaction.specs.Transaction.{TransactionData}
 use Rattle.pmb_capture.specs.declared.account.Account.{Account}
 use Rattle.pmb_capture.specs.declared.capture.Capture.{Capture}
 use Rattle.pmb_capture.specs.Lines.{bad_token_line, refusal_line}
-use Rattle.pmb_capture.specs.Output.{OutputText, but_truncation, packets_in, refusals_in, outcomes_text}
+use Rattle.pmb_capture.specs.Output.{OutputText, accepted_in, but_truncation, packets_in, refusals_in, outcomes_text, text_behind}
 use Rattle.pmb_capture.specs.Written.{Writes, WritesFront, WritesUpToBadWord}
 use Rattle.pmb_capture.specs.machine.Account.{AccountStands}
 use Rattle.pmb_capture.specs.machine.Capture.{EndsEvents, HasEnded, HasStopped, HasWritten, capture_profile}
@@ -48,11 +48,6 @@ pub puts_then : {T F : Type 0} (r : Result T F) (h0 h1 h2 : Option (List ℕ)) (
     → PutsText h0 w0 h1 w1 a → b ≡ e → OnOk r (PutsText h1 w1 h2 w2 b) → OnOk r (PutsText h0 w0 h2 w2 (a ++ e))
 puts_then r h0 h1 h2 w0 w1 w2 a b e first same second =
     on_ok_weaker r (λ last. writes_then h0 h1 h2 w0 w1 w2 a e first (subst (λ (t : List ℕ). PutsText h1 w1 h2 w2 t) same last)) second
-
--- a call over a writer that never fails is done
-pub never_fails : {P : Type 0} (r : Result Unit RunFault) → WriterTells (record { held = None; failures = 0 }) (record { held = None; failures = 0 }) r → OnOk r P → P
-never_fails (Ok done) tells holds = holds
-never_fails (Err fault) tells holds = absurd (omega (arith, tells.1))
 
 -- two places from which the same word goes to the end are one
 same_place : (a b word whole : ℕ) → a + word ≡ whole → b + word ≡ whole → a ≡ b
@@ -176,3 +171,65 @@ module _ {O : Type 0} (TextOf : O → OutputText) (StandsBehind : O → List Tra
         };
         writes = writes;
       }
+
+  -- they end there, and spell events
+  whole_front : (start now : Capture O) (bytes text : List ℕ) (events : List Event) (last others : List Span) → (written : HasWritten TextOf StandsBehind start now bytes text)
+      → EndsWith written.reached last → Spells written.reached.text events → Spans written.reached.profile events (written.reached.spans ++ others)
+      → WritesFront (TextOf start.account.output) (capture_profile start) bytes text
+  whole_front start now bytes text events last others written end spells spans =
+      let reached = written.reached in
+      let output = TextOf start.account.output in
+      let before = map outcome reached.spans in
+      let more = map outcome others in
+      let outcomes = map outcome (reached.spans ++ others) in
+      let tally : Tally = record { packets = capped (packets_in outcomes); refusals = capped (refusals_in outcomes) } in
+      let more_text = text_behind output (accepted_in before) more in
+      let end_text = output.at_end tally in
+      let outcomes_are : outcomes ≡ before ++ more = map-append outcome reached.spans others in
+      writes_front start now bytes text (more_text ++ end_text) tally last written end
+      (inl (record {
+        events = events;
+        outcomes = outcomes;
+        spells = subst (λ (l : List ℕ). Spells l events) written.is_text spells;
+        reads = subst (λ (p : List DeviceParts). Reading p events outcomes) written.profile (spans_read reached.profile (reached.spans ++ others) 0 events spans);
+        lines = sym (append_assoc text more_text end_text)
+            ∙ ap (λ t. (t ++ more_text) ++ end_text) written.written.lines
+            ∙ ap (λ t. t ++ end_text) (sym (text_append output [] before more) ∙ ap (outcomes_text output) (sym outcomes_are));
+        counts = record { packets_counted = refl; refusals_counted = refl };
+      }))
+
+  -- they end there, in a word that is no token
+  bad_front : (start now : Capture O) (bytes text : List ℕ) (place : ℕ) (last : List Span) → (written : HasWritten TextOf StandsBehind start now bytes text)
+      → EndsWith written.reached last → FirstBadWord written.reached.text written.reached.events place
+      → WritesFront (TextOf start.account.output) (capture_profile start) bytes text
+  bad_front start now bytes text place last written end bad =
+      let reached = written.reached in
+      let output = TextOf start.account.output in
+      let outcomes = map outcome (reached.spans ++ last) in
+      let tally : Tally = record { packets = capped (packets_in (but_truncation outcomes)); refusals = capped (refusals_in (but_truncation outcomes) + 1) } in
+      let end_text = bad_token_line (capped place) ++ output.at_end tally in
+      writes_front start now bytes text end_text tally last written end
+      (inr (record {
+        events = reached.events;
+        outcomes = outcomes;
+        place = place;
+        bad = subst (λ (l : List ℕ). FirstBadWord l reached.events place) written.is_text bad;
+        reads = subst (λ (p : List DeviceParts). Reading p reached.events outcomes) written.profile (reads_as reached last end);
+        lines = ap (λ t. t ++ end_text) (written.written.lines ∙ ap (outcomes_text output) (sym (all_but_the_end reached last end)));
+        counts = record { packets_counted = refl; refusals_counted = refl };
+      }))
+
+  -- they end there: the word under way is a token, none or bad
+  pub some_front : (start now : Capture O) (bytes text : List ℕ) (last : List Span) → (written : HasWritten TextOf StandsBehind start now bytes text)
+      → EndsWith written.reached last
+      → ((rest : List Event) → (others : List Span) × Spans written.reached.profile (written.reached.events ++ rest) (written.reached.spans ++ others))
+      → Spells written.reached.text written.reached.events
+      ⊎ (((event : Event) × Spells written.reached.text (written.reached.events ++ event ∷ [])) ⊎ ((place : ℕ) × FirstBadWord written.reached.text written.reached.events place))
+      → WritesFront (TextOf start.account.output) (capture_profile start) bytes text
+  some_front start now bytes text last written end follows (inl spells) =
+      whole_front start now bytes text written.reached.events last last written end spells end.spans
+  some_front start now bytes text last written end follows (inr (inl one)) =
+      let others = follows (one.0 ∷ []) in
+      whole_front start now bytes text (written.reached.events ++ one.0 ∷ []) last others.0 written end one.1 others.1
+  some_front start now bytes text last written end follows (inr (inr bad)) =
+      bad_front start now bytes text bad.0 last written end bad.1

@@ -3,6 +3,7 @@
 
 ghost use Rattle.std.specs.Prelude.{◌≡◌, ℕ, ◌++◌, [], List, OnOk, map};
 ghost use Rattle.pmb_bus.specs.declared.lexer.LexFault.TheVariants.{BadToken};
+ghost use Rattle.pmb_command.specs.Bus.{IsBus};
 ghost use Rattle.pmb_io.specs.Calls.{WriterTells};
 ghost use Rattle.pmb_io.specs.Engines.{PutsOut};
 ghost use Rattle.pmb_io.specs.Outgoing.{PutsText};
@@ -16,12 +17,14 @@ ghost use Rattle.pmb_capture.specs.machine.Account.{AccountStands};
 ghost use Rattle.pmb_capture.specs.machine.Capture.{EndsEvents, HasEnded, HasStopped, HasWritten, capture_profile, stops_for_good};
 
 use crate::account::Account;
-use crate::nowhere::Nowhere;
 use crate::output::Output;
 use pmb_bus::LexFault;
+use pmb_bus::laws::ended_words_lead_on;
 use pmb_io::{Engine, Flow, RunFault, Sink, Tally, Waiting};
+use pmb_scan::laws::scans_lead_on;
 use pmb_scan::{Scan, Taken};
 use pmb_table::Profile;
+use pmb_table::laws::accepted_bus;
 
 /// From the text of a capture to what is written of it.
 #[derive(Drop)]
@@ -38,6 +41,7 @@ impl<'p, O: Output> Capture<'p, O> {
         ensures output { result.account.output ≡ output }
         ensures begins { O.Stands output [] → HasWritten O.text O.Stands result result [] [] }
     {
+        accepted_bus(profile);
         Capture {
             profile,
             scan: Scan::new(profile),
@@ -64,10 +68,10 @@ impl<'p, O: Output> Capture<'p, O> {
         ensures counted { self.new.account.tally ≡ with_refusal self.old.account.tally }
         ensures puts { (at : ℕ) → fault ≡ BadToken at
             → OnOk result (PutsText (W.told writer.old).held waiting.old.items (W.told writer.new).held waiting.new.items (bad_token_text at ++ (O.text self.old.account.output).at_end self.new.account.tally)) }
-        ensures can_end { (reached : Reached) → HasRead self.old.scan reached → (last : List Span) × EndsWith reached last }
+        ensures can_end { (reached : Reached) → IsBus reached.profile → HasRead self.old.scan reached → (last : List Span) × EndsWith reached last }
         ensures failed { WriterTells (W.told writer.old) (W.told writer.new) result }
     {
-        let _ = self.scan.truncation();
+        scans_lead_on();
         self.account.take_fault(fault, waiting, writer)?;
         self.account.put_end(waiting, writer)
     }
@@ -85,17 +89,6 @@ impl<'p, O: Output> Capture<'p, O> {
                 self.account.put_end(waiting, writer)
             }
         }
-    }
-
-    /// Leaves the text where it is, and puts out no more: what came of it so far is a front of what it
-    /// would come to.
-    pub(crate) fn leave(&mut self)
-        ensures { (start : Capture O) (bytes text : List ℕ) → HasWritten O.text O.Stands start self.old bytes text
-            → WritesFront (O.text start.account.output) (capture_profile start) bytes text }
-    {
-        // Nothing of this is kept. That the capture may end here says that it comes to something.
-        let _ = self.scan.truncation();
-        let _ = self.end(&mut Waiting::new(), &mut Nowhere);
     }
 }
 
@@ -132,4 +125,13 @@ impl<'p, O: Output> Engine for Capture<'p, O> {
     }
 
     ghost stops_for_good = { stops_for_good O.text O.Stands };
+}
+
+/// What was written so far is a beginning of what is written for the same bytes, if they end there.
+pub(crate) fn fronts_are_written<O: Output>()
+    ensures { (start now : Capture O) (bytes text : List ℕ) → HasWritten O.text O.Stands start now bytes text
+        → WritesFront (O.text start.account.output) (capture_profile start) bytes text }
+{
+    ended_words_lead_on();
+    scans_lead_on();
 }

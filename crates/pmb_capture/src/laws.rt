@@ -16,7 +16,7 @@ ghost use Rattle.pmb_capture.specs.Cut.{EndsAtCut, sum_of};
 ghost use Rattle.pmb_capture.specs.Show.{Shows, noted_lines};
 
 use pmb_bus::laws::{
-    ended_words_lead_on, one_bad_word, one_spelling, spelled_has_no_bad_word,
+    each_text_is_read, one_bad_word, one_spelling, spelled_has_no_bad_word,
     texts_may_be_cut_between_words,
 };
 use pmb_transaction::laws::{
@@ -51,7 +51,7 @@ pub fn some_showing()
         → (text : List ℕ) × (tally : Tally) × Shows profile bytes text tally }
 {
     each_list_has_a_reading();
-    ended_words_lead_on();
+    each_text_is_read();
 }
 
 /// And something is written of them in a check.
@@ -60,7 +60,7 @@ pub fn some_check()
         → (text : List ℕ) × (tally : Tally) × Checks profile bytes text tally }
 {
     each_list_has_a_reading();
-    ended_words_lead_on();
+    each_text_is_read();
 }
 
 /// The capture of transactions, however it is spelled, is shown as their lines, each with its note

@@ -18,7 +18,6 @@ mod capture;
 mod commands;
 pub mod laws;
 mod lines;
-mod nowhere;
 mod output;
 mod packet_lines;
 mod tally_alone;

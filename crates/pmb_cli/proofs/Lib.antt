@@ -1,7 +1,8 @@
 pub mod Statuses
 pub mod Codes
-pub mod Behind
+pub mod UnderFront
 pub mod Formats
 pub mod Often
 pub mod Memory
 pub mod Working
+pub mod Unread

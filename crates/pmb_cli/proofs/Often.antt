@@ -21,9 +21,9 @@ reads_of_front old new reads = (reads.0, omega (arith, reads.1), reads.2)
 pub reads_of_work : (old new : ℕ) → MadeReads old new → MadeReadsInAll old new
 reads_of_work old new reads = (reads.0, omega (arith, reads.1), reads.2)
 
--- those of the work behind those of the front
-pub reads_behind : (old mid new : ℕ) → ((count : ℕ) × (count ≤ most_profile + 4) × (mid ≡ raised old count)) → MadeReads mid new → MadeReadsInAll old new
-reads_behind old mid new front work = (
+-- those of the work after those of the front
+pub reads_after : (old mid new : ℕ) → ((count : ℕ) × (count ≤ most_profile + 4) × (mid ≡ raised old count)) → MadeReads mid new → MadeReadsInAll old new
+reads_after old mid new front work = (
   front.0 + work.0,
   omega (arith, front.1, work.1),
   work.2 ∙ (ap (λ n. raised n work.0) front.2 ∙ raised_twice old front.0 work.0),

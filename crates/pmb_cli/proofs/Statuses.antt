@@ -17,7 +17,7 @@ use Rattle.pmb_status.specs.declared.status.Status.TheVariants.{BadWords, IoFail
 use Rattle.pmb_status.specs.declared.status.Status.TheVariants as statuses
 use Rattle.pmb_cli.specs.Often.{MadeReadsInAll}
 use Rattle.pmb_cli.specs.Statuses.{Does, StatusTells}
-use Rattle.pmb_cli.proofs.Often.{reads_behind, reads_of_front}
+use Rattle.pmb_cli.proofs.Often.{reads_after, reads_of_front}
 
 -- a run that ended did so well
 well : (tally : Tally) → EndedWell (run_status (Ok tally))
@@ -94,7 +94,7 @@ module _ {R W : Type 0} (reader_told : R → ReaderTold) (writer_told : W → Wr
   did (Err ProfileTooLong) ran = absurd ran
   did (Err Memory) ran = absurd ran
 
-  -- by the status that was answered for it
+  -- by the status that was returned for it
   pub run_did : (outcome : Result Tally ToolFault) (status : Status) → status ≡ run_status outcome → AsTool (Ran reader_told writer_told job first old new) outcome
       → Does (λ tally. Done reader_told writer_told job tally first old new) (PartDone reader_told writer_told job first old new) (writer_told old.1) (writer_told new.1) status
   run_did outcome status is ran = subst (Does (λ tally. Done reader_told writer_told job tally first old new) (PartDone reader_told writer_told job first old new) (writer_told old.1) (writer_told new.1)) (sym is) (did outcome ran)
@@ -121,19 +121,19 @@ module _ {R W : Type 0} (reader_told : R → ReaderTold) (writer_told : W → Wr
     unwritten = λ refused. absurd (run_unrefused (Ok tally) ran refused);
     none_failed = λ _. (ran.no_read (λ is. cc) ∙ before.none_failed, ran.no_write (λ is. cc));
     io_failed = λ failed. absurd (not_well tally IoFailed failed);
-    reads = reads_behind _ _ _ before.few ran.reads;
+    reads = reads_after _ _ _ before.few ran.reads;
   }
   tells start before (Err Read) ran = record {
     unwritten = λ refused. absurd (run_unrefused (Err Read) ran refused);
     none_failed = λ other. absurd (other refl);
     io_failed = λ _. inl (ran.read refl ∙ ap (λ n. raised n 1) before.none_failed, ran.read_not_ended refl ∙ before.not_ended);
-    reads = reads_behind _ _ _ before.few ran.reads;
+    reads = reads_after _ _ _ before.few ran.reads;
   }
   tells start before (Err Write) ran = record {
     unwritten = λ refused. absurd (run_unrefused (Err Write) ran refused);
     none_failed = λ other. absurd (other refl);
     io_failed = λ _. inr (inl (ran.write refl));
-    reads = reads_behind _ _ _ before.few ran.reads;
+    reads = reads_after _ _ _ before.few ran.reads;
   }
   tells start before (Err TooManyReads) ran = record {
     unwritten = λ refused. absurd (run_unrefused (Err TooManyReads) ran refused);
@@ -151,17 +151,17 @@ module _ {R W : Type 0} (reader_told : R → ReaderTold) (writer_told : W → Wr
           },
           ran.not_ended refl ∙ before.not_ended,
         ));
-    reads = reads_behind _ _ _ before.few ran.reads;
+    reads = reads_after _ _ _ before.few ran.reads;
   }
   tells start before (Err ProfileTooLong) ran = absurd ran
   tells start before (Err Memory) ran = absurd ran
 
-  -- by the status that was answered for it
+  -- by the status that was returned for it
   pub status_tells : (start : R) → IsBefore (reader_told start) (reader_told old.0) → (outcome : Result Tally ToolFault) (status : Status) → status ≡ run_status outcome → AsTool (Ran reader_told writer_told job first old new) outcome
       → StatusTells reader_told writer_told (start, old.1) new status
   status_tells start before outcome status is ran = subst (StatusTells reader_told writer_told (start, old.1) new) (sym is) (tells start before outcome ran)
 
--- ---- a run over a reader that has nothing, behind the front of another
+-- ---- a run over a reader that has nothing, after the front of another
 
 -- what such a reader tells
 abbrev pub nothing_told : Empty → ReaderTold
@@ -200,7 +200,7 @@ module _ {R W : Type 0} (reader_told : R → ReaderTold) (writer_told : W → Wr
   all_tells start mid none_failed few (Err ProfileTooLong) ran = absurd ran
   all_tells start mid none_failed few (Err Memory) ran = absurd ran
 
-  -- what the status tells that was answered for it
+  -- what the status tells that was returned for it
   pub nothing_tells : (start mid : R) → (reader_told mid).failures ≡ (reader_told start).failures → MadeFrontReads (reader_told start).reads (reader_told mid).reads
       → (outcome : Result Tally ToolFault) (status : Status) → status ≡ run_status outcome → AsTool (Ran nothing_told writer_told job [] (empty, out) (empty_new, out_new)) outcome
       → StatusTells reader_told writer_told (start, out) (mid, out_new) status
@@ -216,7 +216,7 @@ module _ {R W : Type 0} (reader_told : R → ReaderTold) (writer_told : W → Wr
     all_did (Err ProfileTooLong) ran = absurd ran
     all_did (Err Memory) ran = absurd ran
 
-    -- by the status that was answered for it
+    -- by the status that was returned for it
     pub nothing_did : (outcome : Result Tally ToolFault) (status : Status) → status ≡ run_status outcome → AsTool (Ran nothing_told writer_told job [] (empty, out) (empty_new, out_new)) outcome
         → Does Wrote WrotePart (writer_told out) (writer_told out_new) status
     nothing_did outcome status is ran = subst (Does Wrote WrotePart (writer_told out) (writer_told out_new)) (sym is) (all_did outcome ran)
@@ -253,3 +253,11 @@ refused_tells reader_told writer_told old new out status (inr memory) none_faile
   io_failed = λ failed. let clash : NoMemory ≡ IoFailed = sym memory ∙ failed in cc;
   reads = reads;
 }
+
+-- the two are not the same, and neither ended well
+pub no_memory_is_not_bad : (status : Status) → status ≡ NoMemory → status ≡ BadWords → ⊥
+no_memory_is_not_bad status memory bad = let clash : NoMemory ≡ BadWords = sym memory ∙ bad in cc
+
+pub refused_ended : (status : Status) → (status ≡ BadWords) ⊎ (status ≡ NoMemory) → EndedWell status → ⊥
+refused_ended status (inl bad) ended = subst EndedWell bad ended
+refused_ended status (inr memory) ended = subst EndedWell memory ended

@@ -11,8 +11,11 @@ use Rattle.pmb_run.specs.Lines.{OrNoMemory}
 use Rattle.pmb_status.specs.Status.{run_status}
 use Rattle.pmb_status.specs.declared.status.Status.{Status}
 use Rattle.pmb_status.specs.declared.status.Status.TheVariants.{BadWords, IoFailed, NoMemory}
+use Rattle.pmb_command.specs.Parts.{DeviceParts}
+use Rattle.pmb_words.specs.Asked.{Wanted, Run}
 use Rattle.pmb_cli.specs.Often.{MadeReadsInAll}
 use Rattle.pmb_cli.specs.Statuses.{Does, StatusTells}
+use Rattle.pmb_cli.specs.Works.{working}
 use Rattle.pmb_cli.proofs.Often.{reads_of_front}
 use Rattle.pmb_cli.proofs.Statuses.{IsBefore, does_none, nothing_did, nothing_tells, nothing_told, run_did, run_unrefused, status_tells}
 
@@ -56,15 +59,6 @@ module _ {R W : Type 0} (reader_told : R → ReaderTold) (writer_told : W → Wr
   work_with_memory given (Err ProfileTooLong) ran = ran
   work_with_memory given (Err Memory) none = (given, none.0, none.1)
 
-  -- one that lacks it where this holds does so where that holds
-  pub given_so : (Other : Type 0) → (Given → Other) → (outcome : Result Tally ToolFault) → Worked outcome → OrNoMemory (Other × (reader_new ≡ reader) × (out_new ≡ out)) IsRun outcome
-  given_so Other so (Ok tally) ran = ran
-  given_so Other so (Err Read) ran = ran
-  given_so Other so (Err Write) ran = ran
-  given_so Other so (Err TooManyReads) ran = ran
-  given_so Other so (Err ProfileTooLong) ran = ran
-  given_so Other so (Err Memory) none = (so none.0, none.1, none.2)
-
   abbrev DoesIt : Status → Type 0
   DoesIt = Does (λ tally. Done reader_told writer_told job tally first (reader, out) (reader_new, out_new)) (PartDone reader_told writer_told job first (reader, out) (reader_new, out_new)) (writer_told out) (writer_told out_new)
 
@@ -100,7 +94,20 @@ module _ {R W : Type 0} (reader_told : R → ReaderTold) (writer_told : W → Wr
       })
       outcome worked)
 
--- ---- over a reader that has nothing, behind the front of another
+-- ---- by which work it is
+
+module _ {R W : Type 0} (reader_told : R → ReaderTold) (writer_told : W → WriterTold) (work wanted : Wanted) (is : work ≡ wanted) (profile : List DeviceParts) (first : List ℕ) (reader reader_new : R) (out out_new : W) where
+  abbrev Did : Wanted → Result Tally ToolFault → Type 0
+  Did w = AsTool (Ran reader_told writer_told (working w profile) first (reader, out) (reader_new, out_new))
+
+  abbrev DidOrNoMemory : Wanted → Result Tally ToolFault → Type 0
+  DidOrNoMemory w = OrNoMemory ((w ≡ Run) × (reader_new ≡ reader) × (out_new ≡ out)) (Did w)
+
+  -- one that takes no memory
+  pub did_work : (outcome : Result Tally ToolFault) → Did wanted outcome → DidOrNoMemory work outcome
+  did_work outcome ran = subst (λ (w : Wanted). DidOrNoMemory w outcome) (sym is) (work_without_memory reader_told writer_told (wanted ≡ Run) (working wanted profile) first reader reader_new out out_new outcome ran)
+
+-- ---- over a reader that has nothing, after the front of another
 
 module _ {R W : Type 0} (reader_told : R → ReaderTold) (writer_told : W → WriterTold) (Given : Type 0) (job : Job Tally) (empty empty_new : Empty) (out out_new : W) where
   abbrev NothingWorked : Result Tally ToolFault → Type 0

@@ -1,4 +1,4 @@
--- What `pmb json` writes, as its words want it.
+-- What `pmb json` writes, as its words choose it.
 use Rattle.std.specs.Prelude.{List}
 use Rattle.pmb_command.specs.Parts.{DeviceParts}
 use Rattle.pmb_io.specs.Runs.{Job}
@@ -10,10 +10,10 @@ use Rattle.pmb_late.specs.declared.start.Start.{Start}
 use Rattle.pmb_late.specs.declared.start.Start.TheVariants as starts
 use Rattle.pmb_stream.specs.Choice.{ChoiceData}
 use Rattle.pmb_words.specs.Json.{JsonWanted}
-use Rattle.pmb_words.specs.declared.json_task.AfterBadWord.{AfterBadWord}
-use Rattle.pmb_words.specs.declared.json_task.AfterBadWord.TheVariants.{End, GoOn}
-use Rattle.pmb_words.specs.declared.json_task.KnownAtFirst.{KnownAtFirst}
-use Rattle.pmb_words.specs.declared.json_task.KnownAtFirst.TheVariants.{Both, VoutMode, Neither}
+use Rattle.pmb_words.specs.declared.json_choice.AfterBadWord.{AfterBadWord}
+use Rattle.pmb_words.specs.declared.json_choice.AfterBadWord.TheVariants.{End, GoOn}
+use Rattle.pmb_words.specs.declared.json_choice.KnownAtFirst.{KnownAtFirst}
+use Rattle.pmb_words.specs.declared.json_choice.KnownAtFirst.TheVariants.{Both, VoutMode, Neither}
 
 -- what is known of PAGE and VOUT_MODE where the capture begins
 abbrev pub start_of : KnownAtFirst → Start
@@ -21,7 +21,7 @@ start_of Both = starts.AllKnown
 start_of VoutMode = starts.LateFixedMode
 start_of Neither = starts.Late
 
--- what is done behind a word that is no token
+-- what is done after a word that is no token
 abbrev pub bad_words_of : AfterBadWord → BadWords
 bad_words_of End = bad_words.End
 bad_words_of GoOn = bad_words.GoOn

@@ -1,7 +1,8 @@
 pub mod Json
-pub mod Matter
 pub mod Memory
 pub mod Often
+pub mod Profiles
+pub mod Program
 pub mod Statuses
 pub mod Tasks
-pub mod Traffic
+pub mod Works

@@ -1,5 +1,5 @@
--- What is written for what the words ask for.
-use Rattle.std.specs.Prelude.{◌≡◌, Bool, true, false, Ok, List, [], ℕ}
+-- What is done for what the words ask for.
+use Rattle.std.specs.Prelude.{◌≡◌, ◌⊎◌, Ok, List, [], ℕ}
 use Rattle.pmb_convert.specs.Lines.{converting}
 use Rattle.pmb_convert.specs.Spelling.{Names}
 use Rattle.pmb_convert.specs.declared.conversion.Conversion.{Conversion}
@@ -8,54 +8,58 @@ use Rattle.pmb_value.specs.declared.number_format.NumberFormat.{NumberFormat}
 use Rattle.pmb_io.specs.Runs.{Done, PartDone}
 use Rattle.pmb_io.specs.Told.{ReaderTold, WriterTold}
 use Rattle.pmb_io.specs.declared.tally.Tally.{Tally}
+use Rattle.pmb_status.specs.Status.{EndedWell, Failed, IsTold}
 use Rattle.pmb_status.specs.declared.status.Status.{Status}
-use Rattle.pmb_command.specs.Parts.{DeviceParts}
-use Rattle.pmb_io.specs.Runs.{Job}
-use Rattle.pmb_words.specs.Asked.{Asking, Traffic, Json, Encode, Decode}
-use Rattle.pmb_words.specs.declared.json_task.ProfilePlace.{ProfilePlace}
-use Rattle.pmb_words.specs.declared.json_task.ProfilePlace.TheVariants.{Sample, Front}
-use Rattle.pmb_cli.specs.Json.{telling}
-use Rattle.pmb_cli.specs.Statuses.{Does}
-use Rattle.pmb_cli.specs.Traffic.{DoneUnder, PartDoneUnder, working}
+use Rattle.pmb_status.specs.declared.status.Status.TheVariants.{BadWords, NoMemory}
+use Rattle.pmb_words.specs.Asked.{Asking, Convert, NamesNone, UnderProfile}
+use Rattle.pmb_words.specs.declared.direction.Direction.{Direction}
+use Rattle.pmb_words.specs.declared.direction.Direction.TheVariants.{Encode, Decode}
+use Rattle.pmb_words.specs.declared.profile_place.ProfilePlace.TheVariants.{Front}
+use Rattle.pmb_cli.specs.Memory.{ReadWithoutMemory}
+use Rattle.pmb_cli.specs.Profiles.{HasBadProfile}
+use Rattle.pmb_cli.specs.Statuses.{Does, StatusTells}
+use Rattle.pmb_cli.specs.Works.{DoneUnder, PartDoneUnder, working}
 
--- where the profile is, with the flag `--sample` or without it
-abbrev pub place_by : Bool → ProfilePlace
-place_by true = Sample
-place_by false = Front
-
--- what is asked for is done under the profile in front
+-- what is asked for is done under the profile that comes first in the input
 abbrev pub IsUnderFront : Asking → Type 0
-IsUnderFront (Traffic work sample) = sample ≡ false
-IsUnderFront (Json wanted) = wanted.profile ≡ Front
-IsUnderFront (Encode format) = ⊥
-IsUnderFront (Decode format) = ⊥
+IsUnderFront (UnderProfile place wanted) = place ≡ Front
+IsUnderFront (Convert direction format) = ⊥
+
+-- the conversion in a format
+abbrev pub conversion_of : Direction → NumberFormat → Conversion
+conversion_of Encode format = conversions.Encode format
+conversion_of Decode format = conversions.Decode format
 
 -- The text names a format, and this holds of the conversion in it.
-pub record InFormat (conversion : NumberFormat → Conversion) (Holds : Conversion → Type 0) (text : List ℕ) : Type 0 where
+pub record InFormat (direction : Direction) (Holds : Conversion → Type 0) (text : List ℕ) : Type 0 where
   pub format : NumberFormat
   pub names : Names text (Ok format)
-  pub holds : Holds (conversion format)
+  pub holds : Holds (conversion_of direction format)
 
-module _ {R W : Type 0} (reader_told : R → ReaderTold) (writer_told : W → WriterTold) (sample : List ℕ) where
-  -- All was written: for a capture or lines under the sample profile, or under the one in front of them, or the answers to
+module _ {R W : Type 0} (reader_told : R → ReaderTold) (out_told : W → WriterTold) (sample : List ℕ) where
+  -- All was written: for a capture or lines under the sample profile, or under the one that comes first, or the answers to
   -- all lines in a format.
   abbrev pub WroteTask : Asking → R × W → R × W → Tally → Type 0
-  WroteTask (Traffic work sampled) old new tally = DoneUnder reader_told writer_told (working work) (place_by sampled) sample tally old new
-  WroteTask (Json wanted) old new tally = DoneUnder reader_told writer_told (telling wanted) wanted.profile sample tally old new
-  WroteTask (Encode text) old new tally = InFormat conversions.Encode (λ conversion. Done reader_told writer_told (converting conversion) tally [] old new) text
-  WroteTask (Decode text) old new tally = InFormat conversions.Decode (λ conversion. Done reader_told writer_told (converting conversion) tally [] old new) text
+  WroteTask (UnderProfile place wanted) old new tally = DoneUnder reader_told out_told (working wanted) place sample tally old new
+  WroteTask (Convert direction text) old new tally = InFormat direction (λ conversion. Done reader_told out_told (converting conversion) tally [] old new) text
 
-  -- Where a read failed, or there were too many, so much of it was written as is sure by what was read.
+  -- Where a read failed, or there were too many, the part of it that is sure by what was read.
   abbrev pub WroteTaskPart : Asking → R × W → R × W → Type 0
-  WroteTaskPart (Traffic work sampled) old new = PartDoneUnder reader_told writer_told (working work) (place_by sampled) sample old new
-  WroteTaskPart (Json wanted) old new = PartDoneUnder reader_told writer_told (telling wanted) wanted.profile sample old new
-  WroteTaskPart (Encode text) old new = InFormat conversions.Encode (λ conversion. PartDone reader_told writer_told (converting conversion) [] old new) text
-  WroteTaskPart (Decode text) old new = InFormat conversions.Decode (λ conversion. PartDone reader_told writer_told (converting conversion) [] old new) text
+  WroteTaskPart (UnderProfile place wanted) old new = PartDoneUnder reader_told out_told (working wanted) place sample old new
+  WroteTaskPart (Convert direction text) old new = InFormat direction (λ conversion. PartDone reader_told out_told (converting conversion) [] old new) text
 
-  -- what a status says of a job under a profile
-  abbrev pub DoesUnder : ProfilePlace → (List DeviceParts → Job Tally) → R × W → R × W → Status → Type 0
-  DoesUnder place job old new status = Does (λ tally. DoneUnder reader_told writer_told job place sample tally old new) (PartDoneUnder reader_told writer_told job place sample old new) (writer_told old.1) (writer_told new.1) status
-
-  -- and of what was asked for
-  abbrev pub DoesTask : Asking → R × W → R × W → Status → Type 0
-  DoesTask asking old new status = Does (WroteTask asking old new) (WroteTaskPart asking old new) (writer_told old.1) (writer_told new.1) status
+-- What was done for what was asked for: by the reader, standard output and standard error, before and after, and the status.
+pub record DidTask {R W E : Type 0} (reader_told : R → ReaderTold) (out_told : W → WriterTold) (err_told : E → WriterTold) (sample : List ℕ) (asking : Asking) (old new : R × W × E) (status : Status) : Type 0 where
+  -- What was written is all that is asked for. Where a read failed or there were too many, it is the part for the bytes read.
+  pub did : Does (WroteTask reader_told out_told sample asking (old.0, old.1) (new.0, new.1)) (WroteTaskPart reader_told out_told sample asking (old.0, old.1) (new.0, new.1)) (out_told old.1) (out_told new.1) status
+  -- The status says what failed, and how often was read.
+  pub tells : StatusTells reader_told out_told (old.0, old.1) (new.0, new.1) status
+  -- It is BadWords only where a text names no format, or the profile that comes first is too long or has a fault.
+  pub bad : status ≡ BadWords → NamesNone asking ⊎ (IsUnderFront asking × HasBadProfile reader_told old.0 new.0)
+  -- Where the text names no format, nothing is read.
+  pub bad_format : NamesNone asking → ((status ≡ BadWords) ⊎ (status ≡ NoMemory)) × (new.0 ≡ old.0)
+  -- Where there was no memory, nothing was read, or the profile alone: the capture or the lines after it were not.
+  pub memory : status ≡ NoMemory → ReadWithoutMemory reader_told asking old.0 new.0
+  -- Standard error gets some text where anything went wrong, and else stays as it is.
+  pub err_text : Failed status → IsTold (err_told old.2) (err_told new.2)
+  pub quiet : EndedWell status → new.2 ≡ old.2

@@ -1,7 +1,7 @@
 //! `pmb profile`: the bus that a profile makes.
 
 ghost use Rattle.std.specs.Prelude.{◌≡◌, ℕ, List};
-ghost use Rattle.pmb_cli.specs.Traffic.{describing};
+ghost use Rattle.pmb_cli.specs.Works.{describing};
 ghost use Rattle.pmb_io.specs.Runs.{AsTool, Ran};
 
 use pmb_describe::describe;

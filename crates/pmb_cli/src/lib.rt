@@ -1,15 +1,22 @@
-//! The command `pmb` over a reader and two writers: `tool`, which does what its words say, and the
-//! names of the crates that it stands on.
+//! The command `pmb` over a reader and two writers: [`tool`], which runs the task that its words ask
+//! for, and the names of the crates that it stands on.
+//!
+//! ```rust
+//! let mut reader = Io::new(b"S b0 A 21 A 00 A 18 A P\n".as_slice());
+//! let mut out = Io::new(Vec::new(rt.alloc()));
+//! let mut err = Io::new(Vec::new(rt.alloc()));
+//! let words = ["pmb", "show", "--sample"];
+//! assert_eq!(rt; tool(rt.alloc(), &words, &mut reader, &mut out, &mut err), 0);
+//! assert_eq!(rt; out.into_inner().as_slice(), b"write 58 21 00 18 # VOUT_COMMAND 12\n".as_slice());
+//! ```
 #![tactic(auto)]
 
 mod bus;
-mod deed;
-mod doing;
 pub mod laws;
-mod lines;
 mod objects;
 mod program;
-mod traffic;
+mod tasks;
+mod works;
 
 pub use pmb_build::build;
 pub use pmb_capture::{check_capture, show};

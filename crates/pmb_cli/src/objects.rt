@@ -1,9 +1,9 @@
-//! `pmb json`: what a capture says, in JSON, as the words want it.
+//! `pmb json`: what a capture says, in JSON, as the words choose it.
 
 ghost use Rattle.std.specs.Prelude.{◌≡◌};
 ghost use Rattle.pmb_cli.specs.Json.{bad_words_of, start_of, telling};
 ghost use Rattle.pmb_io.specs.Runs.{AsTool, Ran};
-ghost use Rattle.pmb_words.specs.Json.{wanted_of};
+ghost use Rattle.pmb_words.specs.Json.{json_wanted_of};
 
 use pmb_decimal::Digits;
 use pmb_io::{Sink, Source, Tally, ToolFault};
@@ -11,33 +11,33 @@ use pmb_json::{BadWords, json};
 use pmb_late::Start;
 use pmb_stream::Choice;
 use pmb_table::Profile;
-use pmb_words::{AfterBadWord, JsonTask, KnownAtFirst};
+use pmb_words::{AfterBadWord, JsonChoice, KnownAtFirst};
 
-/// Tells what the capture says whose text is `first` and what the reader gives, under a profile, as
-/// the words want it.
+/// Writes what the capture says whose text is `first` and what the reader gives, under a profile, as
+/// the words choose it.
 ///
 /// # Errors
 ///
 /// `Read` where the reader failed, `Write` where the writer did. `TooManyReads` where 2^32 reads gave
 /// bytes and the reader had not ended.
-pub(crate) fn tell_json<R: Source, W: Sink>(
-    task: &JsonTask,
+pub(crate) fn write_json<R: Source, W: Sink>(
+    chosen: &JsonChoice,
     profile: &Profile,
     first: &[u8],
     reader: &mut R,
     out: &mut W,
 ) -> Result<Tally, ToolFault>
-    ensures { AsTool (Ran R.told W.told (telling (wanted_of task.now) profile.now) first.now (reader.old, out.old) (reader.new, out.new)) result }
+    ensures { AsTool (Ran R.told W.told (telling (json_wanted_of chosen.now) profile.now) first.now (reader.old, out.old) (reader.new, out.new)) result }
 {
     let choice = Choice {
-        digits: digits(task),
-        start: start(task.known),
-        devices: task.devices.as_slice(),
+        digits: digits(chosen),
+        start: start(chosen.known),
+        devices: chosen.devices.as_slice(),
     };
     json(
         profile,
         choice,
-        bad_words(task.after_bad_word),
+        bad_words(chosen.after_bad_word),
         first,
         reader,
         out,
@@ -45,10 +45,10 @@ pub(crate) fn tell_json<R: Source, W: Sink>(
 }
 
 // The most digits after a point.
-fn digits(task: &JsonTask) -> Digits
-    ensures { result ≡ task.now.digits }
+fn digits(chosen: &JsonChoice) -> Digits
+    ensures { result ≡ chosen.now.digits }
 {
-    Digits::new(task.digits).unwrap()
+    Digits::new(chosen.digits).unwrap()
 }
 
 // What is known where the capture begins.
@@ -62,7 +62,7 @@ fn start(known: KnownAtFirst) -> Start
     }
 }
 
-// What is done behind a word that is no token.
+// What is done after a word that is no token.
 fn bad_words(after: AfterBadWord) -> BadWords
     ensures { result ≡ bad_words_of after }
 {

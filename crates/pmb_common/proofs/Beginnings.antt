@@ -1,16 +1,16 @@
 -- What is taken of a text in front of which the legs of a common packet stand.
-use Rattle.std.proofs.Common.{◌≡◌, ℕ, ◌<◌, ◌≤◌, Option, Some, None, List, [], ◌∷◌, ◌++◌, length, take, drop, refl, sym, ap, subst, ◌∙◌, arith, append_assoc, length-append}
+use Rattle.std.proofs.Common.{◌≡◌, ℕ, ◌%◌, ◌<◌, ◌≤◌, Bool, true, nat_eq, Option, Some, None, List, [], ◌∷◌, ◌++◌, length, take, drop, refl, sym, ap, subst, ◌∙◌, arith, append_assoc, length-append}
 use Rattle.std.proofs.lemmas.List.{length-take-le, take-append-drop}
 use Rattle.std.specs.Prelude.{IsSome}
 use Rattle.pmb_bus.specs.declared.event.Event.TheVariants.{Start, Stop}
 use Rattle.pmb_bus.specs.Event.{canonical_text}
 use Rattle.pmb_command.specs.Wire.{AreByteValues}
 use Rattle.pmb_common.specs.declared.legs.Legs.{Legs}
-use Rattle.pmb_common.specs.declared.legs.Legs.TheVariants.{Written, Both}
+use Rattle.pmb_common.specs.declared.legs.Legs.TheVariants.{Written, Both, Group}
 use Rattle.pmb_common.specs.Front.{NoneAcked, acked_text, end_text}
-use Rattle.pmb_common.specs.Legs.{FindsSecond, IsOfLegs, leg_events}
+use Rattle.pmb_common.specs.Legs.{BeginsOdd, FindsSecond, IsOfLegs, NextWritten, leg_events}
 use Rattle.pmb_common.proofs.Ends.{Ended, ends, read_text, written_text}
-use Rattle.pmb_common.proofs.Texts.{none_at_start, none_at_stop}
+use Rattle.pmb_common.proofs.Texts.{acked_text-append, none_at_start, none_at_stop}
 use Rattle.pmb_common.proofs.Wires.{small-drop, small-take}
 
 abbrev pub start : List ℕ
@@ -39,6 +39,10 @@ pub record IsBoth (written : ℕ) (all : List ℕ) : Type 0 where
   pub small_front : AreByteValues front
   pub small_back : AreByteValues back
   pub small_last : last < 256
+  pub to_read : ℕ
+  pub tail : List ℕ
+  pub begins : back ≡ to_read ∷ tail
+  pub odd : to_read % 2 ≡ 1
   pub text : (rest : List ℕ) → canonical_text (leg_events (Both written) all) ++ rest ≡ start ++ (acked_text front ++ (start ++ (acked_text back ++ (end_text last ++ rest))))
 
 regroup : (a b c d rest : List ℕ) → (a ++ (b ++ (c ++ d))) ++ rest ≡ a ++ (b ++ (c ++ (d ++ rest)))
@@ -49,8 +53,8 @@ small_ended [] last small = (tt, small.0)
 small_ended (b ∷ front) last small = let more = small_ended front last small.1 in ((small.0, more.0), more.1)
 
 both_by_last : (front : List ℕ) (to_read : ℕ) (tail : List ℕ) → AreByteValues front → AreByteValues (to_read ∷ tail) → Ended tail
-    → IsBoth (length front) (front ++ to_read ∷ tail)
-both_by_last front to_read tail first second ended =
+    → to_read % 2 ≡ 1 → IsBoth (length front) (front ++ to_read ∷ tail)
+both_by_last front to_read tail first second ended odd =
     let parts = small_ended ended.front ended.last (subst AreByteValues ended.whole second.1) in
     let whole : front ++ to_read ∷ tail ≡ front ++ to_read ∷ (ended.front ++ ended.last ∷ []) = ap (λ (l : List ℕ). front ++ to_read ∷ l) ended.whole in
     record {
@@ -63,16 +67,21 @@ both_by_last front to_read tail first second ended =
       small_front = first;
       small_back = (second.0, parts.0);
       small_last = parts.1;
+      to_read = to_read;
+      tail = ended.front;
+      begins = refl;
+      odd = odd;
       text = λ rest.
           ap (λ (l : List ℕ). canonical_text (leg_events (Both (length front)) l) ++ rest) whole
           ∙ ap (λ (l : List ℕ). l ++ rest) (read_text front to_read ended.front ended.last)
           ∙ ap (λ (l : List ℕ). start ++ l) (regroup (acked_text front) start (acked_text (to_read ∷ ended.front)) (end_text ended.last) rest);
     }
 
-both_by : (front behind : List ℕ) → AreByteValues front → AreByteValues behind → 2 ≤ length behind → IsBoth (length front) (front ++ behind)
-both_by front [] first second enough = absurd (omega (arith, enough))
-both_by front (to_read ∷ []) first second enough = absurd (omega (arith, enough))
-both_by front (to_read ∷ next ∷ tail) first second enough = both_by_last front to_read (next ∷ tail) first second (ends next tail)
+both_by : (front behind : List ℕ) → AreByteValues front → AreByteValues behind → 2 ≤ length behind → BeginsOdd behind
+    → IsBoth (length front) (front ++ behind)
+both_by front [] first second enough odd = absurd odd
+both_by front (to_read ∷ []) first second enough odd = absurd (omega (arith, enough))
+both_by front (to_read ∷ next ∷ tail) first second enough odd = both_by_last front to_read (next ∷ tail) first second (ends next tail) odd
 
 pub is_both : (written : ℕ) (all : List ℕ) → IsOfLegs (Both written) all → IsBoth written all
 is_both written all are =
@@ -82,7 +91,7 @@ is_both written all are =
     let long : length front ≡ written = length-take-le written all (omega (arith, are.enough)) in
     let enough : 2 ≤ length behind = omega (arith, are.enough, long, ap length whole, length-append front behind) in
     subst (λ (n : ℕ). IsBoth n all) long
-    (subst (IsBoth (length front)) whole (both_by front behind (small-take written all are.small) (small-drop written all are.small) enough))
+    (subst (IsBoth (length front)) whole (both_by front behind (small-take written all are.small) (small-drop written all are.small) enough are.reads))
 
 -- What `take_acked` says of bytes that all find room.
 abbrev pub TakesAll : List ℕ → List ℕ → List ℕ → List ℕ → Type 0
@@ -100,6 +109,16 @@ module _ (text first behind old new : List ℕ) (none : old ≡ []) (begins : te
       let took = takes all (stop ++ rest) are.small (none_at_stop rest) few here in
       (took.0 ∙ ap (λ (l : List ℕ). l ++ all) none, took.1)
 
+  -- of a group those of its first leg, up to the second START
+  pub group_first : IsOfLegs Group all → NextWritten rest → text ≡ canonical_text (leg_events Group all) ++ rest → (new ≡ all) × (behind ≡ rest)
+  group_first are next split =
+      let joined : start ++ first ≡ start ++ (acked_text all ++ rest) = sym begins ∙ split ∙ append_assoc start (acked_text all) rest in
+      let here : first ≡ acked_text all ++ rest = cc joined in
+      let few : length (old ++ all) ≤ 516 = subst (λ (l : List ℕ). length (l ++ all) ≤ 516) (sym none) are.few in
+      let ended : NoneAcked rest = subst NoneAcked (sym next.split) (none_at_start (acked_text (next.byte ∷ []) ++ next.more)) in
+      let took = takes all rest are.small ended few here in
+      (took.0 ∙ ap (λ (l : List ℕ). l ++ all) none, took.1)
+
   -- of both legs those of the first, up to the second START
   pub both_first : (written : ℕ) (are : IsOfLegs (Both written) all) → text ≡ canonical_text (leg_events (Both written) all) ++ rest
       → (new ≡ (is_both written all are).front) × (behind ≡ start ++ (acked_text (is_both written all are).back ++ (end_text (is_both written all are).last ++ rest)))
@@ -111,6 +130,36 @@ module _ (text first behind old new : List ℕ) (none : old ≡ []) (begins : te
       let few : length (old ++ both.front) ≤ 516 = omega (arith, length-append old both.front, ap length none, both.long, are.enough, are.few) in
       let took = takes both.front behind_first both.small_front (none_at_start (acked_text both.back ++ (end_text both.last ++ rest))) few here in
       (took.0 ∙ ap (λ (l : List ℕ). l ++ both.front) none, took.1)
+
+-- the text behind START
+same_behind : (behind second more : List ℕ) → behind ≡ start ++ second → behind ≡ start ++ more → second ≡ more
+same_behind behind second more one other = let joined : start ++ second ≡ start ++ more = sym one ∙ other in cc joined
+
+-- What `is_even` says of the byte in front.
+abbrev pub TellsEven : List ℕ → Bool → Type 0
+TellsEven text result = (byte : ℕ) (rest : List ℕ) → byte < 256 → text ≡ acked_text (byte ∷ []) ++ rest → result ≡ nat_eq (byte % 2) 0
+
+-- that of a leg that is read is not even
+pub read_is_odd : (written : ℕ) (behind second all rest : List ℕ) (result : Bool) (are : IsOfLegs (Both written) all) → behind ≡ start ++ second → TellsEven second result
+    → behind ≡ start ++ (acked_text (is_both written all are).back ++ (end_text (is_both written all are).last ++ rest)) → result ≡ true → ⊥
+read_is_odd written behind second all rest result are begins tells split is =
+    let both = is_both written all are in
+    let more = end_text both.last ++ rest in
+    let here : second ≡ acked_text (both.to_read ∷ []) ++ (acked_text both.tail ++ more) =
+    same_behind behind second (acked_text both.back ++ more) begins split
+    ∙ ap (λ (l : List ℕ). acked_text l ++ more) both.begins
+    ∙ ap (λ (l : List ℕ). l ++ more) (acked_text-append (both.to_read ∷ []) both.tail)
+    ∙ append_assoc (acked_text (both.to_read ∷ [])) (acked_text both.tail) more in
+    let small = subst AreByteValues both.begins both.small_back in
+    let even : nat_eq (both.to_read % 2) 0 ≡ true = sym (tells both.to_read (acked_text both.tail ++ more) small.0 here) ∙ is in
+    let one : nat_eq 1 0 ≡ true = ap (λ (n : ℕ). nat_eq n 0) (sym both.odd) ∙ even in
+    cc one
+
+-- and that of the next leg of a group is
+pub group_is_even : (behind second rest : List ℕ) (result : Bool) → (next : NextWritten rest) → behind ≡ start ++ second → TellsEven second result → behind ≡ rest → result ≡ true
+group_is_even behind second rest result next begins tells same =
+    tells next.byte next.more next.small (same_behind behind second (acked_text (next.byte ∷ []) ++ next.more) begins (same ∙ next.split))
+    ∙ ap (λ (n : ℕ). nat_eq n 0) next.even
 
 -- of the second leg those behind START
 pub both_second : (written : ℕ) (behind second front new all rest : List ℕ) (result : Option Legs) (are : IsOfLegs (Both written) all)

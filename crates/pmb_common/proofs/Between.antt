@@ -1,5 +1,6 @@
 -- The text of a packet that is taken at once, and that it ends between words.
-use Rattle.std.proofs.Common.{◌≡◌, ℕ, List, [], ◌∷◌, ◌++◌, take, sym, ap, subst, ◌∙◌, append_assoc}
+use Rattle.std.proofs.Common.{◌≡◌, ◌≤◌, ℕ, Option, Some, None, List, [], ◌∷◌, ◌++◌, length, take, sym, ap, subst, ◌∙◌, arith, append_assoc, length-append}
+use Rattle.std.specs.Prelude.{IfSome}
 use Rattle.std.proofs.Math.Seq.{take-append_seam}
 use Rattle.pmb_bus.specs.declared.event.Event.{Event}
 use Rattle.pmb_bus.specs.declared.event.Event.TheVariants.{Stop}
@@ -8,6 +9,7 @@ use Rattle.pmb_bus.specs.Text.{EndsBetween}
 use Rattle.pmb_command.specs.Parts.{DeviceParts}
 use Rattle.pmb_transaction.specs.Capture.{EndsAtStop}
 use Rattle.pmb_transaction.specs.Transaction.{TransactionData}
+use Rattle.pmb_common.specs.declared.common.Taken.{Taken}
 use Rattle.pmb_common.specs.Common.{TakesPacket}
 use Rattle.pmb_common.proofs.Texts.{text-append}
 
@@ -30,3 +32,10 @@ pub ends_between : (lines : (text : List ℕ) → EndsBetween (text ++ character
     (t : TransactionData) → (taken : TakesPacket profile text used count t) → EndsAtStop taken.events → EndsBetween (take used text)
 ends_between lines profile text used count t taken ends =
     subst EndsBetween (sym (used_text profile text used count t taken ∙ stop_text taken.events ends)) (lines (canonical_text ends.front ++ character "P" ∷ []))
+
+-- they are no more than the text has
+pub within_text : (profile : List DeviceParts) (text : List ℕ) (t : TransactionData) (result : Option Taken)
+    → IfSome result (λ taken. TakesPacket profile text taken.used taken.events t) → IfSome result (λ taken. taken.used ≤ length text)
+within_text profile text t None takes = tt
+within_text profile text t (Some taken) takes =
+    omega (arith, takes.bytes, ap length takes.split, length-append (canonical_text takes.events) takes.rest)

@@ -1,9 +1,11 @@
 -- The legs of common packets, and the packets of such legs.
-use Rattle.std.proofs.Common.{◌≡◌, ℕ, ◌+◌, ◌*◌, ◌≤◌, inl, inr, Bool, true, false, List, [], ◌∷◌, ◌++◌, length, nat_eq, refl, sym, ap, subst, ◌∙◌, arith, append_assoc, length-append}
+use Rattle.std.proofs.Common.{◌≡◌, ℕ, ◌+◌, ◌*◌, ◌%◌, ◌≤◌, inl, inr, Bool, true, false, List, [], ◌∷◌, ◌++◌, length, nat_eq, refl, sym, ap, subst, ◌∙◌, arith, append_assoc, length-append}
 use Rattle.std.proofs.lemmas.List.{append-nil}
+use Rattle.std.proofs.Math.Seq.{drop-append_seam}
 use Rattle.std.specs.List.{IsDistinct}
+use Rattle.hex.specs.Hex.{encode_with}
 use Rattle.pmb_bus.specs.declared.event.Event.{Event}
-use Rattle.pmb_bus.specs.declared.event.Event.TheVariants.{Stop}
+use Rattle.pmb_bus.specs.declared.event.Event.TheVariants.{Start, Byte, Ack, Nack, Stop}
 use Rattle.pmb_bus.specs.Address.{write_address, read_address}
 use Rattle.pmb_bus.specs.Event.{AreBytes, canonical_text}
 use Rattle.pmb_bus.specs.Pec.{pec}
@@ -16,16 +18,14 @@ use Rattle.pmb_transaction.specs.Transaction.{PartData, ReadData, CallData, Tran
 use Rattle.pmb_transaction.specs.Body.{checked}
 use Rattle.pmb_transaction.specs.Packet.{Packet, acked, leg, nacked}
 use Rattle.pmb_common.specs.declared.legs.Legs.{Legs}
-use Rattle.pmb_common.specs.declared.legs.Legs.TheVariants.{Written, Both}
-use Rattle.pmb_common.specs.Common.{BeginsCommon, IsCommon, OneCalled, OneRead, OneWritten, TakesPacket, device_called, device_read, one_part_written, read_events}
-use Rattle.pmb_common.specs.Legs.{IsOfLegs, SayLegs, leg_events}
+use Rattle.pmb_common.specs.declared.legs.Legs.TheVariants.{Written, Both, Group}
+use Rattle.pmb_common.specs.Common.{BeginsCommon, IsCommon, OneCalled, OneRead, OneWritten, TakesPacket, device_called, device_read, parts_written, read_events}
+use Rattle.pmb_common.specs.Front.{acked_text}
+use Rattle.pmb_common.specs.Legs.{BeginsOdd, Follows, IsOfLegs, SayBoth, SayLegs, leg_events}
 use Rattle.pmb_common.proofs.Ends.{both, both_events, length-both_text, length-written_text}
+use Rattle.pmb_common.proofs.LegBytes.{behind_acked, bytes_of_acked, bytes_of_nacked, few_checked, few_in_leg, few_on_wire, length-acked, some_checked, some_on_wire}
 use Rattle.pmb_common.proofs.Found.{call_has_data, read_has_data}
-use Rattle.pmb_common.proofs.Texts.{small-append}
-
-length-acked : (bytes : List ℕ) → length (acked bytes) ≡ 2 * length bytes
-length-acked [] = refl
-length-acked (b ∷ bytes) = omega (arith, length-acked bytes)
+use Rattle.pmb_common.proofs.Texts.{small-append, text-append}
 
 -- ---- from legs to the packet
 
@@ -40,7 +40,7 @@ pub takes_write : (profile : List DeviceParts) (text rest : List ℕ) (address c
     → used ≡ 4 + 5 * length bytes → count ≡ 2 + 2 * length bytes
     → TakesPacket profile text used count (Write (record { addr = address; code = code; bytes = data_bytes; pec = with_pec } ∷ []))
 takes_write profile text rest address code data_bytes with_pec bytes used count says split long many = record {
-  common = one_part_written (record { addr = address; code = code; bytes = data_bytes; pec = with_pec });
+  common = parts_written (record { addr = address; code = code; bytes = data_bytes; pec = with_pec } ∷ []);
   events = leg bytes ++ Stop ∷ [];
   packet = record {
     some = omega arith;
@@ -147,22 +147,9 @@ pub record CommonLegs (profile : List DeviceParts) (text : List ℕ) : Type 0 wh
   pub all : List ℕ
   pub rest : List ℕ
   pub are : IsOfLegs legs all
-  pub say : SayLegs profile legs all
+  pub follows : Follows legs rest
+  pub say : SayLegs profile text legs all
   pub split : text ≡ canonical_text (leg_events legs all) ++ rest
-
--- the bytes of events
-bytes_of_acked : (bytes : List ℕ) (more : List Event) → AreBytes (acked bytes ++ more) → AreByteValues bytes
-bytes_of_acked [] more small = tt
-bytes_of_acked (b ∷ bytes) more small = (small.0, bytes_of_acked bytes more small.1)
-
-bytes_of_nacked : (bytes : List ℕ) (more : List Event) → AreBytes (nacked bytes ++ more) → AreByteValues bytes
-bytes_of_nacked [] more small = tt
-bytes_of_nacked (b ∷ []) more small = (small.0, tt)
-bytes_of_nacked (b ∷ c ∷ bytes) more small = (small.0, bytes_of_nacked (c ∷ bytes) more small.1)
-
-behind_acked : (bytes : List ℕ) (more : List Event) → AreBytes (acked bytes ++ more) → AreBytes more
-behind_acked [] more small = small
-behind_acked (b ∷ bytes) more small = behind_acked bytes more small.1
 
 bytes_of_both : (front : List ℕ) (to_read : ℕ) (reply : List ℕ) → AreBytes (both front to_read reply) → AreByteValues (front ++ to_read ∷ reply)
 bytes_of_both front to_read reply small =
@@ -171,35 +158,23 @@ bytes_of_both front to_read reply small =
     let second = behind_acked front behind both_small in
     small-append front (to_read ∷ reply) (bytes_of_acked front behind both_small) (second.0, bytes_of_nacked reply (Stop ∷ []) second.1)
 
--- how many bytes data have on the wire
-few_on_wire : (form : Form) (data_bytes : List ℕ) → Fits form data_bytes → length (wire form data_bytes) ≤ 256
-few_on_wire Zero data_bytes fits = omega (arith, fits.taken)
-few_on_wire One data_bytes fits = omega (arith, fits.taken)
-few_on_wire Two data_bytes fits = omega (arith, fits.taken)
-few_on_wire Four data_bytes fits = omega (arith, fits.taken)
-few_on_wire Eight data_bytes fits = omega (arith, fits.taken)
-few_on_wire Block data_bytes fits = omega (arith, fits.taken)
+bytes_before : (events : List Event) → AreBytes (events ++ Stop ∷ []) → AreBytes events
+bytes_before [] small = tt
+bytes_before (Start ∷ events) small = bytes_before events small
+bytes_before (Byte b ∷ events) small = (small.0, bytes_before events small.1)
+bytes_before (Ack ∷ events) small = bytes_before events small
+bytes_before (Nack ∷ events) small = bytes_before events small
+bytes_before (Stop ∷ events) small = bytes_before events small
 
-some_on_wire : (form : Form) (data_bytes : List ℕ) → Fits form data_bytes → (form ≡ Zero → ⊥) → 1 ≤ length (wire form data_bytes)
-some_on_wire Zero data_bytes fits not_zero = absurd (not_zero refl)
-some_on_wire One data_bytes fits not_zero = omega (arith, fits.taken)
-some_on_wire Two data_bytes fits not_zero = omega (arith, fits.taken)
-some_on_wire Four data_bytes fits not_zero = omega (arith, fits.taken)
-some_on_wire Eight data_bytes fits not_zero = omega (arith, fits.taken)
-some_on_wire Block data_bytes fits not_zero = omega arith
-
--- and how many with a packet error code
-few_checked : (with_pec : Bool) (before bytes : List ℕ) → length (checked with_pec before bytes) ≤ length bytes + 1
-few_checked false before bytes = omega arith
-few_checked true before bytes = omega (arith, length-append bytes (pec (before ++ bytes) ∷ []))
-
-some_checked : (with_pec : Bool) (before bytes : List ℕ) → length bytes ≤ length (checked with_pec before bytes)
-some_checked false before bytes = omega arith
-some_checked true before bytes = omega (arith, length-append bytes (pec (before ++ bytes) ∷ []))
+-- the text of a leg's first byte
+begun_text : (byte : ℕ) (events : List Event) (rest : List ℕ)
+    → canonical_text (Start ∷ Byte byte ∷ Ack ∷ events) ++ rest ≡ canonical_text (Start ∷ []) ++ (acked_text (byte ∷ []) ++ (canonical_text events ++ rest))
+unfolding encode_with
+begun_text byte events rest = refl
 
 module _ (profile : List DeviceParts) (bus : IsBus profile)
     (are_bytes : (t : TransactionData) (events : List Event) → Packet profile t events → AreBytes events) (text : List ℕ) where
-  -- those of a write
+  -- that of a write of one part
   write_legs : (part : PartData) (events : List Event) (rest : List ℕ) → Packet profile (Write (part ∷ [])) events → text ≡ canonical_text events ++ rest
       → CommonLegs profile text
   write_legs part events rest packet split =
@@ -216,13 +191,10 @@ module _ (profile : List DeviceParts) (bus : IsBus profile)
         are = record {
           small = bytes_of_acked all (Stop ∷ []) small;
           enough = omega arith;
-          few = omega (
-            arith,
-            ap length here.allowed.spelled,
-            few_checked part.pec (write_address here.device.address ∷ []) (part.code ∷ wire here.allowed.form part.bytes),
-            few_on_wire here.allowed.form part.bytes here.allowed.fits,
-          );
+          few = few_in_leg profile part here;
+          reads = tt;
         };
+        follows = tt;
         say = (
           part.addr,
           part.code,
@@ -233,11 +205,66 @@ module _ (profile : List DeviceParts) (bus : IsBus profile)
         split = split ∙ ap (λ (l : List Event). canonical_text l ++ rest) spelled;
       }
 
+  -- the first one of a group
+  group_legs : (part next : PartData) (more : List PartData) (events : List Event) (rest : List ℕ) → Packet profile (Write (part ∷ next ∷ more)) events
+      → text ≡ canonical_text events ++ rest → CommonLegs profile text
+  group_legs part next more events rest packet split =
+      let here = packet.each.3 in
+      let later = packet.each.1 in
+      let second = packet.each.4.3 in
+      let all = write_address part.addr ∷ here.body in
+      let begun = write_address next.addr in
+      let behind = canonical_text (later ++ Stop ∷ []) ++ rest in
+      let first : packet.legs ≡ leg all ++ later = packet.each.2 ∙ ap (λ (l : List Event). l ++ later) here.spelled in
+      let spelled : events ≡ leg all ++ (later ++ Stop ∷ []) =
+      packet.spelled ∙ ap (λ (l : List Event). l ++ Stop ∷ []) first ∙ append_assoc (leg all) later (Stop ∷ []) in
+      let small : AreBytes (acked all ++ (later ++ Stop ∷ [])) = subst AreBytes spelled (are_bytes (Write (part ∷ next ∷ more)) events packet) in
+      let small_later : AreBytes (later ++ Stop ∷ []) = behind_acked all (later ++ Stop ∷ []) small in
+      let begins : later ++ Stop ∷ [] ≡ Start ∷ (acked (begun ∷ second.body) ++ (packet.each.4.1 ++ Stop ∷ [])) =
+      ap (λ (l : List Event). l ++ Stop ∷ []) (packet.each.4.2 ∙ ap (λ (l : List Event). l ++ packet.each.4.1) second.spelled)
+      ∙ append_assoc (leg (begun ∷ second.body)) packet.each.4.1 (Stop ∷ []) in
+      let small_second : AreBytes (acked (begun ∷ second.body) ++ (packet.each.4.1 ++ Stop ∷ [])) = subst AreBytes begins small_later in
+      let split_first : text ≡ canonical_text (leg all) ++ behind =
+      split
+      ∙ ap (λ (l : List Event). canonical_text l ++ rest) spelled
+      ∙ ap (λ (l : List ℕ). l ++ rest) (text-append (leg all) (later ++ Stop ∷ []))
+      ∙ append_assoc (canonical_text (leg all)) (canonical_text (later ++ Stop ∷ [])) rest in
+      record {
+        legs = Group;
+        all = all;
+        rest = behind;
+        are = record { small = bytes_of_acked all (later ++ Stop ∷ []) small; enough = omega arith; few = few_in_leg profile part here; reads = tt };
+        follows = record {
+          byte = begun;
+          small = small_second.0;
+          even = omega arith;
+          more = canonical_text (acked second.body ++ (packet.each.4.1 ++ Stop ∷ [])) ++ rest;
+          split = ap (λ (l : List Event). canonical_text l ++ rest) begins ∙ begun_text begun (acked second.body ++ (packet.each.4.1 ++ Stop ∷ [])) rest;
+        };
+        say = record {
+          first = part;
+          says = record { device = here.device; body = here.body; known = here.known; allowed = here.allowed; spelled = refl };
+          behind = behind;
+          split = split_first;
+          more = record {
+            parts = next ∷ more;
+            legs = later;
+            each = packet.each.4;
+            distinct = packet.distinct;
+            few = omega (arith, packet.few);
+            small = bytes_before later small_later;
+            rest = rest;
+            split = refl;
+          };
+        };
+        split = split_first;
+      }
+
   -- those of both legs
   both_legs : (t : TransactionData) (events : List Event) (rest : List ℕ) (front : List ℕ) (to_read : ℕ) (reply : List ℕ) → Packet profile t events
       → events ≡ both front to_read reply → 1 ≤ length reply → length front + length reply ≤ 515
-      → SayLegs profile (Both (length front)) (front ++ to_read ∷ reply) → text ≡ canonical_text events ++ rest → CommonLegs profile text
-  both_legs t events rest front to_read reply packet spelled some few say split =
+      → to_read % 2 ≡ 1 → SayBoth profile (length front) (front ++ to_read ∷ reply) → text ≡ canonical_text events ++ rest → CommonLegs profile text
+  both_legs t events rest front to_read reply packet spelled some few odd say split =
       let all = front ++ to_read ∷ reply in
       let long : length all ≡ length front + 1 + length reply = omega (arith, length-append front (to_read ∷ reply)) in
       record {
@@ -248,7 +275,9 @@ module _ (profile : List DeviceParts) (bus : IsBus profile)
           small = bytes_of_both front to_read reply (subst AreBytes spelled (are_bytes t events packet));
           enough = omega (arith, long, some);
           few = omega (arith, long, few);
+          reads = subst BeginsOdd (sym (drop-append_seam front (to_read ∷ reply))) odd;
         };
+        follows = tt;
         say = say;
         split = split ∙ ap (λ (l : List Event). canonical_text l ++ rest) (spelled ∙ sym (both_events front to_read reply));
       }
@@ -265,6 +294,7 @@ module _ (profile : List DeviceParts) (bus : IsBus profile)
       both_legs (Read t) events rest front (read_address t.addr) reply packet packet.spelled
       (omega (arith, on_wire, some_checked t.pec before (wire packet.form t.reply)))
       (omega (arith, few_checked t.pec before (wire packet.form t.reply), few_on_wire packet.form t.reply packet.fits))
+      (omega arith)
       (inl (
         refl,
         t.addr,
@@ -301,6 +331,7 @@ module _ (profile : List DeviceParts) (bus : IsBus profile)
         few_on_wire packet.form t.reply packet.replied,
         few_on_wire packet.form t.bytes packet.sent,
       ))
+      (omega arith)
       (inr (
         omega (arith, sent_on_wire),
         t.addr,
@@ -322,9 +353,16 @@ module _ (profile : List DeviceParts) (bus : IsBus profile)
       ))
       split
 
+  -- those of a write
+  legs_of_write : (parts : List PartData) (events : List Event) (rest : List ℕ) → Packet profile (Write parts) events → text ≡ canonical_text events ++ rest
+      → CommonLegs profile text
+  legs_of_write [] events rest packet split = absurd (omega (arith, packet.some))
+  legs_of_write (part ∷ []) events rest packet split = write_legs part events rest packet split
+  legs_of_write (part ∷ next ∷ more) events rest packet split = group_legs part next more events rest packet split
+
   legs_of : (t : TransactionData) (events : List Event) (rest : List ℕ) → IsCommon t → Packet profile t events → text ≡ canonical_text events ++ rest
       → CommonLegs profile text
-  legs_of t events rest (one_part_written part) packet split = write_legs part events rest packet split
+  legs_of t events rest (parts_written parts) packet split = legs_of_write parts events rest packet split
   legs_of t events rest (device_read read) packet split = read_legs read events rest packet split
   legs_of t events rest (device_called call) packet split = call_legs call events rest packet split
 

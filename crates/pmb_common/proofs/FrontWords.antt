@@ -1,10 +1,10 @@
 -- The words in front of a text, by its first bytes.
-use Rattle.std.proofs.Common.{◌≡◌, ℕ, ◌<◌, ◌≤◌, Option, Some, None, List, [], ◌∷◌, ◌++◌, length, get_or, drop, sym, ap, ◌∙◌, arith}
+use Rattle.std.proofs.Common.{◌≡◌, ℕ, ◌%◌, ◌<◌, ◌≤◌, Option, Some, None, List, [], ◌∷◌, ◌++◌, length, get_or, drop, sym, ap, ◌∙◌, arith}
 use Rattle.std.specs.Prelude.{IfSome}
 use Rattle.hex.specs.Hex.{encode_with}
 use Rattle.pmb_bus.specs.declared.event.Event.TheVariants.{Byte}
 use Rattle.pmb_bus.specs.Event.{canonical_text}
-use Rattle.pmb_common.specs.Front.{acked_text, end_text}
+use Rattle.pmb_common.specs.Front.{acked_text, end_text, lower_digit}
 
 -- ---- a byte and its ACK
 
@@ -20,6 +20,11 @@ other_ack text byte rest same = ap (λ (l : List ℕ). get_or l 3 0) same
 pub other_space : (text : List ℕ) (byte : ℕ) (rest : List ℕ) → text ≡ acked_text (byte ∷ []) ++ rest → get_or text 4 0 ≡ 32
 unfolding encode_with
 other_space text byte rest same = ap (λ (l : List ℕ). get_or l 4 0) same
+
+-- the lower one of the byte's digits
+pub low_digit : (text : List ℕ) (byte : ℕ) (rest : List ℕ) → text ≡ acked_text (byte ∷ []) ++ rest → get_or text 1 0 ≡ lower_digit (byte % 16)
+unfolding encode_with
+low_digit text byte rest same = ap (λ (l : List ℕ). get_or l 1 0) same
 
 -- the word in front of it
 pub acked_word : (text : List ℕ) (byte : ℕ) (rest : List ℕ) → text ≡ acked_text (byte ∷ []) ++ rest

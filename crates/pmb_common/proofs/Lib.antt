@@ -6,7 +6,10 @@ pub mod Texts
 pub mod Fronts
 pub mod FrontWords
 pub mod Ends
+pub mod LegBytes
 pub mod Wires
 pub mod Found
 pub mod CommonLegs
 pub mod Spelled
+pub mod Groups
+pub mod Inside

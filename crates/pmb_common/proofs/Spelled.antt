@@ -4,7 +4,7 @@ use Rattle.std.specs.Prelude.{IfSome}
 use Rattle.pmb_bus.specs.declared.event.Event.TheVariants.{Start, Stop}
 use Rattle.pmb_bus.specs.Event.{canonical_text}
 use Rattle.pmb_common.specs.declared.legs.Legs.{Legs}
-use Rattle.pmb_common.specs.declared.legs.Legs.TheVariants.{Written}
+use Rattle.pmb_common.specs.declared.legs.Legs.TheVariants.{Written, Group}
 use Rattle.pmb_common.specs.Common.{read_events}
 use Rattle.pmb_common.specs.Front.{TakenFront, acked_text, end_text}
 use Rattle.pmb_common.specs.Legs.{BeginsWithLegs, TakenSecond, leg_events}
@@ -27,6 +27,17 @@ written_there text first behind rest old new none begins taken ends =
     ap (λ (l : List ℕ). l ++ rest) (written_text new)
     ∙ ap (λ (l : List ℕ). start ++ l) (append_assoc (acked_text new) (canonical_text (Stop ∷ [])) rest) in
     (rest, split ∙ sym joined)
+
+-- the first leg of a group
+pub group_there : (text first behind old new : List ℕ) → old ≡ [] → text ≡ start ++ first → TakenFront first old new behind → BeginsWithLegs Group new text
+group_there text first behind old new none begins taken =
+    let same : taken.more ≡ new = sym (taken.added ∙ ap (λ (l : List ℕ). l ++ taken.more) none) in (
+      behind,
+      begins
+          ∙ ap (λ (l : List ℕ). start ++ l) taken.split
+          ∙ ap (λ (l : List ℕ). start ++ (acked_text l ++ behind)) same
+          ∙ sym (append_assoc start (acked_text new) behind),
+    )
 
 -- the text of both, by what was taken of each
 both_text : (front back : List ℕ) (last : ℕ) → 1 ≤ length back

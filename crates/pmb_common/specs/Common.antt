@@ -16,8 +16,8 @@ use Rattle.pmb_transaction.specs.Packet.{Packet, leg, nacked}
 -- without a packet error code (SMBus 3.0 section 6.5). Each byte is acknowledged, but for the last one
 -- that is read.
 pub data IsCommon : TransactionData → Type 0 where
-  -- S addr+W A code A data A .. [pec A] P
-  one_part_written : (part : PartData) → IsCommon (Write (part ∷ []))
+  -- S addr+W A code A data A .. [pec A] [S addr+W A code A data A .. [pec A]] .. P
+  parts_written : (parts : List PartData) → IsCommon (Write parts)
   -- S addr+W A code A S addr+R A reply A .. [pec] N P
   device_read : (t : ReadData) → IsCommon (Read t)
   -- S addr+W A code A data A .. S addr+R A reply A .. [pec] N P

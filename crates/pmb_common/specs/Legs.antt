@@ -1,31 +1,59 @@
 -- The legs of a common packet: their bytes, address bytes too, and their events.
-use Rattle.std.specs.Prelude.{◌≡◌, ◌≤◌, ◌<◌, ℕ, ◌+◌, ◌⊎◌, Bool, Option, Some, List, [], ◌∷◌, ◌++◌, length}
+use Rattle.std.specs.Prelude.{◌≡◌, ◌≤◌, ◌<◌, ℕ, ◌+◌, ◌%◌, ◌⊎◌, ⊤, Bool, Option, Some, List, [], ◌∷◌, ◌++◌, drop, length}
 use Rattle.pmb_bus.specs.declared.event.Event.{Event}
-use Rattle.pmb_bus.specs.declared.event.Event.TheVariants.{Stop}
+use Rattle.pmb_bus.specs.declared.event.Event.TheVariants.{Start, Stop}
 use Rattle.pmb_bus.specs.Event.{canonical_text}
 use Rattle.pmb_command.specs.Parts.{DeviceParts}
 use Rattle.pmb_command.specs.Wire.{AreByteValues}
 use Rattle.pmb_transaction.specs.Packet.{leg}
 use Rattle.pmb_common.specs.declared.legs.Legs.{Legs}
-use Rattle.pmb_common.specs.declared.legs.Legs.TheVariants.{Written, Both}
+use Rattle.pmb_common.specs.declared.legs.Legs.TheVariants.{Written, Both, Group}
 use Rattle.pmb_common.specs.Front.{acked_text, end_text}
-use Rattle.pmb_common.specs.Common.{OneCalled, OneRead, OneWritten, read_events}
+use Rattle.pmb_common.specs.Common.{OneCalled, OneRead, read_events}
+use Rattle.pmb_common.specs.Groups.{SayGroup, SaysPart}
 
--- the events of legs with these bytes, up to STOP
+-- the events of legs with these bytes, up to STOP; of a group those of the first leg
 abbrev pub leg_events : Legs → List ℕ → List Event
 leg_events Written bytes = leg bytes ++ Stop ∷ []
 leg_events (Both written) bytes = read_events written bytes
+leg_events Group bytes = leg bytes
 
 -- how many bytes the legs have at least: in one that is read, one stands behind the address
 abbrev pub least : Legs → ℕ
 least Written = 0
 least (Both written) = written + 2
+least Group = 0
+
+-- the first of some bytes is odd, as an address byte for reading is
+abbrev pub BeginsOdd : List ℕ → Type 0
+BeginsOdd [] = ⊥
+BeginsOdd (byte ∷ bytes) = byte % 2 ≡ 1
+
+-- a leg that is read begins with such a byte
+abbrev pub Reads : Legs → List ℕ → Type 0
+Reads Written bytes = ⊤
+Reads (Both written) bytes = BeginsOdd (drop written bytes)
+Reads Group bytes = ⊤
 
 -- Bytes of a packet's legs.
 pub record IsOfLegs (legs : Legs) (bytes : List ℕ) : Type 0 where
   pub small : AreByteValues bytes
   pub enough : least legs ≤ length bytes
   pub few : length bytes ≤ 516
+  pub reads : Reads legs bytes
+
+-- Behind the first leg of a group stands another one, which begins with an even byte.
+pub record NextWritten (behind : List ℕ) : Type 0 where
+  pub byte : ℕ
+  pub small : byte < 256
+  pub even : byte % 2 ≡ 0
+  pub more : List ℕ
+  pub split : behind ≡ canonical_text (Start ∷ []) ++ (acked_text (byte ∷ []) ++ more)
+
+abbrev pub Follows : Legs → List ℕ → Type 0
+Follows Written behind = ⊤
+Follows (Both written) behind = ⊤
+Follows Group behind = NextWritten behind
 
 -- The text of legs with these bytes stands in front of a text.
 abbrev pub BeginsWithLegs : Legs → List ℕ → List ℕ → Type 0
@@ -53,9 +81,14 @@ abbrev pub FindsSecond : List ℕ → List ℕ → List ℕ → Option Legs → 
 FindsSecond text first new result = (back : List ℕ) (last : ℕ) (rest : List ℕ) → IsSecond first back last → text ≡ acked_text back ++ (end_text last ++ rest)
     → (result ≡ Some (Both (length first))) × (new ≡ (first ++ back) ++ last ∷ [])
 
--- What legs with these bytes say. A first leg of two bytes is that of a read: a call sends data.
-abbrev pub SayLegs : List DeviceParts → Legs → List ℕ → Type 0
-SayLegs profile Written bytes = (address : ℕ) × (code : ℕ) × (data_bytes : List ℕ) × (with_pec : Bool) × OneWritten profile address code data_bytes with_pec bytes
-SayLegs profile (Both written) bytes =
+-- What both legs with these bytes say. A first leg of two bytes is that of a read: a call sends data.
+abbrev pub SayBoth : List DeviceParts → ℕ → List ℕ → Type 0
+SayBoth profile written bytes =
     ((written ≡ 2) × (address : ℕ) × (code : ℕ) × (reply : List ℕ) × (with_pec : Bool) × OneRead profile address code reply with_pec bytes)
     ⊎ ((2 < written) × (address : ℕ) × (code : ℕ) × (sent : List ℕ) × (reply : List ℕ) × (with_pec : Bool) × OneCalled profile address code reply with_pec bytes sent written)
+
+-- What legs in front of a text say, with these bytes.
+abbrev pub SayLegs : List DeviceParts → List ℕ → Legs → List ℕ → Type 0
+SayLegs profile text Written bytes = SaysPart profile bytes
+SayLegs profile text (Both written) bytes = SayBoth profile written bytes
+SayLegs profile text Group bytes = SayGroup profile text bytes

@@ -48,7 +48,7 @@ pub(crate) fn whole_data(form: Form, bytes: &[u8]) -> Option<&[u8]>
 
 /// The data that stand in a packet's bytes from an index on, in a form, up to the end or up to a packet
 /// error code that is right and that the mode allows.
-#[inline]
+#[inline(always)]
 pub(crate) fn data_from(form: Form, mode: PecMode, bytes: &[u8], from: usize) -> Option<Data<'_>>
     requires { from ≤ length bytes.now }
     ensures says { IfSome result (λ found. Fits form found.bytes.now × AllowsPec mode found.pec

@@ -1,24 +1,24 @@
-//! The packet that was taken last, kept in place.
+//! The packet in front of a text.
 //!
 //! The bytes of a packet are collected in `bytes`, which no contract speaks of: a try that fails leaves
-//! them behind, and nothing is read from them. What `kept` says changes only once all of the packet is
-//! accepted. Neither is cleared for a packet.
+//! them behind, and nothing is read from them. The parts of a group are kept one by one, so such a try
+//! can leave some of them kept too.
 
-ghost use Rattle.std.specs.Prelude.{◌≡◌, ◌<◌, ◌≤◌, ◌+◌, ◌*◌, ◌++◌, List, ℕ, None, IsSome, IfSome, length};
+ghost use Rattle.std.specs.Prelude.{◌≡◌, ◌<◌, ◌≤◌, ◌+◌, ◌*◌, ◌++◌, List, ℕ, IsSome, IfSome, length};
 ghost use Rattle.pmb_bus.specs.Event.{canonical_text};
-ghost use Rattle.pmb_transaction.specs.Transaction.{NoAlert as says_no_alert, transaction_data};
 ghost use Rattle.pmb_common.specs.Common.{BeginsCommon, TakesPacket};
-ghost use Rattle.pmb_common.specs.Legs.{SayLegs, leg_events};
+ghost use Rattle.pmb_common.specs.declared.legs.Legs.TheVariants.{Both, Written};
+ghost use Rattle.pmb_common.specs.Groups.{SaysPart};
+ghost use Rattle.pmb_common.specs.Legs.{BeginsWithLegs, SayBoth, SayLegs, leg_events};
 
+use crate::group::take_group;
 use crate::legs::{Legs, front_legs};
+use crate::packet_bytes::PacketBytes;
 use crate::packets::{called, read, written};
-use crate::words::PacketBytes;
 use pmb_kept::Kept;
 use pmb_table::Profile;
 use pmb_table::laws::accepted_bus;
-use pmb_transaction::Transaction;
 use pmb_transaction::laws::packets_are_bytes;
-use std::marker::Model;
 
 /// How much of a text a packet is.
 #[derive(Clone, Copy, Debug, PartialEq, Eq)]
@@ -29,53 +29,35 @@ pub struct Taken {
     pub events: usize,
 }
 
-/// Takes common packets at once, and keeps the transaction of the last one.
+/// Takes common packets at once. What is kept of one is kept elsewhere: this has the room in which the
+/// bytes of a packet are collected.
 #[derive(Drop)]
 pub struct Common {
-    kept: Kept,
     bytes: PacketBytes,
 }
 
-impl Model for Common {
-    ghost use Rattle.pmb_transaction.specs.Transaction.{TransactionData};
-
-    ghost Value = { TransactionData };
-
-    ghost view = { λ common. common.kept.last };
-}
-
 impl Common {
-    /// No packet was taken.
-    pub fn new() -> Common
-        ensures { result ≡ says_no_alert }
-    {
+    /// Nothing is collected.
+    pub fn new() -> Common {
         Common {
-            kept: Kept::new(),
             bytes: PacketBytes::new(),
         }
     }
 
-    /// The transaction of the packet that was taken last.
-    #[inline]
-    pub fn packet(&self) -> &Transaction
-        ensures { transaction_data result.now ≡ self.now }
-    {
-        self.kept.last()
-    }
-
-    /// Takes the common packet in front of a text that begins between two packets, or returns `None`
-    /// and changes nothing.
-    pub fn take(&mut self, profile: &Profile, text: &[u8]) -> Option<Taken>
-        ensures takes { IfSome result (λ taken. TakesPacket profile.now text.now taken.used taken.events self.new) }
+    /// Takes the common packet in front of a text that begins between two packets, and keeps its
+    /// transaction as the one that ended last. It returns `None` where none lies whole in front; what
+    /// is kept can have changed then too.
+    pub fn take(&mut self, kept: &mut Kept, profile: &Profile, text: &[u8]) -> Option<Taken>
+        ensures takes { IfSome result (λ taken. TakesPacket profile.now text.now taken.used taken.events kept.new.last) }
         ensures some { IfSome result (λ taken. 0 < taken.used) }
+        ensures within { IfSome result (λ taken. taken.used ≤ length text.now) }
         // A common packet that lies whole in front is taken.
         ensures answers { BeginsCommon profile.now text.now → IsSome result }
-        ensures same { result ≡ None → self.new ≡ self.old }
     {
         accepted_bus(profile);
         packets_are_bytes();
         let legs = front_legs(text, &mut self.bytes)?;
-        keep(&mut self.kept, profile, legs, self.bytes.as_slice())
+        keep(kept, profile, legs, text, &mut self.bytes)
     }
 }
 
@@ -92,42 +74,67 @@ fn both_legs(bytes: &[u8]) -> Taken
     }
 }
 
-// Keeps the transaction of legs with these bytes, where they are those of one.
+// Keeps the transaction of the legs that stand in front of a text, where they are those of one.
 #[inline]
-fn keep(kept: &mut Kept, profile: &Profile, legs: Legs, bytes: &[u8]) -> Option<Taken>
-    requires { length bytes.now ≤ 516 }
-    ensures takes { (text rest : List ℕ) → text ≡ canonical_text (leg_events legs bytes.now) ++ rest
-        → IfSome result (λ taken. TakesPacket profile.now text taken.used taken.events kept.new.last) }
+fn keep(
+    kept: &mut Kept,
+    profile: &Profile,
+    legs: Legs,
+    text: &[u8],
+    bytes: &mut PacketBytes,
+) -> Option<Taken>
+    requires begins { BeginsWithLegs legs bytes.old.items text.now }
+    ensures takes { IfSome result (λ taken. TakesPacket profile.now text.now taken.used taken.events kept.new.last) }
     ensures some { IfSome result (λ taken. 0 < taken.used) }
-    ensures answers { SayLegs profile.now legs bytes.now → IsSome result }
-    ensures same { result ≡ None → kept.new ≡ kept.old }
+    ensures answers { SayLegs profile.now text.now legs bytes.old.items → IsSome result }
 {
     match legs {
-        Legs::Written => {
-            let said = written(profile, bytes)?;
-            kept.begin();
-            kept.push_part(said.address, said.code, said.data.bytes, said.data.pec);
-            kept.end_write();
-            Some(Taken {
-                used: 4 + 5 * bytes.len(),
-                events: 2 + 2 * bytes.len(),
-            })
-        }
-        Legs::Both { written } => {
-            if written == 2 {
-                let said = read(profile, bytes)?;
-                kept.end_read(said.address, said.code, said.data.bytes, said.data.pec);
-                return Some(both_legs(bytes));
-            }
-            let said = called(profile, bytes, written)?;
-            kept.end_call(
-                said.address,
-                said.code,
-                said.sent,
-                said.reply.bytes,
-                said.reply.pec,
-            );
-            Some(both_legs(bytes))
-        }
+        Legs::Written => keep_write(kept, profile, bytes.as_slice()),
+        Legs::Both { written } => keep_both(kept, profile, bytes.as_slice(), written),
+        Legs::Group => take_group(kept, profile, text, bytes),
     }
+}
+
+// Keeps the write of one part, whose leg has these bytes.
+#[inline(always)]
+fn keep_write(kept: &mut Kept, profile: &Profile, bytes: &[u8]) -> Option<Taken>
+    requires { length bytes.now ≤ 516 }
+    ensures takes { (text rest : List ℕ) → text ≡ canonical_text (leg_events Written bytes.now) ++ rest
+        → IfSome result (λ taken. TakesPacket profile.now text taken.used taken.events kept.new.last) }
+    ensures some { IfSome result (λ taken. 0 < taken.used) }
+    ensures answers { SaysPart profile.now bytes.now → IsSome result }
+{
+    let said = written(profile, bytes)?;
+    kept.begin();
+    kept.push_part(said.address, said.code, said.data.bytes, said.data.pec);
+    kept.end_write();
+    Some(Taken {
+        used: 4 + 5 * bytes.len(),
+        events: 2 + 2 * bytes.len(),
+    })
+}
+
+// Keeps the read or the call, whose two legs have these bytes.
+#[inline(always)]
+fn keep_both(kept: &mut Kept, profile: &Profile, bytes: &[u8], written: usize) -> Option<Taken>
+    requires { length bytes.now ≤ 516 }
+    ensures takes { (text rest : List ℕ) → text ≡ canonical_text (leg_events (Both written) bytes.now) ++ rest
+        → IfSome result (λ taken. TakesPacket profile.now text taken.used taken.events kept.new.last) }
+    ensures some { IfSome result (λ taken. 0 < taken.used) }
+    ensures answers { SayBoth profile.now written bytes.now → IsSome result }
+{
+    if written == 2 {
+        let said = read(profile, bytes)?;
+        kept.end_read(said.address, said.code, said.data.bytes, said.data.pec);
+        return Some(both_legs(bytes));
+    }
+    let said = called(profile, bytes, written)?;
+    kept.end_call(
+        said.address,
+        said.code,
+        said.sent,
+        said.reply.bytes,
+        said.reply.pec,
+    );
+    Some(both_legs(bytes))
 }

@@ -2,9 +2,10 @@
 
 ghost use Rattle.std.specs.Prelude.{◌≡◌, List, ℕ, Some, [], ◌++◌, IfSome};
 ghost use Rattle.pmb_bus.specs.Event.{canonical_text};
-ghost use Rattle.pmb_common.specs.Legs.{BeginsWithLegs, FindsSecond, IsOfLegs, TakenSecond, leg_events};
+ghost use Rattle.pmb_common.specs.Legs.{BeginsWithLegs, FindsSecond, Follows, IsOfLegs, TakenSecond, leg_events};
 
-use crate::words::{PacketBytes, behind_start, behind_stop, front_last, take_acked};
+use crate::packet_bytes::PacketBytes;
+use crate::words::{behind_start, behind_stop, front_last, is_even, take_acked};
 
 /// Which legs a packet has.
 #[derive(Clone, Copy)]
@@ -13,14 +14,16 @@ pub(crate) enum Legs {
     Written,
     /// A written one of this many bytes, and one that is read.
     Both { written: usize },
+    /// A written one, and behind it others that are written.
+    Group,
 }
 
-/// The legs in front of a text, up to STOP, where they are those of a common packet. Their bytes are put
-/// in place of others.
+/// The legs in front of a text, up to STOP, where they are those of a common packet; of a group only the
+/// first. Their bytes are put in place of others.
 #[inline]
 pub(crate) fn front_legs(text: &[u8], bytes: &mut PacketBytes) -> Option<Legs>
     ensures spelled { IfSome result (λ legs. BeginsWithLegs legs bytes.new.items text.now) }
-    ensures found { (legs : Legs) (all rest : List ℕ) → IsOfLegs legs all → text.now ≡ canonical_text (leg_events legs all) ++ rest
+    ensures found { (legs : Legs) (all rest : List ℕ) → IsOfLegs legs all → Follows legs rest → text.now ≡ canonical_text (leg_events legs all) ++ rest
         → (result ≡ Some legs) × (bytes.new.items ≡ all) }
 {
     bytes.clear();
@@ -30,6 +33,9 @@ pub(crate) fn front_legs(text: &[u8], bytes: &mut PacketBytes) -> Option<Legs>
         return Some(Legs::Written);
     }
     let second = behind_start(behind)?;
+    if is_even(second) {
+        return Some(Legs::Group);
+    }
     if bytes.len() == 2 {
         return take_second(second, bytes);
     }

@@ -29,7 +29,7 @@ pub(crate) struct Call<'b> {
 }
 
 /// The device that a byte addresses for writing.
-#[inline]
+#[inline(always)]
 fn addressed(profile: &Profile, to_write: u8) -> Option<&DeviceProfile>
     ensures known { IfSome result (λ device. (to_write ≡ write_address device.now.address)
         × (device_with device.now.address profile.now ≡ Some device.now)) }
@@ -44,7 +44,7 @@ fn addressed(profile: &Profile, to_write: u8) -> Option<&DeviceProfile>
 
 /// What a written leg says of these bytes: an address byte for writing, a code, the data in the form in
 /// which the device's command is written, and a packet error code or none.
-#[inline]
+#[inline(always)]
 pub(crate) fn written<'b>(profile: &Profile, bytes: &'b [u8]) -> Option<Said<'b>>
     ensures says { IfSome result (λ said. OneWritten profile.now said.address said.code said.data.bytes.now said.data.pec bytes.now) }
     ensures found { (address code : ℕ) (data_bytes : List ℕ) (pec : Bool) → OneWritten profile.now address code data_bytes pec bytes.now → IsSome result }
@@ -65,7 +65,7 @@ pub(crate) fn written<'b>(profile: &Profile, bytes: &'b [u8]) -> Option<Said<'b>
 /// What the two legs of a read say of these bytes: an address byte for writing, a code, the address byte
 /// of the same device for reading, the data in the form in which its command is read, and a packet
 /// error code or none.
-#[inline]
+#[inline(always)]
 pub(crate) fn read<'b>(profile: &Profile, bytes: &'b [u8]) -> Option<Said<'b>>
     ensures says { IfSome result (λ said. OneRead profile.now said.address said.code said.data.bytes.now said.data.pec bytes.now) }
     ensures found { (address code : ℕ) (data_bytes : List ℕ) (pec : Bool) → OneRead profile.now address code data_bytes pec bytes.now → IsSome result }

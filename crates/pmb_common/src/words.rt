@@ -4,17 +4,13 @@
 //! digit of the byte down and the low digit across; the proof of `digit_value` computes over the whole
 //! table that each entry is the value of its digit.
 
-ghost use Rattle.std.specs.Prelude.{◌≡◌, ◌≤◌, ◌<◌, List, [], ◌∷◌, ◌++◌, ℕ, IfSome, IsSome, Some, drop, length};
+ghost use Rattle.std.specs.Prelude.{◌≡◌, ◌≤◌, ◌<◌, List, [], ◌∷◌, ◌++◌, ◌%◌, ℕ, IfSome, IsSome, Some, drop, length, nat_eq};
 ghost use Rattle.pmb_bus.specs.declared.event.Event.{Event as BusEvent};
 ghost use Rattle.pmb_bus.specs.Event.{canonical_text};
 ghost use Rattle.pmb_command.specs.Wire.{AreByteValues};
 ghost use Rattle.pmb_common.specs.Front.{NoneAcked, TakenFront, acked_text, end_text, lower_digit};
 
-use arrayvec::ArrayVec;
-
-/// The bytes of a packet, up to those of a block process call: two address bytes, a code, two blocks of
-/// a count and 255 bytes each, and a packet error code.
-pub(crate) type PacketBytes = ArrayVec<u8, 516>;
+use crate::packet_bytes::PacketBytes;
 
 /// What is no digit.
 const NONE: u8 = 0xff;
@@ -52,7 +48,7 @@ fn digit_value(digit: u8) -> Option<u8>
 
 /// The byte that two digits in lower case and a space spell.
 #[inline(always)]
-fn spelled_byte(first: u8, second: u8, space: u8) -> Option<u8>
+pub(crate) fn spelled_byte(first: u8, second: u8, space: u8) -> Option<u8>
     ensures spelled { IfSome result (λ byte. canonical_text (BusEvent.Byte byte ∷ []) ≡ first ∷ second ∷ space ∷ []) }
     ensures small { IfSome result (λ byte. byte < 256) }
     ensures only { (byte : ℕ) → byte < 256 → canonical_text (BusEvent.Byte byte ∷ []) ≡ first ∷ second ∷ space ∷ [] → result ≡ Some byte }
@@ -131,6 +127,21 @@ pub(crate) fn behind_stop(text: &[u8]) -> Option<&[u8]>
     match text {
         [b'P', b'\n', behind @ ..] => Some(behind),
         _ => None,
+    }
+}
+
+/// Whether the byte in front of a text, where one with its ACK stands there, is even, as the address
+/// byte of a leg that is written is.
+#[inline(always)]
+pub(crate) fn is_even(text: &[u8]) -> bool
+    ensures { (byte : ℕ) (rest : List ℕ) → byte < 256 → text.now ≡ acked_text (byte ∷ []) ++ rest → result ≡ nat_eq (byte % 2) 0 }
+{
+    let [_, digit, ..] = text else {
+        return false;
+    };
+    match digit_value(*digit) {
+        Some(value) => value % 2 == 0,
+        None => false,
     }
 }
 

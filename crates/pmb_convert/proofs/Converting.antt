@@ -1,14 +1,12 @@
 -- Lines that are answered one after the other.
-use Rattle.std.proofs.Common.{◌≡◌, ℕ, ◌+◌, Bool, cond, Ok, Err, List, [], ◌∷◌, ◌++◌, sym, ◌∙◌, ap, subst, refl, append-nil, arith, count_by, is_ok, is_err}
+use Rattle.std.proofs.Common.{◌≡◌, ℕ, ◌+◌, Bool, cond, Ok, Err, List, [], ◌∷◌, ◌++◌, sym, ◌∙◌, subst, refl, append-nil, arith, count_by, is_ok, is_err}
 use Rattle.std.proofs.lemmas.Grind.{flat_map-append}
 use Rattle.std.proofs.lemmas.List.Sums.{fold-append}
 use Rattle.pmb_io.specs.Lines.{TextLine}
 use Rattle.pmb_io.specs.Tally.{IsTallyOf}
-use Rattle.pmb_io.specs.declared.tally.Tally.{Tally}
 use Rattle.pmb_convert.specs.declared.conversion.Conversion.{Conversion}
 use Rattle.pmb_convert.specs.declared.converter.Converter.{Converter}
 use Rattle.pmb_convert.specs.Answer.{Answer, AnswersEach, AnswersLine, answer_line}
-use Rattle.pmb_convert.specs.Lines.{AnswersCounted, AnswersLines}
 use Rattle.pmb_convert.specs.machine.Converting.{ConverterStands, fresh, with_answer}
 
 -- nothing was answered yet
@@ -77,15 +75,3 @@ pub answers_more : (start before after : Converter) (lines : List TextLine) (tex
     → AnswersLine before.conversion line answer → ConverterStands start before lines text → ConverterStands start after (lines ++ line ∷ []) (text ++ answer_line answer)
 answers_more start before after lines text line answer is answered stands =
     subst (λ (c : Converter). ConverterStands start c (lines ++ line ∷ []) (text ++ answer_line answer)) (sym is) (line_more start before lines text line answer answered stands)
-
--- what a converter from its beginning has answered
-pub answers_of : (conversion : Conversion) (start now : Converter) (lines : List TextLine) (text : List ℕ) → start ≡ fresh conversion → ConverterStands start now lines text → AnswersLines conversion lines text
-answers_of conversion start now lines text is stands =
-    subst (λ (c : Conversion). AnswersLines c lines text) (ap (λ (c : Converter). c.conversion) is) stands.answered.given
-
--- what it has answered to all lines of an input
-pub answers_to : (conversion : Conversion) (start now : Converter) (tally : Tally) (lines : List TextLine) (text : List ℕ) → start ≡ fresh conversion → tally ≡ now.tally → ConverterStands start now lines text
-    → AnswersCounted conversion tally lines text
-answers_to conversion start now tally lines text is same stands =
-    subst (λ (t : Tally). AnswersCounted conversion t lines text) (sym same)
-    (subst (λ (c : Conversion). AnswersCounted c now.tally lines text) (ap (λ (c : Converter). c.conversion) is) stands.answered)

@@ -25,14 +25,10 @@ use Rattle.pmb_value.specs.declared.number_format.NumberFormat.TheVariants.{Line
 use Rattle.pmb_convert.specs.Answer.{Answer, AnswersEach, AnswersLine, AnswersText, EncodesQuantity, EncodesRead, nearest, below, above, answer_line, code_text}
 use Rattle.pmb_value.specs.NumberFormat.{number_coding}
 use Rattle.pmb_convert.proofs.Choices.{picks}
-use Rattle.pmb_convert.specs.Laws.{IsDetermined, IsFormat}
+use Rattle.pmb_convert.specs.Laws.{HasPositive, IsDetermined, IsFormat}
 use Rattle.pmb_convert.specs.Lines.{AnswersCounted, AnswersLines}
 
 -- ---- a quantity that is read has a denominator
-
-abbrev pub HasPositive : Result Fraction QuantityFault → Type 0
-HasPositive (Ok q) = 0 < q.denominator
-HasPositive (Err fault) = Unit {0}
 
 -- what is known of lowest terms
 abbrev pub StaysPositive : Type 0

@@ -46,7 +46,7 @@ one_number text a b (minus digits whole _ a_is) (minus digits' whole' _ b_is) =
 
 -- ---- what std reads at a signed type
 
--- behind a `-` (45)
+-- after a `-` (45)
 read_minus : {E : Type 0} (w : Width) (ds : List ℕ) (r : Result ℤ E) → OkIff r (IsNumeral 10 ds × FitsSigned w (neg_ℤ (pos (digits_value 10 ds)))) (neg_ℤ (pos (digits_value 10 ds)))
     → ReadsInteger w (45 ∷ ds) (result_ok r)
 read_minus w ds (Ok x) reads = (minus ds refl reads.0.0 reads.1, subst (FitsSigned w) (sym reads.1) reads.0.1)

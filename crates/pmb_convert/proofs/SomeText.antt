@@ -18,9 +18,9 @@ use Rattle.pmb_convert.specs.declared.conversion.Conversion.{Conversion}
 use Rattle.pmb_convert.specs.declared.conversion.Conversion.TheVariants.{Encode, Decode}
 use Rattle.pmb_convert.specs.declared.line_fault.LineFault.TheVariants.{TooLong, Below, Above}
 use Rattle.pmb_convert.specs.Answer.{Answer, AnswersEach, AnswersLine, AnswersText, EncodesQuantity, EncodesRead, nearest, below, above, answer_line, code_of, code_text, decoded_answer, fault_of}
-use Rattle.pmb_convert.specs.Laws.{HasText, IsFormat}
+use Rattle.pmb_convert.specs.Laws.{HasPositive, HasText, IsFormat}
 use Rattle.pmb_convert.specs.Lines.{most_conversion_line}
-use Rattle.pmb_convert.proofs.Determined.{HasPositive, StaysPositive, reading-positive}
+use Rattle.pmb_convert.proofs.Determined.{StaysPositive, reading-positive}
 
 -- each text has an answer
 abbrev pub HasSomeAnswer : Conversion → Type 0

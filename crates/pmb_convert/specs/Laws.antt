@@ -1,6 +1,8 @@
 -- Laws over the definitions alone.
-use Rattle.std.specs.Prelude.{◌≡◌, ◌≢◌, ℕ, pos, negsuc, ◌≤ℤ◌, List, ◌++◌}
+use Rattle.std.specs.Prelude.{◌≡◌, ◌≢◌, ◌<◌, ℕ, Result, Ok, Err, pos, negsuc, ◌≤ℤ◌, List, ◌++◌}
 use Rattle.pmb_io.specs.declared.tally.Tally.{Tally}
+use Rattle.pmb_quantity.specs.Fraction.{Fraction}
+use Rattle.pmb_quantity.specs.declared.quantity.QuantityFault.{QuantityFault}
 use Rattle.pmb_value.specs.Linear.{IsExponent}
 use Rattle.pmb_value.specs.declared.vout.VoutFormat.TheVariants.{Unsigned, Signed, Direct}
 use Rattle.pmb_convert.specs.declared.conversion.Conversion.{Conversion}
@@ -33,3 +35,8 @@ pub record ComesFirst (conversion : Conversion) : Type 0 where
 -- some text and tally answer any input
 abbrev pub HasText : Conversion → Type 0
 HasText conversion = (bytes : List ℕ) → (tally : Tally) × (text : List ℕ) × AnswersInput conversion tally bytes text
+
+-- a quantity that was read has a denominator above 0
+abbrev pub HasPositive : Result Fraction QuantityFault → Type 0
+HasPositive (Ok q) = 0 < q.denominator
+HasPositive (Err fault) = Unit {0}

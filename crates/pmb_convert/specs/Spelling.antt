@@ -25,7 +25,7 @@ pub data Saying : Type 0 where
 
 -- ---- its spelling
 
--- a whole number in decimal: one digit or more, with a `-` in front or not
+-- a whole number in decimal: one digit or more, with a `-` before them or not
 pub data WritesInteger (text : List ℕ) (n : ℤ) : Type 0 where
   plain : IsNumeral 10 text → n ≡ pos (digits_value 10 text) → WritesInteger text n
   minus : (digits : List ℕ) → text ≡ codes "-" ++ digits → IsNumeral 10 digits → n ≡ neg_ℤ (pos (digits_value 10 digits)) → WritesInteger text n

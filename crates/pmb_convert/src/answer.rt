@@ -1,4 +1,4 @@
-//! The line that answers a line.
+//! The line that is written for a line.
 
 ghost use Rattle.std.specs.Prelude.{◌≡◌, ◌++◌, OnOk, codes};
 ghost use Rattle.pmb_io.specs.Calls.{WriterTells};
@@ -8,6 +8,7 @@ ghost use Rattle.pmb_convert.specs.Answer.{answer_line, code_text, fault_name};
 ghost use Rattle.pmb_convert.specs.machine.Converting.{answer_of, converted_text};
 
 use crate::line_fault::LineFault;
+use pmb_io::laws::texts_add_up;
 use pmb_io::{RunFault, Sink, Waiting, put};
 use pmb_value::{Quantity, QuantityText};
 
@@ -29,6 +30,7 @@ pub(crate) fn put_answer<W: Sink>(
     ensures ok { OnOk result (PutsText (W.told writer.old).held waiting.old.items (W.told writer.new).held waiting.new.items (answer_line (answer_of answer.now))) }
     ensures failed { WriterTells (W.told writer.old) (W.told writer.new) result }
 {
+    texts_add_up();
     match answer {
         Ok(converted) => put_converted(converted, waiting, writer)?,
         Err(fault) => put_fault(*fault, waiting, writer)?,
@@ -75,7 +77,7 @@ fn put_quantity<W: Sink>(
     put(waiting, text.as_str().as_bytes(), writer)
 }
 
-/// Puts out a fault behind its mark.
+/// Puts out a fault after its mark.
 fn put_fault<W: Sink>(
     fault: LineFault,
     waiting: &mut Waiting,
@@ -84,6 +86,7 @@ fn put_fault<W: Sink>(
     ensures ok { OnOk result (PutsText (W.told writer.old).held waiting.old.items (W.told writer.new).held waiting.new.items (codes "! " ++ fault_name fault)) }
     ensures failed { WriterTells (W.told writer.old) (W.told writer.new) result }
 {
+    texts_add_up();
     put(waiting, b"! ", writer)?;
     put(waiting, fault.name(), writer)
 }

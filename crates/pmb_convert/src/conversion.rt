@@ -1,4 +1,4 @@
-//! What is answered to a line.
+//! What a line is converted to.
 
 ghost use Rattle.std.specs.Prelude.{◌≡◌};
 ghost use Rattle.pmb_io.specs.Lines.{line_text};
@@ -15,9 +15,9 @@ use pmb_value::{Format, NumberFormat, Quantity, QuantityFault, RangeFault, Steps
 /// What is done with each line.
 #[derive(Clone, Copy, Debug, PartialEq, Eq)]
 pub enum Conversion {
-    /// A quantity is answered by its code.
+    /// A quantity to its code.
     Encode(NumberFormat),
-    /// A code is answered by its quantity.
+    /// A code to its quantity.
     Decode(NumberFormat),
 }
 

@@ -2,6 +2,7 @@
 
 ghost use Rattle.std.specs.Prelude.{◌≡◌, ◌++◌, ◌∷◌, []};
 ghost use Rattle.pmb_convert.specs.Answer.{Answer};
+ghost use Rattle.pmb_convert.specs.Lines.{converting, most_conversion_line};
 ghost use Rattle.pmb_convert.specs.machine.Converting.{ConverterStands, answer_of, fresh, with_answer};
 
 use crate::answer::{Converted, put_answer};
@@ -27,13 +28,6 @@ impl Converter {
         }
     }
 
-    /// How many lines were answered by a text, and how many by a fault.
-    pub(crate) fn tally(&self) -> Tally
-        ensures { result ≡ self.now.tally }
-    {
-        self.tally
-    }
-
     /// Counts an answer.
     fn count(&mut self, answer: &Result<Converted, LineFault>)
         ensures { self.new ≡ with_answer self.old (answer_of answer.now) }
@@ -46,7 +40,17 @@ impl Converter {
 }
 
 impl LineTask for Converter {
+    ghost most = { most_conversion_line };
+
     ghost Stands = { ConverterStands };
+
+    ghost counted = { λ converter. converter.tally };
+
+    ghost job = { λ start. converting start.conversion };
+
+    ghost writes_all = { λ start now bytes text stands. stands.answered };
+
+    ghost writes_front = { λ start now bytes text stands. stands.answered.given };
 
     fn take_line<W: Sink>(
         &mut self,
@@ -57,5 +61,9 @@ impl LineTask for Converter {
         let answer = self.conversion.answer(line);
         self.count(&answer);
         put_answer(&answer, waiting, writer)
+    }
+
+    fn tally(&self) -> Tally {
+        self.tally
     }
 }

@@ -3,10 +3,12 @@
 ghost use Rattle.std.specs.Prelude.{◌≡◌, ℕ, List, ◌++◌, Result, Ok};
 ghost use Rattle.pmb_convert.specs.declared.conversion.Conversion.TheVariants.{Encode, Decode};
 ghost use Rattle.pmb_convert.specs.declared.format_fault.FormatFault.{FormatFault};
+ghost use Rattle.pmb_value.specs.Reading.{reading};
 ghost use Rattle.pmb_value.specs.declared.number_format.NumberFormat.{NumberFormat};
-ghost use Rattle.pmb_convert.specs.Laws.{ComesFirst, HasText, IsDetermined, IsFormat};
+ghost use Rattle.pmb_convert.specs.Laws.{ComesFirst, HasPositive, HasText, IsDetermined, IsFormat};
 ghost use Rattle.pmb_convert.specs.Spelling.{Names, Saying, SpellsFormat};
 
+use pmb_io::laws::ended_lines_stay;
 use pmb_quantity::laws::lowest_terms;
 use pmb_value::laws::{
     direct_has_one_nearest, linear11_fixed_has_codes, linear11_fixed_has_one_nearest,
@@ -42,6 +44,7 @@ pub fn ended_lines_come_first()
     ensures encode { (format : NumberFormat) → IsFormat format → ComesFirst (Encode format) }
     ensures decode { (format : NumberFormat) → ComesFirst (Decode format) }
 {
+    ended_lines_stay();
     lowest_terms();
     linear11_has_one_nearest();
     linear11_fixed_has_one_nearest();
@@ -58,4 +61,11 @@ pub fn some_text()
 {
     lowest_terms();
     quantities_have_answers();
+}
+
+/// A text that spells a quantity is read as one with a denominator above 0.
+pub fn readings_have_denominators()
+    ensures { (text : List ℕ) → HasPositive (reading text) }
+{
+    lowest_terms();
 }

@@ -1,8 +1,8 @@
 //! Quantities to codes and codes to quantities, line by line.
 //!
-//! A FORMAT, such as `linear11` or `direct:3,2,1`, names a [`NumberFormat`]. [`encode_lines`] answers
-//! each line of an input by the code nearest to its quantity, and [`decode_lines`] by the exact value
-//! of its code; a line that has none is answered by `! ` and a [`LineFault`].
+//! A FORMAT, such as `linear11` or `direct:3,2,1`, names a [`NumberFormat`]. [`encode_lines`] writes
+//! for each line of an input the code nearest to its quantity, and [`decode_lines`] the exact value of
+//! its code; for a line that has none, `! ` and a [`LineFault`].
 //!
 //! ```rust
 //! let format = parse_format("linear11")?;

@@ -1,7 +1,7 @@
 ghost use Rattle.std.specs.Prelude.{◌≡◌};
 ghost use Rattle.pmb_convert.specs.Answer.{fault_name};
 
-/// Why a line is answered by no text.
+/// Why a line has no quantity or code.
 #[derive(Clone, Copy, Debug, PartialEq, Eq)]
 pub enum LineFault {
     /// It is over 256 bytes long.

@@ -6,15 +6,14 @@ ghost use Rattle.pmb_convert.specs.Lines.{converting};
 
 use crate::conversion::Conversion;
 use crate::converter::Converter;
-use pmb_io::laws::lines_are_handed_on;
-use pmb_io::{Lines, Sink, Source, Tally, ToolFault, each_piece};
+use pmb_io::{Sink, Source, Tally, ToolFault, each_line};
 use pmb_value::NumberFormat;
 
 /// Writes the code of each quantity that stands on a line of the text that is `first` and what the
 /// reader gives.
 ///
-/// A line that an LF ends is answered by a line, and so is what follows the last LF, where there is
-/// something; a CR before an LF is left out. The answer is the code nearest to the quantity in four
+/// A line is written for each line that an LF ends, and for what follows the last LF, where there is
+/// something; a CR before an LF is left out. What is written is the code nearest to the quantity in four
 /// hexadecimal digits, the even one at a tie; or `! ` and why there is none: `TooLong` for a line over
 /// 256 bytes, `Empty`, `BadDigit`, `ZeroDenominator` or `TooLarge` for a text that spells no quantity,
 /// `Below` or `Above` for one outside the format's range.
@@ -76,8 +75,5 @@ pub fn convert_lines<R: Source, W: Sink>(
 ) -> Result<Tally, ToolFault>
     ensures { AsTool (Ran R.told W.told (converting conversion) first.now (reader.old, writer.old) (reader.new, writer.new)) result }
 {
-    lines_are_handed_on::<Converter, 256>();
-    let mut lines = Lines::<Converter, 256>::new(Converter::new(conversion));
-    each_piece(&mut lines, first, reader, writer)?;
-    Ok(lines.task().tally())
+    each_line::<Converter, R, W, 256>(Converter::new(conversion), first, reader, writer)
 }

@@ -21,7 +21,7 @@ is_within profile (Passing n) piece used after refusal at (inr w) = absurd (cc (
 first_of : (x y : Event) (xs ys : List Event) → x ∷ xs ≡ y ∷ ys → x ≡ y
 first_of x y xs ys same = cc same
 
--- it is the one behind those used
+-- it is the one after those used
 pub same_event : (piece : List Event) (used : ℕ) (d event : Event) (rest : List Event) → used < length piece → piece ≡ take used piece ++ event ∷ rest
     → event ≡ get_or piece used d
 same_event piece used d event rest within split =

@@ -9,7 +9,7 @@ use Rattle.pmb_reader.specs.declared.reader.Took.TheVariants as took
 use Rattle.pmb_reader.specs.Reader.{Standing, Open, Held, Passing, ReaderStandsAt, ReaderTakes}
 use Rattle.pmb_reader.specs.Reading.{AnyEvent, Due, HasRead, IsDue, IsDueAt, PassedEvent}
 
--- reading goes on with an event that is used, and ends no packet
+-- reading continues with an event that is used, and ends no packet
 abbrev pub GoesOn : Type 0
 GoesOn =
     (profile : List DeviceParts) (before after : Reader) (events : List Event) (due : Due) (outcomes : List Outcome) (event : Event)
@@ -18,7 +18,7 @@ GoesOn =
     → HasRead profile after (events ++ event ∷ []) AnyEvent outcomes
 
 module _ (goes_on : GoesOn) (profile : List DeviceParts) (before after : Reader) (events : List Event) (outcomes : List Outcome) (event : Event) where
-  -- while events are passed over nothing else is answered
+  -- while events are passed over nothing else is returned
   is_more : (standing : Standing) (answer : Took) → IsDueAt (PassedEvent event) standing → ReaderTakes profile standing event answer after → answer ≡ took.More
   is_more (Open n front) answer at takes = absurd at
   is_more (Held n refusal) answer at takes = absurd at

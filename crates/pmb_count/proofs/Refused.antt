@@ -29,7 +29,7 @@ none_with_one event events other none [] after same = other (cc same)
 none_with_one event events other none (first ∷ before) after same = none before after (cc same)
 
 module _ (profile : List DeviceParts) (reads : (n : ℕ) (events : List Event) → (outcomes : List Outcome) × ReadsFrom profile n events outcomes) where
-  -- ---- what is read behind the next STOP
+  -- ---- what is read after the next STOP
 
   abbrev PassesOn : List Event → Type 0
   PassesOn rest = (n : ℕ) → (outcomes : List Outcome) × BehindStop (λ m behind. ReadsFrom profile m behind outcomes) (outcomes ≡ []) n rest

@@ -1,7 +1,7 @@
 //! Packets and refusals of a capture, counted.
 //!
 //! The whole of a capture is given at once, event by event ([`count`]), or in pieces, cut anywhere
-//! ([`Counter`]), and read on behind each refusal. What is counted is what the capture reads as, with
+//! ([`Counter`]), and reading continues after each refusal. What is counted is what the capture reads as, with
 //! a packet that is truncated at its end among the refusals. In the capture of transactions nothing
 //! is refused.
 //!

@@ -29,7 +29,7 @@ pub(crate) struct Fed {
 }
 
 /// Hands a piece to a reader that holds no refusal, up to and with a STOP that ends a packet, or an
-/// event that is refused. Reading goes on behind that, which is passed over.
+/// event that is refused. Reading continues after that, which is passed over.
 pub(crate) fn feed_on(reader: &mut Reader, piece: &[Event]) -> Fed
     requires { HasReadSome reader.old }
     ensures within { result.used ≤ length piece.now }

@@ -72,7 +72,7 @@ command_row device command = row_text (record {
 abbrev pub field : List ℕ → List ℕ → List ℕ
 field key value = cell 12 key ++ (value ++ codes "\n")
 
--- An address of 7 bits, and the bytes in which the direction stands behind it (SMBus 3.0 section
+-- An address of 7 bits, and the bytes in which the direction follows it (SMBus 3.0 section
 -- 6.4).
 abbrev pub address_text : ℕ → List ℕ
 address_text address = digits address ++ (codes ", as a byte " ++ (digits (2 * address) ++ (codes " to write and " ++ (digits (2 * address + 1) ++ codes " to read"))))

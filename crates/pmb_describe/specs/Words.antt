@@ -41,7 +41,7 @@ paged_word false = codes "no"
 abbrev pub direct_word : Coefficients → List ℕ
 direct_word d = codes "direct:" ++ (signed_decimal d.m ++ (codes "," ++ (signed_decimal d.b ++ (codes "," ++ signed_decimal d.r))))
 
--- A kind, as the key `kind` has it. With the numbers of a data sheet behind it, it is a FORMAT.
+-- A kind, as the key `kind` has it. With the numbers of a data sheet after it, it is a FORMAT.
 abbrev pub kind_word : Kind → List ℕ
 kind_word kinds.Raw = codes "raw"
 kind_word kinds.Linear11 = codes "linear11"

@@ -53,7 +53,7 @@ pub(crate) fn append_count(head: &mut Row, key: &[u8], count: usize)
     append(head, b"\n");
 }
 
-/// Appends the line of an address, with the bytes in which the direction stands behind it.
+/// Appends the line of an address, with the bytes in which the direction follows it.
 fn append_address(head: &mut Row, address: u8)
     requires seven_bits { address < 128 }
     requires room { length head.old.items + 60 ≤ 1024 }

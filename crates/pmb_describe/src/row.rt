@@ -45,7 +45,7 @@ pub(crate) fn append_byte(row: &mut Row, byte: u8)
     append(row, &digits_of(byte));
 }
 
-/// Appends a text and spaces behind it, up to the width of its column, than which it is not longer.
+/// Appends a text, and spaces after it up to the width of its column. The text is no longer than that.
 pub(crate) fn append_cell(row: &mut Row, text: &[u8], width: usize)
     requires fits { length text.now ≤ width }
     requires room { length row.old.items + width ≤ 1024 }

@@ -8,7 +8,7 @@ use Rattle.pmb_front.proofs.Marks.{begins_with, mark_in_front, mark_stays}
 at : (place : ℕ) (x y : List ℕ) → x ≡ y → get_or x place 0 ≡ get_or y place 0
 at place x y same = ap (λ (l : List ℕ). get_or l place 0) same
 
--- a line `%%` ends at the first LF behind its start
+-- a line `%%` ends at the first LF after its start
 ends_at_lf : (line seen rest after : List ℕ) → IsMark line → seen ++ 10 ∷ rest ≡ line ++ after → length line ≤ length seen + 1
 ends_at_lf line [] rest after (inl lf) same = let apart : 10 ≡ 37 = at 0 (10 ∷ rest) (codes "%%\n" ++ after) (same ∙ ap (λ l. l ++ after) lf) in absurd (omega (arith, apart))
 ends_at_lf line (a ∷ []) rest after (inl lf) same = let apart : 10 ≡ 37 = at 1 (a ∷ 10 ∷ rest) (codes "%%\n" ++ after) (same ∙ ap (λ l. l ++ after) lf) in absurd (omega (arith, apart))
@@ -18,7 +18,7 @@ ends_at_lf line (a ∷ []) rest after (inr cr_lf) same = let apart : 10 ≡ 37 =
 ends_at_lf line (a ∷ b ∷ []) rest after (inr cr_lf) same = let apart : 10 ≡ 13 = at 2 (a ∷ b ∷ 10 ∷ rest) (codes "%%\r\n" ++ after) (same ∙ ap (λ l. l ++ after) cr_lf) in absurd (omega (arith, apart))
 ends_at_lf line (a ∷ b ∷ d ∷ seen) rest after (inr cr_lf) same = omega (arith, ap length cr_lf)
 
--- a line that starts later starts behind an LF that is no earlier than where another line starts
+-- a line that starts later starts after an LF that is no earlier than where another line starts
 later_start : (text earlier rest after : List ℕ) → StartsLine text → text ++ rest ≡ earlier ++ after → length earlier < length text
     → (seen : List ℕ) × (text ≡ earlier ++ (seen ++ 10 ∷ []))
 later_start text earlier rest after (inl empty) same later = absurd (omega (arith, ap length empty))
@@ -42,7 +42,7 @@ first_is_least text before after other line rest first mark earlier =
     first.none_before other line (drop (length (other ++ line)) before)
     (mark_in_front before (first.line ++ after) other line rest (record { whole = sym first.mark.whole ∙ mark.whole; starts = mark.starts; is_mark = mark.is_mark }) within)
 
--- of two lines `%%` at one place the same is behind them
+-- of two lines `%%` at one place the same comes after them
 same_after : (line other a b : List ℕ) → IsMark line → IsMark other → line ++ a ≡ other ++ b → a ≡ b
 same_after line other a b (inl e) (inl f) same = append_cancel_left (codes "%%\n") a b (ap (λ l. l ++ a) (sym e) ∙ (same ∙ ap (λ l. l ++ b) f))
 same_after line other a b (inl e) (inr f) same =
@@ -69,6 +69,6 @@ unique text p q a b (inl first) (inr whole) = absurd (whole.none p first.line a 
 unique text p q a b (inr whole) (inl first) = absurd (whole.none q first.line b first.mark)
 unique text p q a b (inr first) (inr second) = (first.all ∙ sym second.all, first.nothing ∙ sym second.nothing)
 
--- more behind a text leaves its first line `%%`
+-- more after a text leaves its first line `%%`
 pub stays : (text p a more : List ℕ) → FirstMark text p a → FirstMark (text ++ more) p (a ++ more)
 stays text p a more first = record { line = first.line; mark = mark_stays text more p first.line a first.mark; none_before = first.none_before }

@@ -11,7 +11,7 @@ none_at_beginning front more none before line after mark = none before line (aft
 
 -- ---- what may fit
 
--- a text within the limit, with nothing behind it
+-- a text within the limit, with nothing after it
 pub short_fits : (text : List ℕ) → NoMark text → length text ≤ most_profile → MayFit text
 short_fits text none short = record {
   more = [];
@@ -21,7 +21,7 @@ short_fits text none short = record {
   within = short;
 }
 
--- a text that ends in the front of a line `%%`, with the line's other bytes behind it
+-- a text that ends in the front of a line `%%`, with the line's other bytes after it
 completed : (text before tail more : List ℕ) → NoMark text → text ≡ before ++ tail → StartsLine before → length before ≤ most_profile → IsMark (tail ++ more) → MayFit text
 completed text before tail more none whole starts within is_mark = record {
   more = more;
@@ -46,15 +46,15 @@ opening_fits text none (inr (inr three)) = completed text three.before (codes "%
 
 -- ---- what may not
 
--- a first line `%%` that is not in the text ends behind it
-ends_behind : (text more before after : List ℕ) (first : FirstMark (text ++ more) before after) → NoMark text → length text < length before + length first.line
-ends_behind text more before after first none =
+-- a first line `%%` that is not in the text ends after it
+ends_after : (text more before after : List ℕ) (first : FirstMark (text ++ more) before after) → NoMark text → length text < length before + length first.line
+ends_after text more before after first none =
     let behind : length text < length (before ++ first.line) =
     by_order (length text) (length (before ++ first.line)) (λ within. none before first.line (drop (length (before ++ first.line)) text)
     (mark_in_front text more before first.line after first.mark within)) in
     omega (arith, length-append before first.line)
 
--- a line that starts behind the one front that these bytes leave
+-- a line that starts after the one front that these bytes leave
 pub in_line : (text tail before : List ℕ) (starts : Bool) → text ≡ before ++ tail → length before ≤ most_profile → IsTrue starts ↔ StartsLine before
     → IsTrue starts ↔ EndsInLine text tail
 in_line text tail before starts whole within told = (
@@ -86,7 +86,7 @@ begun : (text more profile rest : List ℕ) → NoMark text → most_profile < l
 begun text more profile rest none long (inr all) within = absurd (omega (arith, ap length all.all, length-append text more))
 begun text more profile rest none long (inl first) within =
     let seen = drop (length profile) text in
-    let behind = ends_behind text more profile rest first none in
+    let behind = ends_after text more profile rest first none in
     let whole : text ≡ profile ++ seen = begins_with text more profile (first.line ++ rest) first.mark.whole (omega arith) in
     let same : seen ++ more ≡ first.line ++ rest =
     append_cancel_left profile (seen ++ more) (first.line ++ rest) (sym (append_assoc profile seen more) ∙ (ap (λ l. l ++ more) (sym whole) ∙ first.mark.whole)) in
@@ -118,7 +118,7 @@ fits_past text opening none long told = (
 -- what may fit is at most three bytes past the limit
 is_short : (text more profile rest : List ℕ) → NoMark text → IsFront (text ++ more) profile rest → length profile ≤ most_profile → length text < most_profile + 4
 is_short text more profile rest none (inr all) within = omega (arith, ap length all.all, length-append text more)
-is_short text more profile rest none (inl first) within = omega (arith, ends_behind text more profile rest first none, mark_at_most first.line first.mark.is_mark)
+is_short text more profile rest none (inl first) within = omega (arith, ends_after text more profile rest first none, mark_at_most first.line first.mark.is_mark)
 
 pub fit_is_short : (text : List ℕ) → NoMark text → MayFit text → length text < most_profile + 4
 fit_is_short text none fit = is_short text fit.more fit.profile fit.rest none fit.front fit.within
@@ -126,15 +126,15 @@ fit_is_short text none fit = is_short text fit.more fit.profile fit.rest none fi
 pub long_cannot_fit : (text : List ℕ) → NoMark text → most_profile + 4 ≤ length text → MayFit text → ⊥
 long_cannot_fit text none long fit = absurd (omega (arith, fit_is_short text none fit))
 
--- a first line `%%` behind the limit stays the first
+-- a first line `%%` past the limit stays the first
 pub late_cannot_fit : (text p a : List ℕ) → FirstMark text p a → most_profile < length p → MayFit text → ⊥
 late_cannot_fit text p a first late fit =
     let same = unique (text ++ fit.more) p fit.profile (a ++ fit.more) fit.rest (inl (stays text p a fit.more first)) fit.front in
     absurd (omega (arith, ap length same.0, fit.within))
 
 -- what cannot fit stays so
-pub none_fits_behind : (text more : List ℕ) → (MayFit text → ⊥) → MayFit (text ++ more) → ⊥
-none_fits_behind text more none fit = none (record {
+pub none_fits_later : (text more : List ℕ) → (MayFit text → ⊥) → MayFit (text ++ more) → ⊥
+none_fits_later text more none fit = none (record {
   more = more ++ fit.more;
   profile = fit.profile;
   rest = fit.rest;

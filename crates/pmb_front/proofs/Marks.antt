@@ -43,7 +43,7 @@ mark_in_front text more before line after mark within = record {
   is_mark = mark.is_mark;
 }
 
--- more behind a text changes no line `%%` of it
+-- more after a text changes no line `%%` of it
 pub mark_stays : (text more before line after : List ℕ) → HasMark text before line after → HasMark (text ++ more) before line (after ++ more)
 mark_stays text more before line after mark = record {
   whole = ap (λ l. l ++ more) mark.whole ∙ (append_assoc before (line ++ after) more ∙ ap (λ l. before ++ l) (append_assoc line after more));
@@ -51,7 +51,7 @@ mark_stays text more before line after mark = record {
   is_mark = mark.is_mark;
 }
 
--- with more behind it, a text without such a line has none that ends within it
+-- with more after it, a text without such a line has none that ends within it
 pub none_with_more : (text more : List ℕ) → NoMark text → NoneEndsWithin (text ++ more) (length text)
 none_with_more text more none before line after mark within =
     none before line (drop (length (before ++ line)) text) (mark_in_front text more before line after mark within)
@@ -125,15 +125,15 @@ ends_in_mark text before tail whole is_mark starts =
 abbrev WithoutReturn : List ℕ → List ℕ → Type 0
 WithoutReturn text line = (text ≡ line ++ codes "\r") ⊎ ((line ≡ text) × ((front : List ℕ) → text ≡ front ++ codes "\r" → ⊥))
 
--- what does not end in CR does not with one byte more in front
+-- what does not end in CR does not with one byte more before it
 not_in_tail : (byte next : ℕ) (text front : List ℕ) → ((before : List ℕ) → next ∷ text ≡ before ++ codes "\r" → ⊥) → byte ∷ next ∷ text ≡ front ++ codes "\r" → ⊥
 not_in_tail byte next text [] none ends = absurd (omega (arith, ap length ends))
 not_in_tail byte next text (b ∷ front) none ends = let tail : next ∷ text ≡ front ++ codes "\r" = cc in none front tail
 
--- and with one more in front
-dropped_behind : (byte next : ℕ) (text line : List ℕ) → WithoutReturn (next ∷ text) line → WithoutReturn (byte ∷ next ∷ text) (byte ∷ line)
-dropped_behind byte next text line (inl return) = inl (ap (λ l. byte ∷ l) return)
-dropped_behind byte next text line (inr none) = inr (ap (λ l. byte ∷ l) none.0, λ front ends. not_in_tail byte next text front none.1 ends)
+-- and with one more before it
+dropped_later : (byte next : ℕ) (text line : List ℕ) → WithoutReturn (next ∷ text) line → WithoutReturn (byte ∷ next ∷ text) (byte ∷ line)
+dropped_later byte next text line (inl return) = inl (ap (λ l. byte ∷ l) return)
+dropped_later byte next text line (inr none) = inr (ap (λ l. byte ∷ l) none.0, λ front ends. not_in_tail byte next text front none.1 ends)
 
 -- what is left of a text that loses its CR
 dropped : (text : List ℕ) → WithoutReturn text (without_cr text)
@@ -145,9 +145,9 @@ dropped (byte ∷ []) = elim (cases_eq byte carriage_return) [
       let test : eqb byte carriage_return ≡ false = ne_eqb byte carriage_return other in
       rw test (inr (refl, λ front ends. other (same_from_push [] front byte carriage_return ends).1))
 ]
-dropped (byte ∷ next ∷ text) = dropped_behind byte next text (without_cr (next ∷ text)) (dropped (next ∷ text))
+dropped (byte ∷ next ∷ text) = dropped_later byte next text (without_cr (next ∷ text)) (dropped (next ∷ text))
 
--- where the text ends in `%%` at the start of a line, with CR behind it or not, an LF ends a line `%%`
+-- where the text ends in `%%` at the start of a line, with CR after it or not, an LF ends a line `%%`
 found_in : (text line before : List ℕ) → WithoutReturn text line → line ≡ before ++ codes "%%" → StartsLine before → EndsInMark text (length before)
 found_in text line before (inl return) ends starts =
     ends_in_mark text before (codes "%%\r") (return ∙ (ap (λ l. l ++ codes "\r") ends ∙ append_assoc before (codes "%%") (codes "\r"))) (inr refl) starts
@@ -188,7 +188,7 @@ by_ends text line before mark (inr none) whole (inr cr_lf) =
 pub stripped : (text line before mark : List ℕ) → line ≡ without_cr text → HasMark (text ++ 10 ∷ []) before mark [] → line ≡ before ++ codes "%%"
 stripped text line before mark is has = by_ends text line before mark (subst (WithoutReturn text) (sym is) (dropped text)) has.whole has.is_mark
 
--- where a line starts behind bytes that are there, they end in LF
+-- where a line starts after bytes that are there, they end in LF
 pub line_ends : (before : List ℕ) (empty ends : Bool) → empty ≡ (length before == 0) → empty ≡ false
     → ((front : List ℕ) → before ≡ front ++ codes "\n" → ends ≡ true) → StartsLine before → ends ≡ true
 line_ends before empty ends empty_is not_empty told (inl nothing) = let none : length before ≡ 0 = ap length nothing in absurd (grind (arith, nat_tests))

@@ -9,7 +9,7 @@ use Rattle.pmb_io.specs.Told.{ReaderTold}
 abbrev pub most_profile : ℕ
 most_profile = 1048576
 
--- What was read, without the line between: the profile, what stands behind the line, and whether there is such a line.
+-- What was read, without the line between: the profile, what follows the line, and whether there is such a line.
 pub record Parts : Type 0 where
   pub profile : List ℕ
   pub rest : List ℕ
@@ -21,7 +21,7 @@ pub record Parts : Type 0 where
 abbrev pub IsMark : List ℕ → Type 0
 IsMark line = (line ≡ codes "%%\n") ⊎ (line ≡ codes "%%\r\n")
 
--- a line starts behind these bytes: there are none, or they end in LF
+-- a line starts after these bytes: there are none, or they end in LF
 abbrev pub StartsLine : List ℕ → Type 0
 StartsLine before = (before ≡ []) ⊎ ((lines : List ℕ) × (before ≡ lines ++ codes "\n"))
 
@@ -46,7 +46,7 @@ pub record AllProfile (text profile rest : List ℕ) : Type 0 where
   pub all : profile ≡ text
   pub nothing : rest ≡ []
 
--- the profile of a text, and what is behind it
+-- the profile of a text, and what is after it
 abbrev pub IsFront : List ℕ → List ℕ → List ℕ → Type 0
 IsFront text profile rest = FirstMark text profile rest ⊎ AllProfile text profile rest
 

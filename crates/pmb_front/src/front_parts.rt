@@ -1,4 +1,4 @@
-//! What stands before a line `%%` and what was read behind it.
+//! What comes before a line `%%`, and what was read after it.
 
 ghost use Rattle.std.specs.Prelude.{◌≡◌, ◌≤◌, [], true, false, length, take, drop};
 
@@ -11,7 +11,7 @@ pub struct Front {
     bytes: Vec<u8>,
     /// Where the profile ends.
     profile_end: usize,
-    /// Where what stands behind the profile and the line `%%` starts.
+    /// Where what follows the profile and the line `%%` starts.
     rest_start: usize,
     /// Whether there is such a line.
     marked: bool,
@@ -67,7 +67,7 @@ impl Front {
         &self.bytes.as_slice()[..self.profile_end]
     }
 
-    /// What was read behind the line `%%`. What the reader has left comes behind it.
+    /// What was read after the line `%%`. What the reader has left follows it.
     pub fn rest(&self) -> &[u8]
         ensures { result.now ≡ self.now.rest }
     {
@@ -75,7 +75,7 @@ impl Front {
     }
 
     /// Whether a line `%%` was read, so that a capture follows it, if an empty one. Without one the
-    /// reader ended behind the profile.
+    /// reader ended after the profile.
     pub fn has_capture(&self) -> bool
         ensures { result ≡ self.now.marked }
     {

@@ -1,4 +1,4 @@
-//! The front of a capture that brings its profile: the profile, and a line `%%` behind it.
+//! The front of a capture that brings its profile: the profile, and a line `%%` after it.
 //!
 //! Each byte is looked at once, when it comes: a line `%%` is seen at its LF, by the bytes before it.
 //! Past the limit the last bytes alone tell whether a line `%%` that starts in time may still come.
@@ -22,7 +22,7 @@ const MOST_PROFILE: usize = 1_048_576;
 #[derive(Clone, Copy)]
 struct Mark {
     start: usize,
-    /// Behind its LF.
+    /// After its LF.
     end: usize,
 }
 
@@ -34,9 +34,9 @@ struct Mark {
 ///
 /// # Errors
 ///
-/// `Read` where the reader failed. `ProfileTooLong` where the profile has more bytes: as soon as so
-/// much was read that it has, whatever follows, which is one to four bytes behind the limit, or where
-/// the reader ended. `Memory` where there is no memory for what was read.
+/// `Read` where the reader failed. `ProfileTooLong` where the profile has more bytes: as soon as that
+/// is certain whatever follows, which is one to four bytes past the limit, or where the reader ended.
+/// `Memory` where there is no memory for what was read.
 pub fn front<R: Source>(alloc: Global, reader: &mut R) -> Result<Front, ToolFault>
     // The first line `%%` was read, or the reader ended.
     ensures ok { IfOk result (ReadFront R.told reader.old reader.new) }
@@ -44,13 +44,13 @@ pub fn front<R: Source>(alloc: Global, reader: &mut R) -> Result<Front, ToolFaul
     // The profile passes the limit, whatever follows, or the reader ended.
     ensures too_long { result ≡ Err ToolFault.ProfileTooLong → ReadTooMuch R.told reader.old reader.new }
 
-    // The reader failed in this call exactly where it answers `Read`, and before that nothing was decided.
+    // The reader failed in this call exactly where it returns `Read`, and before that nothing was decided.
     ensures read { result ≡ Err ToolFault.Read → (R.told reader.new).failures ≡ raised (R.told reader.old).failures 1 }
     ensures no_read { result ≢ Err ToolFault.Read → (R.told reader.new).failures ≡ (R.told reader.old).failures }
     ensures before_read { result ≡ Err ToolFault.Read → ReadUndecided R.told reader.old reader.new }
     ensures before_memory { result ≡ Err ToolFault.Memory → ReadSome R.told reader.old reader.new }
 
-    // A reader that ended in this call is not read again: no failed read is behind its end, and neither is a line `%%`.
+    // A reader that ended in this call is not read again: no failed read comes after its end, and no line `%%`.
     ensures read_not_ended { result ≡ Err ToolFault.Read → (R.told reader.new).ended ≡ (R.told reader.old).ended }
     ensures mark_not_ended { IfOk result (λ front. front.marked ≡ true → (R.told reader.new).ended ≡ (R.told reader.old).ended) }
 
@@ -156,7 +156,7 @@ fn find_mark(bytes: &[u8], from: usize) -> Option<Mark>
     None
 }
 
-// Where the line `%%` starts that ends with an LF behind the text.
+// Where the line `%%` starts that ends with an LF after the text.
 fn mark_start(text: &[u8]) -> Option<usize>
     ensures within { IfSome result (λ start. start ≤ length text.now) }
     ensures found { IfSome result (λ start. EndsInMark text.now start) }
@@ -173,7 +173,7 @@ fn mark_start(text: &[u8]) -> Option<usize>
     }
 }
 
-// Whether a line starts behind these bytes.
+// Whether a line starts after these bytes.
 fn starts_line(before: &[u8]) -> bool
     ensures { IsTrue result ↔ StartsLine before.now }
 {

@@ -3,7 +3,7 @@
 ghost use Rattle.std.specs.Prelude.{◌≡◌, ℕ, ◌+◌, ◌<◌, ◌≤◌, ◌++◌, ◌⊎◌, ◌↔◌, List, length};
 ghost use Rattle.pmb_front.specs.Front.{EndsInOpening, FirstMark, IsFront, MayFit, NoMark, most_profile};
 
-/// A text has one profile and one rest. With more behind it, the profile stays, and the rest goes on
+/// A text has one profile and one rest. With more after it, the profile stays, and the rest continues
 /// with it.
 pub fn one_front()
     ensures unique { (text p q a b : List ℕ) → IsFront text p a → IsFront text q b → (p ≡ q) × (a ≡ b) }
@@ -12,7 +12,7 @@ pub fn one_front()
 
 /// When a profile is too long whatever follows: a text without a line `%%` may still have a profile
 /// within the limit where the text is no longer, or ends in the front of a line `%%` that starts there,
-/// so at the latest four bytes behind it. What cannot fit stays so, as a first line `%%` behind the
+/// so at the latest four bytes past it. What cannot fit stays so, as a first line `%%` past the
 /// limit does.
 pub fn one_limit()
     ensures fits { (text : List ℕ) → NoMark text → MayFit text ↔ ((length text ≤ most_profile) ⊎ EndsInOpening text) }

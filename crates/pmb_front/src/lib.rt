@@ -1,5 +1,5 @@
-//! The profile that a capture is read under: the one in front of it, up to the first line `%%`, or
-//! the sample, and what is told of a fault in it.
+//! The profile that a capture is read under: the one before it, up to the first line `%%`, or the
+//! sample, and what is written of a fault in it.
 //!
 //! ```rust
 //! let mut reader = Io::new(b"# none\n%%\nS P\n".as_slice());

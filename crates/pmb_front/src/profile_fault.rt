@@ -1,8 +1,6 @@
-//! What is told of a fault of a profile on standard error.
+//! What is written of a fault of a profile on standard error.
 
-ghost use Rattle.std.specs.Prelude.{◌≡◌, ◌≢◌, ◌⊎◌};
-ghost use Rattle.pmb_keys.specs.declared.fault.FaultKind.TheVariants.{OutOfMemory};
-ghost use Rattle.pmb_status.specs.Status.{IsTold};
+ghost use Rattle.pmb_front.specs.Fault.{IsReported};
 
 use arrayvec::ArrayString;
 use pmb_hints::hints;
@@ -12,12 +10,9 @@ use pmb_table::{FaultKind, ProfileFault};
 use std::alloc::Global;
 use std::fmt::Write;
 
-/// Tells what is wrong with a profile, and where, on `err`.
+/// Reports on `err` what is wrong with a profile, and where.
 pub fn tell_profile<E: Sink>(fault: ProfileFault, err: &mut E) -> Status
-    ensures memory { fault.what ≡ OutOfMemory → result ≡ Status.NoMemory }
-    ensures other { fault.what ≢ OutOfMemory → result ≡ Status.BadWords }
-    ensures refused { (result ≡ Status.BadWords) ⊎ (result ≡ Status.NoMemory) }
-    ensures err_told { IsTold (E.told err.old) (E.told err.new) }
+    ensures { IsReported fault.what result (E.told err.old) (E.told err.new) }
 {
     if fault.what == FaultKind::OutOfMemory {
         return tell(ToolFault::Memory, err);
@@ -26,17 +21,14 @@ pub fn tell_profile<E: Sink>(fault: ProfileFault, err: &mut E) -> Status
     Status::BadWords
 }
 
-/// Tells the same of the profile of a text, and after it the lines that help, all in one write.
+/// Reports the same of the profile of a text, and then the lines that help, all in one write.
 pub fn explain_profile<E: Sink>(
     alloc: Global,
     text: &[u8],
     fault: ProfileFault,
     err: &mut E,
 ) -> Status
-    ensures memory { fault.what ≡ OutOfMemory → result ≡ Status.NoMemory }
-    ensures other { fault.what ≢ OutOfMemory → result ≡ Status.BadWords }
-    ensures refused { (result ≡ Status.BadWords) ⊎ (result ≡ Status.NoMemory) }
-    ensures err_told { IsTold (E.told err.old) (E.told err.new) }
+    ensures { IsReported fault.what result (E.told err.old) (E.told err.new) }
 {
     if fault.what == FaultKind::OutOfMemory {
         return tell(ToolFault::Memory, err);
@@ -49,7 +41,7 @@ pub fn explain_profile<E: Sink>(
     Status::BadWords
 }
 
-/// What is told of a fault of a profile.
+/// What is reported of a fault of a profile.
 fn profile_text(fault: ProfileFault) -> ArrayString<96> {
     let mut text = ArrayString::new();
     let _ = write!(text, "profile: {:?}", fault.what);

@@ -70,7 +70,7 @@ fn keys_hint(keyed: Keyed<'_>, what: FaultKind, lines: &mut Hints) {
     }
 }
 
-/// Tells a key that goes with another kind alone.
+/// Writes a key that goes with another kind alone.
 fn stray_key(keyed: Keyed<'_>, lines: &mut Hints) {
     if keyed.text("kind") != Some("direct") {
         for (key, _) in NEEDED_COEFFICIENTS {
@@ -87,7 +87,7 @@ fn stray_key(keyed: Keyed<'_>, lines: &mut Hints) {
     );
 }
 
-/// Tells the key that is missing.
+/// Writes the key that is missing.
 fn missing_hint(keyed: Keyed<'_>, lines: &mut Hints) {
     if keyed.get("code").is_none() && keyed.get("name").is_none() {
         let _ = lines.try_push_str(
@@ -99,7 +99,7 @@ fn missing_hint(keyed: Keyed<'_>, lines: &mut Hints) {
     }
 }
 
-/// Tells a code, a kind or an exponent that its key doesn't know.
+/// Writes a code, a kind or an exponent that its key doesn't know.
 fn value_hint(keyed: Keyed<'_>, lines: &mut Hints) {
     let _ = out_of_range(keyed, "code", (0, 255), lines)
         || linear16_hint(keyed, lines)
@@ -107,7 +107,7 @@ fn value_hint(keyed: Keyed<'_>, lines: &mut Hints) {
         || out_of_range(keyed, "exponent", (-16, 15), lines);
 }
 
-/// Tells the kind of output voltages, if the key has the name of their linear format.
+/// Writes the kind of output voltages, if the key has the name of their linear format.
 fn linear16_hint(keyed: Keyed<'_>, lines: &mut Hints) -> bool {
     let Some(kind) = keyed.text("kind") else {
         return false;
@@ -123,7 +123,7 @@ fn linear16_hint(keyed: Keyed<'_>, lines: &mut Hints) -> bool {
     true
 }
 
-/// Tells a name that no standard command has, and the one that may have been meant.
+/// Writes a name that no standard command has, and the one that may have been meant.
 fn name_hint(keyed: Keyed<'_>, lines: &mut Hints) {
     let Some(text) = keyed.text("name") else {
         return;

@@ -40,7 +40,7 @@ pub(crate) fn top_hint(keyed: Keyed<'_>, what: FaultKind, lines: &mut Hints) {
     }
 }
 
-/// Tells how many devices there are, where they are too many.
+/// Writes how many devices there are, where they are too many.
 fn many_hint(keyed: Keyed<'_>, lines: &mut Hints) {
     if let Some(value) = keyed.get("device") {
         if let Some(devices) = value.as_array() {

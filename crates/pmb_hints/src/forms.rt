@@ -132,7 +132,7 @@ impl Parts<'_> {
     }
 }
 
-/// Tells a word that is no form, or which parts do not go together.
+/// Writes a word that is no form, or which parts do not go together.
 pub(crate) fn form_hint(keyed: Keyed<'_>, lines: &mut Hints) {
     if unknown_word(keyed, "write", &WRITE, lines)
         || unknown_word(keyed, "read", &READ, lines)
@@ -145,7 +145,7 @@ pub(crate) fn form_hint(keyed: Keyed<'_>, lines: &mut Hints) {
     }
 }
 
-/// Tells that a command has no form, or two for one value.
+/// Writes that a command has no form, or two for one value.
 fn ways_hint(parts: &Parts<'_>, lines: &mut Hints) -> bool {
     if !parts.has_form() {
         let _ = lines.try_push_str(
@@ -166,7 +166,7 @@ fn ways_hint(parts: &Parts<'_>, lines: &mut Hints) -> bool {
     false
 }
 
-/// Tells what PAGE, CLEAR_FAULTS, VOUT_MODE, COEFFICIENTS and STATUS_CML keep of the standard.
+/// Writes what PAGE, CLEAR_FAULTS, VOUT_MODE, COEFFICIENTS and STATUS_CML keep of the standard.
 fn kept_hint(parts: &Parts<'_>, lines: &mut Hints) -> bool {
     let name = match parts.code {
         0x00 => "PAGE",
@@ -200,7 +200,7 @@ fn kept_hint(parts: &Parts<'_>, lines: &mut Hints) -> bool {
     false
 }
 
-/// Tells a form that its kind can't have.
+/// Writes a form that its kind can't have.
 fn kind_hint(parts: &Parts<'_>, lines: &mut Hints) -> bool {
     let (key, form) = parts.value_form();
     let kind = parts.kind;

@@ -6,7 +6,7 @@ use crate::lines::Hints;
 use arrayvec::ArrayString;
 use std::fmt::Write;
 
-/// Tells what is wrong with the bytes that a command begins with.
+/// Writes what is wrong with the bytes that a command begins with.
 pub(crate) fn initial_hint(keyed: Keyed<'_>, lines: &mut Hints) {
     let (Some(parts), Some(text)) = (parts_of(keyed), keyed.text("initial")) else {
         return;
@@ -43,7 +43,7 @@ fn is_digits(text: &str) -> bool {
     text.len() % 2 == 0
 }
 
-/// Tells how many bytes there are, and how many the form has.
+/// Writes how many bytes there are, and how many the form has.
 fn count_hint(keyed: Keyed<'_>, form: &str, count: usize, lines: &mut Hints) {
     let room = match form {
         "one" => "1 byte",

@@ -27,11 +27,11 @@ impl<'a> Place<'a> {
     }
 }
 
-/// A table of a profile, whose keys are told with their values.
+/// A table of a profile, whose keys are written with their values.
 #[derive(Clone, Copy)]
 pub(crate) struct Keyed<'a> {
     place: Place<'a>,
-    /// What comes before its keys where they are told.
+    /// What comes before its keys where they are written.
     pub(crate) prefix: &'static str,
     pub(crate) table: &'a Table,
 }
@@ -71,7 +71,7 @@ impl<'a> Keyed<'a> {
         shown(value)
     }
 
-    /// Tells a key, its value and a rule on a line.
+    /// Writes a key, its value and a rule on a line.
     pub(crate) fn rule(&self, key: &str, rule: &str, lines: &mut Hints) {
         if let Some(value) = self.table.get(key) {
             let shown = self.shown(key, value);

@@ -1,4 +1,4 @@
-//! What is told of the keys of a table: those that are unknown or missing, or of another type.
+//! What is written of the keys of a table: those that are unknown or missing, or of another type.
 
 use crate::keyed::Keyed;
 use crate::lines::Hints;
@@ -53,7 +53,7 @@ pub(crate) const COMMAND: Keys = &[
 /// The keys of coefficients.
 pub(crate) const COEFFICIENTS: Keys = &[("m", "integer"), ("b", "integer"), ("r", "integer")];
 
-/// Tells the first key that a table may not have, if there is one.
+/// Writes the first key that a table may not have, if there is one.
 pub(crate) fn unknown_key(keyed: Keyed<'_>, keys: Keys, lines: &mut Hints) -> bool {
     for key in keyed.table.keys() {
         if !has(keys, key.as_str()) {
@@ -75,7 +75,7 @@ fn has(keys: Keys, text: &str) -> bool {
     false
 }
 
-/// Tells of a key that is unknown which one may have been meant, where it belongs, or which there are.
+/// Writes of an unknown key which one may have been meant, where it belongs, or which there are.
 fn tell_unknown(text: &str, keys: Keys, lines: &mut Hints) {
     if has(DEVICE, text) {
         let _ = lines.try_push_str(
@@ -116,7 +116,7 @@ fn similar_key(text: &str, keys: Keys) -> Option<&'static str> {
     found
 }
 
-/// Tells the first key whose value has another type than it needs, if there is one.
+/// Writes the first key whose value has another type than it needs, if there is one.
 pub(crate) fn wrong_type(keyed: Keyed<'_>, keys: Keys, lines: &mut Hints) -> bool {
     for (key, needed) in keys {
         if let Some(value) = keyed.get(*key) {
@@ -130,7 +130,7 @@ pub(crate) fn wrong_type(keyed: Keyed<'_>, keys: Keys, lines: &mut Hints) -> boo
     false
 }
 
-/// Tells a key whose value has another type than it needs.
+/// Writes a key whose value has another type than it needs.
 fn tell_type(keyed: Keyed<'_>, key: &str, found: &str, needed: &str, lines: &mut Hints) {
     let mut rule = ArrayString::<128>::new();
     let _ = write!(
@@ -154,7 +154,7 @@ fn with_article(name: &str) -> ArrayString<16> {
     text
 }
 
-/// Tells the first of some keys that is not there, if there is one, with the value that it is paired
+/// Writes the first of some keys that is not there, if there is one, with the value that it is paired
 /// with.
 pub(crate) fn missing_key(keyed: Keyed<'_>, needed: Keys, lines: &mut Hints) -> bool {
     for (key, example) in needed {

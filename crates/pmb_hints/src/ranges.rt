@@ -1,4 +1,4 @@
-//! What is told of values that are outside of their ranges, and of words that are unknown.
+//! What is written of values that are outside of their ranges, and of words that are unknown.
 
 use crate::keyed::Keyed;
 use crate::lines::Hints;
@@ -6,10 +6,10 @@ use crate::similar::similar;
 use arrayvec::ArrayString;
 use std::fmt::Write;
 
-/// A rule as it is told after a key and its value.
+/// A rule as it is written after a key and its value.
 type Rule = ArrayString<128>;
 
-/// Tells the value of a key whose number is outside of two, if it is, and its rule.
+/// Writes the value of a key whose number is outside of two, if it is, and its rule.
 pub(crate) fn out_of_range(
     keyed: Keyed<'_>,
     key: &str,
@@ -29,7 +29,7 @@ pub(crate) fn out_of_range(
     true
 }
 
-/// Tells the value of a key whose word is none of some, if it is, and the one that may have been
+/// Writes the value of a key whose word is none of some, if it is, and the one that may have been
 /// meant.
 pub(crate) fn unknown_word(keyed: Keyed<'_>, key: &str, words: &[&str], lines: &mut Hints) -> bool {
     let Some(text) = keyed.text(key) else {
@@ -61,7 +61,7 @@ fn is_among(words: &[&str], text: &str) -> bool {
     false
 }
 
-/// Tells the first coefficient that is not within its range, if there is one.
+/// Writes the first coefficient that is not within its range, if there is one.
 pub(crate) fn bad_coefficients(keyed: Keyed<'_>, lines: &mut Hints) -> bool {
     if keyed.number("m") == Some(0) {
         keyed.rule(

@@ -7,10 +7,10 @@ use pmb_command::by_name;
 use std::fmt::Write;
 use toml::{Table, Value};
 
-/// A rule as it is told after a key and its value.
+/// A rule as it is written after a key and its value.
 type Rule = ArrayString<64>;
 
-/// Tells which device before a number has the same address.
+/// Writes which device before a number has the same address.
 pub(crate) fn address_twice(keyed: Keyed<'_>, devices: &[Value], number: usize, lines: &mut Hints) {
     let address = keyed.number("address");
     for (place, device) in devices.iter().take(number).enumerate() {
@@ -28,7 +28,7 @@ fn address_of(device: &Value) -> Option<i64> {
     device.as_table()?.get("address")?.as_integer()
 }
 
-/// Tells which command of the device before a number has the same code.
+/// Writes which command of the device before a number has the same code.
 pub(crate) fn code_twice(keyed: Keyed<'_>, commands: &[Value], number: usize, lines: &mut Hints) {
     let code = code_of(keyed.table);
     for (place, command) in commands.iter().take(number).enumerate() {
@@ -39,7 +39,7 @@ pub(crate) fn code_twice(keyed: Keyed<'_>, commands: &[Value], number: usize, li
     }
 }
 
-/// Tells the code or the name of a command, and which command has it.
+/// Writes the code or the name of a command, and which command has it.
 fn tell_code(keyed: Keyed<'_>, place: usize, lines: &mut Hints) {
     let mut rule = Rule::new();
     if keyed.get("code").is_some() {

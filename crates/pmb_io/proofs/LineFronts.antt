@@ -1,7 +1,7 @@
 -- The lines of a text that goes on begin with those that had ended.
 use Rattle.std.proofs.Common.{◌≡◌, ℕ, true, false, cond, eqb, List, [], ◌∷◌, ◌++◌, map, refl, ◌∙◌, ap, append_assoc}
 use Rattle.std.proofs.lemmas.List.{map-append}
-use Rattle.pmb_io.specs.Lines.{TextLine, cut, ended_line, ended_lines, last_lines, line_feed, lines_of, longer}
+use Rattle.pmb_io.specs.Lines.{LinesGoOn, cut, ended_line, ended_lines, last_lines, line_feed, lines_of, longer}
 
 -- the lines of a cut begin with some
 abbrev CutsGoOn : List (List ℕ) → List (List ℕ) → Type 0
@@ -21,10 +21,6 @@ cut_goes_on (byte ∷ bytes) more =
       | true ↦ (on.0, ap (λ ls. [] ∷ ls) on.1)
       | false ↦ longer_goes_on byte (cut bytes).ended on.0 (cut (bytes ++ more)).ended (cut bytes).rest (cut (bytes ++ more)).rest on.1
     ]
-
--- the lines of a text begin with some
-abbrev pub LinesGoOn : List TextLine → List TextLine → Type 0
-LinesGoOn front all = (others : List TextLine) × (all ≡ front ++ others)
 
 -- those that have ended in some bytes stand first in these bytes and whatever follows
 pub ended_lines_go_on : (most : ℕ) (bytes more : List ℕ) → LinesGoOn (ended_lines most bytes) (lines_of most (bytes ++ more))

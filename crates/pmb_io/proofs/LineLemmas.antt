@@ -55,13 +55,13 @@ cut-with_bytes bytes (byte ∷ more) none =
     ∙ (ap (λ (c : Cut). record { ended = c.ended; rest = c.rest ++ more }) (cut-with_byte bytes byte none.0)
     ∙ ap (λ (rest : List ℕ). record { ended = (cut bytes).ended; rest = rest }) (append_assoc (cut bytes).rest (byte ∷ []) more)))
 
--- the bytes in front of the first LF have none
+-- the bytes before the first LF have none
 pub none_in_front : (bytes : List ℕ) (count : ℕ) → ((at : ℕ) → at < count → slice_index bytes at ≢ line_feed) → HasNoLf (take count bytes)
 none_in_front bytes zero none = tt
 none_in_front [] (suc count) none = tt
 none_in_front (byte ∷ bytes) (suc count) none = (none 0 (omega arith), none_in_front bytes count (λ at below. none (suc at) (omega arith)))
 
--- a piece that is cut behind the first LF of its rest
+-- a piece that is cut after the first LF of its rest
 pub cut_behind : (piece front rest : List ℕ) (len : ℕ) → piece ≡ front ++ rest → len < length rest → slice_index rest len ≡ line_feed
     → piece ≡ (front ++ (take len rest ++ line_feed ∷ [])) ++ take (length rest - (len + 1)) (drop (len + 1) rest)
 cut_behind piece front rest len whole within lf =

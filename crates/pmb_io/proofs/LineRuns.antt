@@ -41,7 +41,7 @@ module _ (Given : List TextLine → List ℕ → Type 0) (most : ℕ) where
       ap (λ (c : Cut). map (ended_line most) c.ended) (cut-with_lf bytes)
       ∙ (map-append (ended_line most) (cut bytes).ended ((cut bytes).rest ∷ []) ∙ ap (λ (l : TextLine). ended_lines most bytes ++ l ∷ []) (sym line_is))
 
-  -- behind it nothing is kept
+  -- after it nothing is kept
   pub after_lf : (bytes text line after : List ℕ) (is_longer : Bool) (byte : ℕ) → byte ≡ line_feed → line ≡ take most (cut bytes).rest → is_longer ≡ nat_lt most (length (cut bytes).rest)
       → after ≡ [] → Given (ended_lines most bytes ++ ended_kept line is_longer ∷ []) text → StandsInLine Given most after false (bytes ++ byte ∷ []) text
   after_lf bytes text line after is_longer byte lf kept longer none given =
@@ -52,7 +52,7 @@ module _ (Given : List TextLine → List ℕ → Type 0) (most : ℕ) where
             (subst (λ (lines : List TextLine). Given lines text) (sym (ended_by_lf bytes line is_longer kept longer)) given);
       }
 
-  -- a line that came whole in front of an LF
+  -- a line that came whole before an LF
   pub after_whole : (bytes text line more : List ℕ) (is_longer : Bool) → HasNoLf more → line ≡ [] → is_longer ≡ false
       → line ≡ take most (cut bytes).rest → is_longer ≡ nat_lt most (length (cut bytes).rest)
       → Given (ended_lines most bytes ++ ended_line most more ∷ []) text → StandsInLine Given most line is_longer (bytes ++ (more ++ line_feed ∷ [])) text

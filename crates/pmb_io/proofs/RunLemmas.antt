@@ -1,5 +1,5 @@
 -- How a run ends, and what a run of one job says of another.
-use Rattle.std.proofs.Common.{◌≡◌, ◌≤◌, ℕ, Result, Ok, Err, OnOk, List, length, inl, inr, refl, ap, subst, sym, ◌∙◌, arith}
+use Rattle.std.proofs.Common.{◌≡◌, ◌≤◌, ℕ, Result, Ok, Err, OnOk, List, ◌++◌, length, inl, inr, refl, ap, subst, sym, ◌∙◌, arith}
 use Rattle.std.specs.Prelude.{IsErrAnd}
 use Rattle.pmb_io.specs.Calls.{WriterTells}
 use Rattle.pmb_io.specs.Count.{raised}
@@ -126,11 +126,11 @@ module _ {R W A : Type 0} (reader_told : R → ReaderTold) (writer_told : W → 
       inr (record { through = through_weaker _ _ first _ _ stops stopped.through; in_time = open_weaker reader_told _ _ first old.0 new.0 stopped.through.read opens stopped.in_time })
 
   -- a run that ended well
-  pub ran_as : {B : Type 0} (other : Job B) (answer : A) (answered : B) → ((bytes text : List ℕ) → job.Whole answer bytes text → other.Whole answered bytes text)
-      → ((bytes text : List ℕ) → job.Stops answer bytes text → other.Stops answered bytes text) → ((bytes : List ℕ) → job.IsOpen bytes → other.IsOpen bytes)
+  ran_done : {B : Type 0} (other : Job B) (answer : A) (answered : B)
+      → (Done reader_told writer_told job answer first old new → Done reader_told writer_told other answered first old new)
       → Ran reader_told writer_told job first old new (Ok answer) → Ran reader_told writer_told other first old new (Ok answered)
-  ran_as other answer answered whole stops opens ran = record {
-    ok = done_as other answer answered whole stops opens ran.ok;
+  ran_done other answer answered done ran = record {
+    ok = done ran.ok;
     read = λ is. cc;
     no_read = λ _. ran.no_read (λ is. cc);
     write = λ is. cc;
@@ -142,6 +142,21 @@ module _ {R W A : Type 0} (reader_told : R → ReaderTold) (writer_told : W → 
     before = λ failed. elim failed [ inl is ↦ absurd (cc) | inr is ↦ absurd (cc) ];
     many = λ is. absurd (cc);
   }
+
+  pub ran_as : {B : Type 0} (other : Job B) (answer : A) (answered : B) → ((bytes text : List ℕ) → job.Whole answer bytes text → other.Whole answered bytes text)
+      → ((bytes text : List ℕ) → job.Stops answer bytes text → other.Stops answered bytes text) → ((bytes : List ℕ) → job.IsOpen bytes → other.IsOpen bytes)
+      → Ran reader_told writer_told job first old new (Ok answer) → Ran reader_told writer_told other first old new (Ok answered)
+  ran_as other answer answered whole stops opens = ran_done other answer answered (done_as other answer answered whole stops opens)
+
+  -- and one of a job that wants its whole input
+  pub ended_as : {B : Type 0} (other : Job B) (answer : A) (answered : B) → ((bytes text : List ℕ) → job.Whole answer bytes text → other.Whole answered bytes text)
+      → ((bytes text : List ℕ) → job.Stops answer bytes text → ⊥)
+      → Ran reader_told writer_told job first old new (Ok answer) → Ran reader_told writer_told other first old new (Ok answered)
+  unfolding through_weaker
+  ended_as other answer answered whole never = ran_done other answer answered (λ done. elim done [
+    | inl ended ↦ inl (record { through = through_weaker _ _ first _ _ whole ended.through; ended = ended.ended; at_end = ended.at_end })
+    | inr stopped ↦ absurd (never (first ++ stopped.through.read) stopped.through.text stopped.through.holds)
+  ])
 
   -- and one that a fault ended
   pub failed_as : {B : Type 0} (other : Job B) (fault : RunFault) → ((bytes text : List ℕ) → job.Front bytes text → other.Front bytes text)

@@ -109,7 +109,7 @@ module _ {R W : Type 0} (reader_told : R → ReaderTold) (writer_told : W → Wr
     in_time = inl (refl, refl);
   }
 
-  -- nothing more is wanted behind a piece
+  -- nothing more is wanted after a piece
   pub stops_behind : (Held Holds : List ℕ → List ℕ → Type 0) (IsOpen : List ℕ → Type 0) (first piece : List ℕ) (old mid new : R × W)
       → (so_far : Through Held first (told_by reader_told writer_told old) (told_by reader_told writer_told mid)) → IsOpen (first ++ so_far.read)
       → Consumes (reader_told mid.0).left (reader_told new.0).left piece → (reader_told new.0).given ≡ raised (reader_told mid.0).given (length piece)

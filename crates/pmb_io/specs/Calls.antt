@@ -44,12 +44,12 @@ pub record AppendsFront (held_old held_new : Option (List ℕ)) (bytes : List �
   pub whole : bytes ≡ sent ++ rest
   pub appended : Appends held_old held_new sent
 
--- A call of ours that writes: the writer failed exactly where it answers `Write`, its only fault.
+-- A call of ours that writes: the writer failed exactly where it returns `Write`, its only fault.
 abbrev pub WriterTells : {A : Type 0} → WriterTold → WriterTold → Result A RunFault → Type 0
 WriterTells old new (Ok x) = new.failures ≡ old.failures
 WriterTells old new (Err fault) = (fault ≡ Write) × (new.failures ≡ raised old.failures 1)
 
--- A call of ours that reads: the reader failed exactly where it answers `Read`, its only fault.
+-- A call of ours that reads: the reader failed exactly where it returns `Read`, its only fault.
 abbrev pub ReaderTells : {A : Type 0} → ReaderTold → ReaderTold → Result A RunFault → Type 0
 ReaderTells old new (Ok x) = new.failures ≡ old.failures
 ReaderTells old new (Err fault) = (fault ≡ Read) × (new.failures ≡ raised old.failures 1)

@@ -5,6 +5,6 @@ use Rattle.std.specs.Prelude.{ℕ, ◌+◌, ◌-◌, ◌^◌, max, min}
 abbrev pub capped : ℕ → ℕ
 capped n = min n (2 ^ 64 - 1)
 
--- a count behind n more
+-- a count after n more
 abbrev pub raised : ℕ → ℕ → ℕ
 raised count n = max count (capped (count + n))

@@ -1,4 +1,4 @@
--- What an engine says behind a piece of its input.
+-- What an engine says after a piece of its input.
 use Rattle.std.specs.Prelude.{ℕ, Option, List}
 use Rattle.std.specs.Io.KnownBytes.{Appends}
 use Rattle.pmb_io.specs.Outgoing.{PutsText}
@@ -23,7 +23,7 @@ pub record WritesOut (Holds : List ℕ → Type 0) (held_old held_new : Option (
   pub appended : Appends held_old held_new text
   pub holds : Holds text
 
--- What an engine is to write, by its own words, where it was `start` before the run and is `now` behind it.
+-- What an engine is to write, by its own words, where it was `start` before the run and is `now` after it.
 abbrev pub engine_job : {E : Type 0} → (E → E → List ℕ → List ℕ → Type 0) → (E → E → List ℕ → List ℕ → Type 0) → (E → E → List ℕ → List ℕ → Type 0) → E → E → Job (Unit {0})
 engine_job {E} Stands Stops Ends start now = record {
   Whole = λ done. Ends start now;

@@ -1,9 +1,11 @@
 -- The lines of a text.
 use Rattle.std.specs.Prelude.{◌≡◌, ◌≢◌, ℕ, ◌==◌, nat_lt, if◌then◌else◌, List, [], ◌∷◌, ◌++◌, codes, length, map, slice_index}
+use Rattle.std.specs.Borrow.{RattleType}
 use Rattle.std.specs.List.{flat_map}
+use Rattle.std.specs.Mem.{FitsInMemory}
+use Rattle.pmb_io.specs.contracts.lines.Lines.{the_row}
 use Rattle.pmb_io.specs.declared.line.Line.{Line}
 use Rattle.pmb_io.specs.declared.line.Line.TheVariants as lines
-use Rattle.pmb_io.specs.declared.lines.Lines.{Lines}
 
 -- A line, by what is said of it: what stands before an LF; what follows the last LF; or nothing, where it is too long.
 pub data TextLine : Type 0 where
@@ -86,6 +88,12 @@ ended_lines most bytes = map (ended_line most) (cut bytes).ended
 abbrev pub lines_of : ℕ → List ℕ → List TextLine
 lines_of most bytes = ended_lines most bytes ++ last_lines most (cut bytes).rest
 
--- the task that they are handed to
-abbrev pub lines_task : {T : Type 0} {most : ℕ} → Lines T most → T
-lines_task lines = lines.task
+-- the lines of a text begin with some
+abbrev pub LinesGoOn : List TextLine → List TextLine → Type 0
+LinesGoOn front all = (others : List TextLine) × (all ≡ front ++ others)
+
+-- ---- the lines of an input
+
+-- A task and a line under way have room in memory, as each type has of which there is a value.
+abbrev pub LinesFit : (T MOST : RattleType) → Type 0
+LinesFit T MOST = FitsInMemory (the_row T MOST)

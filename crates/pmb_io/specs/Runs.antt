@@ -41,7 +41,10 @@ pub record Gave (old new : ReaderTold) (read : List ℕ) : Type 0 where
   pub given : new.given ≡ raised old.given (length read)
 
 -- One read gave the last piece of the bytes, and `first` and the bytes before it left something open. `middle` is the reader
--- as it was before that read: code over readers of every type has no others than those that the reader was.
+-- as it was before that read. `R` is any type of readers, since for one type, such as slices, a `middle` could be made up;
+-- code over every type has no readers but those that `old` became. So a body is refused that reads on after a piece which
+-- left nothing open, as one that fills a buffer by two reads may: by one read, no reader that it had gave all the bytes that
+-- came after something was open.
 pub record InTime {R : Type 0} (told : R → ReaderTold) (IsOpen : List ℕ → Type 0) (first : List ℕ) (old new : R) (read : List ℕ) : Type 0 where
   pub before : List ℕ
   pub piece : List ℕ
@@ -74,7 +77,7 @@ pub record Job (A : Type 0) : Type 1 where
   pub Stops : A → List ℕ → List ℕ → Type 0
   -- the text that is written for the front of an input
   pub Front : List ℕ → List ℕ → Type 0
-  -- more is wanted behind such a front
+  -- more is wanted after such a front
   pub IsOpen : List ℕ → Type 0
 
 module _ {R W : Type 0} (reader_told : R → ReaderTold) (writer_told : W → WriterTold) where
@@ -93,27 +96,27 @@ module _ {R W : Type 0} (reader_told : R → ReaderTold) (writer_told : W → Wr
   abbrev pub PartDone : {A : Type 0} → Job A → List ℕ → R × W → R × W → Type 0
   PartDone job first old new = Through job.Front first (told_by reader_told writer_told old) (told_by reader_told writer_told new)
 
-  -- A run of a job over a reader and a writer, as they were before it and behind it.
+  -- A run of a job over a reader and a writer, as they were before it and after it.
   pub record Ran {A : Type 0} (job : Job A) (first : List ℕ) (old new : R × W) (result : Result A RunFault) : Type 0 where
     -- What was written is the job's text for `first` and the bytes read, however the reader cut them.
     pub ok : IfOk result (λ answer. Done job answer first old new)
-    -- The reader failed in this run exactly where it answers `Read`, the writer where it answers `Write`.
+    -- The reader failed in this run exactly where it returns `Read`, the writer where it returns `Write`.
     pub read : result ≡ Err Read → (reader_told new.0).failures ≡ raised (reader_told old.0).failures 1
     pub no_read : result ≢ Err Read → (reader_told new.0).failures ≡ (reader_told old.0).failures
     pub write : result ≡ Err Write → (writer_told new.1).failures ≡ raised (writer_told old.1).failures 1
     pub no_write : result ≢ Err Write → (writer_told new.1).failures ≡ (writer_told old.1).failures
-    -- It makes no more reads than these, and so many before it answers `TooManyReads`.
+    -- It makes no more reads than these, and so many before it returns `TooManyReads`.
     pub reads : MadeReads (reader_told old.0).reads (reader_told new.0).reads
     pub too_many : result ≡ Err TooManyReads → (reader_told new.0).reads ≡ raised (reader_told old.0).reads most_reads
     pub not_ended : result ≡ Err TooManyReads → (reader_told new.0).ended ≡ (reader_told old.0).ended
-    -- A reader that ended in this run is not read again, so that no failed read is behind its end.
+    -- A reader that ended in this run is not read again, so that no failed read comes after its end.
     pub read_not_ended : result ≡ Err Read → (reader_told new.0).ended ≡ (reader_told old.0).ended
     -- What was written before reading failed, or before too many reads, is the job's text for that front of the input.
     pub before : (result ≡ Err Read) ⊎ (result ≡ Err TooManyReads) → PartDone job first old new
     -- Too many reads gave as many bytes at least.
     pub many : result ≡ Err TooManyReads → (through : PartDone job first old new) × (most_reads ≤ length through.read)
 
--- ---- as a call of the tool answers it
+-- ---- as a call of the tool returns it
 
 -- a run's fault among those of the tool
 abbrev pub as_tool_fault : RunFault → ToolFault
@@ -121,7 +124,7 @@ as_tool_fault Read = tool.Read
 as_tool_fault Write = tool.Write
 as_tool_fault TooManyReads = tool.TooManyReads
 
--- This holds of the result of a run, and the tool's other faults are not answered.
+-- This holds of the result of a run, and the tool's other faults are not returned.
 abbrev pub AsTool : {A : Type 0} → (Result A RunFault → Type 0) → Result A ToolFault → Type 0
 AsTool Holds (Ok answer) = Holds (Ok answer)
 AsTool Holds (Err tool.Read) = Holds (Err Read)

@@ -5,7 +5,7 @@ ghost use Rattle.pmb_io.specs.Calls.{WriterTells};
 ghost use Rattle.pmb_io.specs.Engines.{Either, PutsOut};
 
 use crate::fault::RunFault;
-use crate::outgoing::Waiting;
+use crate::output::Waiting;
 use crate::sink::Sink;
 
 /// Whether an engine wants more of its input.

@@ -40,7 +40,7 @@ impl<T> Failing<T> {
         }
     }
 
-    /// The call behind this many others fails, and so do all after it. They reach nothing.
+    /// The call after this many others fails, and so do all after it. They reach nothing.
     pub fn fail_after(&mut self, calls: u64)
         ensures inner { failing_inner self.new ≡ failing_inner self.old }
         ensures left { failing_left self.new ≡ Some calls }

@@ -11,19 +11,19 @@ pub struct IoFault;
 pub enum RunFault {
     /// The reader failed. What was written before it stays.
     Read,
-    /// The writer failed. It is not said how much of the text went out.
+    /// The writer failed. How much of the text went out is unknown.
     Write,
     /// The reader gave bytes in 2^32 reads and had not ended.
     TooManyReads,
 }
 
-/// Why the tool ended early. The text is what goes to standard error, behind `pmb: `.
+/// Why the tool ended early. The text is what goes to standard error, after `pmb: `.
 #[derive(Clone, Copy, Debug, PartialEq, Eq, Error)]
 pub enum ToolFault {
     /// The reader failed. What was written before it stays.
     #[error("read failed")]
     Read,
-    /// The writer failed. It is not said how much of the text went out.
+    /// The writer failed. How much of the text went out is unknown.
     #[error("write failed")]
     Write,
     /// The reader gave bytes in 2^32 reads and had not ended.

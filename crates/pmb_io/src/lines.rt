@@ -6,23 +6,50 @@
 ghost use Rattle.std.specs.Prelude.{◌≡◌, ℕ, ◌++◌, ◌∷◌, [], false, List, OnOk, length, nat_lt, take};
 ghost use Rattle.pmb_io.specs.Calls.{WriterTells};
 ghost use Rattle.pmb_io.specs.Engines.{PutsOut};
-ghost use Rattle.pmb_io.specs.Lines.{HasNoLf, line_feed, line_text, lines_of, lines_task};
+ghost use Rattle.pmb_io.specs.Lines.{HasNoLf, LinesFit, line_feed, line_text, lines_of};
+ghost use Rattle.pmb_io.specs.Runs.{AsTool, Ran};
 ghost use Rattle.pmb_io.specs.machine.Lines.{StandsInLine, ended_kept};
 
 use crate::engine::{Engine, Flow};
-use crate::fault::RunFault;
+use crate::fault::{RunFault, ToolFault};
 use crate::line::Line;
 use crate::line_task::LineTask;
-use crate::outgoing::Waiting;
+use crate::output::Waiting;
+use crate::pieces::each_piece;
 use crate::sink::Sink;
+use crate::source::Source;
+use crate::tally::Tally;
 use arrayvec::ArrayVec;
 use memchr::memchr;
 
-/// The lines of an input, handed to a task one after the other, as an [`Engine`] for
-/// [`each_piece`](crate::each_piece). A line has at most `MOST` bytes, a CR at its end counted; of a
-/// longer one only that it is too long is handed on.
+/// Hands the lines of the text that is `first` and what the reader gives to a task that was given
+/// nothing yet, one after the other, up to the end. Returns what the task has counted.
+///
+/// A line has at most `MOST` bytes, a CR at its end counted; of a longer one only that it is too long
+/// is handed on. The text for the lines of a piece is written before the next is read.
+///
+/// # Errors
+///
+/// As those of [`each_piece`].
+pub fn each_line<T: LineTask + Drop, R: Source, W: Sink, const MOST: usize>(
+    task: T,
+    first: &[u8],
+    reader: &mut R,
+    writer: &mut W,
+) -> Result<Tally, ToolFault>
+    requires most { MOST ≡ T.most }
+    requires room { LinesFit T.row MOST.row }
+    requires begins { T.Stands task task [] [] }
+    ensures { AsTool (Ran R.told W.told (T.job task) first.now (reader.old, writer.old) (reader.new, writer.new)) result }
+{
+    let mut lines = Lines::<T, MOST>::new(task);
+    each_piece(&mut lines, first, reader, writer)?;
+    Ok(lines.task.tally())
+}
+
+/// The lines of an input, handed to a task one after the other, as an [`Engine`] for [`each_piece`].
 #[derive(Drop)]
-pub struct Lines<T, const MOST: usize> {
+pub(crate) struct Lines<T, const MOST: usize> {
     task: T,
     /// The front of the line under way.
     line: ArrayVec<u8, MOST>,
@@ -32,8 +59,8 @@ pub struct Lines<T, const MOST: usize> {
 
 impl<T: LineTask, const MOST: usize> Lines<T, MOST> {
     /// Nothing was handed to the task yet.
-    pub fn new(task: T) -> Lines<T, MOST>
-        ensures task { lines_task result ≡ task }
+    fn new(task: T) -> Lines<T, MOST>
+        ensures task { result.task ≡ task }
         ensures begins { T.Stands task task [] [] → ⟦<Lines<T, MOST> as Engine>⟧.Stands result result [] [] }
     {
         Lines {
@@ -41,13 +68,6 @@ impl<T: LineTask, const MOST: usize> Lines<T, MOST> {
             line: ArrayVec::new(),
             is_longer: false,
         }
-    }
-
-    /// The task, as it has become.
-    pub fn task(&self) -> &T
-        ensures { result.now ≡ lines_task self.now }
-    {
-        &self.task
     }
 
     /// Takes the bytes before an LF, which ends the line under way. A line that lies whole in a piece

@@ -8,7 +8,7 @@ ghost use Rattle.pmb_io.specs.Runs.{Ran};
 
 use crate::engine::{Engine, Flow};
 use crate::fault::RunFault;
-use crate::outgoing::{Waiting, send};
+use crate::output::{Waiting, send};
 use crate::sink::Sink;
 use crate::source::Source;
 
@@ -21,7 +21,7 @@ const MOST_READS: u64 = 1 << 32;
 /// Hands `first` and then each piece that the reader gives to an engine, up to the end, or until the
 /// engine wants no more.
 ///
-/// What a piece brings forth is written before the next is read.
+/// The text that a piece completes is written before the next is read.
 ///
 /// # Errors
 ///
@@ -55,7 +55,7 @@ pub fn each_piece<E: Engine, R: Source, W: Sink>(
     Err(RunFault::TooManyReads)
 }
 
-/// Reads once, and answers how many bytes that gave; 0 is the end.
+/// Reads once, and returns how many bytes that gave; 0 is the end.
 fn next_piece<R: Source>(reader: &mut R, piece: &mut [u8]) -> Result<usize, RunFault>
     requires room { 0 < length piece.old }
     ensures within { IfOk result (λ n. n ≤ length piece.new) }

@@ -12,7 +12,7 @@ pub trait Sink {
     /// The bytes that it holds, and how many writes failed so far.
     ghost told: { Self → WriterTold };
 
-    /// Writes all the bytes. After a fault a front of them went out, and it is not said how many.
+    /// Writes all the bytes. After a fault a front of them went out, of unknown length.
     fn write_all(&mut self, bytes: &[u8]) -> Result<(), IoFault>
         ensures written { OnOk result (Appends (told self.old).held (told self.new).held bytes.now) }
         ensures front { OnErr result (AppendsFront (told self.old).held (told self.new).held bytes.now) }

@@ -13,7 +13,7 @@ pub trait Source {
     /// The bytes that it has left, and what its reads did so far.
     ghost told: { Self → ReaderTold };
 
-    /// Reads some bytes into the front of the buffer and answers how many; 0 is the end.
+    /// Reads some bytes into the front of the buffer and returns how many; 0 is the end.
     fn read(&mut self, buffer: &mut [u8]) -> Result<usize, IoFault>
         ensures within { IfOk result (λ n. n ≤ length buffer.new) }
         ensures bytes { ReadConsumes (told self.old).left (told self.new).left result buffer.new }

@@ -3,9 +3,9 @@ ghost use Rattle.std.specs.Prelude.{◌≡◌};
 /// How many packets were read and how many refusals met. Each count stays at the greatest `u64`.
 #[derive(Clone, Copy, Debug, PartialEq, Eq)]
 pub struct Tally {
-    /// Packets that were read, or lines answered by a text.
+    /// Packets that were read, or lines whose answer is a text.
     pub packets: u64,
-    /// Refusals, a bad token and an end inside a packet among them, or lines answered by a fault.
+    /// Refusals, a bad token and an end inside a packet among them, or lines whose answer is a fault.
     pub refusals: u64,
 }
 

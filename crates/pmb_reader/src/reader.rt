@@ -4,10 +4,11 @@
 //! to the next STOP. The packet under way is an [`UnderWay`], which alone knows what a packet is; here
 //! events are counted and refusals are kept.
 
-ghost use Rattle.std.specs.Prelude.{◌≡◌, ◌↔◌, ◌+◌, ℕ, None, List, [], length, true};
+ghost use Rattle.std.specs.Prelude.{◌≡◌, ◌<◌, ◌≤◌, ◌↔◌, ◌+◌, ℕ, IfSome, None, List, [], length, true};
 ghost use Rattle.pmb_bus.specs.declared.event.Event.{Event as BusEvent};
 ghost use Rattle.pmb_bus.specs.Kinds.{AreKindsOf};
 ghost use Rattle.pmb_command.specs.Parts.{DeviceParts};
+ghost use Rattle.pmb_common.specs.Common.{TakesPacket};
 ghost use Rattle.pmb_transaction.specs.Capture.{MayFollow};
 ghost use Rattle.pmb_transaction.specs.Reading.{RefusedAt};
 ghost use Rattle.pmb_transaction.specs.Transaction.{transaction_data};
@@ -16,6 +17,7 @@ ghost use Rattle.pmb_reader.specs.Reader.{Standing, Open, Held, Passing, ReaderS
 
 use crate::refusal::Refusal;
 use pmb_bus::{Event, Kinds};
+use pmb_common::{Common, Taken};
 use pmb_table::Profile;
 use pmb_transaction::{Reason, Transaction};
 use pmb_under_way::{Move, UnderWay};
@@ -153,6 +155,24 @@ impl<'p> Reader<'p> {
             → ReaderStandsAt profile self.new (Open (n + events) []) }
     {
         self.used = self.used.saturating_add(events as u64);
+    }
+
+    /// Takes the common packet in front of a text whole, between two packets. It returns `None` where
+    /// none lies there, and stands where it stood.
+    #[inline(always)]
+    pub fn take_common(&mut self, common: &mut Common, text: &[u8]) -> Option<Taken>
+        ensures takes { (profile : List DeviceParts) (n : ℕ) → ReaderStandsAt profile self.old (Open n [])
+            → IfSome result (λ taken. TakesPacket profile text.now taken.used taken.events (last_read self.new)) }
+        ensures some { IfSome result (λ taken. 0 < taken.used) }
+        ensures within { IfSome result (λ taken. taken.used ≤ length text.now) }
+        ensures stands { (profile : List DeviceParts) (n : ℕ) → ReaderStandsAt profile self.old (Open n [])
+            → IfSome result (λ taken. ReaderStandsAt profile self.new (Open (n + taken.events) [])) }
+        ensures same { (profile : List DeviceParts) (n : ℕ) → ReaderStandsAt profile self.old (Open n []) → result ≡ None
+            → ReaderStandsAt profile self.new (Open n []) }
+    {
+        let taken = self.under_way.take_common(common, text)?;
+        self.used = self.used.saturating_add(taken.events as u64);
+        Some(taken)
     }
 
     /// The end of the capture.

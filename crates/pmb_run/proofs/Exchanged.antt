@@ -87,7 +87,7 @@ distinct_none : IsDistinct nat_eq []
 unfolding IsDistinct
 distinct_none = tt
 
--- a write body is allowed behind any parts
+-- a write body is allowed after any parts
 allowed_behind : (device : DeviceParts) (before : List PartData) (body : List ℕ) → IsWriteBody device body → Allowed device before body
 allowed_behind device [] body write = inl write
 allowed_behind device (part ∷ before) body write = write

@@ -78,7 +78,7 @@ module _ (bench : Bench) (reader : Reader) (ts : List TransactionData) (n : ℕ)
       absurd cc
 
 module _ (bench : Bench) (reader : Reader) (event : Event) (ts : List TransactionData) (n : ℕ) (before : List Event) (heard : HaveHeard bench ts n before) where
-  -- where it stood before, if a packet begins with that event behind the others
+  -- where it stood before, if a packet begins with that event after the others
   begun : (t : TransactionData) (rest : List Event) → Packet (bench_profile bench) t ((before ++ event ∷ []) ++ rest)
       → HaveRead bench ts n before t (event ∷ rest)
   begun t rest packet =

@@ -4,8 +4,7 @@ use Rattle.std.proofs.lemmas.Grind.{flat_map-append}
 use Rattle.pmb_bus.specs.Event.{canonical_text, text_of}
 use Rattle.pmb_bus.specs.declared.event.Event.{Event}
 use Rattle.pmb_command.specs.Parts.{DeviceParts}
-use Rattle.pmb_io.proofs.Writing.{writes_then}
-use Rattle.pmb_io.specs.Outgoing.{PutsText}
+use Rattle.pmb_io.specs.Outgoing.{PutsText, TextsAddUp}
 use Rattle.pmb_io.specs.Tally.{with_refusal}
 use Rattle.pmb_io.specs.declared.tally.Tally.{Tally}
 use Rattle.pmb_note.specs.Context.{HasSeen}
@@ -31,7 +30,7 @@ use Rattle.pmb_run.specs.machine.Running.{counted_transaction, end_counted}
 
 -- ---- what transactions make of the devices
 
--- one transaction behind others
+-- one transaction after others
 applied_behind : (device : DeviceParts) (ts : List TransactionData) (t : TransactionData) (state : DeviceState)
     → apply device t (apply_all device ts state) ≡ apply_all device (ts ++ t ∷ []) state
 applied_behind device [] t state = refl
@@ -102,21 +101,21 @@ pub record HostRuns (ts : List TransactionData) (first : ExchangeStanding) (sent
   pub runs : RunsHost ts bench exchange (record first { events = events; sent = sent })
 
 -- One signal more was sent.
-pub sent_more : (ts : List TransactionData) (first : ExchangeStanding) (sent : ℕ) (bench after : Bench) (exchange next : Exchange)
+pub sent_more : TextsAddUp → (ts : List TransactionData) (first : ExchangeStanding) (sent : ℕ) (bench after : Bench) (exchange next : Exchange)
     (h0 h1 h2 : Option (List ℕ)) (w0 w1 w2 : List ℕ) (runs : HostRuns ts first sent bench exchange h0 w0 h1 w1)
     → GoesOn ts (record first { events = runs.events; sent = sent }) after next h1 w1 h2 w2
     → HostRuns ts first (sent + 1) after next h0 w0 h2 w2
-sent_more ts first sent bench after exchange next h0 h1 h2 w0 w1 w2 runs more = record {
+sent_more add_up ts first sent bench after exchange next h0 h1 h2 w0 w1 w2 runs more = record {
   few = omega (arith, more.few);
   events = runs.events ++ more.events;
   writes = subst (λ (text : List ℕ). PutsText h0 w0 h2 w2 text) (sym (flat_map-append text_of runs.events more.events))
-      (writes_then h0 h1 h2 w0 w1 w2 (canonical_text runs.events) (canonical_text more.events) runs.writes more.writes);
+      (add_up h0 h1 h2 w0 w1 w2 (canonical_text runs.events) (canonical_text more.events) runs.writes more.writes);
   runs = more.runs;
 }
 
 -- ---- how it ends
 
--- Behind the end the bench stands between requests, with the transaction among those that were recorded.
+-- After the end the bench stands between requests, with the transaction among those that were recorded.
 pub stands_behind : (ts : List TransactionData) (bench : Bench) (exchange : Exchange) (standing : ExchangeStanding) (end : HostStep)
     → RunsHost ts bench exchange standing → (over : IsOver standing end bench.bus) → BenchStands bench (ts ++ over.done ∷ [])
 stands_behind ts bench exchange standing end runs over =

@@ -4,10 +4,8 @@ use Rattle.std.specs.Borrow.{Bor}
 use Rattle.pmb_bus.specs.Event.{canonical_text}
 use Rattle.pmb_build.specs.Answer.{numbered_text}
 use Rattle.pmb_command.specs.Parts.{DeviceParts}
-use Rattle.pmb_io.proofs.Writing.{writes_then, writes_nothing}
-use Rattle.pmb_io.specs.Outgoing.{PutsText}
+use Rattle.pmb_io.specs.Outgoing.{PutsText, TextsAddUp}
 use Rattle.pmb_io.specs.Tally.{with_refusal}
-use Rattle.pmb_line.specs.Words.{line_words}
 use Rattle.pmb_line.specs.declared.line_fault.LineFault.TheVariants as line_fault
 use Rattle.pmb_note.specs.Context.{mode}
 use Rattle.pmb_transaction.specs.Transaction.{TransactionData}
@@ -22,25 +20,12 @@ use Rattle.pmb_host.specs.declared.host.Host.{Host}
 use Rattle.pmb_host.specs.declared.step.HostStep.{HostStep}
 use Rattle.pmb_exchange.specs.Steps.{ExchangeStanding}
 use Rattle.pmb_exchange.specs.declared.exchange.Exchange.{Exchange}
-use Rattle.pmb_run.specs.Answer.{IsRefused, Recorded, Refusal, Nothing, end_text, host_fault_text, result_line}
+use Rattle.pmb_run.specs.Answer.{IsRefused, Recorded, Refusal, end_text, host_fault_text, result_line}
 use Rattle.pmb_run.specs.declared.bench.Bench.{Bench}
 use Rattle.pmb_run.specs.declared.runner.Runner.{Runner}
 use Rattle.pmb_run.specs.machine.Bench.{BenchStands, HasEnded, bench_profile}
 use Rattle.pmb_run.specs.machine.Running.{RunnerTakes, end_counted}
 use Rattle.pmb_run.proofs.Hosts.{HostRuns, beginning_on, counted_as, stands_behind}
-
--- A line without words.
-pub nothing_taken : (ts : List TransactionData) (runner : Runner) (line : List ℕ) (held : Option (List ℕ)) (waiting : List ℕ)
-    → line_words line ≡ [] → BenchStands runner.bench ts → RunnerTakes ts runner runner line held waiting held waiting
-nothing_taken ts runner line held waiting blank stands = record {
-  answer = Nothing;
-  answers = blank;
-  writes = writes_nothing held waiting;
-  same = refl;
-  lines = refl;
-  tally = refl;
-  stands = subst (λ (us : List TransactionData). BenchStands runner.bench us) (sym (append-nil ts)) stands;
-}
 
 -- A line whose fault is put out.
 pub fault_taken : (ts : List TransactionData) (before after : Runner) (line why : List ℕ) (h0 h1 : Option (List ℕ)) (w0 w1 : List ℕ)
@@ -71,7 +56,7 @@ pub line_refused : (ts : List TransactionData) (bench : Bench) (line : List ℕ)
 line_refused ts bench line because fault has_words = IsRefused.no_request because fault has_words refl
 
 -- A request whose host has ended.
-pub host_taken : (ts : List TransactionData) (before after : Runner) (bench going : Bench) (request : RequestData) (host : Host) (line : List ℕ) (sent : ℕ) (end : HostStep) (exchange next : Exchange)
+pub host_taken : TextsAddUp → (ts : List TransactionData) (before after : Runner) (bench going : Bench) (request : RequestData) (host : Host) (line : List ℕ) (sent : ℕ) (end : HostStep) (exchange next : Exchange)
     (h0 h1 h2 h3 : Option (List ℕ)) (w0 w1 w2 w3 : List ℕ)
     (stands : BenchStands before.bench ts) (new : IsNewHost (bench_profile before.bench) request host) → SpellsRequest (mode (bench_profile before.bench) ts) line request
     → (runs : HostRuns ts (beginning_on ts before.bench request host stands new) sent going exchange h0 w0 h1 w1)
@@ -79,7 +64,7 @@ pub host_taken : (ts : List TransactionData) (before after : Runner) (bench goin
     → PutsText h2 w2 h3 w3 (result_line (end_text end))
     → bench.profile ≡ before.bench.profile → after.bench ≡ bench → after.lines ≡ before.lines → after.tally ≡ end_counted end before.tally
     → RunnerTakes ts before after line h0 w0 h3 w3
-host_taken ts before after bench going request host line sent end exchange next h0 h1 h2 h3 w0 w1 w2 w3 stands new spells runs ended puts profile_is bench_is lines_are tally_is =
+host_taken add_up ts before after bench going request host line sent end exchange next h0 h1 h2 h3 w0 w1 w2 w3 stands new spells runs ended puts profile_is bench_is lines_are tally_is =
     let first = beginning_on ts before.bench request host stands new in
     let over = ended.over in record {
       answer = Recorded over.done runs.events (end_text end);
@@ -95,8 +80,8 @@ host_taken ts before after bench going request host line sent end exchange next 
         ends = over.told;
         told = refl;
       };
-      writes = writes_then h0 h1 h3 w0 w1 w3 (canonical_text runs.events) (result_line (end_text end)) runs.writes
-          (writes_then h1 h2 h3 w1 w2 w3 [] (result_line (end_text end)) ended.writes puts);
+      writes = add_up h0 h1 h3 w0 w1 w3 (canonical_text runs.events) (result_line (end_text end)) runs.writes
+          (add_up h1 h2 h3 w1 w2 w3 [] (result_line (end_text end)) ended.writes puts);
       same = ap (λ (b : Bench). b.profile) bench_is ∙ profile_is;
       lines = lines_are;
       tally = tally_is ∙ counted_as new.number over.done end before.tally over.told;

@@ -1,13 +1,11 @@
 -- What is run of bytes is one text and one tally.
-use Rattle.std.proofs.Common.{◌≡◌, ℕ, ◌+◌, Option, List, [], ◌∷◌, ◌++◌, map, refl, sym, ◌∙◌, ap, subst, append_assoc}
-use Rattle.std.specs.Prelude.{count_by}
+use Rattle.std.proofs.Common.{◌≡◌, ℕ, Option, List, [], ◌∷◌, ◌++◌, map, refl, sym, ◌∙◌, ap, subst}
 use Rattle.pmb_bus.specs.declared.event.Event.{Event}
 use Rattle.pmb_command.specs.Parts.{DeviceParts}
-use Rattle.pmb_io.specs.Count.{capped}
-use Rattle.pmb_io.specs.Lines.{TextLine, ended_lines}
+use Rattle.pmb_io.specs.Answers as answers
+use Rattle.pmb_io.specs.Lines.{LinesGoOn, TextLine, ended_lines, lines_of}
 use Rattle.pmb_io.specs.Lines as lines
 use Rattle.pmb_io.specs.declared.tally.Tally.{Tally}
-use Rattle.pmb_io.proofs.LineFronts.{ended_lines_go_on}
 use Rattle.pmb_line.specs.declared.line_fault.LineFault.TheVariants as line_fault
 use Rattle.pmb_line.specs.Words.{line_words}
 use Rattle.pmb_note.specs.Context.{mode}
@@ -16,31 +14,17 @@ use Rattle.pmb_transaction.specs.Packet.{Packet}
 use Rattle.pmb_transaction.specs.Transaction.{TransactionData}
 use Rattle.pmb_devices.specs.Runs.{all_after, first_members}
 use Rattle.pmb_request.specs.Request.{RequestData}
-use Rattle.pmb_request.specs.RequestFault.{IsRequestFault, SpellsRequest, fault_text}
-use Rattle.pmb_request.specs.declared.request_fault.RequestFault.{RequestFault}
+use Rattle.pmb_request.specs.RequestFault.{fault_text}
 use Rattle.pmb_request.specs.declared.request_fault.RequestFault.TheVariants.{Line}
 use Rattle.pmb_value.specs.declared.number_format.NumberFormat.{NumberFormat}
-use Rattle.pmb_host.specs.declared.step.HostFault.{HostFault}
 use Rattle.pmb_host.specs.Rules.{IsAllowed, IsFault}
 use Rattle.pmb_host.specs.Task.{task_of}
 use Rattle.pmb_exchange.specs.Exchange.{EndsWith, Exchanges}
 use Rattle.pmb_run.specs.Answer.{IsRefused, RunAnswer, Recorded, Refusal, Nothing, Runs, RunsLine, RunsText, answer_text, host_fault_text, is_done, is_failed, most_request_line, no_host, no_request}
-use Rattle.pmb_run.specs.Lines.{RunsCounted, RunsEach, RunsEnded, RunsInput, RunsLines, answers_behind, recorded_by}
+use Rattle.pmb_run.specs.Lines.{RunsCounted, RunsEach, RunsEnded, RunsInput, RunsLines, recorded_by}
+use Rattle.pmb_run.specs.machine.Laws.{RunLaws}
 use Rattle.pmb_run.proofs.Tasks.{one_task}
 use Rattle.pmb_run.proofs.Tellings.{one_end}
-
--- what the layers below say of one line and one request
-pub record RunLaws (profile : List DeviceParts) : Type 0 where
-  pub one_request : (mode : ℕ → Option ℕ) (line : List ℕ) (a b : RequestData) → SpellsRequest mode line a → SpellsRequest mode line b → a ≡ b
-  pub one_line_fault : (line : List ℕ) (a b : RequestFault) → IsRequestFault line a → IsRequestFault line b → a ≡ b
-  pub no_line_fault : (mode : ℕ → Option ℕ) (line : List ℕ) (request : RequestData) (fault : RequestFault) → SpellsRequest mode line request
-      → IsRequestFault line fault → ⊥
-  pub one_host_fault : (request : RequestData) (a b : HostFault) → IsFault profile request a → IsFault profile request b → a ≡ b
-  pub no_host_fault : (request : RequestData) (word : ℕ) (number : Option NumberFormat) (fault : HostFault) → IsAllowed profile request word number
-      → IsFault profile request fault → ⊥
-  pub one_exchange : (members : List InState) (task a b : TransactionData) → map (λ m. m.device) members ≡ profile → Exchanges members task a
-      → Exchanges members task b → a ≡ b
-  pub one_packet : (t : TransactionData) (a b : List Event) → Packet profile t a → Packet profile t b → a ≡ b
 
 -- the devices stay those of the profile
 members_are : (ts : List TransactionData) (profile : List DeviceParts) → map (λ (m : InState). m.device) (all_after ts (first_members profile)) ≡ profile
@@ -125,49 +109,31 @@ module _ (profile : List DeviceParts) (laws : RunLaws profile) where
       ap (λ c. c ∷ xs) first ∙ ap (λ cs. b ∷ cs) (same_each (before ++ recorded_by b) given xs ys rest y.1)
 
   pub one_text : (given : List TextLine) (a b : List ℕ) → RunsLines profile given a → RunsLines profile given b → a ≡ b
-  one_text given a b x y = x.whole ∙ ap (answers_behind 0) (same_each [] given x.answers y.answers x.each y.each) ∙ sym y.whole
+  one_text = answers.one_text answer_text (RunsEach profile []) (same_each [])
 
   pub one_tally : (given : List TextLine) (x y : List ℕ) (a b : Tally) → RunsCounted profile a given x → RunsCounted profile b given y → a ≡ b
-  one_tally given x y a b one other =
-      let same = same_each [] given one.given.answers other.given.answers one.given.each other.given.each in
-      ap (λ (n : ℕ). record a { packets = n }) (one.counts.packets_counted ∙ ap (λ answers. capped (count_by is_done answers)) same ∙ sym other.counts.packets_counted)
-      ∙ ap (λ (n : ℕ). record b { refusals = n }) (one.counts.refusals_counted ∙ ap (λ answers. capped (count_by is_failed answers)) same ∙ sym other.counts.refusals_counted)
+  one_tally = answers.one_tally answer_text (RunsEach profile []) is_done is_failed (same_each [])
 
   -- ---- fronts
 
   -- the answers to lines that begin some others
   record Front (before : List TransactionData) (given : List TextLine) (answers : List RunAnswer) : Type 0 where
     front : List RunAnswer
-    behind : List RunAnswer
-    split : answers ≡ front ++ behind
+    after : List RunAnswer
+    split : answers ≡ front ++ after
     each : RunsEach profile before given front
 
   front_of : (before : List TransactionData) (given others : List TextLine) (answers : List RunAnswer) → RunsEach profile before (given ++ others) answers → Front before given answers
-  front_of before [] others answers each = record { front = []; behind = answers; split = refl; each = tt }
+  front_of before [] others answers each = record { front = []; after = answers; split = refl; each = tt }
   front_of before (line ∷ given) others [] each = absurd each
   front_of before (line ∷ given) others (a ∷ answers) each =
       let f = front_of (before ++ recorded_by a) given others answers each.1 in
-      record { front = a ∷ f.front; behind = f.behind; split = ap (λ xs. a ∷ xs) f.split; each = (each.0, f.each) }
+      record { front = a ∷ f.front; after = f.after; split = ap (λ xs. a ∷ xs) f.split; each = (each.0, f.each) }
 
-  -- a text goes on with another
-  abbrev pub GoesOn : List ℕ → List ℕ → Type 0
-  GoesOn front whole = (rest : List ℕ) × (whole ≡ front ++ rest)
-
-  text_goes_on : (before : ℕ) (front behind : List RunAnswer) → GoesOn (answers_behind before front) (answers_behind before (front ++ behind))
-  text_goes_on before [] behind = (answers_behind before behind, refl)
-  text_goes_on before (a ∷ front) behind =
-      let on = text_goes_on (before + 1) front behind in
-      let first = answer_text (capped (before + 1)) a in
-      (on.0, ap (λ text. first ++ text) on.1 ∙ sym (append_assoc first (answers_behind (before + 1) front) on.0))
-
-  run_first : (given others : List TextLine) (a b : List ℕ) → RunsLines profile given a → RunsLines profile (given ++ others) b → GoesOn a b
-  run_first given others a b x y =
-      let f = front_of [] given others y.answers y.each in
-      let on = text_goes_on 0 f.front f.behind in
-      let same : answers_behind 0 f.front ≡ a = ap (answers_behind 0) (same_each [] given f.front x.answers f.each x.each) ∙ sym x.whole in
-      (on.0, y.whole ∙ ap (answers_behind 0) f.split ∙ on.1 ∙ ap (λ text. text ++ on.0) same)
-
-  pub ended_first : (bytes more a b : List ℕ) (tally : Tally) → RunsEnded profile bytes a → RunsInput profile tally (bytes ++ more) b → GoesOn a b
-  ended_first bytes more a b tally x y =
-      let on = ended_lines_go_on most_request_line bytes more in
-      run_first (ended_lines most_request_line bytes) on.0 a b x (subst (λ ls. RunsLines profile ls b) on.1 y.given)
+  pub ended_first : (bytes more a b : List ℕ) (tally : Tally) → LinesGoOn (ended_lines most_request_line bytes) (lines_of most_request_line (bytes ++ more))
+      → RunsEnded profile bytes a → RunsInput profile tally (bytes ++ more) b → (rest : List ℕ) × (b ≡ a ++ rest)
+  ended_first bytes more a b tally on x y =
+      let given = ended_lines most_request_line bytes in
+      let all = subst (λ ls. RunsLines profile ls b) on.1 y.given in
+      let f = front_of [] given on.0 all.answers all.each in
+      answers.front_text answer_text (RunsEach profile []) (same_each []) given (given ++ on.0) a b f.front f.after f.each x all f.split

@@ -3,6 +3,7 @@ use Rattle.std.proofs.Common.{◌≡◌, ℕ, ◌+◌, Bool, true, false, cond, 
 use Rattle.std.proofs.lemmas.List.Sums.{fold-append}
 use Rattle.std.specs.Borrow.{Bor}
 use Rattle.std.specs.Prelude.{Option}
+use Rattle.pmb_io.specs.Answers.{answers_after-push}
 use Rattle.pmb_io.specs.Count.{capped}
 use Rattle.pmb_io.specs.Engines.{PutsOut}
 use Rattle.pmb_io.specs.Lines.{TextLine}
@@ -13,7 +14,7 @@ use Rattle.pmb_command.specs.Parts.{DeviceParts}
 use Rattle.pmb_transaction.specs.Transaction.{TransactionData, Write, Read, Call, Refused, Alert, NoAlert}
 use Rattle.pmb_build.specs.Answer.{numbered_text}
 use Rattle.pmb_run.specs.Answer.{RunAnswer, RunsLine, RunsText, Recorded, Refusal, Nothing, answer_text, is_done, is_failed}
-use Rattle.pmb_run.specs.Lines.{RunsCounted, RunsEach, RunsLines, all_recorded, answers_behind, recorded_by}
+use Rattle.pmb_run.specs.Lines.{RunsEach, all_recorded, recorded_by}
 use Rattle.pmb_run.specs.declared.bench.Bench.{Bench}
 use Rattle.pmb_run.specs.declared.runner.Runner.{Runner}
 use Rattle.pmb_run.specs.machine.Bench.{BenchStands, bench_profile}
@@ -43,17 +44,6 @@ answers-append profile before (line ∷ given) others (answer ∷ answers) more 
   answers-append profile (before ++ recorded_by answer) given others answers more each.1
       (subst (λ (ts : List TransactionData). RunsEach profile ts others more) (sym (append_assoc before (recorded_by answer) (all_recorded answers))) next),
 )
-
--- the text of answers and of one more
-text-push : (before n : ℕ) (answers : List RunAnswer) (answer : RunAnswer) → n ≡ before + length answers + 1
-    → answers_behind before (answers ++ answer ∷ []) ≡ answers_behind before answers ++ answer_text (capped n) answer
-text-push before n [] answer count =
-    let same : before + 1 ≡ n = omega (arith, count) in
-    append-nil (answer_text (capped (before + 1)) answer) ∙ ap (λ (m : ℕ). answer_text (capped m) answer) same
-text-push before n (a ∷ answers) answer count =
-    let count_behind : n ≡ before + 1 + length answers + 1 = omega (arith, count) in
-    ap (λ (t : List ℕ). answer_text (capped (before + 1)) a ++ t) (text-push (before + 1) n answers answer count_behind)
-    ∙ sym (append_assoc (answer_text (capped (before + 1)) a) (answers_behind (before + 1) answers) (answer_text (capped n) answer))
 
 -- ---- the tally
 
@@ -126,7 +116,7 @@ answers_more start before after given text line answer number number_is same lin
         given = record {
           answers = was.answers ++ answer ∷ [];
           each = answers-append (bench_profile start.bench) [] given (line ∷ []) was.answers (answer ∷ []) was.each (one, tt);
-          whole = (λ i. was.whole i ++ answer_text (numbered i) answer) ∙ sym (text-push 0 (length was.answers + 1) was.answers answer (omega arith));
+          whole = (λ i. was.whole i ++ answer_text (numbered i) answer) ∙ sym (answers_after-push answer_text was.answers answer);
         };
         counts = subst (λ (t : Tally). Counted (was.answers ++ answer ∷ []) t) (sym tally_is) (counts_more before.tally was.answers answer stands.answered.counts);
       };
@@ -164,14 +154,3 @@ fault_more start before after given text line why number held_old waiting_old he
       holds = answers_more start before after given text line (Refusal why) number number_is (ap (λ (b : Bench). b.profile) same) lines_are tally_is stands refused
           (subst (λ (b : Bench). BenchStands b (ts ++ [])) (sym same) (subst (λ (us : List TransactionData). BenchStands before.bench us) (sym (append-nil ts)) stands.stands));
     }
-
--- ---- what was answered from the beginning
-
-pub answers_of : (profile : List DeviceParts) (start now : Runner) (given : List TextLine) (text : List ℕ) → start.bench.profile.now ≡ profile → RunnerStands start now given text → RunsLines profile given text
-answers_of profile start now given text is stands = subst (λ (p : List DeviceParts). RunsLines p given text) is stands.answered.given
-
-pub answers_to : (profile : List DeviceParts) (start now : Runner) (tally : Tally) (given : List TextLine) (text : List ℕ) → start.bench.profile.now ≡ profile → tally ≡ now.tally → RunnerStands start now given text
-    → RunsCounted profile tally given text
-answers_to profile start now tally given text is same stands =
-    subst (λ (t : Tally). RunsCounted profile t given text) (sym same)
-    (subst (λ (p : List DeviceParts). RunsCounted p now.tally given text) is stands.answered)

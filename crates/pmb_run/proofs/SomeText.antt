@@ -15,7 +15,8 @@ use Rattle.pmb_transaction.specs.Transaction.{TransactionData}
 use Rattle.pmb_registers.specs.State.{InState}
 use Rattle.pmb_devices.specs.Runs.{all_after, first_members}
 use Rattle.pmb_writer.specs.Invalid.{HasPacket}
-use Rattle.pmb_convert.proofs.Determined.{HasPositive, StaysPositive, reading-positive}
+use Rattle.pmb_convert.specs.Laws.{HasPositive}
+use Rattle.pmb_quantity.specs.Reading.{reading}
 use Rattle.pmb_value.specs.declared.number_format.NumberFormat.{NumberFormat}
 use Rattle.pmb_request.specs.Fault.{IsWithin}
 use Rattle.pmb_request.specs.Request.{RequestData}
@@ -46,28 +47,28 @@ pub record SomeLaws (profile : List DeviceParts) : Type 0 where
       → IsAllowed profile request word number → (done : TransactionData) × Exchanges members (task_of request word) done
   pub packets : (request : RequestData) (word : ℕ) (number : Option NumberFormat) (reply : List ℕ) → IsAllowed profile request word number
       → IfSome (reply_form profile (task_of request word)) (λ form. Fits form reply) → HasPacket profile (replied (task_of request word) reply)
-  pub positive : StaysPositive
+  pub positive : (text : List ℕ) → HasPositive (reading text)
 
 -- a request that a line spells has at most 16 parts, and a quantity that is one
-sound_of : StaysPositive → (mode : ℕ → Option ℕ) (wording : Wording) (request : RequestData) → IsWithin wording → Means mode wording request → IsSound request
+sound_of : ((text : List ℕ) → HasPositive (reading text)) → (mode : ℕ → Option ℕ) (wording : Wording) (request : RequestData) → IsWithin wording → Means mode wording request → IsSound request
 sound_of positive mode (Write parts) request within means = subst IsSound (sym means) within.few
 sound_of positive mode (Ask command to_read) request within means = subst IsSound (sym means) tt
 sound_of positive mode (Ask command (to_call bytes)) request within means = subst IsSound (sym means) tt
 sound_of positive mode (Ask command (to_set text)) request within (q, reads, is) =
-    subst IsSound (sym is) (subst HasPositive reads (reading-positive positive text))
+    subst IsSound (sym is) (subst HasPositive reads (positive text))
 sound_of positive mode (Ask command to_get) request within means = subst IsSound (sym means) tt
 
--- behind no transactions
+-- after no transactions
 pub at_first : (members : List InState) → AllByRecursion IsMember members → AllByRecursion IsMember (all_after [] members)
 at_first [] all = tt
 at_first (m ∷ members) all = (record { accepted = all.0.accepted; kept = all.0.kept; good = all.0.good }, at_first members all.1)
 
 module _ (profile : List DeviceParts) (bus : IsBus profile) (laws : SomeLaws profile) where
-  -- the devices are in good states behind these transactions
+  -- the devices are in good states after these transactions
   abbrev AreGood : List TransactionData → Type 0
   AreGood before = AllByRecursion IsMember (all_after before (first_members profile))
 
-  -- An answer that is so, and good states behind what was recorded for it.
+  -- An answer that is so, and good states after what was recorded for it.
   record Answered (before : List TransactionData) (Holds : RunAnswer → Type 0) : Type 0 where
     answer : RunAnswer
     holds : Holds answer

@@ -155,7 +155,7 @@ module _ (profile : List DeviceParts) (before : List TransactionData) where
   RunsText line (Refusal why) = IsRefused line why
   RunsText line Nothing = line_words line ≡ []
 
-  -- What is answered to a line. One of more bytes is too long behind the last that it may have, whatever
+  -- What is answered to a line. One of more bytes is too long after the last that it may have, whatever
   -- it says.
   abbrev pub RunsLine : lines.TextLine → RunAnswer → Type 0
   RunsLine (lines.Ended line) answer = RunsText line answer

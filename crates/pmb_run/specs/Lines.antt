@@ -1,21 +1,18 @@
 -- What is answered to the request lines of an input.
-use Rattle.std.specs.Prelude.{◌≡◌, ℕ, ◌+◌, Result, Ok, Err, List, [], ◌∷◌, ◌++◌, count_by}
+use Rattle.std.specs.Prelude.{ℕ, Result, Ok, Err, List, [], ◌∷◌, ◌++◌}
 use Rattle.pmb_command.specs.Parts.{DeviceParts}
-use Rattle.pmb_io.specs.Count.{capped}
+use Rattle.pmb_io.specs.Answers.{AnswersCounted, AnswersLines, answers_after, answers_job}
 use Rattle.pmb_io.specs.Lines.{TextLine, ended_lines, lines_of}
 use Rattle.pmb_io.specs.Runs.{Job}
-use Rattle.pmb_io.specs.Tally.{IsTallyOf}
 use Rattle.pmb_io.specs.declared.fault.ToolFault.{ToolFault}
 use Rattle.pmb_io.specs.declared.fault.ToolFault.TheVariants as tool
 use Rattle.pmb_io.specs.declared.tally.Tally.{Tally}
 use Rattle.pmb_transaction.specs.Transaction.{TransactionData}
 use Rattle.pmb_run.specs.Answer.{RunAnswer, Recorded, Refusal, Nothing, RunsLine, answer_text, is_done, is_failed, most_request_line}
 
--- The texts of the answers to lines that stand behind some others. Lines are counted from 1, and
--- blank ones too; the count stays at the greatest u64.
+-- the texts of the answers to lines that come after some others
 abbrev pub answers_behind : ℕ → List RunAnswer → List ℕ
-answers_behind before [] = []
-answers_behind before (answer ∷ answers) = answer_text (capped (before + 1)) answer ++ answers_behind (before + 1) answers
+answers_behind = answers_after answer_text
 
 -- the transaction that was recorded for an answer, if there was one
 abbrev pub recorded_by : RunAnswer → List TransactionData
@@ -36,15 +33,12 @@ module _ (profile : List DeviceParts) where
   RunsEach before (line ∷ rest) (answer ∷ answers) = RunsLine profile before line answer × RunsEach (before ++ recorded_by answer) rest answers
 
   -- A text is the answers to some lines.
-  pub record RunsLines (lines : List TextLine) (text : List ℕ) : Type 0 where
-    pub answers : List RunAnswer
-    pub each : RunsEach [] lines answers
-    pub whole : text ≡ answers_behind 0 answers
+  abbrev pub RunsLines : List TextLine → List ℕ → Type 0
+  RunsLines = AnswersLines answer_text (RunsEach [])
 
   -- And so many of the requests were done, and so many were refused, bad or failed.
-  pub record RunsCounted (tally : Tally) (lines : List TextLine) (text : List ℕ) : Type 0 where
-    pub given : RunsLines lines text
-    pub counts : IsTallyOf (count_by is_done given.answers) (count_by is_failed given.answers) tally
+  abbrev pub RunsCounted : Tally → List TextLine → List ℕ → Type 0
+  RunsCounted = AnswersCounted answer_text (RunsEach []) is_done is_failed
 
   -- the answers to all lines of an input
   abbrev pub RunsInput : Tally → List ℕ → List ℕ → Type 0
@@ -56,12 +50,7 @@ module _ (profile : List DeviceParts) where
 
 -- What `run` is to write: the answers to the requests of its input. More is always wanted.
 abbrev pub running : List DeviceParts → Job Tally
-running profile = record {
-  Whole = RunsInput profile;
-  Stops = λ tally bytes text. ⊥;
-  Front = RunsEnded profile;
-  IsOpen = λ bytes. Unit {0};
-}
+running profile = answers_job answer_text (RunsEach profile []) is_done is_failed most_request_line
 
 -- There was no memory for the devices, and then this holds; or another fact holds of the result.
 abbrev pub OrNoMemory : {A : Type 0} → Type 0 → (Result A ToolFault → Type 0) → Result A ToolFault → Type 0

@@ -1,3 +1,4 @@
 -- What is kept from one request to the next.
 pub mod Bench
+pub mod Laws
 pub mod Running

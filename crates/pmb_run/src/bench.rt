@@ -16,6 +16,7 @@ use pmb_bus::Event;
 use pmb_devices::Bus;
 use pmb_exchange::{Exchange, Step};
 use pmb_host::HostStep;
+use pmb_io::laws::texts_add_up;
 use pmb_io::{RunFault, Sink, Waiting};
 use pmb_note::Context;
 use pmb_reader::laws::some_packet_is_read;
@@ -76,6 +77,7 @@ impl<'p> Bench<'p> {
             → IfOk result (λ end. RunsOn ts standing end self.new exchange.new (W.told writer.old).held waiting.old.items (W.told writer.new).held waiting.new.items) }
         ensures failed { WriterTells (W.told writer.old) (W.told writer.new) result }
     {
+        texts_add_up();
         match exchange.next(&mut self.bus) {
             Step::Recorded(recorded) => {
                 put_events(recorded.events(), waiting, writer)?;
@@ -115,6 +117,7 @@ fn put_events<W: Sink>(
     ensures writes { OnOk result (PutsText (W.told writer.old).held waiting.old.items (W.told writer.new).held waiting.new.items (canonical_text events.now)) }
     ensures failed { WriterTells (W.told writer.old) (W.told writer.new) result }
 {
+    texts_add_up();
     for event in events {
         put_event(*event, waiting, writer)?;
     }

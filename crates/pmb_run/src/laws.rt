@@ -5,15 +5,17 @@ ghost use Rattle.pmb_command.specs.Bus.{IsBus};
 ghost use Rattle.pmb_command.specs.Parts.{DeviceParts};
 ghost use Rattle.pmb_io.specs.declared.tally.Tally.{Tally};
 ghost use Rattle.pmb_run.specs.Lines.{RunsEnded, RunsInput};
+ghost use Rattle.pmb_run.specs.machine.Laws.{RunLaws};
 
 use crate::kept::profile_is_kept;
+use pmb_convert::laws::readings_have_denominators;
 use pmb_devices::laws_on_replies::states_fit;
 use pmb_exchange::laws::{an_exchange_is_one, some_exchange};
 use pmb_host::laws::{
     allowed_or_fault, allowed_requests_have_no_fault, allowed_requests_have_packets,
     one_first_fault,
 };
-use pmb_quantity::laws::lowest_terms;
+use pmb_io::laws::ended_lines_stay;
 use pmb_request::laws::{
     no_request_with_a_fault, one_request, one_request_fault, request_or_fault,
 };
@@ -21,10 +23,9 @@ use pmb_table::Profile;
 use pmb_table::laws::accepted_bus;
 use pmb_transaction::laws::one_packet;
 
-/// What is run of bytes, and its tally, is a function of the bytes under a profile that is accepted.
-pub fn one_running()
-    ensures { (profile : List DeviceParts) (a b : Tally) (bytes x y : List ℕ) → IsBus profile
-        → RunsInput profile a bytes x → RunsInput profile b bytes y → (x ≡ y) × (a ≡ b) }
+/// A line is answered in one way, by the transactions before it, under a profile that is accepted.
+fn lines_have_one_answer()
+    ensures { (profile : List DeviceParts) → IsBus profile → RunLaws profile }
 {
     one_request();
     one_request_fault();
@@ -33,6 +34,14 @@ pub fn one_running()
     allowed_requests_have_no_fault();
     an_exchange_is_one();
     one_packet();
+}
+
+/// What is run of bytes, and its tally, is a function of the bytes under a profile that is accepted.
+pub fn one_running()
+    ensures { (profile : List DeviceParts) (a b : Tally) (bytes x y : List ℕ) → IsBus profile
+        → RunsInput profile a bytes x → RunsInput profile b bytes y → (x ≡ y) × (a ≡ b) }
+{
+    lines_have_one_answer();
 }
 
 /// Some text, with its tally, is what is run of any bytes, under a profile that is accepted. The profile
@@ -44,7 +53,7 @@ pub fn some_running(profile: &Profile)
     accepted_bus(profile);
     states_fit();
     request_or_fault();
-    lowest_terms();
+    readings_have_denominators();
     allowed_or_fault();
     some_exchange();
     allowed_requests_have_packets();
@@ -58,11 +67,6 @@ pub fn ended_lines_come_first()
     ensures front { (profile : List DeviceParts) (bytes more a b : List ℕ) (tally : Tally) → IsBus profile
         → RunsEnded profile bytes a → RunsInput profile tally (bytes ++ more) b → (rest : List ℕ) × (b ≡ a ++ rest) }
 {
-    one_request();
-    one_request_fault();
-    no_request_with_a_fault();
-    one_first_fault();
-    allowed_requests_have_no_fault();
-    an_exchange_is_one();
-    one_packet();
+    ended_lines_stay();
+    lines_have_one_answer();
 }

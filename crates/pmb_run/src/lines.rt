@@ -5,10 +5,9 @@ ghost use Rattle.pmb_io.specs.Runs.{AsTool, Ran};
 ghost use Rattle.pmb_run.specs.Lines.{OrNoMemory, running};
 
 use crate::bench::Bench;
-use crate::runner::Runner;
+use crate::runner::{MOST_BYTES, Runner};
 use pmb_devices::Bus;
-use pmb_io::laws::lines_are_handed_on;
-use pmb_io::{Lines, Sink, Source, Tally, ToolFault, each_piece};
+use pmb_io::{Sink, Source, Tally, ToolFault, each_line};
 use pmb_table::Profile;
 use std::alloc::Global;
 
@@ -16,19 +15,21 @@ use std::alloc::Global;
 /// against simulated devices: those of the profile, each as it is first made.
 ///
 /// What is recorded of a request is written as canonical capture text (SMBus 3.0 section 6.5), and
-/// behind it a line with the result: `# done`, the bytes or the value that were read, or at which byte
-/// the packet was refused. A line that spells no request, or one for which there is no host, is answered
-/// by `# line N: ` and its first fault, where N counts all lines from 1 and stays at the greatest `u64`;
-/// a line of more than 32,768 bytes by `TooLong at 32768`. A line without words is answered by nothing.
+/// after it a line with the result: `# done`, the bytes or the value that were read, or at which byte
+/// the packet was refused. For a line that spells no request, or one for which there is no host,
+/// `# line N: ` and its first fault are written, where N counts all lines from 1 and stays at the
+/// greatest `u64`; for a line of more than 32,768 bytes the fault is `TooLong at 32768`. For a line
+/// without words nothing is written.
 ///
-/// A `set` and a `get` take the VOUT_MODE that the packets before them told. The answers to the lines of
-/// a piece are written before the next is read. The tally counts requests that were done as packets, and
-/// others as refusals. Memory is taken for the devices alone, before anything is read or written.
+/// A `set` and a `get` take the VOUT_MODE that the packets before them told. What is written for the
+/// lines of a piece is written before the next is read. The tally counts requests that were done as
+/// packets, and others as refusals. Memory is taken for the devices alone, before anything is read or
+/// written.
 ///
 /// # Errors
 ///
 /// `Memory` where there was none for the devices: nothing was read or written. `Read` where the reader
-/// failed: the answers to the lines that had ended are written. `Write` where the writer failed.
+/// failed: what there is to write for the lines that had ended is written. `Write` where the writer failed.
 /// `TooManyReads` where 2^32 reads gave bytes and the reader had not ended.
 pub fn run<R: Source, W: Sink>(
     alloc: Global,
@@ -41,12 +42,9 @@ pub fn run<R: Source, W: Sink>(
     ensures { OrNoMemory ((reader.new ≡ reader.old) × (writer.new ≡ writer.old))
         (AsTool (Ran R.told W.told (running profile.now) first.now (reader.old, writer.old) (reader.new, writer.new))) result }
 {
-    lines_are_handed_on::<Runner, 32768>();
     let Ok(bus) = Bus::new(alloc, profile) else {
         return Err(ToolFault::Memory);
     };
     let runner = Runner::new(Bench::new(profile, bus));
-    let mut lines = Lines::<Runner, 32768>::new(runner);
-    each_piece(&mut lines, first, reader, writer)?;
-    Ok(lines.task().tally())
+    each_line::<Runner, R, W, MOST_BYTES>(runner, first, reader, writer)
 }

@@ -10,7 +10,9 @@ ghost use Rattle.pmb_host.specs.Host.{IsNewHost};
 ghost use Rattle.pmb_request.specs.Request.{RequestData, request_data};
 ghost use Rattle.pmb_request.specs.RequestFault.{SpellsRequest};
 ghost use Rattle.pmb_note.specs.Context.{mode};
-ghost use Rattle.pmb_run.specs.machine.Bench.{BenchStands};
+ghost use Rattle.pmb_run.specs.Answer.{most_request_line};
+ghost use Rattle.pmb_run.specs.Lines.{running};
+ghost use Rattle.pmb_run.specs.machine.Bench.{BenchStands, bench_profile};
 ghost use Rattle.pmb_run.specs.machine.Running.{RunnerStands, RunnerTakes, end_counted};
 
 use crate::bench::Bench;
@@ -19,6 +21,7 @@ use crate::result::end_line;
 use pmb_build::numbered_line;
 use pmb_exchange::Exchange;
 use pmb_host::{Host, HostStep, Request, RequestFault, parse_request};
+use pmb_io::laws::texts_add_up;
 use pmb_io::{Line, LineTask, RunFault, Sink, Tally, Waiting, put};
 use pmb_line::LineFault;
 use pmb_transaction::laws::packet_is_not_empty;
@@ -50,13 +53,6 @@ impl<'p> Runner<'p> {
             lines: 0,
             tally: Tally::new(),
         }
-    }
-
-    /// How many requests were done, and how many were refused, bad or failed.
-    pub(crate) fn tally(&self) -> Tally
-        ensures { result ≡ self.now.tally }
-    {
-        self.tally
     }
 
     /// Takes the request that a line spells.
@@ -112,6 +108,7 @@ impl<'p> Runner<'p> {
         ensures failed { WriterTells (W.told writer.old) (W.told writer.new) result }
     {
         packet_is_not_empty();
+        texts_add_up();
         let mut exchange = Exchange::new(host);
         for _ in 0..MOST_STEPS {
             if let Some(end) = self.bench.next(&mut exchange, waiting, writer)? {
@@ -156,7 +153,17 @@ impl<'p> Runner<'p> {
 }
 
 impl<'p> LineTask for Runner<'p> {
+    ghost most = { most_request_line };
+
     ghost Stands = { RunnerStands };
+
+    ghost counted = { λ runner. runner.tally };
+
+    ghost job = { λ start. running (bench_profile start.bench) };
+
+    ghost writes_all = { λ start now bytes text stands. stands.answered };
+
+    ghost writes_front = { λ start now bytes text stands. stands.answered.given };
 
     fn take_line<W: Sink>(
         &mut self,
@@ -173,5 +180,9 @@ impl<'p> LineTask for Runner<'p> {
                 self.take_fault(fault.as_slice(), waiting, writer)
             }
         }
+    }
+
+    fn tally(&self) -> Tally {
+        self.tally
     }
 }

@@ -1,4 +1,5 @@
 pub mod Passing
 pub mod Reporting
+pub mod Following
 pub mod Wholes
 pub mod Taking

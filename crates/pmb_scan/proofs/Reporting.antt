@@ -163,7 +163,7 @@ reads_whole reached n bytes events t after same on packet stands =
 -- ---- the end
 
 -- nothing follows
-ends_so : (reached : Reached) (last : List Span) → LeadsOn reached → SpansBehind reached.profile reached.standing [] last → filter is_whole last ≡ [] → EndsWith reached last
+pub ends_so : (reached : Reached) (last : List Span) → LeadsOn reached → SpansBehind reached.profile reached.standing [] last → filter is_whole last ≡ [] → EndsWith reached last
 ends_so reached last on reads inside = record {
   spans = subst (λ (es : List Event). Spans reached.profile es (reached.spans ++ last)) (append-nil reached.events) (on.leads [] last reads);
   whole = on.whole;

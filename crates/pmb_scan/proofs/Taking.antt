@@ -17,7 +17,7 @@ use Rattle.pmb_io.specs.Outgoing.{PutsText}
 use Rattle.pmb_io.proofs.Writing.{writes_then, writes_nothing}
 use Rattle.pmb_reader.specs.declared.reader.Reader.{Reader}
 use Rattle.pmb_scan.specs.declared.scan.Scan.{Scan}
-use Rattle.pmb_reader.specs.Reader.{Open}
+use Rattle.pmb_reader.specs.Reader.{Open, last_read}
 use Rattle.pmb_scan.specs.Reached.{Reached, IsWhole, behind_bytes, behind_whole}
 use Rattle.pmb_scan.specs.Scan.{HasRead, ScanStandsAt, TakesAll, TakesEvent, StopsAtBadWord}
 use Rattle.pmb_scan.specs.machine.Standing.{ReaderReached}
@@ -110,10 +110,21 @@ module _ {V : Type 0} (Stands : V → V → Reached → List ℕ → Type 0) whe
     visited = subst (λ (t : List ℕ). Stands start now reached t) (sym (append-nil text)) visited;
   }
 
-  -- by a scan that is the same
-  pub up_to_same : (start now : V) (reached : Reached) (piece rest : List ℕ) (h0 : Option (List ℕ)) (w0 : List ℕ) (h1 : Option (List ℕ)) (w1 text : List ℕ) (a b : Scan) → b ≡ a
-      → UpTo start now reached piece rest h0 w0 h1 w1 text a → UpTo start now reached piece rest h0 w0 h1 w1 text b
-  up_to_same start now reached piece rest h0 w0 h1 w1 text a b same so_far = subst (λ (s : Scan). UpTo start now reached piece rest h0 w0 h1 w1 text s) (sym same) so_far
+  -- by a scan that stands where another one stands
+  pub up_to_same : (start now : V) (reached : Reached) (piece rest : List ℕ) (h0 : Option (List ℕ)) (w0 : List ℕ) (h1 : Option (List ℕ)) (w1 text : List ℕ) (a b : Scan)
+      → ((there : Reached) → ScanStandsAt a there → ScanStandsAt b there) → UpTo start now reached piece rest h0 w0 h1 w1 text a
+      → UpTo start now reached piece rest h0 w0 h1 w1 text b
+  up_to_same start now reached piece rest h0 w0 h1 w1 text a b same so_far = record {
+    used = so_far.used;
+    there = so_far.there;
+    more = so_far.more;
+    split = so_far.split;
+    profile = so_far.profile;
+    is_text = so_far.is_text;
+    stands = same so_far.there so_far.stands;
+    puts = so_far.puts;
+    visited = so_far.visited;
+  }
 
   -- what an event comes to is no matter of the lexer's
   pub took_as : (a b : Scan) (before : V) (event : Event) (c d : Scan) (after : V) (h0 : Option (List ℕ)) (w0 : List ℕ) (h1 : Option (List ℕ)) (w1 : List ℕ)
@@ -206,11 +217,11 @@ module _ {V : Type 0} (Stands : V → V → Reached → List ℕ → Type 0) whe
   -- a whole packet of it is taken
   pub up_to_whole : (start v0 v1 : V) (reached : Reached) (piece rest left bytes : List ℕ) (used count : ℕ) (h0 h1 h2 : Option (List ℕ)) (w0 w1 w2 text : List ℕ) (scan after : Scan)
       → (so_far : UpTo start v0 reached piece rest h0 w0 h1 w1 text scan) → TakesWhole so_far.there rest used count after
-      → ToldWhole v0 v1 bytes count after.common h1 w1 h2 w2 → bytes ≡ take used rest → left ≡ drop used rest
+      → ToldWhole v0 v1 bytes count (last_read after.reader) h1 w1 h2 w2 → bytes ≡ take used rest → left ≡ drop used rest
       → UpTo start v1 reached piece left h0 w0 h2 w2 text after
   up_to_whole start v0 v1 reached piece rest left bytes used count h0 h1 h2 w0 w1 w2 text scan after so_far taken told bytes_are left_is =
       let there = so_far.there in
-      let t = after.common in
+      let t = last_read after.reader in
       let behind = behind_whole there taken.n bytes taken.events t in
       let puts = told start there (text ++ so_far.more) taken.n taken.events so_far.visited taken.between taken.spells taken.standing
       (subst (λ (l : List ℕ). IsWhole there.profile t taken.events l) (sym bytes_are) taken.whole) taken.counted in record {

@@ -43,7 +43,6 @@ pub enum Taken {
 pub struct Scan<'p> {
     lexer: Lexer,
     reader: Reader<'p>,
-    /// The last packet that was taken at once.
     common: Common,
 }
 
@@ -123,14 +122,14 @@ impl<'p> Scan<'p> {
     }
 
     /// Takes the common packet in front of a piece at once, between two packets and two words. It
-    /// returns `None` where no such packet lies whole in front, and then nothing has changed.
+    /// returns `None` where no such packet lies whole in front, and then all stands where it stood.
     #[inline(always)]
     fn take_whole(&mut self, piece: &[u8]) -> Option<Whole>
         ensures takes { (reached : Reached) → ScanStandsAt self.old reached
             → IfSome result (λ whole. TakesWhole reached piece.now whole.used whole.events self.new) }
         ensures within { IfSome result (λ whole. whole.used ≤ length piece.now) }
         ensures some { IfSome result (λ whole. 0 < whole.used) }
-        ensures same { result ≡ None → self.new ≡ self.old }
+        ensures same { (reached : Reached) → ScanStandsAt self.old reached → result ≡ None → ScanStandsAt self.new reached }
     {
         common_packets_are_read();
         if !begins_common(piece) {
@@ -139,11 +138,9 @@ impl<'p> Scan<'p> {
         if !self.lexer.is_between() || !self.reader.is_between() {
             return None;
         }
-        let profile = self.reader.profile();
-        accepted_bus(profile);
-        let whole = self.common.take(profile, piece)?;
+        accepted_bus(self.reader.profile());
+        let whole = self.reader.take_common(&mut self.common, piece)?;
         self.lexer.skip(&piece[..whole.used]);
-        self.reader.skip(whole.events);
         Some(whole)
     }
 
@@ -219,12 +216,12 @@ impl<'p> Scan<'p> {
     ) -> Result<(), RunFault>
         ensures visits { (start : V) (reached : Reached) (text : List ℕ) (n : ℕ) (events : List BusEvent) → V.Stands start visitor.old reached text
             → EndsBetween reached.text → Spells reached.text reached.events → reached.standing ≡ Open n []
-            → IsWhole reached.profile self.now.common events bytes.now → count ≡ length events
-            → OnOk result (PutsOut (λ more. V.Stands start visitor.new (behind_whole reached n bytes.now events self.now.common) (text ++ more))
+            → IsWhole reached.profile (last_read self.now.reader) events bytes.now → count ≡ length events
+            → OnOk result (PutsOut (λ more. V.Stands start visitor.new (behind_whole reached n bytes.now events (last_read self.now.reader)) (text ++ more))
             (W.told writer.old).held waiting.old.items (W.told writer.new).held waiting.new.items) }
         ensures failed { WriterTells (W.told writer.old) (W.told writer.new) result }
     {
-        visitor.visit_whole(bytes, count, self.common.packet(), waiting, writer)
+        visitor.visit_whole(bytes, count, self.reader.packet(), waiting, writer)
     }
 
     /// Tells a visitor of the packet that ended last.

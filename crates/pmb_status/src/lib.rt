@@ -1,4 +1,4 @@
-//! The exit statuses of `pmb`, and what is told of a fault on standard error.
+//! The exit statuses of `pmb`, and what is written of a fault on standard error.
 #![tactic(auto)]
 
 mod status;

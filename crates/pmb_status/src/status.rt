@@ -1,4 +1,4 @@
-//! The exit statuses, and what is told of them on standard error.
+//! The exit statuses, and what is written of them on standard error.
 
 ghost use Rattle.std.specs.Prelude.{◌≡◌};
 ghost use Rattle.pmb_status.specs.Status.{EndedWell, Failed, IsTold, code_of, run_status, status_of};
@@ -13,7 +13,7 @@ use std::fmt::Write;
 pub enum Status {
     /// Nothing went wrong.
     Done,
-    /// The capture has refusals, or lines were answered by a fault.
+    /// The capture has refusals, or lines have faults, or requests failed.
     Refusals,
     /// The words are no command or name no format, or the profile has a fault or is too long.
     BadWords,
@@ -38,7 +38,7 @@ impl Status {
     }
 }
 
-/// The status of a run that ended, of which a fault is told on `err`.
+/// The status of a run that ended. Its fault is reported on `err`.
 pub fn ended<E: Sink>(outcome: Result<Tally, ToolFault>, err: &mut E) -> Status
     ensures status { result ≡ run_status outcome }
     ensures quiet { EndedWell result → err.new ≡ err.old }
@@ -51,7 +51,7 @@ pub fn ended<E: Sink>(outcome: Result<Tally, ToolFault>, err: &mut E) -> Status
     }
 }
 
-/// Tells a text behind `pmb: ` on `err`. That `err` fails changes nothing.
+/// Writes `pmb: ` and a text on `err`. If `err` fails, nothing else changes.
 pub fn tell_text<E: Sink>(text: &str, err: &mut E)
     ensures { IsTold (E.told err.old) (E.told err.new) }
 {
@@ -61,7 +61,7 @@ pub fn tell_text<E: Sink>(text: &str, err: &mut E)
     let _ = err.write_all(line.as_str().as_bytes());
 }
 
-/// Tells a fault on `err` and answers its status.
+/// Reports a fault on `err`, and returns its status.
 pub fn tell<E: Sink>(fault: ToolFault, err: &mut E) -> Status
     ensures status { result ≡ status_of fault }
     ensures err_told { IsTold (E.told err.old) (E.told err.new) }
@@ -76,7 +76,7 @@ pub fn tell<E: Sink>(fault: ToolFault, err: &mut E) -> Status
     }
 }
 
-/// Tells why a FORMAT names no format on `err`.
+/// Reports on `err` why a FORMAT names no format.
 pub fn tell_format<E: Sink>(fault: FormatFault, err: &mut E) -> Status
     ensures status { result ≡ Status.BadWords }
     ensures err_told { IsTold (E.told err.old) (E.told err.new) }
@@ -87,7 +87,7 @@ pub fn tell_format<E: Sink>(fault: FormatFault, err: &mut E) -> Status
     Status::BadWords
 }
 
-/// Tells on `err` that the words ask for nothing.
+/// Reports on `err` that the words ask for nothing.
 pub fn tell_nothing<E: Sink>(err: &mut E) -> Status
     ensures status { result ≡ Status.BadWords }
     ensures err_told { IsTold (E.told err.old) (E.told err.new) }

@@ -9,3 +9,4 @@ pub mod Told
 pub mod Wholes
 pub mod Ends
 pub mod Counts
+pub mod Walking

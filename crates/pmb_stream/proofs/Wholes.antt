@@ -1,5 +1,5 @@
 -- A whole common packet, told at once.
-use Rattle.std.proofs.Common.{◌≡◌, ℕ, zero, suc, ◌+◌, ◌<◌, List, [], ◌∷◌, ◌++◌, codes, length, slice_index_or, append-nil, append_assoc, length-append, refl, sym, ap, ◌∙◌, subst, arith}
+use Rattle.std.proofs.Common.{◌≡◌, ℕ, zero, suc, ◌+◌, ◌<◌, ◌≤◌, List, [], ◌∷◌, ◌++◌, codes, length, slice_index_or, append-nil, append_assoc, length-append, refl, sym, ap, ◌∙◌, subst, arith}
 use Rattle.std.specs.List.{Contains}
 use Rattle.std.proofs.lemmas.Grind.{flat_map-append}
 use Rattle.pmb_bus.specs.declared.event.Event.{Event}
@@ -7,7 +7,7 @@ use Rattle.pmb_bus.specs.declared.event.Event.TheVariants.{Start, Byte, Ack, Nac
 use Rattle.pmb_bus.specs.Event.{AreBytes, canonical_text, character, text_of}
 use Rattle.pmb_bus.specs.Text.{EndsBetween}
 use Rattle.pmb_command.specs.Parts.{DeviceParts}
-use Rattle.pmb_common.specs.Common.{IsCommon, device_called, device_read, one_part_written}
+use Rattle.pmb_common.specs.Common.{IsCommon, device_called, device_read, parts_written}
 use Rattle.pmb_objects.specs.Counts.{after_packet}
 use Rattle.pmb_objects.specs.Object.{object_lines}
 use Rattle.pmb_objects.specs.Packets.{packet_objects}
@@ -18,7 +18,7 @@ use Rattle.pmb_scan.specs.Reached.{Reached, behind_bytes, behind_event, behind_w
 use Rattle.pmb_spans.specs.Spans.{ReadSpan}
 use Rattle.pmb_transaction.specs.Capture.{EndsAtStop, HasNoStop}
 use Rattle.pmb_transaction.specs.Packet.{Packet}
-use Rattle.pmb_transaction.specs.Transaction.{TransactionData}
+use Rattle.pmb_transaction.specs.Transaction.{PartData, TransactionData, Write}
 use Rattle.pmb_stream.specs.declared.stream.Begun.{Begun}
 use Rattle.pmb_stream.specs.declared.stream.Stream.{Stream}
 use Rattle.pmb_stream.specs.Before.{Before, with_reached}
@@ -26,6 +26,7 @@ use Rattle.pmb_stream.specs.Choice.{ChoiceData}
 use Rattle.pmb_stream.specs.Spans.{after_spans, event_place, seen_behind, transactions_in}
 use Rattle.pmb_stream.specs.Stream.{HasToldOf, IsSame, StreamKnows, stream_choice, stream_profile}
 use Rattle.pmb_stream.specs.machine.Begun.{begun_legs, kept_objects}
+use Rattle.pmb_stream.specs.machine.Inside.{HasOneStart}
 use Rattle.pmb_stream.specs.machine.Knowing.{IsCleared, IsCountOf, KeepsPacket, KeepsUnderWay, stream_seen}
 use Rattle.pmb_stream.proofs.Spans.{counts_append, transactions_append}
 use Rattle.pmb_stream.proofs.Standing.{keeps_none, knows_as}
@@ -62,10 +63,14 @@ bytes_before (Nack ∷ front) more small = bytes_before front more small
 bytes_before (Stop ∷ front) more small = bytes_before front more small
 
 -- a common packet begins with START
-begins : (profile : List DeviceParts) (t : TransactionData) (events : List Event) → IsCommon t → Packet profile t events → (more : List Event) × (events ≡ Start ∷ more)
-begins profile t events (one_part_written part) packet =
-    let (first, rest, split, leg, none) = packet.each in
+begins_write : (profile : List DeviceParts) (parts : List PartData) (events : List Event) → Packet profile (Write parts) events → (more : List Event) × (events ≡ Start ∷ more)
+begins_write profile [] events packet = absurd (omega (arith, packet.some))
+begins_write profile (part ∷ parts) events packet =
+    let (first, rest, split, leg, others) = packet.each in
     (_, packet.spelled ∙ ap (λ (legs : List Event). legs ++ Stop ∷ []) (split ∙ ap (λ (l : List Event). l ++ rest) leg.spelled))
+
+begins : (profile : List DeviceParts) (t : TransactionData) (events : List Event) → IsCommon t → Packet profile t events → (more : List Event) × (events ≡ Start ∷ more)
+begins profile t events (parts_written parts) packet = begins_write profile parts events packet
 begins profile t events (device_read read) packet = (_, packet.spelled)
 begins profile t events (device_called call) packet = (_, packet.spelled)
 
@@ -86,11 +91,17 @@ is_line profile t events common packet ends small =
 
 -- ---- its objects, by what was kept of its START
 
-objects_whole : (seen : SeenData) (place : ℕ → Place) (n : ℕ) (rest : List Event) (t : TransactionData) → IsCommon t
+write_objects_whole : (seen : SeenData) (place : ℕ → Place) (n : ℕ) (rest : List Event) (parts : List PartData) → length parts ≤ 1
+    → kept_objects seen (begun_legs place n (Start ∷ [])) (Write parts) ≡ packet_objects seen place n (Start ∷ rest) (Write parts)
+write_objects_whole seen place n rest [] one = refl
+write_objects_whole seen place n rest (part ∷ []) one = refl
+write_objects_whole seen place n rest (part ∷ next ∷ parts) one = absurd (omega (arith, one))
+
+objects_whole : (seen : SeenData) (place : ℕ → Place) (n : ℕ) (rest : List Event) (t : TransactionData) → IsCommon t → HasOneStart t
     → kept_objects seen (begun_legs place n (Start ∷ [])) t ≡ packet_objects seen place n (Start ∷ rest) t
-objects_whole seen place n rest t (one_part_written part) = refl
-objects_whole seen place n rest t (device_read read) = refl
-objects_whole seen place n rest t (device_called call) = refl
+objects_whole seen place n rest t (parts_written parts) one = write_objects_whole seen place n rest parts one
+objects_whole seen place n rest t (device_read read) one = refl
+objects_whole seen place n rest t (device_called call) one = refl
 
 -- ---- its text
 
@@ -129,11 +140,11 @@ bytes_in_line events bytes is text =
 -- ---- what it adds
 
 -- its lines, by what was kept of its START
-whole_adds : (choice : ChoiceData) (profile : List DeviceParts) (b : Before) (reached : Reached) (begun : List Begun) (n : ℕ) (rest : List Event) (t : TransactionData) → IsCommon t
+whole_adds : (choice : ChoiceData) (profile : List DeviceParts) (b : Before) (reached : Reached) (begun : List Begun) (n : ℕ) (rest : List Event) (t : TransactionData) → IsCommon t → HasOneStart t
     → ((more : List ℕ) → begun ≡ begun_legs (event_place b.read b.n ((reached.text ++ codes "S ") ++ more)) (b.n + n) (Start ∷ []))
     → AddsLines choice profile b (reached.text ++ canonical_text (line rest)) reached.spans (ReadSpan n (line rest) t)
     (object_lines choice.devices (kept_objects (seen_behind choice profile (b.ts ++ transactions_in reached.spans)) begun t))
-whole_adds choice profile b reached begun n rest t common kept more =
+whole_adds choice profile b reached begun n rest t common one kept more =
     let seen = seen_behind choice profile (b.ts ++ transactions_in reached.spans) in
     let place = event_place b.read b.n ((reached.text ++ canonical_text (line rest)) ++ more) in
     let all : (reached.text ++ codes "S ") ++ (rest_text rest ++ more) ≡ (reached.text ++ canonical_text (line rest)) ++ more =
@@ -141,7 +152,7 @@ whole_adds choice profile b reached begun n rest t common kept more =
     ∙ ap (λ (text : List ℕ). text ++ more) (append_assoc reached.text (codes "S ") (rest_text rest)) in
     ap (object_lines choice.devices)
     (ap (λ (l : List Begun). kept_objects seen l t) (kept (rest_text rest ++ more) ∙ ap (λ (text : List ℕ). begun_legs (event_place b.read b.n text) (b.n + n) (Start ∷ [])) all)
-    ∙ objects_whole seen place (b.n + n) (rest ++ Stop ∷ []) t common
+    ∙ objects_whole seen place (b.n + n) (rest ++ Stop ∷ []) t common one
     ∙ sym (append-nil (packet_objects seen place (b.n + n) (line rest) t)))
 
 -- ---- the visit
@@ -151,7 +162,7 @@ abbrev pub begun_whole : Reached → Reached
 begun_whole reached = behind_event (behind_bytes reached (codes "S ")) Start
 
 module _ (b : Before) (start mid new : Stream) (reached : Reached) (text : List ℕ) (n : ℕ) (rest : List Event) (t : TransactionData) where
-  pub told_whole : HasToldOf b start mid (begun_whole reached) text → reached.standing ≡ Open n [] → IsCommon t → IsSame mid new → new.passing ≡ mid.passing → IsCleared new
+  pub told_whole : HasToldOf b start mid (begun_whole reached) text → reached.standing ≡ Open n [] → IsCommon t → HasOneStart t → IsSame mid new → new.passing ≡ mid.passing → IsCleared new
       → StreamKnows (record {
         read = (b.read ++ (reached.text ++ codes "S ")) ++ rest_text rest;
         n = ((b.n + length (reached.events ++ Start ∷ [])) + length rest) + 1;
@@ -160,7 +171,7 @@ module _ (b : Before) (start mid new : Stream) (reached : Reached) (text : List 
       }) new
       → (added : List ℕ) → added ≡ object_lines (stream_choice mid).devices (kept_objects (stream_seen mid (with_reached b (begun_whole reached))) mid.begun.items t)
       → HasToldOf b start new (behind_whole reached n (canonical_text (line rest)) (line rest) t) (text ++ added)
-  told_whole told standing common same passing cleared knows added added_is =
+  told_whole told standing common one same passing cleared knows added added_is =
       let there = behind_whole reached n (canonical_text (line rest)) (line rest) t in
       let bytes = reached.text ++ canonical_text (line rest) in
       let span = ReadSpan n (line rest) t in
@@ -191,5 +202,5 @@ module _ (b : Before) (start mid new : Stream) (reached : Reached) (text : List 
             (subst (λ (l : List ℕ). AddsLines (stream_choice start) (stream_profile start) b bytes reached.spans span l) (sym added_is)
             (subst (λ (c : ChoiceData). AddsLines (stream_choice start) (stream_profile start) b bytes reached.spans span (object_lines c.devices (kept_objects (seen_behind c (stream_profile mid) (b.ts ++ transactions_in reached.spans)) mid.begun.items t))) (sym told.same.choice)
             (subst (λ (p : List DeviceParts). AddsLines (stream_choice start) (stream_profile start) b bytes reached.spans span (object_lines (stream_choice start).devices (kept_objects (seen_behind (stream_choice start) p (b.ts ++ transactions_in reached.spans)) mid.begun.items t))) (sym told.same.profile)
-            (whole_adds (stream_choice start) (stream_profile start) b reached mid.begun.items n rest t common kept.begun))));
+            (whole_adds (stream_choice start) (stream_profile start) b reached mid.begun.items n rest t common one kept.begun))));
       }

@@ -1,5 +1,6 @@
 -- What private fields say of what was given so far. No public contract needs these to be understood.
 pub mod Begun
 pub mod Counts
+pub mod Inside
 pub mod Knowing
 pub mod Putting

@@ -17,6 +17,7 @@
 #![tactic(auto)]
 
 mod choice;
+mod groups;
 mod last;
 mod packets;
 mod stream;

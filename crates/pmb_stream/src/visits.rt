@@ -19,6 +19,7 @@ ghost use Rattle.pmb_stream.specs.Stream.{IsSame, StreamAt, StreamKnows, StreamS
 ghost use Rattle.pmb_stream.specs.machine.Begun.{begun_behind};
 ghost use Rattle.pmb_stream.specs.machine.Knowing.{IsCleared, KeepsUnderWay, passes_on as passes_on_of};
 
+use crate::groups::is_group;
 use crate::stream::{Begun, STARTS, Stream};
 use pmb_bus::Event;
 use pmb_bus::laws::texts_may_be_cut_between_words;
@@ -33,7 +34,7 @@ use pmb_transaction::laws::{packet_ends_with_stop, packets_are_bytes};
 impl<'p> Stream<'p> {
     /// Takes an event that ends no packet, and is not refused.
     #[inline]
-    fn take_event(&mut self, event: Event)
+    pub(crate) fn take_event(&mut self, event: Event)
         ensures packet { (b : Before) (reached : Reached) → StreamAt b self.old reached → Spells reached.text (reached.events ++ event ∷ [])
             → KeepsUnderWay b self.new reached.text (stands_behind reached.standing event) }
         ensures knows { (b : Before) → StreamKnows b self.old → StreamKnows b self.new }
@@ -84,7 +85,7 @@ impl<'p> Stream<'p> {
 
     /// Counts an event.
     #[inline]
-    fn count_event(&mut self)
+    pub(crate) fn count_event(&mut self)
         ensures knows { (b : Before) → StreamKnows b self.old → StreamKnows (record b { n = b.n + 1 }) self.new }
         ensures same { IsSame self.old self.new }
         ensures said { self.new.said ≡ self.old.said }
@@ -95,7 +96,7 @@ impl<'p> Stream<'p> {
     }
 
     /// Takes the transaction of the packet that ends, and forgets the packet.
-    fn take_packet(&mut self, transaction: &Transaction)
+    pub(crate) fn take_packet(&mut self, transaction: &Transaction)
         ensures knows { (b : Before) → StreamKnows b self.old
             → StreamKnows (record b { n = b.n + 1; ts = b.ts ++ transaction_data transaction.now ∷ []; counts = after_packet b.counts (transaction_data transaction.now) }) self.new }
         ensures cleared { IsCleared self.new }
@@ -184,12 +185,16 @@ impl<'p> Visitor for Stream<'p> {
         waiting: &mut Waiting,
         writer: &mut W,
     ) -> Result<(), RunFault> {
+        if is_group(transaction) {
+            return self.take_group(bytes, transaction, waiting, writer);
+        }
         accepted_bus(self.profile);
         packets_are_bytes();
         packet_ends_with_stop();
         texts_may_be_cut_between_words();
         texts_end_between_words();
-        // Of the text the objects need only where START stands, which is kept as for any packet.
+        // Of the text the objects need only where the first START stands, which is kept as for any
+        // packet.
         self.visit_bytes(b"S ");
         self.visit_event(Event::Start);
         self.put_packet(transaction, waiting, writer)?;

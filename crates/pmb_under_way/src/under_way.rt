@@ -4,13 +4,15 @@
 //! of the answer under way stands in `specs/machine/UnderWay`; a new place needs its line there, its
 //! arm in `step_by_place`, in `expected`, and in the three functions that tell reasons.
 
-ghost use Rattle.std.specs.Prelude.{◌≡◌, ◌↔◌, true, List, []};
+ghost use Rattle.std.specs.Prelude.{◌≡◌, ◌<◌, ◌≤◌, ◌↔◌, IfSome, true, List, [], length};
 ghost use Rattle.pmb_bus.specs.declared.event.Event.{Event as BusEvent};
 ghost use Rattle.pmb_command.specs.Parts.{DeviceParts};
+ghost use Rattle.pmb_common.specs.Common.{TakesPacket};
 ghost use Rattle.pmb_transaction.specs.Transaction.{transaction_data};
 ghost use Rattle.pmb_under_way.specs.UnderWay.{Moves, StandsIn, packet_of};
 
 use pmb_bus::Event;
+use pmb_common::{Common, Taken};
 use pmb_kept::Kept;
 use pmb_leg::{Answer, WrittenLeg};
 use pmb_table::Profile;
@@ -134,6 +136,21 @@ impl<'p> UnderWay<'p> {
         packet_is_not_empty();
         self.place = Place::Between;
         self.kept.take_last()
+    }
+
+    /// Takes the common packet in front of a text whole, between packets. It returns `None` where none
+    /// lies there.
+    #[inline(always)]
+    pub fn take_common(&mut self, common: &mut Common, text: &[u8]) -> Option<Taken>
+        ensures takes { (profile : List DeviceParts) → StandsIn profile self.old []
+            → IfSome result (λ taken. TakesPacket profile text.now taken.used taken.events (packet_of self.new)) }
+        ensures some { IfSome result (λ taken. 0 < taken.used) }
+        ensures within { IfSome result (λ taken. taken.used ≤ length text.now) }
+        ensures stands { (profile : List DeviceParts) → StandsIn profile self.old [] → StandsIn profile self.new [] }
+    {
+        packet_is_not_empty();
+        self.place = Place::Between;
+        common.take(&mut self.kept, self.profile, text)
     }
 
     /// Takes an event.

@@ -1,16 +1,19 @@
 -- The words ask for one thing.
-use Rattle.std.proofs.Common.{◌≡◌, ◌⊎◌, ℕ, Option, Some, None, List, [], ◌∷◌, get_or, codes, inl, inr, refl, sym, ap, ◌∙◌, subst, arith}
+use Rattle.std.proofs.Common.{◌≡◌, ◌⊎◌, ◌≤◌, ℕ, ◌==◌, if◌then◌else◌, Option, Some, None, List, [], ◌∷◌, get_or, codes, inl, inr, refl, sym, ap, ◌∙◌, subst, arith}
 use Rattle.clap.specs.Words.{IsAmong, Kinds, Row, Text, subcommand_of}
 use Rattle.clap.specs.declared.error.kind.ErrorKind.{ErrorKind}
 use Rattle.pmb_status.specs.declared.status.Status.{Status}
 use Rattle.pmb_status.specs.declared.status.Status.TheVariants.{Done, BadWords, IoFailed, NoMemory}
-use Rattle.pmb_words.specs.Asked.{AskFor, Asking, AsksNothing, SubcommandAsks, Decode, Encode, HasBadFormat, Json, NamesNone, Traffic, format_in, has_sample, name_of}
-use Rattle.pmb_words.specs.declared.work.Work.{Work}
-use Rattle.pmb_words.specs.declared.work.Work.TheVariants.{Show, Check, Build, Run, Describe}
+use Rattle.pmb_words.specs.Asked.{AskFor, Asking, AsksNothing, Convert, FlagsAsk, HasBadFormat, NameAsks, NamesNone, SubcommandAsks, UnderProfile, Wanted, Show, Check, Json, Build, Run, Describe, converter, format_in, name_of, place_in}
+use Rattle.pmb_words.specs.declared.direction.Direction.{Direction}
+use Rattle.pmb_words.specs.declared.direction.Direction.TheVariants.{Encode, Decode}
+use Rattle.pmb_words.specs.declared.profile_place.ProfilePlace.{ProfilePlace}
 use Rattle.clap.specs.declared.error.kind.ErrorKind.TheVariants.{DisplayHelp, DisplayVersion, OutOfMemory}
-use Rattle.pmb_words.specs.Json.{JsonAsks, JsonWanted}
+use Rattle.pmb_words.specs.Json.{JsonAsks, JsonWanted, at_first}
 use Rattle.pmb_words.proofs.JsonOnce.{one_wanted}
 use Rattle.pmb_words.specs.Words.{AskToTell, IsTelling, help, version, faults_of, pmb_app}
+
+-- ---- the subcommand's name
 
 -- the name of the subcommand, and its matches
 name_in : Option (Text × List Row) → Text
@@ -21,143 +24,140 @@ rows_in : Option (Text × List Row) → List Row
 rows_in None = []
 rows_in (Some met) = met.1
 
--- the letters that tell `show`, `check`, `json`, `build`, `run`, `profile`, `encode` and `decode` apart
-abbrev letter_of : Work → ℕ
+-- one subcommand has one name, and one list of matches
+one_name : (found : Option (Text × List Row)) (name other : Text) (rows others : List Row) → found ≡ Some (name, rows) → found ≡ Some (other, others) → name ≡ other
+unfolding name_in
+one_name found name other rows others first second = ap name_in (sym first ∙ second)
+
+one_rows : (found : Option (Text × List Row)) (name other : Text) (rows others : List Row) → found ≡ Some (name, rows) → found ≡ Some (other, others) → rows ≡ others
+unfolding rows_in
+one_rows found name other rows others first second = ap rows_in (sym first ∙ second)
+
+-- the letters that tell the names apart
+abbrev letter_of : Wanted → ℕ
 letter_of Show = 115
 letter_of Check = 99
+letter_of (Json choice) = 106
 letter_of Build = 98
 letter_of Run = 114
 letter_of Describe = 112
 
-abbrev pub letter : Asking → ℕ
-letter (Traffic work sample) = letter_of work
-letter (Json wanted) = 106
-letter (Encode format) = 101
-letter (Decode format) = 100
+abbrev converter_letter : Direction → ℕ
+converter_letter Encode = 101
+converter_letter Decode = 100
 
-first_of : Option (Text × List Row) → ℕ
-first_of found = get_or (name_in found) 0 0
-
-begins : (work : Work) → get_or (name_of work) 0 0 ≡ letter_of work
+begins : (wanted : Wanted) → get_or (name_of wanted) 0 0 ≡ letter_of wanted
 begins Show = refl
 begins Check = refl
+begins (Json choice) = refl
 begins Build = refl
 begins Run = refl
 begins Describe = refl
 
-is_letter : (found : Option (Text × List Row)) (asking : Asking) → SubcommandAsks found asking → first_of found ≡ letter asking
-unfolding first_of name_in
-is_letter found (Traffic work sample) is = ap first_of is.1 ∙ begins work
-is_letter found (Json wanted) is = ap first_of is.1
-is_letter found (Encode format) is = ap first_of is.1
-is_letter found (Decode format) is = ap first_of is.1
+converter_begins : (direction : Direction) → get_or (converter direction) 0 0 ≡ converter_letter direction
+converter_begins Encode = refl
+converter_begins Decode = refl
 
--- a work has its own letter
-no_encode : (work : Work) → letter_of work ≡ 101 → ⊥
-no_encode Show is = omega (arith, is)
-no_encode Check is = omega (arith, is)
-no_encode Build is = omega (arith, is)
-no_encode Run is = omega (arith, is)
-no_encode Describe is = omega (arith, is)
+-- what a letter stands for, where the flags of `json` choose this
+abbrev wanted_at : JsonWanted → ℕ → Wanted
+wanted_at choice letter = if letter == 115 then Show else if letter == 99 then Check else if letter == 98 then Build else if letter == 114 then Run else if letter == 112 then Describe else Json choice
 
-no_json : (work : Work) → letter_of work ≡ 106 → ⊥
-no_json Show is = omega (arith, is)
-no_json Check is = omega (arith, is)
-no_json Build is = omega (arith, is)
-no_json Run is = omega (arith, is)
-no_json Describe is = omega (arith, is)
+has_letter : (rows : List Row) (choice : JsonWanted) (wanted : Wanted) → FlagsAsk rows wanted → (letter_of wanted ≡ 106 → JsonAsks rows choice) → wanted_at choice (letter_of wanted) ≡ wanted
+has_letter rows choice Show flags chosen = refl
+has_letter rows choice Check flags chosen = refl
+has_letter rows choice (Json other) flags chosen = ap Json (one_wanted rows choice other (chosen refl) flags)
+has_letter rows choice Build flags chosen = refl
+has_letter rows choice Run flags chosen = refl
+has_letter rows choice Describe flags chosen = refl
 
-no_decode : (work : Work) → letter_of work ≡ 100 → ⊥
-no_decode Show is = omega (arith, is)
-no_decode Check is = omega (arith, is)
-no_decode Build is = omega (arith, is)
-no_decode Run is = omega (arith, is)
-no_decode Describe is = omega (arith, is)
+-- what is chosen there for `json`
+abbrev choice_in : Wanted → JsonWanted
+choice_in Show = at_first
+choice_in Check = at_first
+choice_in (Json choice) = choice
+choice_in Build = at_first
+choice_in Run = at_first
+choice_in Describe = at_first
 
-one_work : (a b : Work) → letter_of a ≡ letter_of b → a ≡ b
-one_work Show Show is = refl
-one_work Show Check is = absurd (omega (arith, is))
-one_work Show Build is = absurd (omega (arith, is))
-one_work Show Run is = absurd (omega (arith, is))
-one_work Show Describe is = absurd (omega (arith, is))
-one_work Check Show is = absurd (omega (arith, is))
-one_work Check Check is = refl
-one_work Check Build is = absurd (omega (arith, is))
-one_work Check Run is = absurd (omega (arith, is))
-one_work Check Describe is = absurd (omega (arith, is))
-one_work Build Show is = absurd (omega (arith, is))
-one_work Build Check is = absurd (omega (arith, is))
-one_work Build Build is = refl
-one_work Build Run is = absurd (omega (arith, is))
-one_work Build Describe is = absurd (omega (arith, is))
-one_work Run Show is = absurd (omega (arith, is))
-one_work Run Check is = absurd (omega (arith, is))
-one_work Run Build is = absurd (omega (arith, is))
-one_work Run Run is = refl
-one_work Run Describe is = absurd (omega (arith, is))
-one_work Describe Show is = absurd (omega (arith, is))
-one_work Describe Check is = absurd (omega (arith, is))
-one_work Describe Build is = absurd (omega (arith, is))
-one_work Describe Run is = absurd (omega (arith, is))
-one_work Describe Describe is = refl
+json_chosen : (rows : List Row) (wanted : Wanted) → FlagsAsk rows wanted → letter_of wanted ≡ 106 → JsonAsks rows (choice_in wanted)
+json_chosen rows Show flags is = absurd (omega (arith, is))
+json_chosen rows Check flags is = absurd (omega (arith, is))
+json_chosen rows (Json choice) flags is = flags
+json_chosen rows Build flags is = absurd (omega (arith, is))
+json_chosen rows Run flags is = absurd (omega (arith, is))
+json_chosen rows Describe flags is = absurd (omega (arith, is))
 
--- the same rows
-one_rows : (found wanted : Option (Text × List Row)) (name : Text) (rows others : List Row) → found ≡ wanted → found ≡ Some (name, rows) → wanted ≡ Some (name, others) → rows ≡ others
-unfolding rows_in
-one_rows found wanted name rows others same first second = ap rows_in (sym first ∙ (same ∙ second))
+-- one name and one list of matches ask for one thing
+one_of_name : (rows : List Row) (a b : Wanted) → name_of a ≡ name_of b → FlagsAsk rows a → FlagsAsk rows b → a ≡ b
+one_of_name rows a b same left right =
+    let letter : letter_of a ≡ letter_of b = sym (begins a) ∙ ap (λ (t : Text). get_or t 0 0) same ∙ begins b in
+    let chosen = json_chosen rows b right in
+    sym (has_letter rows (choice_in b) a left (λ is. chosen (sym letter ∙ is))) ∙ ap (wanted_at (choice_in b)) letter ∙ has_letter rows (choice_in b) b right chosen
 
--- One thing is asked for.
+one_direction : (a b : Direction) → converter a ≡ converter b → a ≡ b
+one_direction a b same = by a b (sym (converter_begins a) ∙ ap (λ (t : Text). get_or t 0 0) same ∙ converter_begins b)
+  where
+    by : (a b : Direction) → converter_letter a ≡ converter_letter b → a ≡ b
+    by Encode Encode is = refl
+    by Encode Decode is = absurd (omega (arith, is))
+    by Decode Encode is = absurd (omega (arith, is))
+    by Decode Decode is = refl
+
+-- what converts wants no profile
+other_name : (wanted : Wanted) (direction : Direction) → name_of wanted ≡ converter direction → ⊥
+other_name wanted direction same = by wanted direction (sym (begins wanted) ∙ ap (λ (t : Text). get_or t 0 0) same ∙ converter_begins direction)
+  where
+    converts : (direction : Direction) → (100 ≤ converter_letter direction) × (converter_letter direction ≤ 101)
+    converts Encode = (omega arith, omega arith)
+    converts Decode = (omega arith, omega arith)
+
+    by : (wanted : Wanted) (direction : Direction) → letter_of wanted ≡ converter_letter direction → ⊥
+    by Show direction is = omega (arith, is, (converts direction).1)
+    by Check direction is = omega (arith, is, (converts direction).0)
+    by (Json choice) direction is = omega (arith, is, (converts direction).1)
+    by Build direction is = omega (arith, is, (converts direction).0)
+    by Run direction is = omega (arith, is, (converts direction).1)
+    by Describe direction is = omega (arith, is, (converts direction).1)
+
+-- ---- one thing is asked for
+
 pub one_asking : (found : Option (Text × List Row)) (a b : Asking) → SubcommandAsks found a → SubcommandAsks found b → a ≡ b
-one_asking found (Traffic work sample) (Traffic other others) is also =
-    let same : work ≡ other = one_work work other (sym (is_letter found (Traffic work sample) is) ∙ is_letter found (Traffic other others) also) in
-    let rows : is.0 ≡ also.0 = one_rows found found (name_of work) is.0 also.0 refl is.1 (subst (λ (w : Work). found ≡ Some (name_of w, also.0)) (sym same) also.1) in
-    ap (λ (w : Work). Traffic w sample) same ∙ ap (Traffic other) (is.2 ∙ (ap has_sample rows ∙ sym also.2))
-one_asking found (Traffic work sample) (Encode format) is also = absurd (no_encode work (sym (is_letter found (Traffic work sample) is) ∙ is_letter found (Encode format) also))
-one_asking found (Traffic work sample) (Decode format) is also = absurd (no_decode work (sym (is_letter found (Traffic work sample) is) ∙ is_letter found (Decode format) also))
-one_asking found (Traffic work sample) (Json wanted) is also = absurd (no_json work (sym (is_letter found (Traffic work sample) is) ∙ is_letter found (Json wanted) also))
-one_asking found (Json wanted) (Traffic work sample) is also = absurd (no_json work (sym (is_letter found (Traffic work sample) also) ∙ is_letter found (Json wanted) is))
-one_asking found (Json wanted) (Json other) is also =
-    let rows : is.0 ≡ also.0 = one_rows found found (codes "json") is.0 also.0 refl is.1 also.1 in
-    ap Json (one_wanted also.0 wanted other (subst (λ (rs : List Row). JsonAsks rs wanted) rows is.2) also.2)
-one_asking found (Json wanted) (Encode format) is also = let apart : 106 ≡ 101 = sym (is_letter found (Json wanted) is) ∙ is_letter found (Encode format) also in absurd (omega (arith, apart))
-one_asking found (Json wanted) (Decode format) is also = let apart : 106 ≡ 100 = sym (is_letter found (Json wanted) is) ∙ is_letter found (Decode format) also in absurd (omega (arith, apart))
-one_asking found (Encode format) (Json wanted) is also = let apart : 101 ≡ 106 = sym (is_letter found (Encode format) is) ∙ is_letter found (Json wanted) also in absurd (omega (arith, apart))
-one_asking found (Decode format) (Json wanted) is also = let apart : 100 ≡ 106 = sym (is_letter found (Decode format) is) ∙ is_letter found (Json wanted) also in absurd (omega (arith, apart))
-one_asking found (Encode format) (Traffic work sample) is also = absurd (no_encode work (sym (is_letter found (Traffic work sample) also) ∙ is_letter found (Encode format) is))
-one_asking found (Encode format) (Encode other) is also = ap Encode (is.2 ∙ (ap format_in (one_rows found found (codes "encode") is.0 also.0 refl is.1 also.1) ∙ sym also.2))
-one_asking found (Encode format) (Decode other) is also = let apart : 101 ≡ 100 = sym (is_letter found (Encode format) is) ∙ is_letter found (Decode other) also in absurd (omega (arith, apart))
-one_asking found (Decode format) (Traffic work sample) is also = absurd (no_decode work (sym (is_letter found (Traffic work sample) also) ∙ is_letter found (Decode format) is))
-one_asking found (Decode format) (Encode other) is also = let apart : 100 ≡ 101 = sym (is_letter found (Decode format) is) ∙ is_letter found (Encode other) also in absurd (omega (arith, apart))
-one_asking found (Decode format) (Decode other) is also = ap Decode (is.2 ∙ (ap format_in (one_rows found found (codes "decode") is.0 also.0 refl is.1 also.1) ∙ sym also.2))
+one_asking found (UnderProfile place wanted) (UnderProfile other others) is also =
+    let rows = one_rows found _ _ is.0 also.0 is.1 also.1 in
+    let flags = subst (λ (rs : List Row). FlagsAsk rs wanted) rows is.3 in
+    ap (λ (p : ProfilePlace). UnderProfile p wanted) (is.2 ∙ ap place_in rows ∙ sym also.2)
+    ∙ ap (UnderProfile other) (one_of_name also.0 wanted others (one_name found _ _ is.0 also.0 is.1 also.1) flags also.3)
+one_asking found (UnderProfile place wanted) (Convert direction format) is also = absurd (other_name wanted direction (one_name found _ _ is.0 also.0 is.1 also.1))
+one_asking found (Convert direction format) (UnderProfile place wanted) is also = absurd (other_name wanted direction (one_name found _ _ also.0 is.0 also.1 is.1))
+one_asking found (Convert direction format) (Convert other others) is also =
+    ap (λ (d : Direction). Convert d format) (one_direction direction other (one_name found _ _ is.0 also.0 is.1 also.1))
+    ∙ ap (Convert other) (is.2 ∙ ap format_in (one_rows found _ _ is.0 also.0 is.1 also.1) ∙ sym also.2)
 
--- ---- `json` with a fault
+-- ---- a subcommand that asks for nothing
 
-json_letter : (rows : List Row) → first_of (Some (codes "json", rows)) ≡ 106
-unfolding first_of name_in
-json_letter rows = refl
+-- where its name and its matches want nothing, and it doesn't convert
+pub nothing_named : (found : Option (Text × List Row)) (name : Text) (rows : List Row) → found ≡ Some (name, rows) → ((wanted : Wanted) → ¬ (NameAsks name rows wanted)) → ((direction : Direction) → ¬ (name ≡ converter direction)) → AsksNothing found
+nothing_named found name rows named none_wanted none_converts (UnderProfile place wanted) is =
+    none_wanted wanted (one_name found _ _ rows is.0 named is.1, subst (λ (rs : List Row). FlagsAsk rs wanted) (one_rows found _ _ is.0 rows is.1 named) is.3)
+nothing_named found name rows named none_wanted none_converts (Convert direction format) is = none_converts direction (one_name found _ _ rows is.0 named is.1)
 
--- where its matches ask for nothing, so does the subcommand
-pub json_nothing : (found : Option (Text × List Row)) (rows : List Row) → found ≡ Some (codes "json", rows) → ((wanted : JsonWanted) → ¬ (JsonAsks rows wanted)) → AsksNothing found
-json_nothing found rows named none (Traffic work sample) is = no_json work (sym (is_letter found (Traffic work sample) is) ∙ ap first_of named ∙ json_letter rows)
-json_nothing found rows named none (Json wanted) is = none wanted (subst (λ (rs : List Row). JsonAsks rs wanted) (one_rows found found (codes "json") is.0 rows refl is.1 named) is.2)
-json_nothing found rows named none (Encode format) is = let apart : 101 ≡ 106 = sym (is_letter found (Encode format) is) ∙ ap first_of named ∙ json_letter rows in absurd (omega (arith, apart))
-json_nothing found rows named none (Decode format) is = let apart : 100 ≡ 106 = sym (is_letter found (Decode format) is) ∙ ap first_of named ∙ json_letter rows in absurd (omega (arith, apart))
+-- of `json`, where its matches choose nothing
+pub json_wants_none : (rows : List Row) → ((choice : JsonWanted) → ¬ (JsonAsks rows choice)) → (wanted : Wanted) → ¬ (NameAsks (codes "json") rows wanted)
+json_wants_none rows none wanted asks = none (choice_in wanted) (json_chosen rows wanted asks.1 (sym (begins wanted) ∙ ap (λ (t : Text). get_or t 0 0) (sym asks.0)))
+
+pub json_nothing : (found : Option (Text × List Row)) (rows : List Row) → found ≡ Some (codes "json", rows) → ((choice : JsonWanted) → ¬ (JsonAsks rows choice)) → AsksNothing found
+json_nothing found rows named none = nothing_named found (codes "json") rows named (json_wants_none rows none) (λ direction same. other_name (Json at_first) direction same)
 
 -- ---- a format that is none
 
 -- what is asked for has a bad format where the words have one
 pub bad_format : (words : List Text) (asking : Asking) → AskFor words asking → HasBadFormat words → NamesNone asking
-bad_format words asking ask bad = elim bad.asks [
-  | inl encode ↦ subst NamesNone (one_asking (subcommand_of pmb_app words) (Encode bad.format) asking encode.asks ask.asks) (bad.fault, bad.bad)
-  | inr decode ↦ subst NamesNone (one_asking (subcommand_of pmb_app words) (Decode bad.format) asking decode.asks ask.asks) (bad.fault, bad.bad)
-]
+bad_format words asking ask bad = subst NamesNone (one_asking (subcommand_of pmb_app words) (Convert bad.direction bad.format) asking bad.asks.asks ask.asks) (bad.fault, bad.bad)
 
 -- and only there
 pub names_none : (words : List Text) (asking : Asking) → AskFor words asking → NamesNone asking → HasBadFormat words
-names_none words (Traffic work sample) ask none = absurd none
-names_none words (Json wanted) ask none = absurd none
-names_none words (Encode format) ask none = record { format = format; asks = inl ask; fault = none.0; bad = none.1 }
-names_none words (Decode format) ask none = record { format = format; asks = inr ask; fault = none.0; bad = none.1 }
+names_none words (UnderProfile place wanted) ask none = absurd none
+names_none words (Convert direction format) ask none = record { direction = direction; format = format; asks = ask; fault = none.0; bad = none.1 }
 
 -- ---- no fault
 

@@ -1,5 +1,5 @@
--- What `clap` finds in the words `pmb show`, `pmb check`, `pmb build`, `pmb run`, `pmb profile`, `pmb encode FORMAT` and `pmb decode FORMAT`.
-use Rattle.std.proofs.Common.{◌≡◌, ◌≢◌, ℕ, true, false, eqb, Option, Some, None, List, [], ◌∷◌, codes, refl, sym, ap, ap₂, ◌∙◌}
+-- What `clap` finds in the words of a subcommand without more flags than `--sample`, and in `pmb encode FORMAT` and `pmb decode FORMAT`.
+use Rattle.std.proofs.Common.{◌≡◌, ◌≢◌, ℕ, false, eqb, Some, None, List, [], ◌∷◌, codes, refl, sym, ap, ap₂, ◌∙◌, subst, arith}
 use Rattle.std.specs.Str.{bytes_eq}
 use Rattle.std.proofs.lemmas.Bool.{ne_eqb}
 use Rattle.clap.specs.Faults.{check_fault, defaults_fault, level_fault, settle_fault, step_fault, walk_fault, word_fault}
@@ -9,13 +9,15 @@ use Rattle.clap.specs.Simple.{built_leaf}
 use Rattle.clap.specs.Walk.{Held, Step, Walk, after_step, arg_by_index, finished, idle, nothing_held, settled, to_positional, value, walk, walk_from, walked, word_met}
 use Rattle.clap.specs.Words.{Kinds, Row, Rule, Shape, Text, subcommand_of}
 use Rattle.clap.proofs.OnLiterals.{clap_on_literals}
-use Rattle.pmb_words.specs.Asked.{AskFor, Decode, Encode, Traffic, format_in, has_sample, name_of}
-use Rattle.pmb_words.specs.declared.work.Work.{Work}
-use Rattle.pmb_words.specs.declared.work.Work.TheVariants.{Show, Check, Build, Run, Describe}
+use Rattle.pmb_words.specs.Asked.{AskFor, Convert, NeedsNoFlag, UnderProfile, Wanted, Show, Check, Json, Build, Run, Describe, converter, format_in, name_of}
+use Rattle.pmb_words.specs.Json.{JsonWanted, SpellDevices, SpellsDigits}
+use Rattle.pmb_words.specs.declared.direction.Direction.{Direction}
+use Rattle.pmb_words.specs.declared.direction.Direction.TheVariants.{Encode, Decode}
+use Rattle.pmb_words.specs.declared.profile_place.ProfilePlace.TheVariants.{Sample, Front}
 use Rattle.clap.specs.declared.error.kind.ErrorKind.TheVariants.{DisplayHelp, DisplayVersion, InvalidSubcommand}
 use Rattle.pmb_words.specs.Words.{AskToTell, IsFlag, help, version, faults_of, lines_app, pmb_app}
 
--- a word without a hyphen in front
+-- a word that does not begin with a hyphen
 abbrev pub IsNoFlag : Text → Type 0
 IsNoFlag [] = Unit {0}
 IsNoFlag (c ∷ cs) = c ≢ 45
@@ -68,143 +70,91 @@ after_walk s fault end =
     (check_fault s (finished s.rules end.held) false))))
 
 -- `encode` or `decode` as it is built
-abbrev leaf : Text → Shape
-leaf name = built_leaf (lines_app name).top
+abbrev leaf : Direction → Shape
+leaf direction = built_leaf (lines_app (converter direction)).top
 
-one_word : (s : Shape) (word : Text) → IsNoFlag word → level_fault s [] nothing_held (word ∷ []) false []
-    ≡ after_walk s (or_else (or_else [] (step_fault s 1 nothing_held value)) []) (to_positional s.rules (arg_by_index s.rules 1) word (walk_from nothing_held) nothing_held)
-one_word s word plain = ap₂ (after_walk s) (walk_fault_one s word plain) (walk_one s.rules word plain)
+-- where the walk over FORMAT ends in it
+abbrev end_of : Direction → Text → Walk
+end_of direction word = to_positional (leaf direction).rules (arg_by_index (leaf direction).rules 1) word (walk_from nothing_held) nothing_held
 
-encode_takes : (word : Text) → after_walk (leaf (codes "encode")) (or_else (or_else [] (step_fault (leaf (codes "encode")) 1 nothing_held value)) [])
-    (to_positional (leaf (codes "encode")).rules (arg_by_index (leaf (codes "encode")).rules 1) word (walk_from nothing_held) nothing_held) ≡ []
+abbrev leaf_fault : Direction → Text → Kinds
+leaf_fault direction word = level_fault (leaf direction) [] nothing_held (word ∷ []) false []
+
+abbrev words_of : Direction → Text → Text → List Text
+words_of direction name word = name ∷ converter direction ∷ word ∷ []
+
+one_word : (direction : Direction) (word : Text) → IsNoFlag word → leaf_fault direction word ≡ after_walk (leaf direction) (or_else (or_else [] (step_fault (leaf direction) 1 nothing_held value)) []) (end_of direction word)
+one_word direction word plain = ap₂ (after_walk (leaf direction)) (walk_fault_one (leaf direction) word plain) (walk_one (leaf direction).rules word plain)
+
+-- it has no fault there
+takes : (direction : Direction) (word : Text) → after_walk (leaf direction) (or_else (or_else [] (step_fault (leaf direction) 1 nothing_held value)) []) (end_of direction word) ≡ []
 unfolding clap_on_literals
-encode_takes word = refl
+takes Encode word = refl
+takes Decode word = refl
 
-decode_takes : (word : Text) → after_walk (leaf (codes "decode")) (or_else (or_else [] (step_fault (leaf (codes "decode")) 1 nothing_held value)) [])
-    (to_positional (leaf (codes "decode")).rules (arg_by_index (leaf (codes "decode")).rules 1) word (walk_from nothing_held) nothing_held) ≡ []
+enters : (direction : Direction) (name word : Text) → faults_of (words_of direction name word) ≡ or_else (leaf_fault direction word) []
 unfolding clap_on_literals
-decode_takes word = refl
-
-encode_enters : (name word : Text) → faults_of (name ∷ codes "encode" ∷ word ∷ []) ≡ or_else (level_fault (leaf (codes "encode")) [] nothing_held (word ∷ []) false []) []
-unfolding clap_on_literals
-encode_enters name word = refl
-
-decode_enters : (name word : Text) → faults_of (name ∷ codes "decode" ∷ word ∷ []) ≡ or_else (level_fault (leaf (codes "decode")) [] nothing_held (word ∷ []) false []) []
-unfolding clap_on_literals
-decode_enters name word = refl
-
--- ---- what is asked
+enters Encode name word = refl
+enters Decode name word = refl
 
 -- the matches of a walk's end
-abbrev pub rows_of_walk : Text → Walk → List Row
-rows_of_walk name end = finished (leaf name).rules end.held
+abbrev pub rows_of_walk : Direction → Walk → List Row
+rows_of_walk direction end = finished (leaf direction).rules end.held
 
-encode_rows : (name word : Text) → subcommand_of pmb_app (name ∷ codes "encode" ∷ word ∷ []) ≡ Some (codes "encode", rows_of_walk (codes "encode") (walk (leaf (codes "encode")).rules [] nothing_held (word ∷ [])))
+rows_found : (direction : Direction) (name word : Text) → subcommand_of pmb_app (words_of direction name word) ≡ Some (converter direction, rows_of_walk direction (walk (leaf direction).rules [] nothing_held (word ∷ [])))
 unfolding clap_on_literals
-encode_rows name word = refl
+rows_found Encode name word = refl
+rows_found Decode name word = refl
 
-decode_rows : (name word : Text) → subcommand_of pmb_app (name ∷ codes "decode" ∷ word ∷ []) ≡ Some (codes "decode", rows_of_walk (codes "decode") (walk (leaf (codes "decode")).rules [] nothing_held (word ∷ [])))
+has_format : (direction : Direction) (word : Text) → word ≡ format_in (rows_of_walk direction (end_of direction word))
 unfolding clap_on_literals
-decode_rows name word = refl
+has_format Encode word = refl
+has_format Decode word = refl
 
-encode_has : (word : Text) → word ≡ format_in (rows_of_walk (codes "encode") (to_positional (leaf (codes "encode")).rules (arg_by_index (leaf (codes "encode")).rules 1) word (walk_from nothing_held) nothing_held))
-unfolding clap_on_literals
-encode_has word = refl
-
-decode_has : (word : Text) → word ≡ format_in (rows_of_walk (codes "decode") (to_positional (leaf (codes "decode")).rules (arg_by_index (leaf (codes "decode")).rules 1) word (walk_from nothing_held) nothing_held))
-unfolding clap_on_literals
-decode_has word = refl
-
--- `pmb encode FORMAT` is taken, and asks for what FORMAT says.
-pub asks_to_encode : (name format : Text) → (IsFlag format → ⊥) → AskFor (name ∷ codes "encode" ∷ format ∷ []) (Encode format)
-asks_to_encode name format no_hyphen =
-    let plain = no_flag format no_hyphen in record {
-      no_fault = encode_enters name format ∙ ap (λ (k : Kinds). or_else k []) (one_word (leaf (codes "encode")) format plain ∙ encode_takes format);
+-- `pmb encode FORMAT` and `pmb decode FORMAT` are taken, and ask for what FORMAT says.
+pub asks_to_convert : (name format : Text) (direction : Direction) → (IsFlag format → ⊥) → AskFor (words_of direction name format) (Convert direction format)
+asks_to_convert name format direction no_hyphen =
+    let plain = no_flag format no_hyphen in
+    record {
+      no_fault = enters direction name format ∙ ap (λ (k : Kinds). or_else k []) (one_word direction format plain ∙ takes direction format);
       asks = (
         _,
-        encode_rows name format,
-        encode_has format ∙ ap (λ (end : Walk). format_in (rows_of_walk (codes "encode") end)) (sym (walk_one (leaf (codes "encode")).rules format plain)),
+        rows_found direction name format ∙ ap (λ (end : Walk). Some (converter direction, rows_of_walk direction end)) (walk_one (leaf direction).rules format plain),
+        has_format direction format,
       );
     }
 
--- and so is `pmb decode FORMAT`
-pub asks_to_decode : (name format : Text) → (IsFlag format → ⊥) → AskFor (name ∷ codes "decode" ∷ format ∷ []) (Decode format)
-asks_to_decode name format no_hyphen =
-    let plain = no_flag format no_hyphen in record {
-      no_fault = decode_enters name format ∙ ap (λ (k : Kinds). or_else k []) (one_word (leaf (codes "decode")) format plain ∙ decode_takes format);
-      asks = (
-        _,
-        decode_rows name format,
-        decode_has format ∙ ap (λ (end : Walk). format_in (rows_of_walk (codes "decode") end)) (sym (walk_one (leaf (codes "decode")).rules format plain)),
-      );
-    }
+-- ---- a subcommand with the flag `--sample` alone, or without it
 
--- ---- `pmb show`, `pmb check`, `pmb build`, `pmb run` and `pmb profile`, with the flag or without it
+-- 6 is spelled so
+pub six : SpellsDigits (codes "6") 6
+six = record { numeral = (omega arith, (omega arith, tt)); value = refl; most = omega arith }
 
-abbrev pub rows_in : Option (Text × List Row) → List Row
-rows_in None = []
-rows_in (Some subcommand) = subcommand.1
+-- no words spell no devices
+pub no_device : SpellDevices [] []
+no_device = record { addresses = []; spell = tt; once = refl }
 
--- the words, with the flag and without it
-abbrev sampled : Work → Text → List Text
-sampled work name = name ∷ name_of work ∷ codes "--sample" ∷ []
-
-abbrev unsampled : Work → Text → List Text
-unsampled work name = name ∷ name_of work ∷ []
-
-sampled_fault : (work : Work) (name : Text) → faults_of (sampled work name) ≡ []
+pub asks_sampled : (name : Text) (wanted : Wanted) → NeedsNoFlag wanted → AskFor (name ∷ name_of wanted ∷ codes "--sample" ∷ []) (UnderProfile Sample wanted)
 unfolding clap_on_literals
-sampled_fault Show name = refl
-sampled_fault Check name = refl
-sampled_fault Build name = refl
-sampled_fault Run name = refl
-sampled_fault Describe name = refl
+asks_sampled name Show plain = record { no_fault = refl; asks = (_, refl, refl, tt) }
+asks_sampled name Check plain = record { no_fault = refl; asks = (_, refl, refl, tt) }
+asks_sampled name (Json choice) plain = subst (λ (j : JsonWanted). AskFor (name ∷ codes "json" ∷ codes "--sample" ∷ []) (UnderProfile Sample (Json j))) (sym plain)
+    (record { no_fault = refl; asks = (_, refl, refl, record { known = refl; after_bad_word = refl; digits = six; devices = no_device }) })
+asks_sampled name Build plain = record { no_fault = refl; asks = (_, refl, refl, tt) }
+asks_sampled name Run plain = record { no_fault = refl; asks = (_, refl, refl, tt) }
+asks_sampled name Describe plain = record { no_fault = refl; asks = (_, refl, refl, tt) }
 
-sampled_rows : (work : Work) (name : Text) → subcommand_of pmb_app (sampled work name) ≡ Some (name_of work, rows_in (subcommand_of pmb_app (sampled work name)))
+pub asks_unsampled : (name : Text) (wanted : Wanted) → NeedsNoFlag wanted → AskFor (name ∷ name_of wanted ∷ []) (UnderProfile Front wanted)
 unfolding clap_on_literals
-sampled_rows Show name = refl
-sampled_rows Check name = refl
-sampled_rows Build name = refl
-sampled_rows Run name = refl
-sampled_rows Describe name = refl
+asks_unsampled name Show plain = record { no_fault = refl; asks = (_, refl, refl, tt) }
+asks_unsampled name Check plain = record { no_fault = refl; asks = (_, refl, refl, tt) }
+asks_unsampled name (Json choice) plain = subst (λ (j : JsonWanted). AskFor (name ∷ codes "json" ∷ []) (UnderProfile Front (Json j))) (sym plain)
+    (record { no_fault = refl; asks = (_, refl, refl, record { known = refl; after_bad_word = refl; digits = six; devices = no_device }) })
+asks_unsampled name Build plain = record { no_fault = refl; asks = (_, refl, refl, tt) }
+asks_unsampled name Run plain = record { no_fault = refl; asks = (_, refl, refl, tt) }
+asks_unsampled name Describe plain = record { no_fault = refl; asks = (_, refl, refl, tt) }
 
-sampled_has : (work : Work) (name : Text) → true ≡ has_sample (rows_in (subcommand_of pmb_app (sampled work name)))
-unfolding clap_on_literals
-sampled_has Show name = refl
-sampled_has Check name = refl
-sampled_has Build name = refl
-sampled_has Run name = refl
-sampled_has Describe name = refl
-
-unsampled_fault : (work : Work) (name : Text) → faults_of (unsampled work name) ≡ []
-unfolding clap_on_literals
-unsampled_fault Show name = refl
-unsampled_fault Check name = refl
-unsampled_fault Build name = refl
-unsampled_fault Run name = refl
-unsampled_fault Describe name = refl
-
-unsampled_rows : (work : Work) (name : Text) → subcommand_of pmb_app (unsampled work name) ≡ Some (name_of work, rows_in (subcommand_of pmb_app (unsampled work name)))
-unfolding clap_on_literals
-unsampled_rows Show name = refl
-unsampled_rows Check name = refl
-unsampled_rows Build name = refl
-unsampled_rows Run name = refl
-unsampled_rows Describe name = refl
-
-unsampled_has : (work : Work) (name : Text) → false ≡ has_sample (rows_in (subcommand_of pmb_app (unsampled work name)))
-unfolding clap_on_literals
-unsampled_has Show name = refl
-unsampled_has Check name = refl
-unsampled_has Build name = refl
-unsampled_has Run name = refl
-unsampled_has Describe name = refl
-
-pub asks_sampled : (work : Work) (name : Text) → AskFor (sampled work name) (Traffic work true)
-asks_sampled work name = record { no_fault = sampled_fault work name; asks = (_, sampled_rows work name, sampled_has work name) }
-
-pub asks_unsampled : (work : Work) (name : Text) → AskFor (unsampled work name) (Traffic work false)
-asks_unsampled work name = record { no_fault = unsampled_fault work name; asks = (_, unsampled_rows work name, unsampled_has work name) }
+-- ---- help and the version
 
 -- The help and the version are asked for.
 help_fault : (name : Text) → faults_of (name ∷ codes "--help" ∷ []) ≡ DisplayHelp ∷ []
@@ -221,7 +171,7 @@ asks_for_help name = help (help_fault name)
 pub asks_for_version : (name : Text) → AskToTell (name ∷ codes "--version" ∷ [])
 asks_for_version name = version (version_fault name)
 
--- Behind `help` any words may be a call for help or name no command.
+-- After `help` any words may be a call for help or name no command.
 pub has_help_fault : (name : Text) (words : List Text) → faults_of (name ∷ codes "help" ∷ words) ≡ DisplayHelp ∷ InvalidSubcommand ∷ []
 unfolding clap_on_literals
 has_help_fault name words = refl

@@ -1,6 +1,6 @@
--- A command with one more flag.
+-- A command with one more flag, or with one more subcommand.
 use Rattle.std.proofs.Common.{◌≡◌, ◌||◌, Bool, false, ap₂, ◌∙◌}
-use Rattle.clap.specs.Words.{AddsArg, App, Rule, app_of, rule_of, with_rule}
+use Rattle.clap.specs.Words.{AddsArg, App, Rule, Text, app_of, new_app, rule_of, with_rule, with_subcommand}
 use Rattle.clap.specs.declared.builder.arg.Arg.{Arg}
 use Rattle.clap.specs.declared.builder.command.Command.{Command}
 use Rattle.clap.specs.declared.builder.command.Command.TheViews.{out-Command as fields_of}
@@ -13,3 +13,8 @@ module _ (old new : Command) (a : Arg) (local : a.global ≡ false) (adds : Adds
   -- and still none that is global
   pub still_local : (fields_of old).has_globals ≡ false → (fields_of new).has_globals ≡ false
   still_local none = adds.globals ∙ ap₂ (λ (x y : Bool). x || y) none local
+
+-- a subcommand of this name with one argument, by what is known of the command and of the argument
+pub same_leaf : (name : Text) {app app_is : App} {rule rule_is : Rule} → app ≡ app_is → rule ≡ rule_is
+    → with_subcommand app (with_rule (new_app name) rule).top ≡ with_subcommand app_is (with_rule (new_app name) rule_is).top
+same_leaf name same_app same_rule = ap₂ (λ (a : App) (r : Rule). with_subcommand a (with_rule (new_app name) r).top) same_app same_rule

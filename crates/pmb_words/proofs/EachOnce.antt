@@ -74,7 +74,7 @@ each_once_more (x ∷ xs) a = ap (λ ys. x ∷ without x ys) (each_once_more xs 
 
 -- ---- there are few of them
 
--- each of them differs from all behind it
+-- each of them differs from all after it
 abbrev Apart : List ℕ → Type 0
 Apart [] = Unit {0}
 Apart (x ∷ xs) = (has x xs ≡ false) × Apart xs

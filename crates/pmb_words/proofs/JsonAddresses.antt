@@ -64,7 +64,7 @@ decodes_spelled (high ∷ low ∷ []) bytes ok small =
 decodes_spelled (a ∷ b ∷ c ∷ rest) bytes ok small =
     absurd (longer (length (a ∷ b ∷ c ∷ rest)) (decode_pairs 0 (a ∷ b ∷ c ∷ rest)) _ _ bytes (omega arith) ok)
 
--- ---- what `hex` answers
+-- ---- what `hex` returns
 
 -- what it wrote, or its fault
 abbrev Decoded : Result (List ℕ) FromHexError → List ℕ → Result Unit FromHexError → Type 0
@@ -159,7 +159,7 @@ no_devices words i other inside none devices spell =
     let one = spelled_at words spell.addresses i other spell.spell inside in
     none one.0 one.1
 
--- ---- the same of words behind references, one by one
+-- ---- the same of words by reference, one by one
 
 abbrev texts : List (Bor Text) → List Text
 texts = map (λ (word : Bor Text). word.now)

@@ -8,102 +8,47 @@ use Rattle.clap.specs.Simple.{built_leaf}
 use Rattle.clap.specs.Walk.{Held, Step, Walk, after_step, finished, nothing_held, option, plain_word, walk, walk_from, walked, word_met}
 use Rattle.clap.specs.Words.{Kinds, Row, Rule, Shape, Text, subcommand_of}
 use Rattle.clap.proofs.OnLiterals.{clap_on_literals}
-use Rattle.pmb_words.specs.Asked.{AskFor, AskForNothing, Json}
+use Rattle.pmb_words.specs.Asked.{AskFor, AskForNothing, Asking, Json, UnderProfile, place_in}
 use Rattle.pmb_words.specs.Json.{JsonAsks, JsonWanted, SpellDevices, SpellsAddress, SpellsDigits, at_first, devices_in, digits_in}
-use Rattle.pmb_words.specs.declared.json_task.AfterBadWord.TheVariants.{GoOn}
-use Rattle.pmb_words.specs.declared.json_task.KnownAtFirst.TheVariants.{VoutMode, Neither}
-use Rattle.pmb_words.specs.declared.json_task.ProfilePlace.TheVariants.{Sample}
+use Rattle.pmb_words.specs.declared.json_choice.AfterBadWord.TheVariants.{GoOn}
+use Rattle.pmb_words.specs.declared.json_choice.KnownAtFirst.TheVariants.{VoutMode, Neither}
+use Rattle.pmb_words.specs.declared.profile_place.ProfilePlace.TheVariants.{Sample, Front}
 use Rattle.pmb_words.specs.Words.{IsFlag, faults_of, json_app, pmb_app}
 use Rattle.pmb_words.proofs.AskedOnce.{json_nothing}
 use Rattle.pmb_words.proofs.JsonAddresses.{no_devices}
-use Rattle.pmb_words.proofs.AskedWords.{IsNoFlag, after_walk, has_no_hyphen, is_no_end, no_flag, rows_in}
+use Rattle.pmb_words.proofs.AskedWords.{IsNoFlag, after_walk, has_no_hyphen, is_no_end, no_device, no_flag, six}
 
 abbrev json_words : Text → List Text → List Text
 json_words name words = name ∷ codes "json" ∷ words
 
-six : SpellsDigits (codes "6") 6
-six = record { numeral = (omega arith, (omega arith, tt)); value = refl; most = omega arith }
-
-no_device : SpellDevices [] []
-no_device = record { addresses = []; spell = tt; once = refl }
-
 -- ---- flags that no word follows
 
-pub data Flagged : Type 0 where
-  no_flags : Flagged
-  sample_flag : Flagged
-  late_flag : Flagged
-  fixed_flag : Flagged
-  going_flag : Flagged
-  two_flags : Flagged
+-- the capture, where a profile comes first, is written by this choice
+abbrev in_json : JsonWanted → Asking
+in_json choice = UnderProfile Front (Json choice)
 
-abbrev pub flags_of : Flagged → List Text
-flags_of no_flags = []
-flags_of sample_flag = codes "--sample" ∷ []
-flags_of late_flag = codes "--late" ∷ []
-flags_of fixed_flag = codes "--late" ∷ codes "--fixed-vout-mode" ∷ []
-flags_of going_flag = codes "--keep-going" ∷ []
-flags_of two_flags = codes "--keep-going" ∷ codes "--sample" ∷ []
-
-abbrev pub wanted_by : Flagged → JsonWanted
-wanted_by no_flags = at_first
-wanted_by sample_flag = record at_first { profile = Sample }
-wanted_by late_flag = record at_first { known = Neither }
-wanted_by fixed_flag = record at_first { known = VoutMode }
-wanted_by going_flag = record at_first { after_bad_word = GoOn }
-wanted_by two_flags = record at_first { profile = Sample; after_bad_word = GoOn }
-
-flags_fault : (f : Flagged) (name : Text) → faults_of (json_words name (flags_of f)) ≡ []
+pub asks_late : (name : Text) → AskFor (json_words name (codes "--late" ∷ [])) (in_json (record at_first { known = Neither }))
 unfolding clap_on_literals
-flags_fault no_flags name = refl
-flags_fault sample_flag name = refl
-flags_fault late_flag name = refl
-flags_fault fixed_flag name = refl
-flags_fault going_flag name = refl
-flags_fault two_flags name = refl
+asks_late name = record { no_fault = refl; asks = (_, refl, refl, record { known = refl; after_bad_word = refl; digits = six; devices = no_device }) }
 
-flags_rows : (f : Flagged) (name : Text) → subcommand_of pmb_app (json_words name (flags_of f)) ≡ Some (codes "json", rows_in (subcommand_of pmb_app (json_words name (flags_of f))))
+pub asks_late_fixed : (name : Text) → AskFor (json_words name (codes "--late" ∷ codes "--fixed-vout-mode" ∷ [])) (in_json (record at_first { known = VoutMode }))
 unfolding clap_on_literals
-flags_rows no_flags name = refl
-flags_rows sample_flag name = refl
-flags_rows late_flag name = refl
-flags_rows fixed_flag name = refl
-flags_rows going_flag name = refl
-flags_rows two_flags name = refl
+asks_late_fixed name = record { no_fault = refl; asks = (_, refl, refl, record { known = refl; after_bad_word = refl; digits = six; devices = no_device }) }
 
-flags_ask : (f : Flagged) (name : Text) → JsonAsks (rows_in (subcommand_of pmb_app (json_words name (flags_of f)))) (wanted_by f)
+pub asks_to_go_on : (name : Text) → AskFor (json_words name (codes "--keep-going" ∷ [])) (in_json (record at_first { after_bad_word = GoOn }))
 unfolding clap_on_literals
-flags_ask no_flags name = record { profile = refl; known = refl; after_bad_word = refl; digits = six; devices = no_device }
-flags_ask sample_flag name = record { profile = refl; known = refl; after_bad_word = refl; digits = six; devices = no_device }
-flags_ask late_flag name = record { profile = refl; known = refl; after_bad_word = refl; digits = six; devices = no_device }
-flags_ask fixed_flag name = record { profile = refl; known = refl; after_bad_word = refl; digits = six; devices = no_device }
-flags_ask going_flag name = record { profile = refl; known = refl; after_bad_word = refl; digits = six; devices = no_device }
-flags_ask two_flags name = record { profile = refl; known = refl; after_bad_word = refl; digits = six; devices = no_device }
+asks_to_go_on name = record { no_fault = refl; asks = (_, refl, refl, record { known = refl; after_bad_word = refl; digits = six; devices = no_device }) }
 
-pub asks_with_flags : (f : Flagged) (name : Text) → AskFor (json_words name (flags_of f)) (Json (wanted_by f))
-asks_with_flags f name = record { no_fault = flags_fault f name; asks = (_, flags_rows f name, flags_ask f name) }
-
--- ---- `--fixed-vout-mode` alone
-
-abbrev fixed_alone : Text → List Text
-fixed_alone name = json_words name (codes "--fixed-vout-mode" ∷ [])
-
-alone_fault : (name : Text) → faults_of (fixed_alone name) ≡ []
+pub asks_two : (name : Text) → AskFor (json_words name (codes "--keep-going" ∷ codes "--sample" ∷ [])) (UnderProfile Sample (Json (record at_first { after_bad_word = GoOn })))
 unfolding clap_on_literals
-alone_fault name = refl
+asks_two name = record { no_fault = refl; asks = (_, refl, refl, record { known = refl; after_bad_word = refl; digits = six; devices = no_device }) }
 
-alone_rows : (name : Text) → subcommand_of pmb_app (fixed_alone name) ≡ Some (codes "json", rows_in (subcommand_of pmb_app (fixed_alone name)))
+-- `--fixed-vout-mode` alone
+pub alone_is_nothing : (name : Text) → AskForNothing (json_words name (codes "--fixed-vout-mode" ∷ []))
 unfolding clap_on_literals
-alone_rows name = refl
-
-alone_asks_nothing : (name : Text) (wanted : JsonWanted) → ¬ (JsonAsks (rows_in (subcommand_of pmb_app (fixed_alone name))) wanted)
-unfolding clap_on_literals
-alone_asks_nothing name wanted asks = let clash : None ≡ Some wanted.known = asks.known in cc
-
-pub alone_is_nothing : (name : Text) → AskForNothing (fixed_alone name)
 alone_is_nothing name = record {
-  no_fault = alone_fault name;
-  nothing = json_nothing _ _ (alone_rows name) (alone_asks_nothing name);
+  no_fault = refl;
+  nothing = json_nothing _ _ refl (λ wanted asks. let clash : None ≡ Some wanted.known = asks.known in cc);
 }
 
 -- ---- a flag that a word follows
@@ -140,7 +85,7 @@ given v word = flag_of v ∷ word ∷ []
 abbrev leaf : Shape
 leaf = built_leaf json_app.top
 
--- behind the flag
+-- after the flag
 abbrev start : Valued → Walk
 start v = walked leaf.rules [] (walk_from nothing_held) (flag_of v)
 
@@ -194,6 +139,19 @@ walk_rows device_flag name word = refl
 subcommand_given : (v : Valued) (name word : Text) → IsNoFlag word → subcommand_of pmb_app (json_words name (given v word)) ≡ Some (codes "json", rows_given v word)
 subcommand_given v name word plain = walk_rows v name word ∙ ap (λ (end : Walk). Some (codes "json", finished leaf.rules end.held)) (walk_given v word plain)
 
+-- the profile is the one that comes first
+front_given : (v : Valued) (word : Text) → Front ≡ place_in (rows_given v word)
+unfolding clap_on_literals
+front_given digits_flag word = refl
+front_given device_flag word = refl
+
+-- what the matches choose is asked for
+choice_given : (v : Valued) (name word : Text) (choice : JsonWanted) → IsNoFlag word → JsonAsks (rows_given v word) choice → AskFor (json_words name (given v word)) (in_json choice)
+choice_given v name word choice plain asks = record { no_fault = no_fault_given v name word plain; asks = (_, subcommand_given v name word plain, front_given v word, asks) }
+
+nothing_given : (v : Valued) (name word : Text) → IsNoFlag word → ((choice : JsonWanted) → ¬ (JsonAsks (rows_given v word) choice)) → AskForNothing (json_words name (given v word))
+nothing_given v name word plain none = record { no_fault = no_fault_given v name word plain; nothing = json_nothing _ _ (subcommand_given v name word plain) none }
+
 -- ---- `--digits N`
 
 digits_given : (N : Text) → digits_in (rows_given digits_flag N) ≡ N
@@ -202,7 +160,7 @@ digits_given N = refl
 
 digits_ask : (N : Text) (n : ℕ) → SpellsDigits N n → JsonAsks (rows_given digits_flag N) (record at_first { digits = n })
 unfolding clap_on_literals
-digits_ask N n spells = record { profile = refl; known = refl; after_bad_word = refl; digits = spells; devices = no_device }
+digits_ask N n spells = record { known = refl; after_bad_word = refl; digits = spells; devices = no_device }
 
 digits_are_no_flag : (N : Text) (n : ℕ) → SpellsDigits N n → IsNoFlag N
 digits_are_no_flag [] n spells = tt
@@ -210,19 +168,12 @@ digits_are_no_flag (c ∷ cs) n spells = λ hyphen.
     let small : digit_value 45 < 10 = subst (λ x. digit_value x < 10) hyphen spells.numeral.1.0 in
     absurd (omega (arith, small))
 
-pub asks_digits : (name N : Text) (n : ℕ) → SpellsDigits N n → AskFor (json_words name (codes "--digits" ∷ N ∷ [])) (Json (record at_first { digits = n }))
-asks_digits name N n spells =
-    let plain = digits_are_no_flag N n spells in
-    record { no_fault = no_fault_given digits_flag name N plain; asks = (_, subcommand_given digits_flag name N plain, digits_ask N n spells) }
+pub asks_digits : (name N : Text) (n : ℕ) → SpellsDigits N n → AskFor (json_words name (codes "--digits" ∷ N ∷ [])) (in_json (record at_first { digits = n }))
+asks_digits name N n spells = choice_given digits_flag name N _ (digits_are_no_flag N n spells) (digits_ask N n spells)
 
 pub bad_digits_ask_nothing : (name N : Text) → (IsFlag N → ⊥) → ((n : ℕ) → ¬ (SpellsDigits N n)) → AskForNothing (json_words name (codes "--digits" ∷ N ∷ []))
 bad_digits_ask_nothing name N no_hyphen none_spelled =
-    let plain = no_flag N no_hyphen in
-    record {
-      no_fault = no_fault_given digits_flag name N plain;
-      nothing = json_nothing _ _ (subcommand_given digits_flag name N plain)
-          (λ wanted asks. none_spelled wanted.digits (subst (λ word. SpellsDigits word wanted.digits) (digits_given N) asks.digits));
-    }
+    nothing_given digits_flag name N (no_flag N no_hyphen) (λ choice asks. none_spelled choice.digits (subst (λ word. SpellsDigits word choice.digits) (digits_given N) asks.digits))
 
 -- ---- `--device HH`
 
@@ -233,7 +184,6 @@ devices_given HH = refl
 device_asks : (HH : Text) (address : ℕ) → SpellsAddress HH address → JsonAsks (rows_given device_flag HH) (record at_first { devices = address ∷ [] })
 unfolding clap_on_literals
 device_asks HH address spells = record {
-  profile = refl;
   known = refl;
   after_bad_word = refl;
   digits = six;
@@ -247,16 +197,10 @@ address_is_no_flag (c ∷ cs) address spells = λ hyphen.
     let clash : None ≡ Some spells.high_value = ap hex_digit_value (sym hyphen ∙ first) ∙ spells.high_is in
     cc
 
-pub asks_device : (name HH : Text) (address : ℕ) → SpellsAddress HH address → AskFor (json_words name (codes "--device" ∷ HH ∷ [])) (Json (record at_first { devices = address ∷ [] }))
-asks_device name HH address spells =
-    let plain = address_is_no_flag HH address spells in
-    record { no_fault = no_fault_given device_flag name HH plain; asks = (_, subcommand_given device_flag name HH plain, device_asks HH address spells) }
+pub asks_device : (name HH : Text) (address : ℕ) → SpellsAddress HH address → AskFor (json_words name (codes "--device" ∷ HH ∷ [])) (in_json (record at_first { devices = address ∷ [] }))
+asks_device name HH address spells = choice_given device_flag name HH _ (address_is_no_flag HH address spells) (device_asks HH address spells)
 
 pub bad_device_asks_nothing : (name HH : Text) → (IsFlag HH → ⊥) → ((address : ℕ) → ¬ (SpellsAddress HH address)) → AskForNothing (json_words name (codes "--device" ∷ HH ∷ []))
 bad_device_asks_nothing name HH no_hyphen none_spelled =
-    let plain = no_flag HH no_hyphen in
-    record {
-      no_fault = no_fault_given device_flag name HH plain;
-      nothing = json_nothing _ _ (subcommand_given device_flag name HH plain)
-          (λ wanted asks. no_devices (HH ∷ []) 0 [] (omega arith) none_spelled wanted.devices (subst (λ words. SpellDevices words wanted.devices) (devices_given HH) asks.devices));
-    }
+    nothing_given device_flag name HH (no_flag HH no_hyphen)
+    (λ choice asks. no_devices (HH ∷ []) 0 [] (omega arith) none_spelled choice.devices (subst (λ words. SpellDevices words choice.devices) (devices_given HH) asks.devices))

@@ -6,37 +6,33 @@ use Rattle.clap.specs.Words.{Row, Text, all_of, first_of}
 use Rattle.hex.specs.Hex.{hex_digit_value}
 use Rattle.pmb_words.specs.declared.json_fault.JsonFault.{JsonFault}
 use Rattle.pmb_words.specs.declared.json_fault.JsonFault.TheVariants.{NeedsLate, BadDigits, BadAddress}
-use Rattle.pmb_words.specs.declared.json_task.AfterBadWord.{AfterBadWord}
-use Rattle.pmb_words.specs.declared.json_task.AfterBadWord.TheVariants.{End, GoOn}
-use Rattle.pmb_words.specs.declared.json_task.JsonTask.{JsonTask}
-use Rattle.pmb_words.specs.declared.json_task.KnownAtFirst.{KnownAtFirst}
-use Rattle.pmb_words.specs.declared.json_task.KnownAtFirst.TheVariants.{Both, VoutMode, Neither}
-use Rattle.pmb_words.specs.declared.json_task.ProfilePlace.{ProfilePlace}
-use Rattle.pmb_words.specs.declared.json_task.ProfilePlace.TheVariants.{Sample, Front}
+use Rattle.pmb_words.specs.declared.json_choice.AfterBadWord.{AfterBadWord}
+use Rattle.pmb_words.specs.declared.json_choice.AfterBadWord.TheVariants.{End, GoOn}
+use Rattle.pmb_words.specs.declared.json_choice.JsonChoice.{JsonChoice}
+use Rattle.pmb_words.specs.declared.json_choice.KnownAtFirst.{KnownAtFirst}
+use Rattle.pmb_words.specs.declared.json_choice.KnownAtFirst.TheVariants.{Both, VoutMode, Neither}
 use Rattle.pmb_words.specs.Flags.{has_flag}
 
--- What is wanted: where the profile is, what is known of PAGE and VOUT_MODE at first, what is done behind a word that is no
--- token, the most digits after a point, and the devices, all where there is none.
+-- What is wanted: what is known of PAGE and VOUT_MODE at first, what is done after a word that is no token, the most digits
+-- after a point, and the devices, all where there is none.
 pub record JsonWanted : Type 0 where
-  pub profile : ProfilePlace
   pub known : KnownAtFirst
   pub after_bad_word : AfterBadWord
   pub digits : ℕ
   pub devices : List ℕ
 
 -- the same as it is kept
-abbrev pub wanted_of : JsonTask → JsonWanted
-wanted_of task = record {
-  profile = task.profile;
-  known = task.known;
-  after_bad_word = task.after_bad_word;
-  digits = task.digits;
-  devices = task.devices.items;
+abbrev pub json_wanted_of : JsonChoice → JsonWanted
+json_wanted_of choice = record {
+  known = choice.known;
+  after_bad_word = choice.after_bad_word;
+  digits = choice.digits;
+  devices = choice.devices.items;
 }
 
 -- what is wanted where no flag is given
 abbrev pub at_first : JsonWanted
-at_first = record { profile = Front; known = Both; after_bad_word = End; digits = 6; devices = [] }
+at_first = record { known = Both; after_bad_word = End; digits = 6; devices = [] }
 
 -- ---- N and HH
 
@@ -71,10 +67,6 @@ pub record SpellDevices (words : List Text) (devices : List ℕ) : Type 0 where
 
 -- ---- what is among the matches
 
--- the profile is the sample with `--sample`
-abbrev pub profile_in : List Row → ProfilePlace
-profile_in rows = if has_flag (codes "sample") rows then Sample else Front
-
 -- by `--late` and `--fixed-vout-mode`, which is nothing without the first
 abbrev pub known_by : (late fixed : Bool) → Option KnownAtFirst
 known_by false false = Some Both
@@ -85,7 +77,7 @@ known_by false true = None
 abbrev pub known_in : List Row → Option KnownAtFirst
 known_in rows = known_by (has_flag (codes "late") rows) (has_flag (codes "fixed-vout-mode") rows)
 
--- reading goes on with `--keep-going`
+-- reading continues with `--keep-going`
 abbrev pub after_bad_word_in : List Row → AfterBadWord
 after_bad_word_in rows = if has_flag (codes "keep-going") rows then GoOn else End
 
@@ -97,9 +89,8 @@ digits_in rows = unwrap_or (first_of (codes "digits") rows) (codes "6")
 abbrev pub devices_in : List Row → List Text
 devices_in rows = unwrap_or (all_of (codes "device") rows) []
 
--- The matches ask for this.
+-- The matches choose this.
 pub record JsonAsks (rows : List Row) (wanted : JsonWanted) : Type 0 where
-  pub profile : wanted.profile ≡ profile_in rows
   pub known : known_in rows ≡ Some wanted.known
   pub after_bad_word : wanted.after_bad_word ≡ after_bad_word_in rows
   pub digits : SpellsDigits (digits_in rows) wanted.digits

@@ -2,3 +2,4 @@ pub mod Flags
 pub mod Words
 pub mod Json
 pub mod Asked
+pub mod Texts

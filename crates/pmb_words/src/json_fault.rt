@@ -17,7 +17,7 @@ pub(crate) enum JsonFault {
     BadAddress,
 }
 
-/// Tells on `err` why the words of `json` ask for nothing.
+/// Reports on `err` why the words of `json` ask for nothing.
 pub(crate) fn tell_json<E: Sink>(fault: JsonFault, err: &mut E) -> Status
     ensures status { result ≡ Status.BadWords }
     ensures err_told { IsTold (E.told err.old) (E.told err.new) }

@@ -1,23 +1,23 @@
-//! The flags of `json`, and what they ask for.
+//! The flags of `json`, and what they choose.
 
 ghost use Rattle.std.specs.Prelude.{◌≡◌, ◌<◌, ℕ, List, MatchOption, MatchResult, map, unwrap_or};
 ghost use Rattle.clap.specs.Words.{Text, found_of, rows_of};
-ghost use Rattle.pmb_words.specs.Json.{HasFault, JsonAsks, SpellDevices, SpellsAddress, SpellsDigits, after_bad_word_in, devices_in, digits_in, known_in, profile_in, wanted_of};
+ghost use Rattle.pmb_words.specs.Json.{HasFault, JsonAsks, SpellDevices, SpellsAddress, SpellsDigits, after_bad_word_in, devices_in, digits_in, json_wanted_of, known_in};
 
 use crate::flags::has_flag;
+use crate::json_choice::{AfterBadWord, JsonChoice, KnownAtFirst};
 use crate::json_fault::JsonFault;
-use crate::json_task::{AfterBadWord, JsonTask, KnownAtFirst, ProfilePlace};
 use arrayvec::ArrayVec;
 use clap::ArgMatches;
 
-/// What the matches of `json` ask for.
+/// What the matches of `json` choose.
 ///
 /// # Errors
 ///
 /// The first of these: `NeedsLate` for `--fixed-vout-mode` without `--late`, `BadDigits` for N that is
 /// no number from 0 to 12, `BadAddress` for HH that is no address of seven bits.
-pub(crate) fn read_json(arguments: &ArgMatches<'_>) -> Result<JsonTask, JsonFault>
-    ensures { MatchResult result (λ task. JsonAsks (rows_of (found_of arguments.now)) (wanted_of task)) (HasFault (rows_of (found_of arguments.now))) }
+pub(crate) fn read_json(arguments: &ArgMatches<'_>) -> Result<JsonChoice, JsonFault>
+    ensures { MatchResult result (λ choice. JsonAsks (rows_of (found_of arguments.now)) (json_wanted_of choice)) (HasFault (rows_of (found_of arguments.now))) }
 {
     let Some(known) = known(arguments) else {
         return Err(JsonFault::NeedsLate);
@@ -28,24 +28,12 @@ pub(crate) fn read_json(arguments: &ArgMatches<'_>) -> Result<JsonTask, JsonFaul
     let Some(devices) = read_devices(arguments.get_strs("device").unwrap_or(&[])) else {
         return Err(JsonFault::BadAddress);
     };
-    Ok(JsonTask {
-        profile: profile(arguments),
+    Ok(JsonChoice {
         known,
         after_bad_word: after_bad_word(arguments),
         digits,
         devices,
     })
-}
-
-// Where the profile is, by `--sample`.
-fn profile(arguments: &ArgMatches<'_>) -> ProfilePlace
-    ensures { result ≡ profile_in (rows_of (found_of arguments.now)) }
-{
-    if has_flag(arguments, "sample") {
-        ProfilePlace::Sample
-    } else {
-        ProfilePlace::Front
-    }
 }
 
 // What is known at first, by `--late` and `--fixed-vout-mode`; nothing where the first is missing.
@@ -66,7 +54,7 @@ fn known(arguments: &ArgMatches<'_>) -> Option<KnownAtFirst>
     }
 }
 
-// What is done behind a word that is no token, by `--keep-going`.
+// What is done after a word that is no token, by `--keep-going`.
 fn after_bad_word(arguments: &ArgMatches<'_>) -> AfterBadWord
     ensures { result ≡ after_bad_word_in (rows_of (found_of arguments.now)) }
 {

@@ -1,51 +1,41 @@
 //! Laws over the definitions alone.
 
-ghost use Rattle.std.specs.Prelude.{◌≡◌, ◌∷◌, [], List, ℕ, codes, false, true};
+ghost use Rattle.std.specs.Prelude.{◌≡◌, ◌∷◌, [], List, ℕ, codes};
 ghost use Rattle.clap.specs.Words.{Text};
-ghost use Rattle.pmb_words.specs.Asked.{AskFor, AskForNothing, Asking, Decode, Encode, HasBadFormat, Json, NamesNone, Traffic};
+ghost use Rattle.pmb_words.specs.Asked.{AskFor, AskForNothing, Asking, Convert, HasBadFormat, Json, NamesNone, NeedsNoFlag, UnderProfile, Wanted, converter, name_of};
 ghost use Rattle.clap.specs.declared.error.kind.ErrorKind.TheVariants.{DisplayHelp, InvalidSubcommand};
 ghost use Rattle.pmb_words.specs.Json.{SpellsAddress, SpellsDigits, at_first};
 ghost use Rattle.pmb_words.specs.Words.{AreRefused, AskToTell, IsFlag, faults_of};
-ghost use Rattle.pmb_words.specs.declared.json_task.AfterBadWord.TheVariants.{GoOn};
-ghost use Rattle.pmb_words.specs.declared.json_task.KnownAtFirst.TheVariants.{Neither, VoutMode};
-ghost use Rattle.pmb_words.specs.declared.json_task.ProfilePlace.TheVariants.{Sample};
-ghost use Rattle.pmb_words.specs.declared.work.Work.TheVariants.{Show, Check, Build, Run, Describe};
+ghost use Rattle.pmb_words.specs.declared.direction.Direction.{Direction};
+ghost use Rattle.pmb_words.specs.declared.json_choice.AfterBadWord.TheVariants.{GoOn};
+ghost use Rattle.pmb_words.specs.declared.json_choice.KnownAtFirst.TheVariants.{Neither, VoutMode};
+ghost use Rattle.pmb_words.specs.declared.profile_place.ProfilePlace.TheVariants.{Front, Sample};
 
-/// The words `pmb show`, `pmb check`, `pmb build`, `pmb run` and `pmb profile`, each with `--sample` or
-/// without it, `pmb encode FORMAT` and `pmb decode FORMAT` have no fault of `clap`'s and ask for just that, where
-/// FORMAT does not begin with `-`; `pmb --help` and `pmb --version` ask to be told about it. Of `pmb
-/// help` and whatever words behind it `clap`'s definition says that they may ask for help or be refused.
+/// The words `pmb show`, `pmb check`, `pmb json`, `pmb build`, `pmb run` and `pmb profile`, each with
+/// `--sample` or without it, `pmb encode FORMAT` and `pmb decode FORMAT` have no fault of `clap`'s and
+/// ask for just that, where FORMAT does not begin with `-`; `pmb --help` and `pmb --version` call for
+/// a text about `pmb`. Of `pmb help` and whatever words after it `clap`'s definition says that they
+/// may call for help or be refused.
 pub fn words_ask()
-    ensures show_sample { (name : Text) → AskFor (name ∷ codes "show" ∷ codes "--sample" ∷ []) (Traffic Show true) }
-    ensures show { (name : Text) → AskFor (name ∷ codes "show" ∷ []) (Traffic Show false) }
-    ensures check_sample { (name : Text) → AskFor (name ∷ codes "check" ∷ codes "--sample" ∷ []) (Traffic Check true) }
-    ensures check { (name : Text) → AskFor (name ∷ codes "check" ∷ []) (Traffic Check false) }
-    ensures build_sample { (name : Text) → AskFor (name ∷ codes "build" ∷ codes "--sample" ∷ []) (Traffic Build true) }
-    ensures build { (name : Text) → AskFor (name ∷ codes "build" ∷ []) (Traffic Build false) }
-    ensures run_sample { (name : Text) → AskFor (name ∷ codes "run" ∷ codes "--sample" ∷ []) (Traffic Run true) }
-    ensures run { (name : Text) → AskFor (name ∷ codes "run" ∷ []) (Traffic Run false) }
-    ensures profile_sample { (name : Text) → AskFor (name ∷ codes "profile" ∷ codes "--sample" ∷ []) (Traffic Describe true) }
-    ensures profile { (name : Text) → AskFor (name ∷ codes "profile" ∷ []) (Traffic Describe false) }
-    ensures encode { (name format : Text) → (IsFlag format → ⊥) → AskFor (name ∷ codes "encode" ∷ format ∷ []) (Encode format) }
-    ensures decode { (name format : Text) → (IsFlag format → ⊥) → AskFor (name ∷ codes "decode" ∷ format ∷ []) (Decode format) }
+    ensures sampled { (name : Text) (wanted : Wanted) → NeedsNoFlag wanted → AskFor (name ∷ name_of wanted ∷ codes "--sample" ∷ []) (UnderProfile Sample wanted) }
+    ensures unsampled { (name : Text) (wanted : Wanted) → NeedsNoFlag wanted → AskFor (name ∷ name_of wanted ∷ []) (UnderProfile Front wanted) }
+    ensures converts { (name format : Text) (direction : Direction) → (IsFlag format → ⊥) → AskFor (name ∷ converter direction ∷ format ∷ []) (Convert direction format) }
     ensures help { (name : Text) → AskToTell (name ∷ codes "--help" ∷ []) }
     ensures version { (name : Text) → AskToTell (name ∷ codes "--version" ∷ []) }
     ensures help_words { (name : Text) (words : List Text) → faults_of (name ∷ codes "help" ∷ words) ≡ DisplayHelp ∷ InvalidSubcommand ∷ [] }
 {}
 
-/// `pmb json` alone and with `--sample`, `--late`, `--late --fixed-vout-mode`, `--keep-going`,
-/// `--keep-going --sample`, `--digits N` or `--device HH` has no fault of `clap`'s and asks for just
-/// that, where N is a number from 0 to 12 and HH an address. With any other N or HH that does not begin
-/// with `-`, and with `--fixed-vout-mode` alone, it asks for nothing.
+/// `pmb json` with `--late`, `--late --fixed-vout-mode`, `--keep-going`, `--keep-going --sample`,
+/// `--digits N` or `--device HH` has no fault of `clap`'s and asks for just that, where N is a number
+/// from 0 to 12 and HH an address. With any other N or HH that does not begin with `-`, and with
+/// `--fixed-vout-mode` alone, it asks for nothing.
 pub fn json_words_ask()
-    ensures json { (name : Text) → AskFor (name ∷ codes "json" ∷ []) (Json at_first) }
-    ensures sample { (name : Text) → AskFor (name ∷ codes "json" ∷ codes "--sample" ∷ []) (Json (record at_first { profile = Sample })) }
-    ensures late { (name : Text) → AskFor (name ∷ codes "json" ∷ codes "--late" ∷ []) (Json (record at_first { known = Neither })) }
-    ensures late_fixed { (name : Text) → AskFor (name ∷ codes "json" ∷ codes "--late" ∷ codes "--fixed-vout-mode" ∷ []) (Json (record at_first { known = VoutMode })) }
-    ensures keep_going { (name : Text) → AskFor (name ∷ codes "json" ∷ codes "--keep-going" ∷ []) (Json (record at_first { after_bad_word = GoOn })) }
-    ensures two { (name : Text) → AskFor (name ∷ codes "json" ∷ codes "--keep-going" ∷ codes "--sample" ∷ []) (Json (record at_first { profile = Sample; after_bad_word = GoOn })) }
-    ensures digits { (name N : Text) (n : ℕ) → SpellsDigits N n → AskFor (name ∷ codes "json" ∷ codes "--digits" ∷ N ∷ []) (Json (record at_first { digits = n })) }
-    ensures device { (name HH : Text) (address : ℕ) → SpellsAddress HH address → AskFor (name ∷ codes "json" ∷ codes "--device" ∷ HH ∷ []) (Json (record at_first { devices = address ∷ [] })) }
+    ensures late { (name : Text) → AskFor (name ∷ codes "json" ∷ codes "--late" ∷ []) (UnderProfile Front (Json (record at_first { known = Neither }))) }
+    ensures late_fixed { (name : Text) → AskFor (name ∷ codes "json" ∷ codes "--late" ∷ codes "--fixed-vout-mode" ∷ []) (UnderProfile Front (Json (record at_first { known = VoutMode }))) }
+    ensures keep_going { (name : Text) → AskFor (name ∷ codes "json" ∷ codes "--keep-going" ∷ []) (UnderProfile Front (Json (record at_first { after_bad_word = GoOn }))) }
+    ensures two { (name : Text) → AskFor (name ∷ codes "json" ∷ codes "--keep-going" ∷ codes "--sample" ∷ []) (UnderProfile Sample (Json (record at_first { after_bad_word = GoOn }))) }
+    ensures digits { (name N : Text) (n : ℕ) → SpellsDigits N n → AskFor (name ∷ codes "json" ∷ codes "--digits" ∷ N ∷ []) (UnderProfile Front (Json (record at_first { digits = n }))) }
+    ensures device { (name HH : Text) (address : ℕ) → SpellsAddress HH address → AskFor (name ∷ codes "json" ∷ codes "--device" ∷ HH ∷ []) (UnderProfile Front (Json (record at_first { devices = address ∷ [] }))) }
     ensures fixed_alone { (name : Text) → AskForNothing (name ∷ codes "json" ∷ codes "--fixed-vout-mode" ∷ []) }
     ensures bad_digits { (name N : Text) → (IsFlag N → ⊥) → ((n : ℕ) → SpellsDigits N n → ⊥) → AskForNothing (name ∷ codes "json" ∷ codes "--digits" ∷ N ∷ []) }
     ensures bad_device { (name HH : Text) → (IsFlag HH → ⊥) → ((address : ℕ) → SpellsAddress HH address → ⊥) → AskForNothing (name ∷ codes "json" ∷ codes "--device" ∷ HH ∷ []) }

@@ -1,16 +1,17 @@
 //! What the words of the command ask for.
 
-ghost use Rattle.std.specs.Prelude.{◌≡◌, ◌≢◌, ◌⊎◌, IfErr, IfOk, MatchResult, map};
-ghost use Rattle.clap.specs.Words.{subcommand_rows_of};
-ghost use Rattle.pmb_status.specs.Status.{EndedWell, Failed, IsTold, Tells};
-ghost use Rattle.pmb_io.specs.Count.{raised};
-ghost use Rattle.pmb_words.specs.Asked.{AskFor, AskForNothing, Asking, AsksNothing, SubcommandAsks, asking_of};
+ghost use Rattle.std.specs.Prelude.{◌≡◌, ◌⊎◌, IfErr, IfOk, MatchOption, MatchResult, map};
+ghost use Rattle.clap.specs.Words.{found_of, rows_of, subcommand_rows_of};
+ghost use Rattle.pmb_words.specs.Texts.{WroteText};
+ghost use Rattle.pmb_words.specs.Asked.{AskFor, AskForNothing, Asking, AsksNothing, NameAsks, SubcommandAsks, Wanted, asking_of, converter, place_in, wanted_of};
+ghost use Rattle.pmb_words.specs.declared.direction.Direction.{Direction};
 ghost use Rattle.pmb_words.specs.Words.{AreRefused, AskToTell, MayBeRefused};
 
+use crate::direction::Direction;
 use crate::flags::has_flag;
 use crate::json_fault::{JsonFault, tell_json};
-use crate::json_task::JsonTask;
 use crate::json_words::read_json;
+use crate::profile_place::ProfilePlace;
 use crate::words::{parse, tell_words};
 use crate::work::Work;
 use clap::ArgMatches;
@@ -22,15 +23,10 @@ use std::convert::AsStr;
 /// What is to be done.
 #[derive(Drop)]
 pub enum Task<'a> {
-    /// What is done with a capture, with lines or with the bus itself, and whether it is done under the
-    /// sample profile, or else under the one in front.
-    Traffic(Work, bool),
-    /// What a capture says is told in JSON.
-    Json(JsonTask),
-    /// Lines are encoded in the format that a text names.
-    Encode(&'a str),
-    /// Lines are decoded in the format that a text names.
-    Decode(&'a str),
+    /// Something is done under the profile that is there.
+    UnderProfile(ProfilePlace, Work),
+    /// Lines are converted in the format that a text names.
+    Convert(Direction, &'a str),
 }
 
 // Why there is nothing to be done.
@@ -42,13 +38,13 @@ enum NoTask {
     Json(JsonFault),
 }
 
-/// What the words ask for, the program's own name first. Words that ask for nothing to be done are
-/// answered at once: help and the version are told on `out`, and a fault on `err`.
+/// What the words ask for, the program's own name first. Where they ask for nothing to be done, the
+/// text for that is written at once: help and the version on `out`, and a fault on `err`.
 ///
 /// # Errors
 ///
-/// The exit status of what was told: `Done` for help or the version, `BadWords` for words that are no
-/// command or whose flags of `json` ask for nothing, `IoFailed` where `out` failed, and `NoMemory`
+/// The exit status of what was written: `Done` for help or the version, `BadWords` for words that are
+/// no command or whose flags of `json` ask for nothing, `IoFailed` where `out` failed, and `NoMemory`
 /// where there was no memory.
 pub fn asked<'a, S: AsStr, W: Sink, E: Sink>(
     alloc: Global,
@@ -59,9 +55,6 @@ pub fn asked<'a, S: AsStr, W: Sink, E: Sink>(
     ensures ok { IfOk result (λ task. AskFor (map S.text words.entry.now) (asking_of task)) }
     ensures ok_quiet { IfOk result (λ _. (out.new ≡ out.old) × (err.new ≡ err.old)) }
 
-    // Whatever the words, `Refusals` is never answered: it is for what is read alone.
-    ensures not_refusals { IfErr result (λ status. status ≢ Status.Refusals) }
-
     // Where they ask for something, only memory is lacking.
     ensures memory { IfErr result (λ status. (asking : Asking) → AskFor (map S.text words.entry.now) asking → status ≡ Status.NoMemory) }
     ensures nothing { IfErr result (λ status. AskForNothing (map S.text words.entry.now) → (status ≡ Status.BadWords) ⊎ (status ≡ Status.NoMemory)) }
@@ -70,13 +63,8 @@ pub fn asked<'a, S: AsStr, W: Sink, E: Sink>(
     ensures helped { IfErr result (λ status. AskToTell (map S.text words.entry.now) → (status ≡ Status.Done) ⊎ (status ≡ Status.IoFailed) ⊎ (status ≡ Status.NoMemory)) }
 
     // Help and the version go to `out` alone, and a fault to `err`.
-    ensures out_told { IfErr result (λ status. status ≡ Status.Done → Tells (W.told out.old) (W.told out.new)) }
-    ensures err_told { IfErr result (λ status. Failed status → IsTold (E.told err.old) (E.told err.new)) }
-    ensures quiet { IfErr result (λ status. EndedWell status → err.new ≡ err.old) }
+    ensures wrote { IfErr result (WroteText W.told E.told (out.old, err.old) (out.new, err.new)) }
     ensures unwritten { IfErr result (λ status. AreRefused (map S.text words.entry.now) → out.new ≡ out.old) }
-    ensures refused_unwritten { IfErr result (λ status. (status ≡ Status.BadWords) ⊎ (status ≡ Status.NoMemory) → out.new ≡ out.old) }
-    ensures none_failed { IfErr result (λ status. status ≢ Status.IoFailed → (W.told out.new).failures ≡ (W.told out.old).failures) }
-    ensures io_failed { IfErr result (λ status. status ≡ Status.IoFailed → (W.told out.new).failures ≡ raised (W.told out.old).failures 1) }
 {
     let matches = match parse(alloc, words) {
         Ok(matches) => matches,
@@ -96,26 +84,60 @@ fn task_of<'a>(matches: &ArgMatches<'a>) -> Result<Task<'a>, NoTask>
     let Some((name, arguments)) = matches.subcommand() else {
         return Err(NoTask::NoCommand);
     };
-    if name == "show" {
-        Ok(Task::Traffic(Work::Show, has_flag(arguments, "sample")))
-    } else if name == "check" {
-        Ok(Task::Traffic(Work::Check, has_flag(arguments, "sample")))
-    } else if name == "build" {
-        Ok(Task::Traffic(Work::Build, has_flag(arguments, "sample")))
-    } else if name == "run" {
-        Ok(Task::Traffic(Work::Run, has_flag(arguments, "sample")))
-    } else if name == "profile" {
-        Ok(Task::Traffic(Work::Describe, has_flag(arguments, "sample")))
-    } else if name == "encode" {
-        Ok(Task::Encode(arguments.get_str("FORMAT").unwrap_or("")))
+    if let Some(direction) = direction_of(name) {
+        let format = arguments.get_str("FORMAT").unwrap_or("");
+        return Ok(Task::Convert(direction, format));
+    }
+    match work_of(name, arguments) {
+        Ok(work) => Ok(Task::UnderProfile(profile_place(arguments), work)),
+        Err(fault) => Err(fault),
+    }
+}
+
+// The direction in which a subcommand converts.
+fn direction_of(name: &str) -> Option<Direction>
+    ensures { MatchOption result ((direction : Direction) → ¬ (name.now ≡ converter direction)) (λ direction. name.now ≡ converter direction) }
+{
+    if name == "encode" {
+        Some(Direction::Encode)
     } else if name == "decode" {
-        Ok(Task::Decode(arguments.get_str("FORMAT").unwrap_or("")))
+        Some(Direction::Decode)
+    } else {
+        None
+    }
+}
+
+// What a subcommand asks for under a profile, by its name, and for `json` by its flags.
+fn work_of(name: &str, arguments: &ArgMatches<'_>) -> Result<Work, NoTask>
+    ensures { MatchResult result (λ work. NameAsks name.now (rows_of (found_of arguments.now)) (wanted_of work)) (λ _. (wanted : Wanted) → ¬ (NameAsks name.now (rows_of (found_of arguments.now)) wanted)) }
+{
+    if name == "show" {
+        Ok(Work::Show)
+    } else if name == "check" {
+        Ok(Work::Check)
     } else if name == "json" {
         match read_json(arguments) {
-            Ok(task) => Ok(Task::Json(task)),
+            Ok(choice) => Ok(Work::Json(choice)),
             Err(fault) => Err(NoTask::Json(fault)),
         }
+    } else if name == "build" {
+        Ok(Work::Build)
+    } else if name == "run" {
+        Ok(Work::Run)
+    } else if name == "profile" {
+        Ok(Work::Describe)
     } else {
         Err(NoTask::NoCommand)
+    }
+}
+
+// Where the profile is, by `--sample`.
+fn profile_place(arguments: &ArgMatches<'_>) -> ProfilePlace
+    ensures { result ≡ place_in (rows_of (found_of arguments.now)) }
+{
+    if has_flag(arguments, "sample") {
+        ProfilePlace::Sample
+    } else {
+        ProfilePlace::Front
     }
 }

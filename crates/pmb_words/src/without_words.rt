@@ -8,8 +8,8 @@ use pmb_io::{Sink, ToolFault};
 use pmb_status::{Status, tell};
 use std::io;
 
-/// What `pmb` answers where the process's words can't be had: there is no memory for them, or they
-/// are not UTF-8, which is told on `err` as other bad words are.
+/// The exit status where the process's words can't be had: there is no memory for them, or they are
+/// not UTF-8, which is reported on `err` as other bad words are.
 pub fn no_words<E: Sink>(kind: io::ErrorKind, err: &mut E) -> Status
     ensures memory { kind ≡ OutOfMemory → result ≡ Status.NoMemory }
     ensures others { kind ≢ OutOfMemory → result ≡ Status.BadWords }

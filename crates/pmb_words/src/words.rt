@@ -2,11 +2,11 @@
 
 ghost use Rattle.std.specs.Prelude.{◌≡◌, ◌≢◌, ◌⊎◌, [], codes, false, map, IfOk};
 ghost use Rattle.std.specs.Io.KnownBytes.{Appends};
-ghost use Rattle.clap.specs.Words.{FailsBy, app_of, kind_of, new_app, rule_of, subcommand_of, subcommand_rows_of, with_subcommand};
+ghost use Rattle.clap.specs.Words.{FailsBy, app_of, kind_of, new_app, rule_of, subcommand_of, subcommand_rows_of, with_rule, with_subcommand};
 ghost use Rattle.clap.specs.declared.builder.command.Command.TheViews.{out-Command as fields_of};
-ghost use Rattle.pmb_io.specs.Count.{raised};
-ghost use Rattle.pmb_status.specs.Status.{EndedWell, Failed, IsTold, Tells};
-ghost use Rattle.pmb_words.specs.Words.{IsTelling, capture_app, faults_of, flag, json_app, lines_app, pmb_app, sampled_app, top_app, valued};
+ghost use Rattle.pmb_status.specs.Status.{IsTold};
+ghost use Rattle.pmb_words.specs.Texts.{WroteText};
+ghost use Rattle.pmb_words.specs.Words.{IsTelling, capture_app, faults_of, flag, format_rule, json_app, pmb_app, sample, sampled_app, top_app, valued};
 
 use clap::error::ErrorKind;
 use clap::{Arg, ArgAction, ArgMatches, Command, Error};
@@ -28,29 +28,32 @@ pub(crate) fn parse<'a, S: AsStr>(alloc: Global, words: &'a [S]) -> Result<ArgMa
 fn pmb_command<'a>(alloc: Global) -> Result<Command<'a>, AllocError>
     ensures { IfOk result (λ command. app_of command ≡ pmb_app) }
 {
-    let describing = with_sampled(
+    let describing = with_leaf(
         alloc,
         traffic_command(alloc)?,
         "profile",
         "Shows the bus that a profile makes: its devices and their commands",
         "Standard input is the profile, up to a line '%%' or to its end. If the profile is wrong, this says why.\n\n\
          Example:\n  ./pmb profile < examples/profiles/ltc3880.toml",
+        sample_flag(alloc),
     )?;
-    let encoding = with_lines(
+    let encoding = with_leaf(
         alloc,
         describing,
         "encode",
         "Writes the code of each quantity, one a line",
         "The quantities come on standard input, one a line.\n\n\
          Example:\n  echo 12 | ./pmb encode linear11",
+        format_word(alloc),
     )?;
-    with_lines(
+    with_leaf(
         alloc,
         encoding,
         "decode",
         "Writes the quantity of each code, one a line",
         "The codes come on standard input, one a line.\n\n\
          Example:\n  echo d300 | ./pmb decode linear11",
+        format_word(alloc),
     )
 }
 
@@ -58,7 +61,7 @@ fn pmb_command<'a>(alloc: Global) -> Result<Command<'a>, AllocError>
 fn traffic_command<'a>(alloc: Global) -> Result<Command<'a>, AllocError>
     ensures { IfOk result (λ command. app_of command ≡ with_subcommand (with_subcommand capture_app (sampled_app (codes "build")).top) (sampled_app (codes "run")).top) }
 {
-    let building = with_sampled(
+    let building = with_leaf(
         alloc,
         capture_command(alloc)?,
         "build",
@@ -66,8 +69,9 @@ fn traffic_command<'a>(alloc: Global) -> Result<Command<'a>, AllocError>
         "Standard input is a profile, a line '%%' and transaction lines, or with --sample the lines \
          alone. 'pmb profile' shows what a profile makes, or what is wrong with it.\n\n\
          Example:\n  echo 'write 58 21 00 18 pec' | ./pmb build --sample",
+        sample_flag(alloc),
     )?;
-    with_sampled(
+    with_leaf(
         alloc,
         building,
         "run",
@@ -75,6 +79,7 @@ fn traffic_command<'a>(alloc: Global) -> Result<Command<'a>, AllocError>
         "Standard input is a profile, a line '%%' and request lines, or with --sample the lines \
          alone. 'pmb profile' shows what a profile makes, or what is wrong with it.\n\n\
          Example:\n  echo 'set 58 21 12' | ./pmb run --sample",
+        sample_flag(alloc),
     )
 }
 
@@ -82,7 +87,7 @@ fn traffic_command<'a>(alloc: Global) -> Result<Command<'a>, AllocError>
 fn capture_command<'a>(alloc: Global) -> Result<Command<'a>, AllocError>
     ensures { IfOk result (λ command. app_of command ≡ capture_app) }
 {
-    let showing = with_sampled(
+    let showing = with_leaf(
         alloc,
         top_command(alloc),
         "show",
@@ -90,8 +95,9 @@ fn capture_command<'a>(alloc: Global) -> Result<Command<'a>, AllocError>
         "Standard input is a profile, a line '%%' and the capture, or with --sample the capture \
          alone. 'pmb profile' shows what a profile makes, or what is wrong with it.\n\n\
          Example:\n  echo 'S b0 A 21 A 00 A 18 A P' | ./pmb show --sample",
+        sample_flag(alloc),
     )?;
-    let checking = with_sampled(
+    let checking = with_leaf(
         alloc,
         showing,
         "check",
@@ -99,6 +105,7 @@ fn capture_command<'a>(alloc: Global) -> Result<Command<'a>, AllocError>
         "Standard input is a profile, a line '%%' and the capture, or with --sample the capture \
          alone. 'pmb profile' shows what a profile makes, or what is wrong with it.\n\n\
          Example:\n  echo 'S b0 A 03 A 47 A P' | ./pmb check --sample",
+        sample_flag(alloc),
     )?;
     checking.subcommand(json_command(alloc)?)
 }
@@ -118,51 +125,20 @@ fn top_command<'a>(alloc: Global) -> Command<'a>
         .arg_required_else_help(true)
 }
 
-// A command with `encode` or `decode` as one more subcommand.
-fn with_lines<'a>(
+// A command with one more subcommand, which has one argument.
+fn with_leaf<'a>(
     alloc: Global,
     command: Command<'a>,
     name: &'a str,
     about: &'a str,
     example: &'a str,
+    argument: Arg<'a>,
 ) -> Result<Command<'a>, AllocError>
-    ensures { IfOk result (λ extended. app_of extended ≡ with_subcommand (app_of command.entry) (lines_app name.entry.now).top) }
+    requires local { argument.global ≡ false }
+    ensures { IfOk result (λ extended. app_of extended ≡ with_subcommand (app_of command.entry) (with_rule (new_app name.entry.now) (rule_of argument.entry)).top) }
 {
-    command.subcommand(lines_command(alloc, name, about, example)?)
-}
-
-// A command with `show`, `check`, `build`, `run` or `profile` as one more subcommand.
-fn with_sampled<'a>(
-    alloc: Global,
-    command: Command<'a>,
-    name: &'a str,
-    about: &'a str,
-    example: &'a str,
-) -> Result<Command<'a>, AllocError>
-    ensures { IfOk result (λ extended. app_of extended ≡ with_subcommand (app_of command.entry) (sampled_app name.entry.now).top) }
-{
-    command.subcommand(sampled_command(alloc, name, about, example)?)
-}
-
-// `show`, `check`, `build`, `run` or `profile` with its flag.
-fn sampled_command<'a>(
-    alloc: Global,
-    name: &'a str,
-    about: &'a str,
-    example: &'a str,
-) -> Result<Command<'a>, AllocError>
-    ensures shape { IfOk result (λ command. app_of command ≡ sampled_app name.entry.now) }
-    ensures local { IfOk result (λ command. (fields_of command).has_globals ≡ false) }
-{
-    let sample = flag(
-        alloc,
-        "sample",
-        "Take the sample profile, and not one from the front of the input",
-    );
-    Command::new(alloc, name)
-        .about(about)
-        .after_help(example)
-        .arg(sample)
+    let leaf = bare_command(alloc, name, about, example).arg(argument)?;
+    command.subcommand(leaf)
 }
 
 // `json` with its flags.
@@ -170,12 +146,15 @@ fn json_command<'a>(alloc: Global) -> Result<Command<'a>, AllocError>
     ensures shape { IfOk result (λ command. app_of command ≡ json_app) }
     ensures local { IfOk result (λ command. (fields_of command).has_globals ≡ false) }
 {
-    bare_json_command(alloc)
-        .arg(flag(
-            alloc,
-            "sample",
-            "Take the sample profile, and not one from the front of the input",
-        ))?
+    let bare = bare_command(
+        alloc,
+        "json",
+        "Tells what a capture says, as lines of JSON",
+        "Standard input is a profile, a line '%%' and the capture, or with --sample the capture \
+         alone. 'pmb profile' shows what a profile makes, or what is wrong with it.\n\n\
+         Example:\n  echo 'S b0 A 21 A 00 A 18 A P' | ./pmb json --sample",
+    );
+    bare.arg(sample_flag(alloc))?
         .arg(flag(
             alloc,
             "late",
@@ -208,18 +187,24 @@ fn json_command<'a>(alloc: Global) -> Result<Command<'a>, AllocError>
         ))
 }
 
-// `json` without its flags.
-fn bare_json_command<'a>(alloc: Global) -> Command<'a>
-    ensures shape { app_of result ≡ new_app (codes "json") }
+// A subcommand without its arguments.
+fn bare_command<'a>(alloc: Global, name: &'a str, about: &'a str, example: &'a str) -> Command<'a>
+    ensures shape { app_of result ≡ new_app name.entry.now }
     ensures local { (fields_of result).has_globals ≡ false }
 {
-    Command::new(alloc, "json")
-        .about("Tells what a capture says, as lines of JSON")
-        .after_help(
-            "Standard input is a profile, a line '%%' and the capture, or with --sample the capture \
-             alone. 'pmb profile' shows what a profile makes, or what is wrong with it.\n\n\
-             Example:\n  echo 'S b0 A 21 A 00 A 18 A P' | ./pmb json --sample",
-        )
+    Command::new(alloc, name).about(about).after_help(example)
+}
+
+// The flag of all subcommands that work under a profile.
+fn sample_flag<'a>(alloc: Global) -> Arg<'a>
+    ensures rule { rule_of result ≡ sample }
+    ensures local { result.global ≡ false }
+{
+    flag(
+        alloc,
+        "sample",
+        "Take the sample profile, and not one from the front of the input",
+    )
 }
 
 // A flag.
@@ -251,27 +236,18 @@ fn valued<'a>(
         .help(help)
 }
 
-// `encode` or `decode` with its FORMAT.
-fn lines_command<'a>(
-    alloc: Global,
-    name: &'a str,
-    about: &'a str,
-    example: &'a str,
-) -> Result<Command<'a>, AllocError>
-    ensures shape { IfOk result (λ command. app_of command ≡ lines_app name.entry.now) }
-    ensures local { IfOk result (λ command. (fields_of command).has_globals ≡ false) }
+// The word FORMAT of `encode` and `decode`.
+fn format_word<'a>(alloc: Global) -> Arg<'a>
+    ensures rule { rule_of result ≡ format_rule }
+    ensures local { result.global ≡ false }
 {
-    let format = Arg::new(alloc, "FORMAT")
+    Arg::new(alloc, "FORMAT")
         .action(ArgAction::Set)
         .required(true)
         .help(
             "linear11, linear11:E, ulinear16:E, slinear16:E, vout:HH or direct:M,B,R: E is the \
              exponent, HH VOUT_MODE in two hexadecimal digits, and M, B, R are DIRECT's coefficients",
-        );
-    Command::new(alloc, name)
-        .about(about)
-        .after_help(example)
-        .arg(format)
+        )
 }
 
 // Whether the words are those of `encode` or `decode` with a FORMAT that begins with one `-`, which
@@ -287,8 +263,8 @@ fn has_flag_for_format<S: AsStr>(words: &[S]) -> bool {
     }
 }
 
-/// Tells what `clap` says of the words, and answers the exit status: help and the version on `out`, a
-/// fault on `err`. What it takes for an unknown flag in the place of FORMAT is told as a format.
+/// Writes what `clap` says of the words, and returns the exit status: help and the version on `out`,
+/// a fault on `err`. What it takes for an unknown flag in the place of FORMAT is reported as a format.
 pub(crate) fn tell_words<S: AsStr, W: Sink, E: Sink>(
     alloc: Global,
     words: &[S],
@@ -296,19 +272,12 @@ pub(crate) fn tell_words<S: AsStr, W: Sink, E: Sink>(
     out: &mut W,
     err: &mut E,
 ) -> Status
-    ensures not_refusals { result ≢ Status.Refusals }
-    ensures none_failed { result ≢ Status.IoFailed → (W.told out.new).failures ≡ (W.told out.old).failures }
-    ensures io_failed { result ≡ Status.IoFailed → (W.told out.new).failures ≡ raised (W.told out.old).failures 1 }
+    // Help and the version go to `out` alone, and a fault to `err`.
+    ensures wrote { WroteText W.told E.told (out.old, err.old) (out.new, err.new) result }
     ensures refused { (¬ IsTelling (kind_of error.now)) → (result ≡ Status.BadWords) ⊎ (result ≡ Status.NoMemory) }
     ensures told { IsTelling (kind_of error.now) → (result ≡ Status.Done) ⊎ (result ≡ Status.IoFailed) ⊎ (result ≡ Status.NoMemory) }
     ensures memory { kind_of error.now ≡ ErrorKind.OutOfMemory → result ≡ Status.NoMemory }
-    ensures refused_unwritten { (result ≡ Status.BadWords) ⊎ (result ≡ Status.NoMemory) → out.new ≡ out.old }
     ensures unwritten { (¬ IsTelling (kind_of error.now)) → out.new ≡ out.old }
-
-    // Help and the version go to `out` alone, and a fault to `err`.
-    ensures quiet { EndedWell result → err.new ≡ err.old }
-    ensures out_told { result ≡ Status.Done → Tells (W.told out.old) (W.told out.new) }
-    ensures err_told { Failed result → IsTold (E.told err.old) (E.told err.new) }
 {
     let kind = error.kind();
     if kind == ErrorKind::OutOfMemory {
@@ -328,16 +297,12 @@ pub(crate) fn tell_words<S: AsStr, W: Sink, E: Sink>(
     }
 }
 
-// Tells help or the version on `out`, and answers the exit status.
+// Writes help or the version on `out`, and returns the exit status.
 fn tell_about<W: Sink, E: Sink>(text: &str, out: &mut W, err: &mut E) -> Status
     requires some { text.now ≢ [] }
     ensures said { result ≡ Status.Done → Appends (W.told out.old).held (W.told out.new).held text.now }
     ensures told { (result ≡ Status.Done) ⊎ (result ≡ Status.IoFailed) }
-    ensures done { result ≡ Status.Done → (W.told out.new).failures ≡ (W.told out.old).failures }
-    ensures io_failed { result ≡ Status.IoFailed → (W.told out.new).failures ≡ raised (W.told out.old).failures 1 }
-    ensures quiet { EndedWell result → err.new ≡ err.old }
-    ensures out_told { result ≡ Status.Done → Tells (W.told out.old) (W.told out.new) }
-    ensures err_told { Failed result → IsTold (E.told err.old) (E.told err.new) }
+    ensures wrote { WroteText W.told E.told (out.old, err.old) (out.new, err.new) result }
 {
     match out.write_all(text.as_bytes()) {
         Ok(()) => Status::Done,
@@ -345,7 +310,7 @@ fn tell_about<W: Sink, E: Sink>(text: &str, out: &mut W, err: &mut E) -> Status
     }
 }
 
-// Tells a fault of the words on `err`, and answers the exit status.
+// Writes a fault of the words on `err`, and returns the exit status.
 fn tell_fault<E: Sink>(text: &str, err: &mut E) -> Status
     requires some { text.now ≢ [] }
     ensures status { result ≡ Status.BadWords }

@@ -1,12 +1,16 @@
 //! What may be done under a profile.
 
-/// What is done under a profile, mostly with what stands behind it.
-#[derive(Clone, Copy)]
+use crate::json_choice::JsonChoice;
+
+/// What is done under a profile, mostly with what comes after it.
+#[derive(Drop)]
 pub enum Work {
     /// A capture is shown.
     Show,
-    /// What is wrong in a capture is told, and how much of it.
+    /// What is wrong in a capture is reported, and how much of it.
     Check,
+    /// What a capture says is written in JSON.
+    Json(JsonChoice),
     /// Packets are built from lines.
     Build,
     /// Requests are run against simulated devices.

@@ -8,7 +8,7 @@ mod example;
 #[cfg(test)]
 mod faults;
 #[cfg(test)]
-mod large;
+mod long;
 #[cfg(test)]
 mod rows;
 #[cfg(test)]

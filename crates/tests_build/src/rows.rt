@@ -1,10 +1,8 @@
 //! Lines of all kinds, each run with what is written of it.
 
-use crate::runs::{built, in_bytes, tally_of};
-use pmb_io::Io;
+use crate::runs::Build;
+use harness::{tally_of, unlike_cut};
 use pmb_table::{Profile, SAMPLE};
-use std::alloc::Global;
-use std::process::Abort;
 use std::test::Fail;
 
 /// A name, the lines of a run, and what is written.
@@ -83,33 +81,21 @@ static WIDE_ROWS: [Row; 4] = [
     ("a byte of four", "write 10 e0 01\n", "# line 1: WrongLength\n"),
 ];
 
-/// Runs each row whole, byte by byte, and with each front of its bytes read before.
-fn check_rows(rt: &impl Abort, alloc: Global, profile: &Profile, rows: &[Row]) {
-    for &(name, lines, written) in rows {
-        let answer = Ok(tally_of(written));
-        let written = written.as_bytes();
-        let whole = built(alloc, profile, b"", &mut Io::new(lines.as_bytes()));
-        whole.check(rt, name, "whole", answer, written);
-        let bytes = built(alloc, profile, b"", &mut in_bytes(lines.as_bytes()));
-        bytes.check(rt, name, "byte by byte", answer, written);
-        for at in 0..lines.len() + 1 {
-            let (first, rest) = lines.as_bytes().split_at(at);
-            let ran = built(alloc, profile, first, &mut Io::new(rest));
-            ran.check(rt, name, "in two parts", answer, written);
+#[test]
+fn builds_each_row(rt: HostRuntime) -> Result<(), Fail> {
+    for (text, rows) in [(SAMPLE, sample_rows()), (WIDE, &WIDE_ROWS)] {
+        let profile = Profile::from_toml(rt.alloc(), text.as_bytes())?;
+        for &(name, lines, written) in rows {
+            let (lines, answer) = (lines.as_bytes(), Ok(tally_of(written)));
+            let ran = unlike_cut(
+                rt.alloc(),
+                &Build(rt.alloc(), &profile),
+                lines,
+                answer,
+                written.as_bytes(),
+            )?;
+            assert!(rt; ran.is_none(), "{name}: {ran:?}");
         }
     }
-}
-
-#[test]
-fn builds_each_row_under_the_sample(rt: HostRuntime) -> Result<(), Fail> {
-    let profile = Profile::from_toml(rt.alloc(), SAMPLE.as_bytes())?;
-    check_rows(&rt, rt.alloc(), &profile, sample_rows());
-    Ok(())
-}
-
-#[test]
-fn builds_each_row_of_wide_forms(rt: HostRuntime) -> Result<(), Fail> {
-    let profile = Profile::from_toml(rt.alloc(), WIDE.as_bytes())?;
-    check_rows(&rt, rt.alloc(), &profile, &WIDE_ROWS);
     Ok(())
 }

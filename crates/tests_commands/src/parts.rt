@@ -49,119 +49,32 @@ struct Row(&'static str, Parts, Option<&'static [u8]>);
 
 // With a name a key replaces a part of the standard command; with a code nothing is taken from it,
 // not even where it has one.
+#[rattlefmt::skip]
 static COMMANDS: [Row; 24] = [
     Row("name = 'READ_VIN'", READ_VIN, None),
     Row("name = 'PAGE'", PAGE, None),
-    Row(
-        "name = 'READ_VIN', write = 'two', initial = 'Ff0a'",
-        Parts(0x88, "READ_VIN", WORD, Linear11, true),
-        Some(b"\xff\x0a"),
-    ),
-    Row(
-        "name = 'READ_VIN', kind = 'direct', m = -32768, b = 32767, r = 9, paged = false",
-        Parts(0x88, "READ_VIN", READ_WORD, Direct(-32768, 32767, 9), false),
-        None,
-    ),
-    Row(
-        "name = 'VOUT_COMMAND', kind = 'vout_signed', read = 'none', call = 'block'",
-        Parts(0x21, "VOUT_COMMAND", MASK, VoutSigned, true),
-        None,
-    ),
-    Row(
-        "name = 'SMBALERT_MASK', call = 'none'",
-        Parts(0x1b, "SMBALERT_MASK", WRITE_WORD, Raw, false),
-        None,
-    ),
-    Row(
-        "name = 'MFR_ID', initial = '504d42'",
-        Parts(0x99, "MFR_ID", BLOCK, Raw, false),
-        Some(b"PMB"),
-    ),
-    Row(
-        "name = 'STATUS_WORD', paged = false, initial = '4088'",
-        Parts(0x79, "STATUS_WORD", WORD, Status, false),
-        Some(b"\x40\x88"),
-    ),
-    Row(
-        "code = 0x20, read = 'one'",
-        Parts(0x20, "CMD_20", READ_BYTE, Raw, false),
-        None,
-    ),
-    Row(
-        "code = 0x88, name = 'READ_VIN', read = 'one'",
-        Parts(0x88, "READ_VIN", READ_BYTE, Raw, false),
-        None,
-    ),
-    Row(
-        "code = 10, call = 'two'",
-        Parts(0x0a, "CMD_0a", CALL_WORD, Raw, false),
-        None,
-    ),
-    Row(
-        "code = 255, read = 'block', kind = 'raw', paged = true, initial = ''",
-        Parts(0xff, "CMD_ff", READ_BLOCK, Raw, true),
-        Some(b""),
-    ),
-    Row(
-        "initial = 'a5', kind = 'status', read = 'one', write = 'zero', name = 'A_1', code = 0xd0",
-        Parts(0xd0, "A_1", SEND_AND_READ_BYTE, Status, false),
-        Some(b"\xa5"),
-    ),
-    Row(
-        "code = 0xd0, write = 'two', call = 'block', kind = 'vout'",
-        Parts(0xd0, "CMD_d0", MASK, Vout, false),
-        None,
-    ),
-    Row(
-        "code = 0xaf, write = 'block'",
-        Parts(0xaf, "CMD_af", WRITE_BLOCK, Raw, false),
-        None,
-    ),
-    Row(
-        "code = 0xd0, name = 'RATIO', write = 'two', read = 'two', kind = 'direct', m = 3, b = 2, r = 1, paged = true, initial = '0102'",
-        Parts(0xd0, "RATIO", WORD, Direct(3, 2, 1), true),
-        Some(b"\x01\x02"),
-    ),
-    Row(
-        "code = 0xe0, write = 'four', read = 'four', initial = '01020304'",
-        Parts(0xe0, "CMD_e0", FOUR, Raw, false),
-        Some(b"\x01\x02\x03\x04"),
-    ),
-    Row(
-        "code = 0xe1, read = 'eight', paged = true, initial = '0102030405060708'",
-        Parts(0xe1, "CMD_e1", READ_EIGHT, Raw, true),
-        Some(b"\x01\x02\x03\x04\x05\x06\x07\x08"),
-    ),
-    Row(
-        "code = 0xe2, name = 'SNAPSHOT', write = 'zero', read = 'four', call = 'block'",
-        Parts(0xe2, "SNAPSHOT", SNAPSHOT, Raw, false),
-        None,
-    ),
-    Row(
-        "name = 'READ_VIN', write = 'eight', read = 'none', kind = 'raw'",
-        Parts(0x88, "READ_VIN", WRITE_EIGHT, Raw, true),
-        None,
-    ),
-    Row(
-        "name = 'VIN_ON', exponent = -3",
-        Parts(0x35, "VIN_ON", WORD, Linear11Fixed(-3), true),
-        None,
-    ),
-    Row(
-        "name = 'VIN_ON', exponent = -16, paged = false, initial = '0080'",
-        Parts(0x35, "VIN_ON", WORD, Linear11Fixed(-16), false),
-        Some(b"\x00\x80"),
-    ),
-    Row(
-        "code = 0xd0, read = 'two', kind = 'linear11', exponent = 15",
-        Parts(0xd0, "CMD_d0", READ_WORD, Linear11Fixed(15), false),
-        None,
-    ),
-    Row(
-        "exponent = 0, name = 'VOUT_COMMAND', kind = 'linear11'",
-        Parts(0x21, "VOUT_COMMAND", WORD, Linear11Fixed(0), true),
-        None,
-    ),
+    Row("name = 'READ_VIN', write = 'two', initial = 'Ff0a'", Parts(0x88, "READ_VIN", WORD, Linear11, true), Some(b"\xff\x0a")),
+    Row("name = 'READ_VIN', kind = 'direct', m = -32768, b = 32767, r = 9, paged = false", Parts(0x88, "READ_VIN", READ_WORD, Direct(-32768, 32767, 9), false), None),
+    Row("name = 'VOUT_COMMAND', kind = 'vout_signed', read = 'none', call = 'block'", Parts(0x21, "VOUT_COMMAND", MASK, VoutSigned, true), None),
+    Row("name = 'SMBALERT_MASK', call = 'none'", Parts(0x1b, "SMBALERT_MASK", WRITE_WORD, Raw, false), None),
+    Row("name = 'MFR_ID', initial = '504d42'", Parts(0x99, "MFR_ID", BLOCK, Raw, false), Some(b"PMB")),
+    Row("name = 'STATUS_WORD', paged = false, initial = '4088'", Parts(0x79, "STATUS_WORD", WORD, Status, false), Some(b"\x40\x88")),
+    Row("code = 0x20, read = 'one'", Parts(0x20, "CMD_20", READ_BYTE, Raw, false), None),
+    Row("code = 0x88, name = 'READ_VIN', read = 'one'", Parts(0x88, "READ_VIN", READ_BYTE, Raw, false), None),
+    Row("code = 10, call = 'two'", Parts(0x0a, "CMD_0a", CALL_WORD, Raw, false), None),
+    Row("code = 255, read = 'block', kind = 'raw', paged = true, initial = ''", Parts(0xff, "CMD_ff", READ_BLOCK, Raw, true), Some(b"")),
+    Row("initial = 'a5', kind = 'status', read = 'one', write = 'zero', name = 'A_1', code = 0xd0", Parts(0xd0, "A_1", SEND_AND_READ_BYTE, Status, false), Some(b"\xa5")),
+    Row("code = 0xd0, write = 'two', call = 'block', kind = 'vout'", Parts(0xd0, "CMD_d0", MASK, Vout, false), None),
+    Row("code = 0xaf, write = 'block'", Parts(0xaf, "CMD_af", WRITE_BLOCK, Raw, false), None),
+    Row("code = 0xd0, name = 'RATIO', write = 'two', read = 'two', kind = 'direct', m = 3, b = 2, r = 1, paged = true, initial = '0102'", Parts(0xd0, "RATIO", WORD, Direct(3, 2, 1), true), Some(b"\x01\x02")),
+    Row("code = 0xe0, write = 'four', read = 'four', initial = '01020304'", Parts(0xe0, "CMD_e0", FOUR, Raw, false), Some(b"\x01\x02\x03\x04")),
+    Row("code = 0xe1, read = 'eight', paged = true, initial = '0102030405060708'", Parts(0xe1, "CMD_e1", READ_EIGHT, Raw, true), Some(b"\x01\x02\x03\x04\x05\x06\x07\x08")),
+    Row("code = 0xe2, name = 'SNAPSHOT', write = 'zero', read = 'four', call = 'block'", Parts(0xe2, "SNAPSHOT", SNAPSHOT, Raw, false), None),
+    Row("name = 'READ_VIN', write = 'eight', read = 'none', kind = 'raw'", Parts(0x88, "READ_VIN", WRITE_EIGHT, Raw, true), None),
+    Row("name = 'VIN_ON', exponent = -3", Parts(0x35, "VIN_ON", WORD, Linear11Fixed(-3), true), None),
+    Row("name = 'VIN_ON', exponent = -16, paged = false, initial = '0080'", Parts(0x35, "VIN_ON", WORD, Linear11Fixed(-16), false), Some(b"\x00\x80")),
+    Row("code = 0xd0, read = 'two', kind = 'linear11', exponent = 15", Parts(0xd0, "CMD_d0", READ_WORD, Linear11Fixed(15), false), None),
+    Row("exponent = 0, name = 'VOUT_COMMAND', kind = 'linear11'", Parts(0x21, "VOUT_COMMAND", WORD, Linear11Fixed(0), true), None),
 ];
 
 #[test]

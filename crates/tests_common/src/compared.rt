@@ -4,6 +4,7 @@
 use plain_packets::{CapturedRow, LONG, LONG_FORMS, PACKETS, REFUSALS, events};
 use pmb_bus::{Event, Lexer, Step, event_text};
 use pmb_common::Common;
+use pmb_kept::Kept;
 use pmb_line::line_of;
 use pmb_reader::{Reader, Took};
 use pmb_table::{Profile, SAMPLE};
@@ -43,22 +44,27 @@ fn first_packet<'p>(reader: &mut Reader<'p>, text: &[u8]) -> Option<(usize, usiz
 /// Whether a transaction's packet is one that is taken at once.
 fn is_common(transaction: &Transaction) -> bool {
     match transaction {
-        Transaction::Write { parts } => parts.len() == 1,
-        Transaction::Read { .. } | Transaction::Call { .. } => true,
+        Transaction::Write { .. } | Transaction::Read { .. } | Transaction::Call { .. } => true,
         Transaction::Refused { .. } | Transaction::Alert { .. } | Transaction::NoAlert => false,
     }
 }
 
 /// Whether both ways agree in front of a text.
-fn agree<R: Abort>(rt: &R, profile: &Profile, common: &mut Common, text: &[u8]) -> usize {
+fn agree<R: Abort>(
+    rt: &R,
+    profile: &Profile,
+    common: &mut Common,
+    kept: &mut Kept,
+    text: &[u8],
+) -> usize {
     let mut reader = Reader::new(profile);
     let slow = first_packet(&mut reader, text);
-    let fast = common.take(profile, text);
+    let fast = common.take(kept, profile, text);
     match (slow, fast) {
         (Some((used, count)), Some(taken)) => {
             assert_eq!(rt; taken.used, used);
             assert_eq!(rt; taken.events, count);
-            let fast_line = line_of(common.packet());
+            let fast_line = line_of(kept.last());
             assert_eq!(rt; line_of(reader.packet()).as_str(), fast_line.as_str());
             1
         }
@@ -85,6 +91,7 @@ fn compare<R: Abort>(
 ) -> Result<usize, Fail> {
     let profile = Profile::from_toml(alloc, profile.as_bytes())?;
     let mut common = Common::new();
+    let mut kept = Kept::new();
     let mut taken = 0usize;
     for row in rows {
         let (capture, _) = *row;
@@ -92,7 +99,13 @@ fn compare<R: Abort>(
         for from in 0..=events.len() {
             let (_, rest) = events.as_slice().split_at(from);
             let text = text_of(alloc, rest)?;
-            taken = taken.saturating_add(agree(rt, &profile, &mut common, text.as_bytes()));
+            taken = taken.saturating_add(agree(
+                rt,
+                &profile,
+                &mut common,
+                &mut kept,
+                text.as_bytes(),
+            ));
         }
     }
     Ok(taken)

@@ -1,6 +1,7 @@
 //! The program of `pmb_common`'s documentation, and its law.
 
 use pmb_common::{Common, Taken, laws};
+use pmb_kept::Kept;
 use pmb_line::line_of;
 use pmb_table::{Profile, SAMPLE};
 use std::test::Fail;
@@ -9,7 +10,8 @@ use std::test::Fail;
 fn takes_a_write(rt: HostRuntime) -> Result<(), Fail> {
     let profile = Profile::from_toml(rt.alloc(), SAMPLE.as_bytes())?;
     let mut common = Common::new();
-    let taken = common.take(&profile, b"S b0 A 03 A P\nS b0 ");
+    let mut kept = Kept::new();
+    let taken = common.take(&mut kept, &profile, b"S b0 A 03 A P\nS b0 ");
     assert_eq!(rt;
         taken,
         Some(Taken {
@@ -17,8 +19,8 @@ fn takes_a_write(rt: HostRuntime) -> Result<(), Fail> {
             events: 6
         })
     );
-    assert_eq!(rt; line_of(common.packet()).as_str(), "write 58 03");
-    assert_eq!(rt; common.take(&profile, b"S b0 "), None);
+    assert_eq!(rt; line_of(kept.last()).as_str(), "write 58 03");
+    assert_eq!(rt; common.take(&mut kept, &profile, b"S b0 "), None);
     Ok(())
 }
 

@@ -1,18 +1,20 @@
 //! Packets by hand, and texts in front of which none is taken.
 //!
-//! On the sample's bus stands a device at 58h whose address bytes are b0 and b1, with packet error
-//! codes allowed. The codes are those of CRC-8 over the bytes in front of them (SMBus 3.0 section 6.4).
+//! On the sample's bus stand a device at 58h whose address bytes are b0 and b1, with packet error
+//! codes allowed, one at 59h without, and one at 5ah that wants them. The codes are those of CRC-8 over
+//! the bytes in front of them (SMBus 3.0 section 6.4), in a group over those of their own part.
 
 use pmb_common::{Common, Taken};
+use pmb_kept::Kept;
 use pmb_line::line_of;
 use pmb_table::{Profile, SAMPLE};
-use std::process::Abort;
+use std::alloc::{AllocError, Global};
 use std::test::Fail;
 
 /// A text, what is taken of it, and the line of the transaction.
 type Row = (&'static str, usize, usize, &'static str);
 
-const TAKEN: [Row; 7] = [
+const TAKEN: [Row; 10] = [
     ("S b0 A 03 A P\n", 14, 6, "write 58 03"),
     ("S b0 A 03 A 46 A P\nS b0", 19, 8, "write 58 03 pec"),
     ("S b0 A 21 A 00 A 10 A P\n", 24, 10, "write 58 21 00 10"),
@@ -40,9 +42,27 @@ const TAKEN: [Row; 7] = [
         27,
         "call 58 30 d0 01 : 03 00 02 00 01",
     ),
+    (
+        "S b0 A 03 A S b2 A 03 A P\nS",
+        26,
+        11,
+        "write 58 03 + 59 03",
+    ),
+    (
+        "S b0 A 21 A 00 A 10 A c0 A S b4 A 03 A 12 A S b2 A 00 A 01 A P\n",
+        63,
+        26,
+        "write 58 21 00 10 pec + 5a 03 pec + 59 00 01",
+    ),
+    (
+        "S b4 A 99 A 02 A 41 A 42 A ef A S b0 A 03 A P\n",
+        46,
+        19,
+        "write 5a 99 41 42 pec + 58 03",
+    ),
 ];
 
-const NOT_TAKEN: [&str; 26] = [
+const NOT_TAKEN: [&str; 40] = [
     "",
     "S",
     "S b0 A 03 A P",
@@ -62,8 +82,29 @@ const NOT_TAKEN: [&str; 26] = [
     "S ae A 03 A P\n",
     // another device is read than was asked
     "S b0 A 88 A S b3 A 00 A 08 N P\n",
-    // a group
-    "S b0 A 03 A S b2 A 03 A P\n",
+    // a group with a second part for one device
+    "S b0 A 03 A S b2 A 03 A S b0 A 03 A P\n",
+    "S b0 A 03 A S b0 A 03 A P\n",
+    // the packet error code of its first part is 46, that of its second part 12
+    "S b0 A 03 A 47 A S b4 A 03 A 12 A P\n",
+    "S b0 A 03 A 46 A S b4 A 03 A 13 A P\n",
+    // that of both parts together is 37
+    "S b0 A 03 A S b4 A 03 A 37 A P\n",
+    // none is sent to a device that wants one, and one to a device that knows none
+    "S b0 A 03 A S b4 A 03 A P\n",
+    "S b0 A 03 A S b2 A 03 A 6c A P\n",
+    // a part for a device that isn't there, and parts without a code and without an address
+    "S b0 A 03 A S ae A 03 A P\n",
+    "S b0 A 03 A S b2 A P\n",
+    "S b0 A 03 A S P\n",
+    // a group that is cut off, and one whose last byte is not acknowledged
+    "S b0 A 03 A S b2 A 03 A P",
+    "S b0 A 03 A S b2 A 03 A ",
+    "S b0 A 03 A S b2 A 03 N P\n",
+    // a read behind a part
+    "S b0 A 03 A S b2 A 88 A S b3 A 00 A 08 N P\n",
+    // a part behind what looks like a read
+    "S b0 A 88 A S b1 A 00 A 08 N S b2 A 03 A P\n",
     // data too many, and too few
     "S b0 A 21 A 00 A 10 A 00 A 00 A P\n",
     "S b0 A 21 A 00 A P\n",
@@ -89,23 +130,71 @@ const NOT_TAKEN: [&str; 26] = [
 fn takes_each_row(rt: HostRuntime) -> Result<(), Fail> {
     let profile = Profile::from_toml(rt.alloc(), SAMPLE.as_bytes())?;
     let mut common = Common::new();
+    let mut kept = Kept::new();
     for (text, used, events, line) in TAKEN {
-        let taken = common.take(&profile, text.as_bytes());
+        let taken = common.take(&mut kept, &profile, text.as_bytes());
         assert_eq!(rt; taken, Some(Taken { used, events }), "{text}");
-        assert_eq!(rt; line_of(common.packet()).as_str(), line, "{text}");
+        assert_eq!(rt; line_of(kept.last()).as_str(), line, "{text}");
     }
     Ok(())
 }
 
 #[test]
-fn a_failed_try_changes_nothing(rt: HostRuntime) -> Result<(), Fail> {
+fn leaves_each_row(rt: HostRuntime) -> Result<(), Fail> {
     let profile = Profile::from_toml(rt.alloc(), SAMPLE.as_bytes())?;
     let mut common = Common::new();
-    let _ = common.take(&profile, b"S b0 A 03 A P\n");
+    let mut kept = Kept::new();
     for text in NOT_TAKEN {
-        assert_eq!(rt; common.take(&profile, text.as_bytes()), None, "{text}");
-        assert_eq!(rt; line_of(common.packet()).as_str(), "write 58 03", "{text}");
+        assert_eq!(rt;
+            common.take(&mut kept, &profile, text.as_bytes()),
+            None,
+            "{text}"
+        );
     }
+    Ok(())
+}
+
+/// The device of each of so many address bytes, from 20 on.
+fn devices(alloc: Global, count: u8) -> Result<String, AllocError> {
+    let mut text = String::new(alloc);
+    for index in 0..count {
+        let address = index.wrapping_add(0x10);
+        let device = format!(in alloc; "[[device]]\naddress = {address}\npec = \"off\"\n")?;
+        text.push_str(device.as_str())?;
+    }
+    Ok(text)
+}
+
+/// A group of so many parts, to the devices with these address bytes.
+fn group(alloc: Global, count: u8) -> Result<String, AllocError> {
+    let mut text = String::new(alloc);
+    for index in 0..count {
+        let to_write = index.wrapping_add(0x10).wrapping_mul(2);
+        let part = format!(in alloc; "S {to_write:02x} A 03 A ")?;
+        text.push_str(part.as_str())?;
+    }
+    text.push_str("P\n")?;
+    Ok(text)
+}
+
+#[test]
+fn takes_sixteen_parts(rt: HostRuntime) -> Result<(), Fail> {
+    let alloc = rt.alloc();
+    let profile = Profile::from_toml(alloc, devices(alloc, 17)?.as_bytes())?;
+    let mut common = Common::new();
+    let mut kept = Kept::new();
+    let sixteen = Taken {
+        used: 194,
+        events: 81,
+    };
+    assert_eq!(rt;
+        common.take(&mut kept, &profile, group(alloc, 16)?.as_bytes()),
+        Some(sixteen)
+    );
+    assert_eq!(rt;
+        common.take(&mut kept, &profile, group(alloc, 17)?.as_bytes()),
+        None
+    );
     Ok(())
 }
 
@@ -117,6 +206,7 @@ const FULL_BLOCKS_PEC: &str = "ad";
 fn takes_two_full_blocks(rt: HostRuntime) -> Result<(), Fail> {
     let profile = Profile::from_toml(rt.alloc(), SAMPLE.as_bytes())?;
     let mut common = Common::new();
+    let mut kept = Kept::new();
     let mut text = String::new(rt.alloc());
     text.push_str("S b0 A 30 A ff A ")?;
     for _ in 0..255 {
@@ -130,7 +220,7 @@ fn takes_two_full_blocks(rt: HostRuntime) -> Result<(), Fail> {
     text.push_str(" N P\n")?;
     // 516 bytes, each with ACK or NACK in five characters, two STARTs and a STOP, of two each
     assert_eq!(rt;
-        common.take(&profile, text.as_bytes()),
+        common.take(&mut kept, &profile, text.as_bytes()),
         Some(Taken {
             used: 2586,
             events: 1035

@@ -1,27 +1,26 @@
 //! Readers and writers that fail at each of their calls.
 use crate::lines::ROWS;
-use crate::runs::{first_lines, line_feeds, over, to_failing};
-use pmb_io::{Failing, Io, ToolFault};
+use crate::runs::{first_lines, line_feeds};
+use harness::{Way, run_in};
+use pmb_io::ToolFault;
 use std::test::Fail;
 
 // The reads before the failing one give a byte each: what ended in those is answered.
 #[test]
 fn each_read_fails(rt: HostRuntime) -> Result<(), Fail> {
     for row in &ROWS {
-        let name = row.name;
         let bytes = row.bytes(rt.alloc())?;
-        for call in 0..bytes.len() + 1 {
-            let mut reader = Failing::new(Io::new(bytes.as_slice()));
-            reader.give_at_most(1);
-            reader.fail_after(call as u64);
-            let ran = over(rt.alloc(), row, b"", &mut reader);
-            assert_eq!(rt;
-                ran.answer,
-                Some(Err(ToolFault::Read)),
-                "{name}, read {call}"
+        for call in 0..=bytes.len() {
+            let ran = run_in(
+                rt.alloc(),
+                row,
+                bytes.as_slice(),
+                Way::FailingRead(call as u64),
             );
             let answers = first_lines(row.written.as_bytes(), line_feeds(&bytes[..call]));
-            assert_eq!(rt; ran.written.as_slice(), answers, "{name}, read {call}");
+            let parts = (ran.answer, ran.written.as_slice());
+            let told = (Some(Err(ToolFault::Read)), answers);
+            assert_eq!(rt; parts, told, "{}, read {call} fails", row.name);
         }
     }
     Ok(())
@@ -34,19 +33,22 @@ const MOST_ANSWERS: usize = 8;
 #[test]
 fn each_write_fails(rt: HostRuntime) -> Result<(), Fail> {
     for row in &ROWS {
-        let name = row.name;
         let bytes = row.bytes(rt.alloc())?;
         let answers = line_feeds(row.written.as_bytes());
-        for call in 0..MOST_ANSWERS + 1 {
-            let mut reader = Failing::new(Io::new(bytes.as_slice()));
-            reader.give_at_most(1);
-            let wanted = if call < answers {
-                Err(ToolFault::Write)
-            } else {
+        for call in 0..=MOST_ANSWERS {
+            let ran = run_in(
+                rt.alloc(),
+                row,
+                bytes.as_slice(),
+                Way::FailingWrite(call as u64),
+            );
+            let is_written = call >= answers;
+            let told = if is_written {
                 Ok(row.tally())
+            } else {
+                Err(ToolFault::Write)
             };
-            let answer = to_failing(rt.alloc(), row, &mut reader, call as u64);
-            assert_eq!(rt; answer, Some(wanted), "{name}, write {call}");
+            assert_eq!(rt; ran.answer, Some(told), "{}, write {call} fails", row.name);
         }
     }
     Ok(())

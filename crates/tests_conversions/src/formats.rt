@@ -3,38 +3,19 @@ use pmb_convert::{FormatFault, NumberFormat, laws, parse_format};
 use pmb_value::{Format, Quantity, Steps};
 
 // A name, a FORMAT, and what is wrong with it.
+#[rattlefmt::skip]
 static FAULTS: [(&str, &str, FormatFault); 44] = [
     ("nothing", "", FormatFault::BadFormat),
     ("a word cut short", "linear", FormatFault::BadFormat),
     ("upper case", "LINEAR11", FormatFault::BadFormat),
     ("a colon behind it", "linear11:", FormatFault::BadFormat),
     ("a blank behind it", "linear11 ", FormatFault::BadFormat),
-    (
-        "an exponent in letters",
-        "linear11:x",
-        FormatFault::BadFormat,
-    ),
-    (
-        "an exponent with a plus",
-        "linear11:+3",
-        FormatFault::BadFormat,
-    ),
-    (
-        "an exponent over an i8",
-        "linear11:128",
-        FormatFault::BadFormat,
-    ),
+    ("an exponent in letters", "linear11:x", FormatFault::BadFormat),
+    ("an exponent with a plus", "linear11:+3", FormatFault::BadFormat),
+    ("an exponent over an i8", "linear11:128", FormatFault::BadFormat),
     ("an exponent of 16", "linear11:16", FormatFault::BadExponent),
-    (
-        "an exponent of -17",
-        "linear11:-17",
-        FormatFault::BadExponent,
-    ),
-    (
-        "the least i8 as exponent",
-        "linear11:-128",
-        FormatFault::BadExponent,
-    ),
+    ("an exponent of -17", "linear11:-17", FormatFault::BadExponent),
+    ("the least i8 as exponent", "linear11:-128", FormatFault::BadExponent),
     ("no colon", "ulinear16", FormatFault::BadFormat),
     ("no exponent", "ulinear16:", FormatFault::BadFormat),
     ("a plus", "ulinear16:+1", FormatFault::BadFormat),
@@ -44,50 +25,22 @@ static FAULTS: [(&str, &str, FormatFault); 44] = [
     ("two exponents", "ulinear16:1,1", FormatFault::BadFormat),
     ("over an i8", "ulinear16:128", FormatFault::BadFormat),
     ("under an i8", "ulinear16:-129", FormatFault::BadFormat),
-    (
-        "over the exponents",
-        "ulinear16:16",
-        FormatFault::BadExponent,
-    ),
-    (
-        "under the exponents",
-        "ulinear16:-17",
-        FormatFault::BadExponent,
-    ),
+    ("over the exponents", "ulinear16:16", FormatFault::BadExponent),
+    ("under the exponents", "ulinear16:-17", FormatFault::BadExponent),
     ("greatest i8", "slinear16:127", FormatFault::BadExponent),
     ("least i8", "slinear16:-128", FormatFault::BadExponent),
     ("far over an i8", "slinear16:256", FormatFault::BadFormat),
     ("two coefficients", "direct:1,0", FormatFault::BadFormat),
-    (
-        "four coefficients",
-        "direct:1,0,0,0",
-        FormatFault::BadFormat,
-    ),
-    (
-        "an empty coefficient",
-        "direct:1,,0",
-        FormatFault::BadFormat,
-    ),
+    ("four coefficients", "direct:1,0,0,0", FormatFault::BadFormat),
+    ("an empty coefficient", "direct:1,,0", FormatFault::BadFormat),
     ("over an i16", "direct:32768,0,0", FormatFault::BadFormat),
-    (
-        "range before slope",
-        "direct:0,-32769,10",
-        FormatFault::BadFormat,
-    ),
+    ("range before slope", "direct:0,-32769,10", FormatFault::BadFormat),
     ("scale over an i8", "direct:0,0,128", FormatFault::BadFormat),
     ("a scale in letters", "direct:0,0,x", FormatFault::BadFormat),
-    (
-        "slope before scale",
-        "direct:0,0,10",
-        FormatFault::ZeroSlope,
-    ),
+    ("slope before scale", "direct:0,0,10", FormatFault::ZeroSlope),
     ("minus zero", "direct:-0,-32768,0", FormatFault::ZeroSlope),
     ("over the scales", "direct:1,0,10", FormatFault::BadScale),
-    (
-        "under the scales",
-        "direct:-32768,32767,-10",
-        FormatFault::BadScale,
-    ),
+    ("under the scales", "direct:-32768,32767,-10", FormatFault::BadScale),
     ("one digit", "vout:1", FormatFault::BadFormat),
     ("three digits", "vout:170", FormatFault::BadFormat),
     ("no digit", "vout:g7", FormatFault::BadFormat),
@@ -136,6 +89,7 @@ fn both_ways(format: &str, text: &str, code: u16) -> bool {
 }
 
 // A name, a FORMAT, a quantity and its code.
+#[rattlefmt::skip]
 static CODES: [(&str, &str, &str, u16); 11] = [
     ("LINEAR11", "linear11", "12", 0xd300),
     ("one exponent", "linear11:-3", "12", 0xe860),
@@ -143,21 +97,11 @@ static CODES: [(&str, &str, &str, u16); 11] = [
     ("the greatest one", "linear11:15", "33521664", 0x7bff),
     ("ULINEAR16", "ulinear16:-9", "12", 0x1800),
     ("zeros in front", "ulinear16:-009", "12", 0x1800),
-    (
-        "the least exponent",
-        "slinear16:-16",
-        "0.0000152587890625",
-        0x0001,
-    ),
+    ("the least exponent", "slinear16:-16", "0.0000152587890625", 0x0001),
     ("VOUT_MODE", "vout:17", "12", 0x1800),
     ("VOUT_MODE in upper case", "vout:0F", "32768", 0x0001),
     ("DIRECT", "direct:3,2,1", "1", 0x0032),
-    (
-        "the greatest coefficients",
-        "direct:-32768,32767,-9",
-        "0.999969482421875",
-        0x0000,
-    ),
+    ("the greatest coefficients", "direct:-32768,32767,-9", "0.999969482421875", 0x0000),
 ];
 
 #[test]

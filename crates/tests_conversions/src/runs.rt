@@ -1,8 +1,8 @@
 //! What a run over lines comes to.
 use crate::lines::Row;
+use harness::Told;
 use pmb_convert::{decode_lines, encode_lines, parse_format};
-use pmb_io::{Failing, Io, Sink, Source, Tally, ToolFault};
-use std::alloc::Global;
+use pmb_io::{Sink, Source};
 
 /// What is done with the lines of a row.
 #[derive(Clone, Copy)]
@@ -11,48 +11,17 @@ pub(crate) enum Task {
     Decode,
 }
 
-/// What a run answered, nothing for a FORMAT that names no format, and what was written.
-#[derive(Drop)]
-pub(crate) struct Ran {
-    pub(crate) answer: Option<Result<Tally, ToolFault>>,
-    pub(crate) written: Vec<u8>,
-}
+impl harness::Task for Row {
+    /// Nothing for a FORMAT that names no format.
+    type Answer = Option<Told>;
 
-/// Runs a task over the bytes `first` and those that a reader gives.
-fn run<R: Source, W: Sink>(
-    task: Task,
-    format: &str,
-    first: &[u8],
-    reader: &mut R,
-    writer: &mut W,
-) -> Option<Result<Tally, ToolFault>> {
-    match (task, parse_format(format)) {
-        (Task::Encode, Ok(format)) => Some(encode_lines(format, first, reader, writer)),
-        (Task::Decode, Ok(format)) => Some(decode_lines(format, first, reader, writer)),
-        (_, Err(_)) => None,
+    fn run<R: Source, W: Sink>(&self, first: &[u8], from: &mut R, to: &mut W) -> Option<Told> {
+        match (self.task, parse_format(self.format)) {
+            (Task::Encode, Ok(format)) => Some(encode_lines(format, first, from, to)),
+            (Task::Decode, Ok(format)) => Some(decode_lines(format, first, from, to)),
+            (_, Err(_)) => None,
+        }
     }
-}
-
-/// Runs a row's task over some bytes and a reader of others.
-pub(crate) fn over<R: Source>(alloc: Global, row: &Row, first: &[u8], reader: &mut R) -> Ran {
-    let mut writer = Io::new(Vec::new(alloc));
-    let answer = run(row.task, row.format, first, reader, &mut writer);
-    Ran {
-        answer,
-        written: writer.into_inner(),
-    }
-}
-
-/// Runs a row's task over a reader, with a writer whose call behind so many others fails.
-pub(crate) fn to_failing<R: Source>(
-    alloc: Global,
-    row: &Row,
-    reader: &mut R,
-    calls: u64,
-) -> Option<Result<Tally, ToolFault>> {
-    let mut writer = Failing::new(Io::new(Vec::new(alloc)));
-    writer.fail_after(calls);
-    run(row.task, row.format, b"", reader, &mut writer)
 }
 
 /// How many LFs a text has.

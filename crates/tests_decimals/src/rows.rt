@@ -7,6 +7,7 @@ use pmb_quantity::Quantity;
 const GREATEST: i64 = 4_611_686_018_427_387_903;
 
 /// A name, a numerator, a denominator, the number of digits, and the text.
+#[rattlefmt::skip]
 static ROWS: [(&str, i64, i64, u8, &str); 46] = [
     ("zero", 0, 1, 6, "0"),
     ("zero without digits", 0, 1, 0, "0"),
@@ -42,48 +43,18 @@ static ROWS: [(&str, i64, i64, u8, &str); 46] = [
     ("zeros at the end", 9_999_996, 10_000_000, 2, "1"),
     ("a zero in between", 5_040_000, 1_000_000, 6, "5.04"),
     ("zeros after the point", 1_000_001, 1_000_000, 6, "1.000001"),
-    (
-        "zeros that are rounded away",
-        10_000_001,
-        10_000_000,
-        6,
-        "1",
-    ),
+    ("zeros that are rounded away", 10_000_001, 10_000_000, 6, "1"),
     ("a LINEAR11 value", 1_023, 1024, 6, "0.999023"),
-    (
-        "a LINEAR11 value with all digits",
-        1_023,
-        1024,
-        12,
-        "0.9990234375",
-    ),
+    ("a LINEAR11 value with all digits", 1_023, 1024, 12, "0.9990234375"),
     ("the least of ULINEAR16", 1, 65_536, 6, "0.000015"),
     ("a LINEAR16 value", 6_145, 512, 6, "12.001953"),
     ("the greatest", GREATEST, 1, 0, "4611686018427387903"),
-    (
-        "the greatest with all digits",
-        GREATEST,
-        1,
-        12,
-        "4611686018427387903",
-    ),
+    ("the greatest with all digits", GREATEST, 1, 12, "4611686018427387903"),
     ("the least", -GREATEST, 1, 12, "-4611686018427387903"),
-    (
-        "the greatest that has a part",
-        GREATEST,
-        2,
-        12,
-        "2305843009213693951.5",
-    ),
+    ("the greatest that has a part", GREATEST, 2, 12, "2305843009213693951.5"),
     ("the least fraction", 1, GREATEST, 12, "0"),
     ("two greatest numbers", GREATEST - 1, GREATEST, 12, "1"),
-    (
-        "the longest text",
-        -GREATEST,
-        4,
-        12,
-        "-1152921504606846975.75",
-    ),
+    ("the longest text", -GREATEST, 4, 12, "-1152921504606846975.75"),
 ];
 
 #[test]

@@ -1,12 +1,12 @@
 //! Requests, one after the other on one bus.
 
 use arrayvec::ArrayVec;
+use plain_packets::part;
 use pmb_bus::event_text;
 use pmb_devices::Bus;
 use pmb_exchange::{Exchange, Step};
 use pmb_host::{Host, HostFault, HostStep, Reply, Request};
 use pmb_table::{Profile, SAMPLE};
-use pmb_transaction::Part;
 use pmb_value::Quantity;
 use std::alloc::{AllocError, Global};
 use std::test::Fail;
@@ -24,21 +24,10 @@ enum End {
     RefusedRead,
 }
 
-fn part((addr, code, data): Plain) -> Part {
-    let mut bytes = ArrayVec::new();
-    let _ = bytes.try_extend_from_slice(data);
-    Part {
-        addr,
-        code,
-        bytes,
-        pec: false,
-    }
-}
-
 fn write(plain: &[Plain]) -> Request {
     let mut parts = ArrayVec::new();
-    for one in plain {
-        let _ = parts.try_push(part(*one));
+    for &(addr, code, data) in plain {
+        let _ = parts.try_push(part(addr, code, data, false));
     }
     Request::Write { parts }
 }

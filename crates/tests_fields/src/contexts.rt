@@ -1,8 +1,10 @@
 //! An output voltage by what transactions have told of PAGE and VOUT_MODE, told by hand.
 
-use crate::says::{raw, said, under, value};
+use crate::contexts::Says::{Raw, Value};
+use crate::says::{Text, raw, said, under, value};
 use pmb_command::Kind;
-use pmb_late::{Late, Start};
+use pmb_late::Start::{AllKnown, Late};
+use pmb_late::{KnownMode, Start};
 use pmb_line::parse_line;
 use pmb_table::Profile;
 use std::test::Fail;
@@ -15,7 +17,7 @@ enum Says {
 }
 
 /// What is known at first, lines, an address, and what is said of a voltage there after them.
-type Row = (Start, &'static [&'static str], u8, Says);
+type Row = (Start, &'static str, u8, Says);
 
 /// The rows of the table. A call keeps the proof of a loop over them from carrying the table.
 fn rows() -> &'static [Row] {
@@ -35,113 +37,57 @@ pec = "off"
 vout_mode = 0x17
 "#;
 
+#[rattlefmt::skip]
 static ROWS: [Row; 17] = [
-    (Start::AllKnown, &[], 0x58, Says::Value("12")),
-    (Start::AllKnown, &[], 0x20, Says::Raw("page")),
-    (
-        Start::AllKnown,
-        &["write 58 00 05"],
-        0x58,
-        Says::Raw("page"),
-    ),
-    (
-        Start::AllKnown,
-        &["write 58 20 14", "write 58 00 ff"],
-        0x58,
-        Says::Raw("page"),
-    ),
-    (
-        Start::AllKnown,
-        &["write 58 00 ff"],
-        0x58,
-        Says::Value("12"),
-    ),
-    (
-        Start::AllKnown,
-        &["write 58 00 ff", "write 58 20 14"],
-        0x58,
-        Says::Value("1.5"),
-    ),
-    (
-        Start::AllKnown,
-        &["write 58 20 14"],
-        0x58,
-        Says::Value("1.5"),
-    ),
-    (
-        Start::AllKnown,
-        &["write 58 20 40"],
-        0x58,
-        Says::Raw("coefficients"),
-    ),
-    (Start::Late, &[], 0x58, Says::Raw("unknown")),
-    (Start::Late, &["write 59 20 14"], 0x59, Says::Value("1.5")),
-    (Start::Late, &["write 58 20 14"], 0x58, Says::Raw("unknown")),
-    (Start::Late, &["write 58 00 01"], 0x58, Says::Raw("unknown")),
-    (
-        Start::Late,
-        &["write 58 00 01", "write 58 20 14"],
-        0x58,
-        Says::Value("1.5"),
-    ),
-    (
-        Start::Late,
-        &["write 58 00 ff", "write 58 20 17"],
-        0x58,
-        Says::Value("12"),
-    ),
-    (
-        Start::Late,
-        &[
-            "write 58 00 00",
-            "write 58 20 14",
-            "write 58 00 01",
-            "write 58 20 17",
-            "write 58 00 ff",
-        ],
-        0x58,
-        Says::Raw("page"),
-    ),
-    (
-        Start::Late,
-        &["write 58 00 01", "write 58 20 20"],
-        0x58,
-        Says::Raw("vid"),
-    ),
-    (Start::Late, &["write 58 00 05"], 0x58, Says::Raw("page")),
+    (AllKnown, "", 0x58, Value("12")),
+    (AllKnown, "", 0x20, Raw("page")),
+    (AllKnown, "write 58 00 05", 0x58, Raw("page")),
+    (AllKnown, "write 58 20 14\nwrite 58 00 ff", 0x58, Raw("page")),
+    (AllKnown, "write 58 00 ff", 0x58, Value("12")),
+    (AllKnown, "write 58 00 ff\nwrite 58 20 14", 0x58, Value("1.5")),
+    (AllKnown, "write 58 20 14", 0x58, Value("1.5")),
+    (AllKnown, "write 58 20 40", 0x58, Raw("coefficients")),
+    (Late, "", 0x58, Raw("unknown")),
+    (Late, "write 59 20 14", 0x59, Value("1.5")),
+    (Late, "write 58 20 14", 0x58, Raw("unknown")),
+    (Late, "write 58 00 01", 0x58, Raw("unknown")),
+    (Late, "write 58 00 01\nwrite 58 20 14", 0x58, Value("1.5")),
+    (Late, "write 58 00 ff\nwrite 58 20 17", 0x58, Value("12")),
+    (Late, "write 58 00 00\nwrite 58 20 14\nwrite 58 00 01\nwrite 58 20 17\nwrite 58 00 ff", 0x58, Raw("page")),
+    (Late, "write 58 00 01\nwrite 58 20 20", 0x58, Raw("vid")),
+    (Late, "write 58 00 05", 0x58, Raw("page")),
 ];
 
-/// Takes the transactions that lines spell; false where one has none.
-fn observe(profile: &Profile, late: &mut Late<'_>, lines: &[&str]) -> bool {
-    for line in lines {
-        match parse_line(profile, line.as_bytes()) {
-            Ok(transaction) => late.observe(&transaction),
-            Err(_) => return false,
-        }
+/// What is known of a device's VOUT_MODE after the transactions that lines spell; nothing where a line
+/// spells none.
+fn mode_after(profile: &Profile, start: Start, lines: &str, address: u8) -> Option<KnownMode> {
+    let mut known = pmb_late::Late::new(profile, start);
+    for line in lines.lines() {
+        known.observe(&parse_line(profile, line.as_bytes()).ok()?);
     }
-    true
+    Some(known.mode(address))
+}
+
+/// What is said of the word 1800h under a VOUT_MODE.
+fn voltage(mode: KnownMode) -> Text {
+    said(&under(mode, None), 0x8b, Kind::Vout, &[0x00, 0x18])
 }
 
 #[test]
 fn contexts(rt: HostRuntime) -> Result<(), Fail> {
     let profile = Profile::from_toml(rt.alloc(), PROFILE.as_bytes())?;
-    for (number, row) in rows().iter().enumerate() {
-        let mut late = Late::new(&profile, row.0);
-        assert!(rt;
-            observe(&profile, &mut late, row.1),
-            "a line of row {number}"
-        );
-        let text = said(
-            &under(late.mode(row.2), None),
-            0x8b,
-            Kind::Vout,
-            &[0x00, 0x18],
-        );
-        let wanted = match row.3 {
-            Says::Value(exact) => value(exact, exact),
-            Says::Raw(why) => raw(why),
+    for &(start, lines, address, says) in rows() {
+        let mode = mode_after(&profile, start, lines, address).ok_or("a line")?;
+        let wanted = match says {
+            Value(exact) => value(exact, exact),
+            Raw(why) => raw(why),
         };
-        assert_eq!(rt; text.as_slice(), wanted.as_slice(), "row {number}");
+        let text = voltage(mode);
+        assert_eq!(rt;
+            text.as_slice(),
+            wanted.as_slice(),
+            "{start:?}, {address:02x} after {lines:?}"
+        );
     }
     Ok(())
 }

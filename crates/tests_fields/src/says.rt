@@ -39,7 +39,7 @@ pub(crate) fn under(mode: KnownMode, coefficients: Option<Direct>) -> Case {
     }
 }
 
-/// What is said of a command's data, behind a `:`; `?` where there are no such digits.
+/// What is said of a command's data, after a `:`; `?` where there are no such digits.
 pub(crate) fn said(case: &Case, code: u8, kind: Kind, bytes: &[u8]) -> Text {
     let mut text = Text::new();
     let Some(digits) = Digits::new(case.digits) else {
@@ -60,12 +60,17 @@ pub(crate) fn said(case: &Case, code: u8, kind: Kind, bytes: &[u8]) -> Text {
     text
 }
 
-/// Texts one behind the other, behind a `:`.
+/// Adds a text, as far as there is room.
+pub(crate) fn push(text: &mut Text, part: &str) {
+    let _ = text.try_extend_from_slice(part.as_bytes());
+}
+
+/// Texts one after the other, after a `:`.
 pub(crate) fn joined(texts: &[&str]) -> Text {
     let mut text = Text::new();
-    let _ = text.try_push(b':');
+    push(&mut text, ":");
     for part in texts {
-        let _ = text.try_extend_from_slice(part.as_bytes());
+        push(&mut text, part);
     }
     text
 }

@@ -3,22 +3,17 @@
 use crate::rows::{Row, check_commands, check_numbers};
 use pmb_table::FaultKind::BadForm;
 
-/// Forms that go together, and others.
-static FORMS: [Row; 42] = [
+#[rattlefmt::skip]
+static FORMS: [Row; 132] = [
+    // Forms that go together, and others.
     ("code = 0xd0", Some(BadForm)),
     ("code = 0x88", Some(BadForm)),
     ("code = 0xd0, write = 'none'", Some(BadForm)),
-    (
-        "code = 0xd0, write = 'none', read = 'none', call = 'none'",
-        Some(BadForm),
-    ),
+    ("code = 0xd0, write = 'none', read = 'none', call = 'none'", Some(BadForm)),
     ("name = 'READ_VIN', read = 'none'", Some(BadForm)),
     ("name = 'CLEAR_FAULTS', write = 'none'", Some(BadForm)),
     ("name = 'QUERY', call = 'none'", Some(BadForm)),
-    (
-        "name = 'OPERATION', write = 'none', read = 'none'",
-        Some(BadForm),
-    ),
+    ("name = 'OPERATION', write = 'none', read = 'none'", Some(BadForm)),
     ("code = 0xd0, write = 'zero'", None),
     ("code = 0xd0, write = 'one'", None),
     ("code = 0xd0, write = 'two'", None),
@@ -46,26 +41,17 @@ static FORMS: [Row; 42] = [
     ("code = 0xd0, write = 'one', read = 'one'", None),
     ("code = 0xd0, write = 'two', read = 'two'", None),
     ("code = 0xd0, write = 'block', read = 'block'", None),
-    (
-        "code = 0xd0, write = 'one', read = 'one', call = 'two'",
-        None,
-    ),
+    ("code = 0xd0, write = 'one', read = 'one', call = 'two'", None),
     ("code = 0xd0, write = 'two', call = 'block'", None),
     ("name = 'READ_VIN', write = 'zero'", None),
     ("name = 'READ_VIN', write = 'two'", None),
     ("name = 'OPERATION', write = 'two', read = 'two'", None),
     ("code = 0xd0, call = 'one'", Some(BadForm)),
     ("code = 0xd0, read = 'three', m = 1", Some(BadForm)),
-];
-
-/// Commands whose forms are fixed, with those and with others, and commands whose forms are not.
-static FIXED_FORMS: [Row; 41] = [
+    // Commands whose forms are fixed, with those and with others, and commands whose forms are not.
     ("name = 'PAGE', write = 'zero'", Some(BadForm)),
     ("name = 'PAGE', write = 'two', read = 'two'", Some(BadForm)),
-    (
-        "name = 'PAGE', write = 'block', read = 'none'",
-        Some(BadForm),
-    ),
+    ("name = 'PAGE', write = 'block', read = 'none'", Some(BadForm)),
     ("name = 'PAGE', write = 'none', read = 'two'", Some(BadForm)),
     ("name = 'PAGE', call = 'two'", Some(BadForm)),
     ("code = 0x00, read = 'two'", Some(BadForm)),
@@ -74,10 +60,7 @@ static FIXED_FORMS: [Row; 41] = [
     ("name = 'CLEAR_FAULTS', call = 'block'", Some(BadForm)),
     ("code = 0x03, read = 'one'", Some(BadForm)),
     ("name = 'VOUT_MODE', write = 'zero'", Some(BadForm)),
-    (
-        "name = 'VOUT_MODE', write = 'two', read = 'two'",
-        Some(BadForm),
-    ),
+    ("name = 'VOUT_MODE', write = 'two', read = 'two'", Some(BadForm)),
     ("name = 'VOUT_MODE', call = 'block'", Some(BadForm)),
     ("code = 0x20, read = 'block'", Some(BadForm)),
     ("name = 'COEFFICIENTS', call = 'two'", Some(BadForm)),
@@ -86,10 +69,7 @@ static FIXED_FORMS: [Row; 41] = [
     ("name = 'COEFFICIENTS', write = 'zero'", Some(BadForm)),
     ("code = 0x30, read = 'block'", Some(BadForm)),
     ("name = 'STATUS_CML', write = 'zero'", Some(BadForm)),
-    (
-        "name = 'STATUS_CML', write = 'two', read = 'two'",
-        Some(BadForm),
-    ),
+    ("name = 'STATUS_CML', write = 'two', read = 'two'", Some(BadForm)),
     ("name = 'STATUS_CML', call = 'two'", Some(BadForm)),
     ("code = 0x7e, read = 'two'", Some(BadForm)),
     ("name = 'PAGE'", None),
@@ -110,20 +90,14 @@ static FIXED_FORMS: [Row; 41] = [
     ("name = 'VOUT_COMMAND', call = 'block'", None),
     ("name = 'QUERY', call = 'two'", None),
     ("name = 'STATUS_BYTE', write = 'two', read = 'two'", None),
-];
-
-/// The same of their kinds and pages.
-static FIXED_KINDS: [Row; 24] = [
+    // The same of their kinds and pages.
     ("name = 'PAGE', kind = 'status'", Some(BadForm)),
     ("code = 0x00, write = 'one', kind = 'status'", Some(BadForm)),
     ("name = 'CLEAR_FAULTS', kind = 'status'", Some(BadForm)),
     ("name = 'VOUT_MODE', kind = 'status'", Some(BadForm)),
     ("name = 'VOUT_MODE', kind = 'vout'", Some(BadForm)),
     ("name = 'COEFFICIENTS', kind = 'status'", Some(BadForm)),
-    (
-        "name = 'COEFFICIENTS', kind = 'direct', m = 1, b = 0, r = 0",
-        Some(BadForm),
-    ),
+    ("name = 'COEFFICIENTS', kind = 'direct', m = 1, b = 0, r = 0", Some(BadForm)),
     ("name = 'PAGE', kind = 'raw'", None),
     ("name = 'CLEAR_FAULTS', kind = 'raw'", None),
     ("name = 'VOUT_MODE', kind = 'raw'", None),
@@ -141,23 +115,11 @@ static FIXED_KINDS: [Row; 24] = [
     ("name = 'STATUS_CML', paged = false", None),
     ("name = 'OPERATION', paged = false", None),
     ("code = 0x00, read = 'one', kind = 'status'", Some(BadForm)),
-];
-
-/// Kinds that fit the forms of a command, and others.
-static FITTING_KINDS: [Row; 25] = [
+    // Kinds that fit the forms of a command, and others.
     ("name = 'READ_VIN', read = 'block'", Some(BadForm)),
-    (
-        "name = 'READ_VIN', read = 'none', write = 'one'",
-        Some(BadForm),
-    ),
-    (
-        "name = 'VOUT_COMMAND', write = 'one', read = 'one'",
-        Some(BadForm),
-    ),
-    (
-        "name = 'STATUS_BYTE', write = 'block', read = 'block'",
-        Some(BadForm),
-    ),
+    ("name = 'READ_VIN', read = 'none', write = 'one'", Some(BadForm)),
+    ("name = 'VOUT_COMMAND', write = 'one', read = 'one'", Some(BadForm)),
+    ("name = 'STATUS_BYTE', write = 'block', read = 'block'", Some(BadForm)),
     ("name = 'MFR_ID', kind = 'linear11'", Some(BadForm)),
     ("name = 'MFR_ID', kind = 'status'", Some(BadForm)),
     ("name = 'READ_VIN', read = 'block', kind = 'raw'", None),
@@ -165,47 +127,20 @@ static FITTING_KINDS: [Row; 25] = [
     ("name = 'VOUT_COMMAND', kind = 'linear11'", None),
     ("name = 'STATUS_WORD', kind = 'linear11'", None),
     ("name = 'SMBALERT_MASK', kind = 'linear11'", None),
-    (
-        "code = 0xd0, read = 'block', kind = 'status'",
-        Some(BadForm),
-    ),
-    (
-        "code = 0xd0, write = 'zero', kind = 'status'",
-        Some(BadForm),
-    ),
-    (
-        "code = 0xd0, write = 'block', kind = 'status'",
-        Some(BadForm),
-    ),
-    (
-        "code = 0xd0, write = 'zero', read = 'block', kind = 'status'",
-        Some(BadForm),
-    ),
+    ("code = 0xd0, read = 'block', kind = 'status'", Some(BadForm)),
+    ("code = 0xd0, write = 'zero', kind = 'status'", Some(BadForm)),
+    ("code = 0xd0, write = 'block', kind = 'status'", Some(BadForm)),
+    ("code = 0xd0, write = 'zero', read = 'block', kind = 'status'", Some(BadForm)),
     ("code = 0xd0, call = 'two', kind = 'status'", Some(BadForm)),
     ("code = 0xd0, read = 'one', kind = 'status'", None),
     ("code = 0xd0, read = 'two', kind = 'status'", None),
     ("code = 0xd0, write = 'one', kind = 'status'", None),
     ("code = 0xd0, write = 'two', kind = 'status'", None),
-    (
-        "code = 0xd0, write = 'zero', read = 'one', kind = 'status'",
-        None,
-    ),
-    (
-        "code = 0xd0, write = 'zero', read = 'two', kind = 'status'",
-        None,
-    ),
-    (
-        "code = 0xd0, write = 'two', read = 'two', kind = 'status'",
-        None,
-    ),
-    (
-        "code = 0xd0, write = 'one', call = 'block', kind = 'status'",
-        None,
-    ),
-    (
-        "code = 0xd0, read = 'one', kind = 'linear11'",
-        Some(BadForm),
-    ),
+    ("code = 0xd0, write = 'zero', read = 'one', kind = 'status'", None),
+    ("code = 0xd0, write = 'zero', read = 'two', kind = 'status'", None),
+    ("code = 0xd0, write = 'two', read = 'two', kind = 'status'", None),
+    ("code = 0xd0, write = 'one', call = 'block', kind = 'status'", None),
+    ("code = 0xd0, read = 'one', kind = 'linear11'", Some(BadForm)),
 ];
 
 /// Numbers have two bytes, in the form in which they are read, or else written.
@@ -228,23 +163,8 @@ static NUMBERS: [Row; 15] = [
 ];
 
 #[test]
-fn forms(rt: HostRuntime) {
+fn forms_and_kinds(rt: HostRuntime) {
     check_commands(&rt, rt.alloc(), &FORMS);
-}
-
-#[test]
-fn fixed_forms(rt: HostRuntime) {
-    check_commands(&rt, rt.alloc(), &FIXED_FORMS);
-}
-
-#[test]
-fn fixed_kinds(rt: HostRuntime) {
-    check_commands(&rt, rt.alloc(), &FIXED_KINDS);
-}
-
-#[test]
-fn fitting_kinds(rt: HostRuntime) {
-    check_commands(&rt, rt.alloc(), &FITTING_KINDS);
 }
 
 #[test]

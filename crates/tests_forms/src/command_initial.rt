@@ -6,17 +6,12 @@ use std::alloc::{AllocError, Global};
 use std::test::Fail;
 
 /// Bytes that a register may begin with, and others.
+#[rattlefmt::skip]
 static INITIAL: [Row; 48] = [
     ("name = 'PAGE', initial = '00'", Some(BadInitial)),
-    (
-        "code = 0x00, read = 'one', initial = '00'",
-        Some(BadInitial),
-    ),
+    ("code = 0x00, read = 'one', initial = '00'", Some(BadInitial)),
     ("name = 'VOUT_MODE', initial = '17'", Some(BadInitial)),
-    (
-        "code = 0x20, read = 'one', initial = '17'",
-        Some(BadInitial),
-    ),
+    ("code = 0x20, read = 'one', initial = '17'", Some(BadInitial)),
     ("name = 'OPERATION', initial = '80'", None),
     ("name = 'VOUT_COMMAND', initial = '0018'", None),
     ("name = 'STATUS_CML', initial = '02'", None),
@@ -24,27 +19,12 @@ static INITIAL: [Row; 48] = [
     ("name = 'CLEAR_FAULTS', initial = '00'", Some(BadInitial)),
     ("name = 'COEFFICIENTS', initial = ''", Some(BadInitial)),
     ("name = 'QUERY', initial = '00'", Some(BadInitial)),
-    (
-        "code = 0xd0, write = 'zero', initial = ''",
-        Some(BadInitial),
-    ),
-    (
-        "code = 0xd0, call = 'two', initial = '0000'",
-        Some(BadInitial),
-    ),
-    (
-        "code = 0xd0, write = 'zero', call = 'block', initial = ''",
-        Some(BadInitial),
-    ),
-    (
-        "code = 0xd0, write = 'zero', read = 'one', initial = '00'",
-        None,
-    ),
+    ("code = 0xd0, write = 'zero', initial = ''", Some(BadInitial)),
+    ("code = 0xd0, call = 'two', initial = '0000'", Some(BadInitial)),
+    ("code = 0xd0, write = 'zero', call = 'block', initial = ''", Some(BadInitial)),
+    ("code = 0xd0, write = 'zero', read = 'one', initial = '00'", None),
     ("code = 0xd0, write = 'one', initial = '00'", None),
-    (
-        "code = 0xd0, write = 'two', call = 'block', initial = '0000'",
-        None,
-    ),
+    ("code = 0xd0, write = 'two', call = 'block', initial = '0000'", None),
     ("name = 'SMBALERT_MASK', initial = '0000'", None),
     ("name = 'READ_VIN', initial = '00d'", Some(BadInitial)),
     ("name = 'READ_VIN', initial = '00d3a'", Some(BadInitial)),
@@ -66,26 +46,14 @@ static INITIAL: [Row; 48] = [
     ("name = 'READ_VIN', initial = ''", Some(BadInitial)),
     ("name = 'READ_VIN', initial = '00'", Some(BadInitial)),
     ("name = 'READ_VIN', initial = '000000'", Some(BadInitial)),
-    (
-        "code = 0xd0, write = 'one', initial = '0000'",
-        Some(BadInitial),
-    ),
-    (
-        "code = 0xd0, write = 'two', call = 'block', initial = '00'",
-        Some(BadInitial),
-    ),
-    (
-        "code = 0xd0, write = 'zero', read = 'two', initial = '00'",
-        Some(BadInitial),
-    ),
+    ("code = 0xd0, write = 'one', initial = '0000'", Some(BadInitial)),
+    ("code = 0xd0, write = 'two', call = 'block', initial = '00'", Some(BadInitial)),
+    ("code = 0xd0, write = 'zero', read = 'two', initial = '00'", Some(BadInitial)),
     ("name = 'STATUS_BYTE', initial = '00'", None),
     ("name = 'READ_VIN', initial = '0000'", None),
     ("name = 'MFR_ID', initial = ''", None),
     ("name = 'MFR_ID', initial = '41'", None),
-    (
-        "code = 0xd0, write = 'zero', read = 'two', initial = '0000'",
-        None,
-    ),
+    ("code = 0xd0, write = 'zero', read = 'two', initial = '0000'", None),
     ("code = 0xd0, write = 'block', initial = '000000'", None),
     ("name = 'READ_VIN', initial = '00dg'", Some(BadInitial)),
 ];

@@ -2,8 +2,9 @@
 use crate::rows::{Row, check_command, check_commands};
 use pmb_table::FaultKind::{BadForm, BadInitial, BadValue, MissingKey, UnknownKey, WrongType};
 
-/// Exponents within their range and outside.
-static RANGE: [Row; 15] = [
+#[rattlefmt::skip]
+static EXPONENTS: [Row; 53] = [
+    // Exponents within their range and outside.
     ("name = 'VIN_ON', exponent = -3", None),
     ("name = 'VIN_ON', exponent = 0", None),
     ("name = 'VIN_ON', exponent = -16", None),
@@ -16,52 +17,19 @@ static RANGE: [Row; 15] = [
     ("name = 'VIN_ON', exponent = 256", Some(BadValue)),
     ("name = 'VIN_ON', exponent = -256", Some(BadValue)),
     ("name = 'VIN_ON', exponent = 4294967296", Some(BadValue)),
-    (
-        "name = 'VIN_ON', exponent = 9223372036854775807",
-        Some(BadValue),
-    ),
-    (
-        "name = 'VIN_ON', exponent = -9223372036854775808",
-        Some(BadValue),
-    ),
-    (
-        "code = 0xd0, read = 'two', kind = 'linear11', exponent = 16",
-        Some(BadValue),
-    ),
-];
-
-/// The kinds, the key's or without one the base's.
-static KINDS: [Row; 20] = [
-    (
-        "code = 0xd0, read = 'two', kind = 'linear11', exponent = 0",
-        None,
-    ),
-    (
-        "code = 0xd0, read = 'two', kind = 'raw', exponent = 0",
-        Some(UnknownKey),
-    ),
-    (
-        "code = 0xd0, read = 'two', kind = 'vout', exponent = 0",
-        Some(UnknownKey),
-    ),
-    (
-        "code = 0xd0, read = 'two', kind = 'vout_signed', exponent = 0",
-        Some(UnknownKey),
-    ),
-    (
-        "code = 0xd0, read = 'two', kind = 'direct', m = 1, b = 0, r = 0, exponent = 0",
-        Some(UnknownKey),
-    ),
-    (
-        "code = 0xd0, read = 'two', kind = 'status', exponent = 0",
-        Some(UnknownKey),
-    ),
+    ("name = 'VIN_ON', exponent = 9223372036854775807", Some(BadValue)),
+    ("name = 'VIN_ON', exponent = -9223372036854775808", Some(BadValue)),
+    ("code = 0xd0, read = 'two', kind = 'linear11', exponent = 16", Some(BadValue)),
+    // The kinds, the key's or without one the base's.
+    ("code = 0xd0, read = 'two', kind = 'linear11', exponent = 0", None),
+    ("code = 0xd0, read = 'two', kind = 'raw', exponent = 0", Some(UnknownKey)),
+    ("code = 0xd0, read = 'two', kind = 'vout', exponent = 0", Some(UnknownKey)),
+    ("code = 0xd0, read = 'two', kind = 'vout_signed', exponent = 0", Some(UnknownKey)),
+    ("code = 0xd0, read = 'two', kind = 'direct', m = 1, b = 0, r = 0, exponent = 0", Some(UnknownKey)),
+    ("code = 0xd0, read = 'two', kind = 'status', exponent = 0", Some(UnknownKey)),
     ("code = 0xd0, read = 'two', exponent = 0", Some(UnknownKey)),
     ("code = 0x35, read = 'two', exponent = 0", Some(UnknownKey)),
-    (
-        "code = 0x35, read = 'two', kind = 'linear11', exponent = 0",
-        None,
-    ),
+    ("code = 0x35, read = 'two', kind = 'linear11', exponent = 0", None),
     ("name = 'MFR_ID', exponent = 0", Some(UnknownKey)),
     ("name = 'MFR_ID', exponent = 16", Some(UnknownKey)),
     ("name = 'PAGE', exponent = 0", Some(UnknownKey)),
@@ -70,67 +38,28 @@ static KINDS: [Row; 20] = [
     ("name = 'STATUS_WORD', exponent = 0", Some(UnknownKey)),
     ("name = 'READ_IOUT', exponent = -4", None),
     ("name = 'VIN_ON', kind = 'linear11', exponent = -3", None),
-    (
-        "name = 'VIN_ON', kind = 'raw', exponent = -3",
-        Some(UnknownKey),
-    ),
-    (
-        "name = 'VOUT_COMMAND', kind = 'linear11', exponent = -9",
-        None,
-    ),
-    (
-        "name = 'STATUS_WORD', kind = 'linear11', exponent = 0",
-        None,
-    ),
-];
-
-/// Where the key stands among the others: behind `r`, before `paged`. Its type is looked at first,
-/// then the kind, then its range.
-static ORDER: [Row; 18] = [
+    ("name = 'VIN_ON', kind = 'raw', exponent = -3", Some(UnknownKey)),
+    ("name = 'VOUT_COMMAND', kind = 'linear11', exponent = -9", None),
+    ("name = 'STATUS_WORD', kind = 'linear11', exponent = 0", None),
+    // Where the key stands among the others: behind `r`, before `paged`. Its type is looked at first,
+    // then the kind, then its range.
     ("name = 'VIN_ON', exponents = 0", Some(UnknownKey)),
-    (
-        "name = 'VIN_ON', exponent = 16, x = 1, code = 'a'",
-        Some(UnknownKey),
-    ),
-    (
-        "name = 'VIN_ON', exponent = 'a', read = 'word'",
-        Some(BadForm),
-    ),
-    (
-        "name = 'VIN_ON', exponent = 'a', kind = 'volts'",
-        Some(BadValue),
-    ),
+    ("name = 'VIN_ON', exponent = 16, x = 1, code = 'a'", Some(UnknownKey)),
+    ("name = 'VIN_ON', exponent = 'a', read = 'word'", Some(BadForm)),
+    ("name = 'VIN_ON', exponent = 'a', kind = 'volts'", Some(BadValue)),
     ("name = 'VIN_ON', exponent = 'a', r = 1", Some(UnknownKey)),
     ("name = 'VIN_ON', exponent = 16, r = 'a'", Some(WrongType)),
-    (
-        "code = 0xd0, kind = 'direct', m = 1, b = 0, exponent = 0",
-        Some(MissingKey),
-    ),
+    ("code = 0xd0, kind = 'direct', m = 1, b = 0, exponent = 0", Some(MissingKey)),
     ("name = 'MFR_ID', exponent = 'a'", Some(WrongType)),
     ("name = 'MFR_ID', exponent = 0, paged = 1", Some(UnknownKey)),
     ("name = 'VIN_ON', exponent = 16, paged = 1", Some(BadValue)),
     ("name = 'VIN_ON', exponent = 0, paged = 1", Some(WrongType)),
-    (
-        "name = 'VIN_ON', exponent = 16, initial = 1",
-        Some(BadValue),
-    ),
-    (
-        "name = 'VIN_ON', exponent = 16, write = 'one', read = 'one'",
-        Some(BadValue),
-    ),
+    ("name = 'VIN_ON', exponent = 16, initial = 1", Some(BadValue)),
+    ("name = 'VIN_ON', exponent = 16, write = 'one', read = 'one'", Some(BadValue)),
     ("paged = false, exponent = -1, name = 'VIN_ON'", None),
-    (
-        "name = 'VIN_ON', exponent = 0, write = 'one', read = 'one'",
-        Some(BadForm),
-    ),
-    (
-        "name = 'MFR_ID', kind = 'linear11', exponent = 0",
-        Some(BadForm),
-    ),
-    (
-        "name = 'VIN_ON', exponent = 0, initial = '60'",
-        Some(BadInitial),
-    ),
+    ("name = 'VIN_ON', exponent = 0, write = 'one', read = 'one'", Some(BadForm)),
+    ("name = 'MFR_ID', kind = 'linear11', exponent = 0", Some(BadForm)),
+    ("name = 'VIN_ON', exponent = 0, initial = '60'", Some(BadInitial)),
     ("name = 'VIN_ON', exponent = -3, initial = '60e8'", None),
 ];
 
@@ -153,18 +82,8 @@ static FORMS: [(&str, bool); 14] = [
 ];
 
 #[test]
-fn range(rt: HostRuntime) {
-    check_commands(&rt, rt.alloc(), &RANGE);
-}
-
-#[test]
-fn kinds(rt: HostRuntime) {
-    check_commands(&rt, rt.alloc(), &KINDS);
-}
-
-#[test]
-fn order(rt: HostRuntime) {
-    check_commands(&rt, rt.alloc(), &ORDER);
+fn exponents(rt: HostRuntime) {
+    check_commands(&rt, rt.alloc(), &EXPONENTS);
 }
 
 #[test]

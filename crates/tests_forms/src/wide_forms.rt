@@ -3,8 +3,9 @@ use crate::rows::{Row, check_command, check_commands, check_numbers};
 use pmb_table::FaultKind;
 use pmb_table::FaultKind::{BadForm, BadInitial};
 
-/// Where the words may stand, and which forms go together.
-static FORMS: [Row; 46] = [
+#[rattlefmt::skip]
+static FORMS: [Row; 71] = [
+    // Where the words may stand, and which forms go together.
     ("code = 0xe0, write = 'four'", None),
     ("code = 0xe0, read = 'four'", None),
     ("code = 0xe0, write = 'four', read = 'four'", None),
@@ -19,10 +20,7 @@ static FORMS: [Row; 46] = [
     ("code = 0xe0, call = 'eight'", Some(BadForm)),
     ("name = 'QUERY', call = 'four'", Some(BadForm)),
     ("name = 'SMBALERT_MASK', call = 'eight'", Some(BadForm)),
-    (
-        "code = 0xe0, write = 'four', read = 'four', call = 'four'",
-        Some(BadForm),
-    ),
+    ("code = 0xe0, write = 'four', read = 'four', call = 'four'", Some(BadForm)),
     ("code = 0xe0, call = 'four', kind = 1", Some(BadForm)),
     ("code = 0xe0, write = 'Four'", Some(BadForm)),
     ("code = 0xe0, read = '4'", Some(BadForm)),
@@ -40,32 +38,46 @@ static FORMS: [Row; 46] = [
     ("code = 0xe0, write = 'one', read = 'eight'", Some(BadForm)),
     ("code = 0xe0, write = 'eight', read = 'two'", Some(BadForm)),
     ("code = 0xe0, write = 'two', read = 'eight'", Some(BadForm)),
-    (
-        "code = 0xe0, write = 'eight', read = 'block'",
-        Some(BadForm),
-    ),
-    (
-        "code = 0xe0, write = 'block', read = 'eight'",
-        Some(BadForm),
-    ),
+    ("code = 0xe0, write = 'eight', read = 'block'", Some(BadForm)),
+    ("code = 0xe0, write = 'block', read = 'eight'", Some(BadForm)),
     ("name = 'OPERATION', write = 'four'", Some(BadForm)),
     ("name = 'OPERATION', write = 'four', read = 'four'", None),
     ("name = 'MFR_ID', write = 'eight', read = 'eight'", None),
     ("name = 'READ_EIN', read = 'eight'", None),
     ("name = 'READ_VIN', read = 'four'", Some(BadForm)),
     ("name = 'READ_VIN', read = 'four', kind = 'raw'", None),
-    (
-        "name = 'PAGE', write = 'four', read = 'four'",
-        Some(BadForm),
-    ),
+    ("name = 'PAGE', write = 'four', read = 'four'", Some(BadForm)),
     ("name = 'CLEAR_FAULTS', write = 'four'", Some(BadForm)),
     ("code = 0x20, read = 'four'", Some(BadForm)),
     ("name = 'COEFFICIENTS', read = 'eight'", Some(BadForm)),
-    (
-        "name = 'STATUS_CML', write = 'eight', read = 'eight'",
-        Some(BadForm),
-    ),
+    ("name = 'STATUS_CML', write = 'eight', read = 'eight'", Some(BadForm)),
     ("code = 0x7e, read = 'four', kind = 'raw'", Some(BadForm)),
+    // The bytes that a register of four or eight bytes may begin with, and others.
+    ("code = 0xe0, write = 'four', initial = '01020304'", None),
+    ("code = 0xe0, read = 'four', initial = '01020304'", None),
+    ("code = 0xe0, write = 'zero', read = 'four', initial = '01020304'", None),
+    ("code = 0xe0, write = 'four', call = 'two', initial = 'FFfeFDfc'", None),
+    ("code = 0xe0, write = 'four', initial = ''", Some(BadInitial)),
+    ("code = 0xe0, write = 'four', initial = '01'", Some(BadInitial)),
+    ("code = 0xe0, read = 'four', initial = '0102'", Some(BadInitial)),
+    ("code = 0xe0, read = 'four', initial = '010203'", Some(BadInitial)),
+    ("code = 0xe0, read = 'four', initial = '0102030405'", Some(BadInitial)),
+    ("code = 0xe0, write = 'four', initial = '0102030405060708'", Some(BadInitial)),
+    ("code = 0xe0, read = 'four', initial = '0102030g'", Some(BadInitial)),
+    ("code = 0xe0, read = 'eight', initial = '0102030405060708'", None),
+    ("code = 0xe0, write = 'eight', initial = '0102030405060708'", None),
+    ("code = 0xe0, write = 'zero', read = 'eight', initial = '0000000000000000'", None),
+    ("code = 0xe0, read = 'eight', initial = ''", Some(BadInitial)),
+    ("code = 0xe0, read = 'eight', initial = '0102'", Some(BadInitial)),
+    ("code = 0xe0, read = 'eight', initial = '01020304'", Some(BadInitial)),
+    ("code = 0xe0, read = 'eight', initial = '01020304050607'", Some(BadInitial)),
+    ("code = 0xe0, read = 'eight', initial = '010203040506070809'", Some(BadInitial)),
+    ("code = 0xe0, write = 'eight', initial = '010203040506070'", Some(BadInitial)),
+    ("code = 0xe0, read = 'one', initial = '01020304'", Some(BadInitial)),
+    ("code = 0xe0, read = 'two', initial = '01020304'", Some(BadInitial)),
+    ("code = 0xe0, read = 'block', initial = '01020304'", None),
+    ("name = 'OPERATION', write = 'four', read = 'four', initial = '80'", Some(BadInitial)),
+    ("code = 0xe0, write = 'four', read = 'eight', initial = '01'", Some(BadForm)),
 ];
 
 /// Numbers and status bits never have four or eight bytes, in the form in which they are read, or
@@ -81,109 +93,9 @@ static WIDE: [&str; 8] = [
     "write = 'eight', call = 'two'",
 ];
 
-/// The bytes that a register of four or eight bytes may begin with, and others.
-static INITIAL: [Row; 25] = [
-    ("code = 0xe0, write = 'four', initial = '01020304'", None),
-    ("code = 0xe0, read = 'four', initial = '01020304'", None),
-    (
-        "code = 0xe0, write = 'zero', read = 'four', initial = '01020304'",
-        None,
-    ),
-    (
-        "code = 0xe0, write = 'four', call = 'two', initial = 'FFfeFDfc'",
-        None,
-    ),
-    (
-        "code = 0xe0, write = 'four', initial = ''",
-        Some(BadInitial),
-    ),
-    (
-        "code = 0xe0, write = 'four', initial = '01'",
-        Some(BadInitial),
-    ),
-    (
-        "code = 0xe0, read = 'four', initial = '0102'",
-        Some(BadInitial),
-    ),
-    (
-        "code = 0xe0, read = 'four', initial = '010203'",
-        Some(BadInitial),
-    ),
-    (
-        "code = 0xe0, read = 'four', initial = '0102030405'",
-        Some(BadInitial),
-    ),
-    (
-        "code = 0xe0, write = 'four', initial = '0102030405060708'",
-        Some(BadInitial),
-    ),
-    (
-        "code = 0xe0, read = 'four', initial = '0102030g'",
-        Some(BadInitial),
-    ),
-    (
-        "code = 0xe0, read = 'eight', initial = '0102030405060708'",
-        None,
-    ),
-    (
-        "code = 0xe0, write = 'eight', initial = '0102030405060708'",
-        None,
-    ),
-    (
-        "code = 0xe0, write = 'zero', read = 'eight', initial = '0000000000000000'",
-        None,
-    ),
-    (
-        "code = 0xe0, read = 'eight', initial = ''",
-        Some(BadInitial),
-    ),
-    (
-        "code = 0xe0, read = 'eight', initial = '0102'",
-        Some(BadInitial),
-    ),
-    (
-        "code = 0xe0, read = 'eight', initial = '01020304'",
-        Some(BadInitial),
-    ),
-    (
-        "code = 0xe0, read = 'eight', initial = '01020304050607'",
-        Some(BadInitial),
-    ),
-    (
-        "code = 0xe0, read = 'eight', initial = '010203040506070809'",
-        Some(BadInitial),
-    ),
-    (
-        "code = 0xe0, write = 'eight', initial = '010203040506070'",
-        Some(BadInitial),
-    ),
-    (
-        "code = 0xe0, read = 'one', initial = '01020304'",
-        Some(BadInitial),
-    ),
-    (
-        "code = 0xe0, read = 'two', initial = '01020304'",
-        Some(BadInitial),
-    ),
-    ("code = 0xe0, read = 'block', initial = '01020304'", None),
-    (
-        "name = 'OPERATION', write = 'four', read = 'four', initial = '80'",
-        Some(BadInitial),
-    ),
-    (
-        "code = 0xe0, write = 'four', read = 'eight', initial = '01'",
-        Some(BadForm),
-    ),
-];
-
 #[test]
-fn wide_forms(rt: HostRuntime) {
+fn forms_and_initial_bytes(rt: HostRuntime) {
     check_commands(&rt, rt.alloc(), &FORMS);
-}
-
-#[test]
-fn wide_initial(rt: HostRuntime) {
-    check_commands(&rt, rt.alloc(), &INITIAL);
 }
 
 /// The other kinds, and the fault that they have with such forms, or none.

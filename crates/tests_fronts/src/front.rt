@@ -13,6 +13,7 @@ use std::test::Fail;
 /// A name, a text, its profile, and what is behind the line `%%`, if there is such a line.
 type Row<'a> = (&'a str, &'a str, &'a str, Option<&'a str>);
 
+#[rattlefmt::skip]
 static ROWS: [Row<'static>; 26] = [
     ("nothing", "", "", None),
     ("no line", "a = 1", "a = 1", None),
@@ -22,12 +23,7 @@ static ROWS: [Row<'static>; 26] = [
     ("no profile, CR LF", "%%\r\nS P", "", Some("S P")),
     ("an empty line", "\n%%\n", "\n", Some("")),
     ("both", "a\n%%\nS P\n", "a\n", Some("S P\n")),
-    (
-        "both, CR LF",
-        "a\r\n%%\r\nS P\r\n",
-        "a\r\n",
-        Some("S P\r\n"),
-    ),
+    ("both, CR LF", "a\r\n%%\r\nS P\r\n", "a\r\n", Some("S P\r\n")),
     ("an empty line behind", "a\n%%\n\nS", "a\n", Some("\nS")),
     // Without its LF it is no such line.
     ("no LF at once", "%%", "%%", None),
@@ -45,24 +41,9 @@ static ROWS: [Row<'static>; 26] = [
     ("behind CR", "a\r%%\nS", "a\r%%\nS", None),
     // The first of two counts.
     ("two lines", "a\n%%\n%%\nS", "a\n", Some("%%\nS")),
-    (
-        "two lines, the first with CR",
-        "a\n%%\r\nb\n%%\nS",
-        "a\n",
-        Some("b\n%%\nS"),
-    ),
-    (
-        "behind another line",
-        "a\n%%%\n%%\nS",
-        "a\n%%%\n",
-        Some("S"),
-    ),
-    (
-        "behind CR and another",
-        "%%\r%%\n%%\nS",
-        "%%\r%%\n",
-        Some("S"),
-    ),
+    ("two lines, the first with CR", "a\n%%\r\nb\n%%\nS", "a\n", Some("b\n%%\nS")),
+    ("behind another line", "a\n%%%\n%%\nS", "a\n%%%\n", Some("S")),
+    ("behind CR and another", "%%\r%%\n%%\nS", "%%\r%%\n", Some("S")),
 ];
 
 /// The bytes, and then what the reader gives, which is up to 1,600 bytes.
@@ -153,41 +134,18 @@ const TOO_LONG: Lengths = Err(ToolFault::ProfileTooLong);
 /// A name, a text of so many spaces and then these bytes, what its front comes to, and with which
 /// read that is known, where the spaces come in pieces of 8,192 bytes and the bytes behind them one
 /// by one.
+#[rattlefmt::skip]
 static LIMIT_ROWS: [(&str, usize, &str, Lengths, u64); 20] = [
     ("at the limit", LIMIT, "", Ok((LIMIT, None)), 129),
     ("a byte more", LIMIT + 1, "", TOO_LONG, 129),
     ("an LF more", LIMIT, "\n", TOO_LONG, 129),
     ("much more", LIMIT + 70_000, "\n%%\n", TOO_LONG, 129),
     // A line `%%` that starts at the limit.
-    (
-        "a line at the limit",
-        LIMIT - 1,
-        "\n%%\nS",
-        Ok((LIMIT, Some(1))),
-        132,
-    ),
-    (
-        "a line at the limit, CR LF",
-        LIMIT - 1,
-        "\n%%\r\nS P",
-        Ok((LIMIT, Some(3))),
-        133,
-    ),
+    ("a line at the limit", LIMIT - 1, "\n%%\nS", Ok((LIMIT, Some(1))), 132),
+    ("a line at the limit, CR LF", LIMIT - 1, "\n%%\r\nS P", Ok((LIMIT, Some(3))), 133),
     // And one that starts before it, or behind.
-    (
-        "a line before the limit",
-        LIMIT - 2,
-        "\n%%\nS",
-        Ok((LIMIT - 1, Some(1))),
-        132,
-    ),
-    (
-        "a line over the limit",
-        LIMIT - 4,
-        "\n%%\r\nS",
-        Ok((LIMIT - 3, Some(1))),
-        133,
-    ),
+    ("a line before the limit", LIMIT - 2, "\n%%\nS", Ok((LIMIT - 1, Some(1))), 132),
+    ("a line over the limit", LIMIT - 4, "\n%%\r\nS", Ok((LIMIT - 3, Some(1))), 133),
     ("a line behind the limit", LIMIT, "\n%%\nS", TOO_LONG, 129),
     // It is open with the end.
     ("`%` and the end", LIMIT - 1, "\n%", TOO_LONG, 131),
@@ -198,13 +156,7 @@ static LIMIT_ROWS: [(&str, usize, &str, Lengths, u64); 20] = [
     ("`%` and LF", LIMIT - 1, "\n%\n%%\n", TOO_LONG, 131),
     ("`%%` and a letter", LIMIT - 1, "\n%%S P", TOO_LONG, 132),
     ("three", LIMIT - 1, "\n%%%\n", TOO_LONG, 132),
-    (
-        "`%%`, CR and a letter",
-        LIMIT - 1,
-        "\n%%\rS P",
-        TOO_LONG,
-        133,
-    ),
+    ("`%%`, CR and a letter", LIMIT - 1, "\n%%\rS P", TOO_LONG, 133),
     ("`%%` and CR twice", LIMIT - 1, "\n%%\r\r\n", TOO_LONG, 133),
     // It starts no line.
     ("`%` behind a space", LIMIT, "%%\nS", TOO_LONG, 129),

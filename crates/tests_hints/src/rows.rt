@@ -42,16 +42,11 @@ static NOT_TOML: [Row; 12] = [
     (At::Top, b"[[device]]\naddress = 0x58\naddress = 0x59\n", NotToml, "  line 3: duplicate key\n"),
     (At::Top, b"[[device]]\naddress = 0x5_\n", NotToml, "  line 2: `_` may only go between digits\n"),
     (At::Top, b"device = []\n# \xff\n", NotToml, "  line 2: not UTF-8\n"),
-    (At::Top, b"S b0 A 21 A 00 A 18 A P\n", NotToml,
-     "  line 1: key with no value, expected `=`\n  This looks like a capture or lines: a profile and a line %% come first, or --sample.\n"),
-    (At::Top, b"# a capture\n\n\tS b0 A 21 A 00 A 18 A P\n", NotToml,
-     "  line 3: key with no value, expected `=`\n  This looks like a capture or lines: a profile and a line %% come first, or --sample.\n"),
-    (At::Top, b"write 58 21 00 18\n", NotToml,
-     "  line 1: key with no value, expected `=`\n  This looks like a capture or lines: a profile and a line %% come first, or --sample.\n"),
-    (At::Top, b"alert none\n", NotToml,
-     "  line 1: key with no value, expected `=`\n  This looks like a capture or lines: a profile and a line %% come first, or --sample.\n"),
-    (At::Top, b"get 58 21\n", NotToml,
-     "  line 1: key with no value, expected `=`\n  This looks like a capture or lines: a profile and a line %% come first, or --sample.\n"),
+    (At::Top, b"S b0 A 21 A 00 A 18 A P\n", NotToml, "  line 1: key with no value, expected `=`\n  This looks like a capture or lines: a profile and a line %% come first, or --sample.\n"),
+    (At::Top, b"# a capture\n\n\tS b0 A 21 A 00 A 18 A P\n", NotToml, "  line 3: key with no value, expected `=`\n  This looks like a capture or lines: a profile and a line %% come first, or --sample.\n"),
+    (At::Top, b"write 58 21 00 18\n", NotToml, "  line 1: key with no value, expected `=`\n  This looks like a capture or lines: a profile and a line %% come first, or --sample.\n"),
+    (At::Top, b"alert none\n", NotToml, "  line 1: key with no value, expected `=`\n  This looks like a capture or lines: a profile and a line %% come first, or --sample.\n"),
+    (At::Top, b"get 58 21\n", NotToml, "  line 1: key with no value, expected `=`\n  This looks like a capture or lines: a profile and a line %% come first, or --sample.\n"),
     (At::Top, b"read = 1\nwrite\n", NotToml, "  line 2: key with no value, expected `=`\n"),
     (At::Top, b"reads 58 21\n", NotToml, "  line 1: key with no value, expected `=`\n"),
 ];
@@ -66,12 +61,9 @@ static UNKNOWN_KEYS: [Row; 11] = [
     (At::Device, b"adress = 0x58\npec = \"on\"\n", UnknownKey, "  adress: did you mean address?\n"),
     (At::Device, b"address = 0x58\nPEC = \"on\"\n", UnknownKey, "  PEC: did you mean pec?\n"),
     (At::Device, b"address = 0x58\npec = \"on\"\npaegs = 2\n", UnknownKey, "  paegs: did you mean pages?\n"),
-    (At::SecondDevice, b"address = 0x59\npec = \"on\"\nbus = 1\n", UnknownKey,
-     "  bus: the keys here are address pec pages vout_mode standard vout_direct command\n"),
-    (At::Device, b"address = 0x58\npec = \"on\"\n\"a b\" = 1\n", UnknownKey,
-     "  \"a b\": the keys here are address pec pages vout_mode standard vout_direct command\n"),
-    (At::Device, b"address = 0x58\npec = \"on\"\nabcdefghijklmnopqrstuvwxyzabcdefghijklmnopqrstuvwxyz = 1\n", UnknownKey,
-     "  \"abcdefghijklmnopqrstuvwxyzabcdefghijklmnopqrstuv\"..: the keys here are address pec pages vout_mode standard vout_direct command\n"),
+    (At::SecondDevice, b"address = 0x59\npec = \"on\"\nbus = 1\n", UnknownKey, "  bus: the keys here are address pec pages vout_mode standard vout_direct command\n"),
+    (At::Device, b"address = 0x58\npec = \"on\"\n\"a b\" = 1\n", UnknownKey, "  \"a b\": the keys here are address pec pages vout_mode standard vout_direct command\n"),
+    (At::Device, b"address = 0x58\npec = \"on\"\nabcdefghijklmnopqrstuvwxyzabcdefghijklmnopqrstuvwxyz = 1\n", UnknownKey, "  \"abcdefghijklmnopqrstuvwxyzabcdefghijklmnopqrstuv\"..: the keys here are address pec pages vout_mode standard vout_direct command\n"),
     (At::Device, b"address = 0x58\npec = \"on\"\ncode = 0xd0\n", UnknownKey, "  code: a key of a command, so it belongs after a line [[device.command]]\n"),
 ];
 
@@ -80,17 +72,14 @@ static UNKNOWN_KEYS: [Row; 11] = [
 static MORE_UNKNOWN_KEYS: [Row; 10] = [
     (At::Device, b"address = 0x58\npec = \"on\"\nvout_direct = { m = 1, b = 0, R = 0 }\n", UnknownKey, "  vout_direct.R: did you mean r?\n"),
     (At::Device, b"address = 0x58\npec = \"on\"\nvout_direct = { m = 1, b = 0, r = 0, x = 0 }\n", UnknownKey, "  vout_direct.x: the keys here are m b r\n"),
-    (At::SecondDevice, b"address = 0x59\npec = \"on\"\n[device.vout_direct]\nm = 1\nb = 0\nr = 0\npages = 2\n", UnknownKey,
-     "  vout_direct.pages: a key of a device, so it belongs between its [[device]] and the next header\n"),
+    (At::SecondDevice, b"address = 0x59\npec = \"on\"\n[device.vout_direct]\nm = 1\nb = 0\nr = 0\npages = 2\n", UnknownKey, "  vout_direct.pages: a key of a device, so it belongs between its [[device]] and the next header\n"),
     (At::Command, b"name = \"READ_VIN\"\npages = 2\n", UnknownKey, "  pages: a key of a device, so it belongs between its [[device]] and the next header\n"),
     (At::SecondCommand, b"name = \"READ_IIN\"\ninital = \"00d3\"\n", UnknownKey, "  inital: did you mean initial?\n"),
-    (At::Command, b"code = 0xd0\nformat = 1\n", UnknownKey,
-     "  format: the keys here are code name write read call kind m b r exponent paged initial\n"),
+    (At::Command, b"code = 0xd0\nformat = 1\n", UnknownKey, "  format: the keys here are code name write read call kind m b r exponent paged initial\n"),
     (At::Command, b"code = 0xd0\nread = \"two\"\nm = 0x10\n", UnknownKey, "  m = 0x10: this key goes with kind = \"direct\" alone\n"),
     (At::SecondCommand, b"name = \"READ_IIN\"\nr = -2\n", UnknownKey, "  r = -2: this key goes with kind = \"direct\" alone\n"),
     (At::Command, b"name = \"MFR_ID\"\nexponent = 0\n", UnknownKey, "  exponent = 0: this key goes with kind = \"linear11\" alone, from the key or the standard\n"),
-    (At::Command, b"name = \"VIN_ON\"\nkind = \"direct\"\nm = 1\nb = 0\nr = 0\nexponent = -3\n", UnknownKey,
-     "  exponent = -3: this key goes with kind = \"linear11\" alone, from the key or the standard\n"),
+    (At::Command, b"name = \"VIN_ON\"\nkind = \"direct\"\nm = 1\nb = 0\nr = 0\nexponent = -3\n", UnknownKey, "  exponent = -3: this key goes with kind = \"linear11\" alone, from the key or the standard\n"),
 ];
 
 // MissingKey: the key, with a value
@@ -136,14 +125,10 @@ static TOO_MANY_DEVICES: [Row; 1] = [
 // BadAddress: b0h, b1h are 58h with the direction bit, 78h is 3ch, efh is 77h; f0h is no such byte
 #[rattlefmt::skip]
 static ADDRESSES: [Row; 8] = [
-    (At::Device, b"address = 0xb0\npec = \"on\"\n", BadAddress,
-     "  address = 0xb0: an address of 7 bits is needed, from 0x08 to 0x77, but not 0x0c\n  0xb0 is the 8-bit form of 58h: address = 0x58\n"),
-    (At::SecondDevice, b"pec = \"on\"\naddress=177 # to be read\n", BadAddress,
-     "  address = 177: an address of 7 bits is needed, from 0x08 to 0x77, but not 0x0c\n  0xb1 is the 8-bit form of 58h: address = 0x58\n"),
-    (At::Device, b"address = 0x78\npec = \"on\"\n", BadAddress,
-     "  address = 0x78: an address of 7 bits is needed, from 0x08 to 0x77, but not 0x0c\n  0x78 is the 8-bit form of 3ch: address = 0x3c\n"),
-    (At::Device, b"address = 0xEF\npec = \"on\"\n", BadAddress,
-     "  address = 0xEF: an address of 7 bits is needed, from 0x08 to 0x77, but not 0x0c\n  0xef is the 8-bit form of 77h: address = 0x77\n"),
+    (At::Device, b"address = 0xb0\npec = \"on\"\n", BadAddress, "  address = 0xb0: an address of 7 bits is needed, from 0x08 to 0x77, but not 0x0c\n  0xb0 is the 8-bit form of 58h: address = 0x58\n"),
+    (At::SecondDevice, b"pec = \"on\"\naddress=177 # to be read\n", BadAddress, "  address = 177: an address of 7 bits is needed, from 0x08 to 0x77, but not 0x0c\n  0xb1 is the 8-bit form of 58h: address = 0x58\n"),
+    (At::Device, b"address = 0x78\npec = \"on\"\n", BadAddress, "  address = 0x78: an address of 7 bits is needed, from 0x08 to 0x77, but not 0x0c\n  0x78 is the 8-bit form of 3ch: address = 0x3c\n"),
+    (At::Device, b"address = 0xEF\npec = \"on\"\n", BadAddress, "  address = 0xEF: an address of 7 bits is needed, from 0x08 to 0x77, but not 0x0c\n  0xef is the 8-bit form of 77h: address = 0x77\n"),
     (At::Device, b"address = 0xf0\npec = \"on\"\n", BadAddress, "  address = 0xf0: an address of 7 bits is needed, from 0x08 to 0x77, but not 0x0c\n"),
     (At::Device, b"address = 0x0c\npec = \"on\"\n", BadAddress, "  address = 0x0c: an address of 7 bits is needed, from 0x08 to 0x77, but not 0x0c\n"),
     (At::Device, b"address = 0b111\npec = \"on\"\n", BadAddress, "  address = 0b111: an address of 7 bits is needed, from 0x08 to 0x77, but not 0x0c\n"),
@@ -169,8 +154,7 @@ static VALUES: [Row; 12] = [
     (At::Command, b"name = \"READ_VIN\"\nkind = \"linear\"\n", BadValue, "  kind = \"linear\": did you mean \"linear11\"?\n"),
     (At::Command, b"name = \"READ_VOUT\"\nkind = \"linear16\"\n", BadValue, "  kind = \"linear16\": it is kind = \"vout\", and vout_mode has the exponent\n"),
     (At::Command, b"name = \"VOUT_TRIM\"\nkind = \"SLINEAR16\"\n", BadValue, "  kind = \"SLINEAR16\": it is kind = \"vout_signed\", and vout_mode has the exponent\n"),
-    (At::Command, b"name = \"READ_VIN\"\nkind = \"volts\"\n", BadValue,
-     "  kind = \"volts\": it is one of \"raw\" \"linear11\" \"vout\" \"vout_signed\" \"direct\" \"status\"\n"),
+    (At::Command, b"name = \"READ_VIN\"\nkind = \"volts\"\n", BadValue, "  kind = \"volts\": it is one of \"raw\" \"linear11\" \"vout\" \"vout_signed\" \"direct\" \"status\"\n"),
     (At::Command, b"name = \"VIN_ON\"\nexponent = 16\n", BadValue, "  exponent = 16: a number from -16 to 15 is needed\n"),
     (At::SecondCommand, b"name = \"VIN_ON\"\nexponent = -17\n", BadValue, "  exponent = -17: a number from -16 to 15 is needed\n"),
 ];
@@ -187,8 +171,7 @@ static PAGES: [Row; 2] = [
 static UNKNOWN_NAMES: [Row; 3] = [
     (At::Command, b"name = \"READ_VON\"\n", UnknownName, "  name = \"READ_VON\": did you mean \"READ_VIN\"?\n"),
     (At::Command, b"name = \"read_vout\"\n", UnknownName, "  name = \"read_vout\": did you mean \"READ_VOUT\"?\n"),
-    (At::SecondCommand, b"name = \"MFR_READ_VAUX\"\n", UnknownName,
-     "  name = \"MFR_READ_VAUX\": no standard command has this name, and one of the part's own needs its code\n"),
+    (At::SecondCommand, b"name = \"MFR_READ_VAUX\"\n", UnknownName, "  name = \"MFR_READ_VAUX\": no standard command has this name, and one of the part's own needs its code\n"),
 ];
 
 // BadName
@@ -205,37 +188,25 @@ static FORMS: [Row; 9] = [
     (At::Command, b"code = 0xd0\nread = \"zero\"\n", BadForm, "  read = \"zero\": it is one of \"none\" \"one\" \"two\" \"four\" \"eight\" \"block\"\n"),
     (At::Command, b"code = 0xd0\nread = \"word\"\n", BadForm, "  read = \"word\": it is one of \"none\" \"one\" \"two\" \"four\" \"eight\" \"block\"\n"),
     (At::SecondCommand, b"code = 0xe0\ncall = \"four\"\n", BadForm, "  call = \"four\": it is one of \"none\" \"two\" \"block\"\n"),
-    (At::Command, b"code = 0x20\n", BadForm,
-     "  write, read and call are all \"none\": one of them is needed, and a command with code has those alone that its keys give\n"),
-    (At::Command, b"name = \"READ_VIN\"\nread = \"none\"\n", BadForm,
-     "  write, read and call are all \"none\": one of them is needed, and a command with code has those alone that its keys give\n"),
-    (At::Command, b"code = 0xe0\nwrite = \"four\"\nread = \"eight\"\n", BadForm,
-     "  write = \"four\", read = \"eight\": these are the same, unless write is \"zero\" or one of them \"none\"\n"),
-    (At::SecondCommand, b"name = \"READ_IIN\"\nwrite = \"one\"\n", BadForm,
-     "  write = \"one\", read = \"two\": these are the same, unless write is \"zero\" or one of them \"none\"\n"),
-    (At::Command, b"name = \"PAGE\"\nwrite = \"two\"\nread = \"two\"\n", BadForm,
-     "  PAGE keeps the standard's forms, or has \"none\" in their place: write = \"one\", read = \"one\", call = \"none\"\n"),
+    (At::Command, b"code = 0x20\n", BadForm, "  write, read and call are all \"none\": one of them is needed, and a command with code has those alone that its keys give\n"),
+    (At::Command, b"name = \"READ_VIN\"\nread = \"none\"\n", BadForm, "  write, read and call are all \"none\": one of them is needed, and a command with code has those alone that its keys give\n"),
+    (At::Command, b"code = 0xe0\nwrite = \"four\"\nread = \"eight\"\n", BadForm, "  write = \"four\", read = \"eight\": these are the same, unless write is \"zero\" or one of them \"none\"\n"),
+    (At::SecondCommand, b"name = \"READ_IIN\"\nwrite = \"one\"\n", BadForm, "  write = \"one\", read = \"two\": these are the same, unless write is \"zero\" or one of them \"none\"\n"),
+    (At::Command, b"name = \"PAGE\"\nwrite = \"two\"\nread = \"two\"\n", BadForm, "  PAGE keeps the standard's forms, or has \"none\" in their place: write = \"one\", read = \"one\", call = \"none\"\n"),
 ];
 
 // BadForm: the words, then the parts in the order of their rules
 #[rattlefmt::skip]
 static MORE_FORMS: [Row; 9] = [
-    (At::Command, b"code = 0x03\nread = \"one\"\n", BadForm,
-     "  CLEAR_FAULTS keeps the standard's forms, or has \"none\" in their place: write = \"zero\", read = \"none\", call = \"none\"\n"),
-    (At::Command, b"code = 0x30\nread = \"block\"\n", BadForm,
-     "  COEFFICIENTS keeps the standard's forms, or has \"none\" in their place: write = \"none\", read = \"none\", call = \"block\"\n"),
-    (At::Command, b"name = \"STATUS_CML\"\nwrite = \"two\"\nread = \"two\"\n", BadForm,
-     "  STATUS_CML keeps the standard's forms, or has \"none\" in their place: write = \"one\", read = \"one\", call = \"none\"\n"),
+    (At::Command, b"code = 0x03\nread = \"one\"\n", BadForm, "  CLEAR_FAULTS keeps the standard's forms, or has \"none\" in their place: write = \"zero\", read = \"none\", call = \"none\"\n"),
+    (At::Command, b"code = 0x30\nread = \"block\"\n", BadForm, "  COEFFICIENTS keeps the standard's forms, or has \"none\" in their place: write = \"none\", read = \"none\", call = \"block\"\n"),
+    (At::Command, b"name = \"STATUS_CML\"\nwrite = \"two\"\nread = \"two\"\n", BadForm, "  STATUS_CML keeps the standard's forms, or has \"none\" in their place: write = \"one\", read = \"one\", call = \"none\"\n"),
     (At::Command, b"name = \"VOUT_MODE\"\nkind = \"status\"\n", BadForm, "  kind = \"status\": VOUT_MODE is always \"raw\"\n"),
     (At::Command, b"name = \"PAGE\"\npaged = true\n", BadForm, "  paged = true: PAGE has one value for all pages\n"),
-    (At::Command, b"name = \"READ_VIN\"\nread = \"four\"\n", BadForm,
-     "  kind = \"linear11\", read = \"four\": such a number has \"two\" bytes, and kind = \"raw\" goes with each form\n"),
-    (At::Command, b"code = 0xe0\nwrite = \"block\"\nkind = \"direct\"\nm = 1\nb = 0\nr = 0\n", BadForm,
-     "  kind = \"direct\", write = \"block\": such a number has \"two\" bytes, and kind = \"raw\" goes with each form\n"),
-    (At::SecondCommand, b"code = 0xe0\ncall = \"two\"\nkind = \"vout\"\n", BadForm,
-     "  kind = \"vout\", read = \"none\": such a number has \"two\" bytes, and kind = \"raw\" goes with each form\n"),
-    (At::Command, b"name = \"STATUS_WORD\"\nwrite = \"none\"\nread = \"eight\"\n", BadForm,
-     "  kind = \"status\", read = \"eight\": status bits are \"one\" or \"two\" bytes, and kind = \"raw\" goes with each form\n"),
+    (At::Command, b"name = \"READ_VIN\"\nread = \"four\"\n", BadForm, "  kind = \"linear11\", read = \"four\": such a number has \"two\" bytes, and kind = \"raw\" goes with each form\n"),
+    (At::Command, b"code = 0xe0\nwrite = \"block\"\nkind = \"direct\"\nm = 1\nb = 0\nr = 0\n", BadForm, "  kind = \"direct\", write = \"block\": such a number has \"two\" bytes, and kind = \"raw\" goes with each form\n"),
+    (At::SecondCommand, b"code = 0xe0\ncall = \"two\"\nkind = \"vout\"\n", BadForm, "  kind = \"vout\", read = \"none\": such a number has \"two\" bytes, and kind = \"raw\" goes with each form\n"),
+    (At::Command, b"name = \"STATUS_WORD\"\nwrite = \"none\"\nread = \"eight\"\n", BadForm, "  kind = \"status\", read = \"eight\": status bits are \"one\" or \"two\" bytes, and kind = \"raw\" goes with each form\n"),
 ];
 
 // BadCoefficients
@@ -245,8 +216,7 @@ static COEFFICIENTS: [Row; 5] = [
     (At::Command, b"code = 0xd0\nread = \"two\"\nkind = \"direct\"\nm = 53_765\nb = 0\nr = 0\n", BadCoefficients, "  m = 53_765: a number from -32768 to 32767 is needed\n"),
     (At::SecondCommand, b"code = 0xd0\nread = \"two\"\nkind = \"direct\"\nm = 1\nb = 0\nr = 10\n", BadCoefficients, "  r = 10: a number from -9 to 9 is needed\n"),
     (At::Device, b"address = 0x58\npec = \"on\"\nvout_direct = { m = 1, b = 0x8000, r = 0 }\n", BadCoefficients, "  vout_direct.b = 0x8000: a number from -32768 to 32767 is needed\n"),
-    (At::SecondDevice, b"address = 0x59\npec = \"on\"\n[device.vout_direct]\nm = 0x0\nb = 0\nr = 0\n", BadCoefficients,
-     "  vout_direct.m = 0x0: a number from -32768 to 32767 other than 0 is needed\n"),
+    (At::SecondDevice, b"address = 0x59\npec = \"on\"\n[device.vout_direct]\nm = 0x0\nb = 0\nr = 0\n", BadCoefficients, "  vout_direct.m = 0x0: a number from -32768 to 32767 other than 0 is needed\n"),
 ];
 
 // CodeTwice: READ_VIN is 88h
@@ -254,10 +224,8 @@ static COEFFICIENTS: [Row; 5] = [
 static CODES_TWICE: [Row; 4] = [
     (At::SecondCommand, b"name = \"READ_VIN\"\n", CodeTwice, "  name = \"READ_VIN\": command 0 of this device has its code, 88h\n"),
     (At::SecondCommand, b"code = 0x88\nname = \"INPUT\"\nread = \"two\"\n", CodeTwice, "  code = 0x88: command 0 of this device has this code\n"),
-    (At::In(0, Some(2)), b"[[device]]\naddress = 0x58\npec = \"on\"\n[[device.command]]\ncode = 0xd0\nread = \"one\"\n[[device.command]]\nname = \"PAGE\"\n[[device.command]]\ncode = 208\nread = \"one\"\n", CodeTwice,
-     "  code = 208: command 0 of this device has this code\n"),
-    (At::In(0, Some(2)), b"[[device]]\naddress = 0x58\npec = \"on\"\n[[device.command]]\ncode = 0x88\nread = \"two\"\n[[device.command]]\nname = \"PAGE\"\n[[device.command]]\nname = \"PAGE\"\n", CodeTwice,
-     "  name = \"PAGE\": command 1 of this device has its code, 00h\n"),
+    (At::In(0, Some(2)), b"[[device]]\naddress = 0x58\npec = \"on\"\n[[device.command]]\ncode = 0xd0\nread = \"one\"\n[[device.command]]\nname = \"PAGE\"\n[[device.command]]\ncode = 208\nread = \"one\"\n", CodeTwice, "  code = 208: command 0 of this device has this code\n"),
+    (At::In(0, Some(2)), b"[[device]]\naddress = 0x58\npec = \"on\"\n[[device.command]]\ncode = 0x88\nread = \"two\"\n[[device.command]]\nname = \"PAGE\"\n[[device.command]]\nname = \"PAGE\"\n", CodeTwice, "  name = \"PAGE\": command 1 of this device has its code, 00h\n"),
 ];
 
 // BadInitial
@@ -286,16 +254,11 @@ static INITIAL: [Row; 9] = [
 // tables within lines; and numbers that are found in another line, or in none
 #[rattlefmt::skip]
 static WITHIN_LINES: [Row; 7] = [
-    (At::In(1, None), b"device = [{ address = 0x10, pec = 'on' }, { address = 0xb0, pec = 'off' }]\n", BadAddress,
-     "  address = 0xb0: an address of 7 bits is needed, from 0x08 to 0x77, but not 0x0c\n  0xb0 is the 8-bit form of 58h: address = 0x58\n"),
-    (At::In(0, Some(1)), b"[[device]]\naddress = 0x58\npec = \"on\"\ncommand = [{ name = \"READ_VIN\" }, { code = 0x100 }]\n", BadValue,
-     "  code = 0x100: a number from 0 to 255 is needed\n"),
+    (At::In(1, None), b"device = [{ address = 0x10, pec = 'on' }, { address = 0xb0, pec = 'off' }]\n", BadAddress, "  address = 0xb0: an address of 7 bits is needed, from 0x08 to 0x77, but not 0x0c\n  0xb0 is the 8-bit form of 58h: address = 0x58\n"),
+    (At::In(0, Some(1)), b"[[device]]\naddress = 0x58\npec = \"on\"\ncommand = [{ name = \"READ_VIN\" }, { code = 0x100 }]\n", BadValue, "  code = 0x100: a number from 0 to 255 is needed\n"),
     (At::In(0, None), b"device = [[]]\n", WrongType, "  device: each device begins with a line [[device]]\n"),
     (At::In(0, Some(0)), b"[[device]]\naddress = 0x58\npec = \"on\"\ncommand = [1]\n", WrongType, "  command: each command begins with a line [[device.command]]\n"),
-    (At::In(1, None), b"[[device]]\naddress = 0x58\npec = \"on\"\n[[ device ]] # the other\naddress\t= 0x5_8\t# the same\npec = \"on\"\n", AddressTwice,
-     "  address = 0x5_8: device 0 has this address\n"),
-    (At::In(0, None), b"[[device]]\n\"address\" = 0xb0\npec = \"on\"\n", BadAddress,
-     "  address = 176: an address of 7 bits is needed, from 0x08 to 0x77, but not 0x0c\n  0xb0 is the 8-bit form of 58h: address = 0x58\n"),
-    (At::In(0, None), b"[[device]] # address = 0xb1\npec = \"\"\"\naddress = 0xb2\n\"\"\"\naddress = 0xb0\n", BadAddress,
-     "  address = 0xb0: an address of 7 bits is needed, from 0x08 to 0x77, but not 0x0c\n  0xb0 is the 8-bit form of 58h: address = 0x58\n"),
+    (At::In(1, None), b"[[device]]\naddress = 0x58\npec = \"on\"\n[[ device ]] # the other\naddress\t= 0x5_8\t# the same\npec = \"on\"\n", AddressTwice, "  address = 0x5_8: device 0 has this address\n"),
+    (At::In(0, None), b"[[device]]\n\"address\" = 0xb0\npec = \"on\"\n", BadAddress, "  address = 176: an address of 7 bits is needed, from 0x08 to 0x77, but not 0x0c\n  0xb0 is the 8-bit form of 58h: address = 0x58\n"),
+    (At::In(0, None), b"[[device]] # address = 0xb1\npec = \"\"\"\naddress = 0xb2\n\"\"\"\naddress = 0xb0\n", BadAddress, "  address = 0xb0: an address of 7 bits is needed, from 0x08 to 0x77, but not 0x0c\n  0xb0 is the 8-bit form of 58h: address = 0x58\n"),
 ];

@@ -1,6 +1,7 @@
 //! Answers.
 
-use crate::words::{LONG_FORMS, digits};
+use crate::words::digits;
+use plain_packets::LONG_FORMS;
 use pmb_leg::{Answer, LegPlace, WrittenLeg};
 use pmb_table::{Profile, SAMPLE};
 use std::alloc::{AllocError, Global};

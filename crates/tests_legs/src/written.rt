@@ -1,9 +1,11 @@
 //! Legs that are written.
 
-use crate::words::{LONG_FORMS, digits};
+use crate::words::digits;
+use plain_packets::LONG_FORMS;
 use pmb_leg::{Asked, LegPlace, WrittenLeg};
 use pmb_table::{Profile, SAMPLE};
 use std::alloc::{AllocError, Global};
+use std::process::Abort;
 use std::test::Fail;
 
 /// Bytes to a device behind its address, how many of them are taken before the first that is not, and
@@ -151,33 +153,20 @@ fn check_row(alloc: Global, row: &Row) -> Result<(Option<usize>, String), &'stat
     Ok((taken, text))
 }
 
-#[test]
-fn writes_and_reads(rt: HostRuntime) -> Result<(), Fail> {
-    for row in &writes() {
-        let (taken, text) = check_row(rt.alloc(), row)?;
-        let bytes = row.bytes;
-        assert_eq!(rt; taken, Some(row.taken), "{bytes:?}");
-        assert_eq!(rt;
-            text.strip_prefix(", ").unwrap_or(""),
-            row.told,
-            "{bytes:?}"
-        );
+/// Whether each row is taken as far as it says, and told so.
+fn check_rows(rt: &impl Abort, alloc: Global, rows: &[Row]) -> Result<(), &'static str> {
+    for row in rows {
+        let (taken, text) = check_row(alloc, row)?;
+        let found = (taken, text.strip_prefix(", ").unwrap_or(""));
+        assert_eq!(rt; found, (Some(row.taken), row.told), "{:?}", row.bytes);
     }
     Ok(())
 }
 
 #[test]
-fn calls_later_legs_and_long_forms(rt: HostRuntime) -> Result<(), Fail> {
-    for row in &others() {
-        let (taken, text) = check_row(rt.alloc(), row)?;
-        let bytes = row.bytes;
-        assert_eq!(rt; taken, Some(row.taken), "{bytes:?}");
-        assert_eq!(rt;
-            text.strip_prefix(", ").unwrap_or(""),
-            row.told,
-            "{bytes:?}"
-        );
-    }
+fn writes_reads_calls_later_legs_and_long_forms(rt: HostRuntime) -> Result<(), Fail> {
+    check_rows(&rt, rt.alloc(), &writes())?;
+    check_rows(&rt, rt.alloc(), &others())?;
     Ok(())
 }
 

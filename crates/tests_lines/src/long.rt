@@ -1,32 +1,17 @@
 //! Long lines: a piece repeated, and where a list has no room for what comes.
 
 use crate::says::answer;
-use arrayvec::ArrayVec;
+use harness::repeated;
 use pmb_table::{Profile, SAMPLE};
 use std::test::Fail;
 
-/// The front of a line, a piece that comes so many times behind it, its end, and what is answered.
-type Long = (
-    &'static str,
-    &'static str,
-    usize,
-    &'static str,
-    &'static str,
-);
+/// The front of a line, a piece, how many times it follows, the end, and the answer.
+#[rattlefmt::skip]
+type Long = (&'static str, &'static str, usize, &'static str, &'static str);
 
 /// The rows of the table. A call keeps the proof of a loop over them from carrying the table.
 fn rows() -> &'static [Long] {
     &LONGS
-}
-
-fn line(row: &Long) -> ArrayVec<u8, 2048> {
-    let mut line = ArrayVec::new();
-    let _ = line.try_extend_from_slice(row.0.as_bytes());
-    for _ in 0..row.2 {
-        let _ = line.try_extend_from_slice(row.1.as_bytes());
-    }
-    let _ = line.try_extend_from_slice(row.3.as_bytes());
-    line
 }
 
 /// Lines under the sample profile.
@@ -72,9 +57,11 @@ fn agrees(text: &[u8], told: &[u8]) -> bool {
 #[test]
 fn long_lines(rt: HostRuntime) -> Result<(), Fail> {
     let profile = Profile::from_toml(rt.alloc(), SAMPLE.as_bytes())?;
-    for row in rows() {
-        let given = answer(&profile, line(row).as_slice());
-        assert!(rt; agrees(given.as_slice(), row.4.as_bytes()), "at {}", row.4);
+    for &(front, piece, times, end, told) in rows() {
+        let line = repeated(rt.alloc(), front, piece, times, end)?;
+        let given = answer(&profile, line.as_bytes());
+        let is_told = agrees(given.as_slice(), told.as_bytes());
+        assert!(rt; is_told, "{front}, {times} of {piece}, {end}");
     }
     Ok(())
 }

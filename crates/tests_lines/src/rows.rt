@@ -1,24 +1,9 @@
 //! Short lines: each kind, each fault, and how words are told apart.
 
 use crate::says::{Row, answer, rows_of};
+use plain_packets::LONG_FORMS;
 use pmb_table::{Profile, SAMPLE};
 use std::test::Fail;
-
-/// One device whose commands have four and eight bytes.
-const WIDE: &str = "
-[[device]]
-address = 0x10
-pec = \"optional\"
-
-[[device.command]]
-code = 0xe0
-write = \"four\"
-read = \"four\"
-
-[[device.command]]
-code = 0xe1
-read = \"eight\"
-";
 
 /// Lines under the sample profile.
 static SAMPLES: [Row; 85] = [
@@ -126,12 +111,10 @@ fn lines_of_the_sample(rt: HostRuntime) -> Result<(), Fail> {
 }
 
 /// Lines under a profile with commands of four and eight bytes.
+#[rattlefmt::skip]
 static WIDES: [Row; 5] = [
     ("write 10 e0 01 02 03 04 pec", "write 10 e0 01 02 03 04 pec"),
-    (
-        "read 10 e1 : 01 02 03 04 05 06 07 08",
-        "read 10 e1 : 01 02 03 04 05 06 07 08",
-    ),
+    ("read 10 e1 : 01 02 03 04 05 06 07 08", "read 10 e1 : 01 02 03 04 05 06 07 08"),
     ("write 10 e0 01", "WrongLength"),
     ("alert b0 pec", "alert b0 pec"),
     ("alert none", "alert none"),
@@ -139,7 +122,7 @@ static WIDES: [Row; 5] = [
 
 #[test]
 fn lines_of_four_and_eight_bytes(rt: HostRuntime) -> Result<(), Fail> {
-    let profile = Profile::from_toml(rt.alloc(), WIDE.as_bytes())?;
+    let profile = Profile::from_toml(rt.alloc(), LONG_FORMS.as_bytes())?;
     for row in rows_of(&WIDES) {
         let given = answer(&profile, row.0.as_bytes());
         assert_eq!(rt; given.as_slice(), row.1.as_bytes());

@@ -15,6 +15,7 @@ fn rows() -> &'static [Told] {
 }
 
 /// Lines under the sample profile: 58h has two pages, 59h and 5ah have one; VOUT_MODE is 17h.
+#[rattlefmt::skip]
 static TOLD: [Told; 48] = [
     // At first, and where there is no device.
     (&[], 0x58, Some(0), Some(0x17)),
@@ -40,116 +41,36 @@ static TOLD: [Told; 48] = [
     (&["call 58 1b 20 : 14"], 0x58, Some(0), Some(0x17)),
     (&["alert b0", "alert none"], 0x58, Some(0), Some(0x17)),
     // A mode for each page.
-    (
-        &["write 58 20 14", "write 58 00 01"],
-        0x58,
-        Some(1),
-        Some(0x17),
-    ),
-    (
-        &["write 58 00 01", "write 58 20 14"],
-        0x58,
-        Some(1),
-        Some(0x14),
-    ),
-    (
-        &["write 58 00 01", "write 58 20 14", "write 58 00 00"],
-        0x58,
-        Some(0),
-        Some(0x17),
-    ),
-    (
-        &[
-            "write 58 20 13",
-            "write 58 00 01",
-            "write 58 20 14",
-            "write 58 00 00",
-        ],
-        0x58,
-        Some(0),
-        Some(0x13),
-    ),
+    (&["write 58 20 14", "write 58 00 01"], 0x58, Some(1), Some(0x17)),
+    (&["write 58 00 01", "write 58 20 14"], 0x58, Some(1), Some(0x14)),
+    (&["write 58 00 01", "write 58 20 14", "write 58 00 00"], 0x58, Some(0), Some(0x17)),
+    (&["write 58 20 13", "write 58 00 01", "write 58 20 14", "write 58 00 00"], 0x58, Some(0), Some(0x13)),
     // All pages.
     (&["write 58 00 ff"], 0x58, Some(0xff), Some(0x17)),
-    (
-        &["write 58 00 ff", "write 58 20 14"],
-        0x58,
-        Some(0xff),
-        Some(0x14),
-    ),
-    (
-        &["write 58 00 ff", "write 58 20 14", "write 58 00 01"],
-        0x58,
-        Some(1),
-        Some(0x14),
-    ),
-    (
-        &["write 58 00 ff", "read 58 20 : 14", "write 58 00 00"],
-        0x58,
-        Some(0),
-        Some(0x14),
-    ),
-    (
-        &["write 58 20 14", "write 58 00 ff"],
-        0x58,
-        Some(0xff),
-        None,
-    ),
-    (
-        &["write 58 00 01", "write 58 20 14", "write 58 00 ff"],
-        0x58,
-        Some(0xff),
-        None,
-    ),
-    (
-        &["write 58 20 14", "write 58 00 ff", "write 58 20 15"],
-        0x58,
-        Some(0xff),
-        Some(0x15),
-    ),
+    (&["write 58 00 ff", "write 58 20 14"], 0x58, Some(0xff), Some(0x14)),
+    (&["write 58 00 ff", "write 58 20 14", "write 58 00 01"], 0x58, Some(1), Some(0x14)),
+    (&["write 58 00 ff", "read 58 20 : 14", "write 58 00 00"], 0x58, Some(0), Some(0x14)),
+    (&["write 58 20 14", "write 58 00 ff"], 0x58, Some(0xff), None),
+    (&["write 58 00 01", "write 58 20 14", "write 58 00 ff"], 0x58, Some(0xff), None),
+    (&["write 58 20 14", "write 58 00 ff", "write 58 20 15"], 0x58, Some(0xff), Some(0x15)),
     // A device of one page.
     (&["write 59 00 ff"], 0x59, Some(0xff), Some(0x17)),
-    (
-        &["write 59 20 14", "write 59 00 ff"],
-        0x59,
-        Some(0xff),
-        Some(0x14),
-    ),
+    (&["write 59 20 14", "write 59 00 ff"], 0x59, Some(0xff), Some(0x14)),
     (&["write 59 00 01"], 0x59, Some(1), None),
     // A page that is not there.
     (&["refused 58 00 05"], 0x58, Some(0), Some(0x17)),
     (&["write 58 00 05"], 0x58, Some(5), None),
     (&["read 58 00 : 05"], 0x58, Some(5), None),
     (&["write 58 00 05", "write 58 20 14"], 0x58, Some(5), None),
-    (
-        &["write 58 00 05", "write 58 20 14", "write 58 00 00"],
-        0x58,
-        Some(0),
-        Some(0x17),
-    ),
-    (
-        &["write 58 00 05", "write 58 20 14", "write 58 00 ff"],
-        0x58,
-        Some(0xff),
-        Some(0x17),
-    ),
+    (&["write 58 00 05", "write 58 20 14", "write 58 00 00"], 0x58, Some(0), Some(0x17)),
+    (&["write 58 00 05", "write 58 20 14", "write 58 00 ff"], 0x58, Some(0xff), Some(0x17)),
     (&["write 58 00 02", "write 58 20 14"], 0x58, Some(2), None),
-    (
-        &["write 58 00 20", "write 58 20 14"],
-        0x58,
-        Some(0x20),
-        None,
-    ),
+    (&["write 58 00 20", "write 58 20 14"], 0x58, Some(0x20), None),
     // Groups, and complete parts of a refused packet.
     (&["write 58 00 01 + 59 20 14"], 0x58, Some(1), Some(0x17)),
     (&["write 58 00 01 + 59 20 14"], 0x59, Some(0), Some(0x14)),
     (&["refused 58 00 01 + 5a 03 47"], 0x58, Some(1), Some(0x17)),
-    (
-        &["refused 59 03 + 58 20 14 + 20"],
-        0x58,
-        Some(0),
-        Some(0x14),
-    ),
+    (&["refused 59 03 + 58 20 14 + 20"], 0x58, Some(0), Some(0x14)),
     // A leg that was refused, even where a whole write stands before its last byte.
     (&["refused 58 20 14"], 0x58, Some(0), Some(0x17)),
     (&["refused 58 20 14 00"], 0x58, Some(0), Some(0x17)),

@@ -14,141 +14,19 @@ fn rows() -> &'static [Register] {
     &REGISTERS
 }
 
+#[rattlefmt::skip]
 static REGISTERS: [Register; 11] = [
-    (
-        "78",
-        "STATUS_BYTE",
-        &[
-            "BUSY",
-            "OFF",
-            "VOUT_OV_FAULT",
-            "IOUT_OC_FAULT",
-            "VIN_UV_FAULT",
-            "TEMPERATURE",
-            "CML",
-            "NONE_OF_THE_ABOVE",
-        ],
-    ),
-    (
-        "79",
-        "STATUS_WORD",
-        &[
-            "VOUT",
-            "IOUT_POUT",
-            "INPUT",
-            "MFR_SPECIFIC",
-            "POWER_GOOD_N",
-            "FANS",
-            "OTHER",
-            "UNKNOWN",
-            "BUSY",
-            "OFF",
-            "VOUT_OV_FAULT",
-            "IOUT_OC_FAULT",
-            "VIN_UV_FAULT",
-            "TEMPERATURE",
-            "CML",
-            "NONE_OF_THE_ABOVE",
-        ],
-    ),
-    (
-        "7a",
-        "STATUS_VOUT",
-        &[
-            "VOUT_OV_FAULT",
-            "VOUT_OV_WARN",
-            "VOUT_UV_WARN",
-            "VOUT_UV_FAULT",
-            "VOUT_MAX_MIN",
-            "TON_MAX_FAULT",
-            "TOFF_MAX_WARN",
-            "TRACKING",
-        ],
-    ),
-    (
-        "7b",
-        "STATUS_IOUT",
-        &[
-            "IOUT_OC_FAULT",
-            "IOUT_OC_LV_FAULT",
-            "IOUT_OC_WARN",
-            "IOUT_UC_FAULT",
-            "CURRENT_SHARE",
-            "POWER_LIMITING",
-            "POUT_OP_FAULT",
-            "POUT_OP_WARN",
-        ],
-    ),
-    (
-        "7c",
-        "STATUS_INPUT",
-        &[
-            "VIN_OV_FAULT",
-            "VIN_OV_WARN",
-            "VIN_UV_WARN",
-            "VIN_UV_FAULT",
-            "LOW_INPUT_OFF",
-            "IIN_OC_FAULT",
-            "IIN_OC_WARN",
-            "PIN_OP_WARN",
-        ],
-    ),
-    (
-        "7d",
-        "STATUS_TEMPERATURE",
-        &[
-            "OT_FAULT", "OT_WARN", "UT_WARN", "UT_FAULT", "bit3", "bit2", "bit1", "bit0",
-        ],
-    ),
-    (
-        "7e",
-        "STATUS_CML",
-        &[
-            "BAD_COMMAND",
-            "BAD_VALUE",
-            "PEC_FAILED",
-            "MEMORY_FAULT",
-            "PROCESSOR_FAULT",
-            "bit2",
-            "OTHER_COMM",
-            "OTHER_LOGIC",
-        ],
-    ),
-    (
-        "7f",
-        "STATUS_OTHER",
-        &[
-            "bit7", "bit6", "bit5", "bit4", "bit3", "bit2", "bit1", "bit0",
-        ],
-    ),
-    (
-        "80",
-        "STATUS_MFR_SPECIFIC",
-        &[
-            "bit7", "bit6", "bit5", "bit4", "bit3", "bit2", "bit1", "bit0",
-        ],
-    ),
-    (
-        "81",
-        "STATUS_FANS_1_2",
-        &[
-            "FAN_1_FAULT",
-            "FAN_2_FAULT",
-            "FAN_1_WARN",
-            "FAN_2_WARN",
-            "FAN_1_OVERRIDE",
-            "FAN_2_OVERRIDE",
-            "AIRFLOW_FAULT",
-            "AIRFLOW_WARN",
-        ],
-    ),
-    (
-        "82",
-        "STATUS_FANS_3_4",
-        &[
-            "bit7", "bit6", "bit5", "bit4", "bit3", "bit2", "bit1", "bit0",
-        ],
-    ),
+    ("78", "STATUS_BYTE", &["BUSY", "OFF", "VOUT_OV_FAULT", "IOUT_OC_FAULT", "VIN_UV_FAULT", "TEMPERATURE", "CML", "NONE_OF_THE_ABOVE"]),
+    ("79", "STATUS_WORD", &["VOUT", "IOUT_POUT", "INPUT", "MFR_SPECIFIC", "POWER_GOOD_N", "FANS", "OTHER", "UNKNOWN", "BUSY", "OFF", "VOUT_OV_FAULT", "IOUT_OC_FAULT", "VIN_UV_FAULT", "TEMPERATURE", "CML", "NONE_OF_THE_ABOVE"]),
+    ("7a", "STATUS_VOUT", &["VOUT_OV_FAULT", "VOUT_OV_WARN", "VOUT_UV_WARN", "VOUT_UV_FAULT", "VOUT_MAX_MIN", "TON_MAX_FAULT", "TOFF_MAX_WARN", "TRACKING"]),
+    ("7b", "STATUS_IOUT", &["IOUT_OC_FAULT", "IOUT_OC_LV_FAULT", "IOUT_OC_WARN", "IOUT_UC_FAULT", "CURRENT_SHARE", "POWER_LIMITING", "POUT_OP_FAULT", "POUT_OP_WARN"]),
+    ("7c", "STATUS_INPUT", &["VIN_OV_FAULT", "VIN_OV_WARN", "VIN_UV_WARN", "VIN_UV_FAULT", "LOW_INPUT_OFF", "IIN_OC_FAULT", "IIN_OC_WARN", "PIN_OP_WARN"]),
+    ("7d", "STATUS_TEMPERATURE", &["OT_FAULT", "OT_WARN", "UT_WARN", "UT_FAULT", "bit3", "bit2", "bit1", "bit0"]),
+    ("7e", "STATUS_CML", &["BAD_COMMAND", "BAD_VALUE", "PEC_FAILED", "MEMORY_FAULT", "PROCESSOR_FAULT", "bit2", "OTHER_COMM", "OTHER_LOGIC"]),
+    ("7f", "STATUS_OTHER", &["bit7", "bit6", "bit5", "bit4", "bit3", "bit2", "bit1", "bit0"]),
+    ("80", "STATUS_MFR_SPECIFIC", &["bit7", "bit6", "bit5", "bit4", "bit3", "bit2", "bit1", "bit0"]),
+    ("81", "STATUS_FANS_1_2", &["FAN_1_FAULT", "FAN_2_FAULT", "FAN_1_WARN", "FAN_2_WARN", "FAN_1_OVERRIDE", "FAN_2_OVERRIDE", "AIRFLOW_FAULT", "AIRFLOW_WARN"]),
+    ("82", "STATUS_FANS_3_4", &["bit7", "bit6", "bit5", "bit4", "bit3", "bit2", "bit1", "bit0"]),
 ];
 
 /// The bits of a byte and of a word, each alone, from the highest down, in digits, the low byte first.

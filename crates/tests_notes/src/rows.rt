@@ -6,91 +6,38 @@ use std::test::Fail;
 
 /// A device with commands of each kind, which are read with two bytes and written without data; one
 /// with coefficients for output voltages; one whose VOUT_MODE is not paged.
-const KINDS: &str = "
+const KINDS: &str = r#"
 [[device]]
 address = 0x10
-pec = \"optional\"
-
-[[device.command]]
-code = 0xe0
-write = \"four\"
-read = \"four\"
-
-[[device.command]]
-code = 0xe1
-read = \"eight\"
-
-[[device.command]]
-code = 0xe2
-write = \"zero\"
-read = \"two\"
-
-[[device.command]]
-code = 0xe3
-write = \"zero\"
-read = \"two\"
-kind = \"linear11\"
-
-[[device.command]]
-code = 0xe4
-write = \"zero\"
-read = \"two\"
-kind = \"linear11\"
-exponent = -3
-
-[[device.command]]
-code = 0xe5
-write = \"zero\"
-read = \"two\"
-kind = \"vout\"
-
-[[device.command]]
-code = 0xe6
-write = \"zero\"
-read = \"two\"
-kind = \"vout_signed\"
-
-[[device.command]]
-code = 0xe7
-write = \"zero\"
-read = \"two\"
-kind = \"direct\"
-m = 3
-b = 2
-r = 1
-
-[[device.command]]
-code = 0xe8
-write = \"zero\"
-read = \"two\"
-kind = \"status\"
-
-[[device.command]]
-code = 0xe9
-write = \"zero\"
-read = \"one\"
-kind = \"status\"
-
-[[device.command]]
-name = \"VIN_ON\"
-exponent = -3
+pec = "optional"
+command = [
+    { code = 0xe0, write = "four", read = "four" },
+    { code = 0xe1, read = "eight" },
+    { code = 0xe2, write = "zero", read = "two" },
+    { code = 0xe3, write = "zero", read = "two", kind = "linear11" },
+    { code = 0xe4, write = "zero", read = "two", kind = "linear11", exponent = -3 },
+    { code = 0xe5, write = "zero", read = "two", kind = "vout" },
+    { code = 0xe6, write = "zero", read = "two", kind = "vout_signed" },
+    { code = 0xe7, write = "zero", read = "two", kind = "direct", m = 3, b = 2, r = 1 },
+    { code = 0xe8, write = "zero", read = "two", kind = "status" },
+    { code = 0xe9, write = "zero", read = "one", kind = "status" },
+    { name = "VIN_ON", exponent = -3 },
+]
 
 [[device]]
 address = 0x11
-pec = \"off\"
+pec = "off"
 vout_mode = 0x40
 vout_direct = { m = 3, b = 2, r = 1 }
 
 [[device]]
 address = 0x12
-pec = \"off\"
+pec = "off"
 pages = 2
+command = [{ name = "VOUT_MODE", paged = false }]
+"#;
 
-[[device.command]]
-name = \"VOUT_MODE\"
-paged = false
-";
-
+#[rattlefmt::skip]
 static SAMPLES: [Row; 59] = [
     // Each kind of transaction.
     (&[], "write 58 21 00 18 pec", "VOUT_COMMAND 12"),
@@ -102,22 +49,10 @@ static SAMPLES: [Row; 59] = [
     (&[], "refused 20", "address refused"),
     (&[], "refused 58", "address refused"),
     (&[], "refused 58 88 read", "read address refused"),
-    (
-        &[],
-        "refused 59 03 + 58 03 47",
-        "CLEAR_FAULTS + byte refused",
-    ),
-    (
-        &[],
-        "refused 58 21 00 18 + 5a 21 00 18 pec + 59",
-        "VOUT_COMMAND 12 + VOUT_COMMAND 12 + address refused",
-    ),
+    (&[], "refused 59 03 + 58 03 47", "CLEAR_FAULTS + byte refused"),
+    (&[], "refused 58 21 00 18 + 5a 21 00 18 pec + 59", "VOUT_COMMAND 12 + VOUT_COMMAND 12 + address refused"),
     (&[], "write 58 03 + 59 03", "CLEAR_FAULTS + CLEAR_FAULTS"),
-    (
-        &[],
-        "write 58 22 ff ff + 59 7e 00 + 5a 10 80 pec",
-        "VOUT_TRIM -0.001953125 + STATUS_CML none + WRITE_PROTECT",
-    ),
+    (&[], "write 58 22 ff ff + 59 7e 00 + 5a 10 80 pec", "VOUT_TRIM -0.001953125 + STATUS_CML none + WRITE_PROTECT"),
     (&[], "write 5a 03 pec", "CLEAR_FAULTS"),
     (&[], "read 58 99 :", "MFR_ID"),
     (&[], "read 58 99 : pec", "MFR_ID"),
@@ -132,16 +67,8 @@ static SAMPLES: [Row; 59] = [
     (&[], "alert 15", "device 0a"),
     (&[], "alert none", "no device"),
     // Status registers.
-    (
-        &[],
-        "read 58 79 : 40 88",
-        "STATUS_WORD VOUT POWER_GOOD_N OFF",
-    ),
-    (
-        &[],
-        "read 58 7e : 26",
-        "STATUS_CML PEC_FAILED bit2 OTHER_COMM",
-    ),
+    (&[], "read 58 79 : 40 88", "STATUS_WORD VOUT POWER_GOOD_N OFF"),
+    (&[], "read 58 7e : 26", "STATUS_CML PEC_FAILED bit2 OTHER_COMM"),
     (&[], "write 58 7e 40", "STATUS_CML BAD_VALUE"),
     // Numbers that are exact.
     (&[], "write 58 d0 32 00", "RATIO 1"),
@@ -158,21 +85,9 @@ static SAMPLES: [Row; 59] = [
     (&["write 58 20 14"], "write 58 21 00 18", "VOUT_COMMAND 1.5"),
     (&["write 58 20 14"], "read 58 8b : 00 18", "READ_VOUT 1.5"),
     (&["write 58 20 14"], "write 59 21 00 18", "VOUT_COMMAND 12"),
-    (
-        &["read 58 20 : 14"],
-        "write 58 21 00 18",
-        "VOUT_COMMAND 1.5",
-    ),
-    (
-        &["write 58 20 14"],
-        "write 58 22 ff ff",
-        "VOUT_TRIM -0.000244140625",
-    ),
-    (
-        &["write 58 20 0f"],
-        "write 58 21 01 00",
-        "VOUT_COMMAND 32768",
-    ),
+    (&["read 58 20 : 14"], "write 58 21 00 18", "VOUT_COMMAND 1.5"),
+    (&["write 58 20 14"], "write 58 22 ff ff", "VOUT_TRIM -0.000244140625"),
+    (&["write 58 20 0f"], "write 58 21 01 00", "VOUT_COMMAND 32768"),
     // Under each fault of VOUT_MODE.
     (&["write 58 20 97"], "write 58 21 00 18", "VOUT_COMMAND raw"),
     (&["write 58 20 37"], "write 58 21 00 18", "VOUT_COMMAND raw"),
@@ -180,33 +95,13 @@ static SAMPLES: [Row; 59] = [
     (&["write 58 20 40"], "write 58 21 00 18", "VOUT_COMMAND raw"),
     (&["write 58 20 97"], "write 58 22 ff ff", "VOUT_TRIM raw"),
     // By the VOUT_MODE of the selected page, where it has one.
-    (
-        &[],
-        "write 58 00 01 + 59 21 00 18",
-        "PAGE + VOUT_COMMAND 12",
-    ),
-    (
-        &["write 58 20 14", "write 58 00 01"],
-        "write 58 21 00 18",
-        "VOUT_COMMAND 12",
-    ),
+    (&[], "write 58 00 01 + 59 21 00 18", "PAGE + VOUT_COMMAND 12"),
+    (&["write 58 20 14", "write 58 00 01"], "write 58 21 00 18", "VOUT_COMMAND 12"),
     (&["write 58 00 ff"], "write 58 21 00 18", "VOUT_COMMAND 12"),
-    (
-        &["write 58 20 14", "write 58 00 ff"],
-        "write 58 21 00 18",
-        "VOUT_COMMAND raw",
-    ),
-    (
-        &["write 59 20 14", "write 59 00 ff"],
-        "write 59 21 00 18",
-        "VOUT_COMMAND 1.5",
-    ),
+    (&["write 58 20 14", "write 58 00 ff"], "write 58 21 00 18", "VOUT_COMMAND raw"),
+    (&["write 59 20 14", "write 59 00 ff"], "write 59 21 00 18", "VOUT_COMMAND 1.5"),
     (&["write 58 00 05"], "write 58 21 00 18", "VOUT_COMMAND raw"),
-    (
-        &["refused 58 00 05"],
-        "write 58 21 00 18",
-        "VOUT_COMMAND 12",
-    ),
+    (&["refused 58 00 05"], "write 58 21 00 18", "VOUT_COMMAND 12"),
     // Another number is not read by VOUT_MODE.
     (&["write 58 20 97"], "read 58 88 : 00 d3", "READ_VIN 12"),
     (&["write 58 20 97"], "write 58 20 17", "VOUT_MODE"),
@@ -222,6 +117,7 @@ fn notes_of_the_sample(rt: HostRuntime) -> Result<(), Fail> {
     Ok(())
 }
 
+#[rattlefmt::skip]
 static OTHERS: [Row; 32] = [
     // Each kind of command, with two bytes, and with none.
     (&[], "write 10 e0 01 02 03 04 pec", "CMD_e0"),
@@ -255,21 +151,9 @@ static OTHERS: [Row; 32] = [
     (&["write 11 20 5f"], "write 11 21 32 00", "VOUT_COMMAND 1"),
     (&["write 11 20 14"], "write 11 21 00 18", "VOUT_COMMAND 1.5"),
     // One VOUT_MODE for all pages.
-    (
-        &["write 12 00 01", "write 12 20 14", "write 12 00 00"],
-        "write 12 21 00 18",
-        "VOUT_COMMAND 1.5",
-    ),
-    (
-        &["write 12 00 05", "write 12 20 14", "write 12 00 00"],
-        "write 12 21 00 18",
-        "VOUT_COMMAND 1.5",
-    ),
-    (
-        &["write 12 20 14", "write 12 00 05"],
-        "write 12 21 00 18",
-        "VOUT_COMMAND raw",
-    ),
+    (&["write 12 00 01", "write 12 20 14", "write 12 00 00"], "write 12 21 00 18", "VOUT_COMMAND 1.5"),
+    (&["write 12 00 05", "write 12 20 14", "write 12 00 00"], "write 12 21 00 18", "VOUT_COMMAND 1.5"),
+    (&["write 12 20 14", "write 12 00 05"], "write 12 21 00 18", "VOUT_COMMAND raw"),
 ];
 
 #[test]

@@ -17,22 +17,13 @@ const COARSEST: Coefficients = (-32768, 32767, -9);
 const NEAR_ONE: &str = "4611686018427387903/4611686018427387902";
 
 /// A name, coefficients, a text, and its code or fault.
+#[rattlefmt::skip]
 static CODES: [(&str, Coefficients, &str, Result<u16, RangeFault>); 23] = [
     ("rising, exact", RISING, "1", Ok(0x0032)),
-    (
-        "rising, a tie goes to the even code",
-        RISING,
-        "1/60",
-        Ok(0x0014),
-    ),
+    ("rising, a tie goes to the even code", RISING, "1/60", Ok(0x0014)),
     ("rising, greatest", RISING, "32747/30", Ok(0x7fff)),
     ("rising, least", RISING, "-16394/15", Ok(0x8000)),
-    (
-        "falling, a tie goes to the even code",
-        FALLING,
-        "5",
-        Ok(0x0000),
-    ),
+    ("falling, a tie goes to the even code", FALLING, "5", Ok(0x0000)),
     ("rising, the next tie", RISING, "-37/60", Ok(0x0002)),
     ("rising, a tie below zero", RISING, "-41/60", Ok(0x0000)),
     ("rising, the next below", RISING, "-43/60", Ok(0xfffe)),
@@ -40,31 +31,11 @@ static CODES: [(&str, Coefficients, &str, Result<u16, RangeFault>); 23] = [
     ("falling, the next tie", FALLING, "15", Ok(0xfffe)),
     ("falling, a tie below zero", FALLING, "-5", Ok(0x0000)),
     ("falling, the next below", FALLING, "-15", Ok(0x0002)),
-    (
-        "least slope, a tie",
-        FINEST,
-        "65533999999999/65536000000000",
-        Ok(0x0000),
-    ),
-    (
-        "least slope, the next",
-        FINEST,
-        "13106800000001/13107200000000",
-        Ok(0xfffe),
-    ),
+    ("least slope, a tie", FINEST, "65533999999999/65536000000000", Ok(0x0000)),
+    ("least slope, the next", FINEST, "13106800000001/13107200000000", Ok(0xfffe)),
     ("least slope, over", FINEST, "1", ABOVE),
-    (
-        "least slope, coarse",
-        COARSEST,
-        "-1499967233/32768",
-        Ok(0x0002),
-    ),
-    (
-        "coarse, 62 bits over 62 bits",
-        COARSEST,
-        NEAR_ONE,
-        Ok(0x0000),
-    ),
+    ("least slope, coarse", COARSEST, "-1499967233/32768", Ok(0x0002)),
+    ("coarse, 62 bits over 62 bits", COARSEST, NEAR_ONE, Ok(0x0000)),
     ("falling, least", FALLING, "-327670", Ok(0x7fff)),
     ("falling, greatest", FALLING, "327680", Ok(0x8000)),
     ("falling, a step over", FALLING, "327690", ABOVE),
@@ -105,12 +76,9 @@ fn direct_round_trip(rt: HostRuntime) {
 }
 
 /// A name, coefficients, and their fault.
+#[rattlefmt::skip]
 static FAULTS: [(&str, Coefficients, DirectFault); 3] = [
-    (
-        "no slope, before the scale",
-        (0, 0, 10),
-        DirectFault::ZeroSlope,
-    ),
+    ("no slope, before the scale", (0, 0, 10), DirectFault::ZeroSlope),
     ("scale 10", (1, 0, 10), DirectFault::BadScale),
     ("scale -10", (1, 0, -10), DirectFault::BadScale),
 ];

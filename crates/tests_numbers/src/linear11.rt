@@ -3,31 +3,20 @@ use crate::checks::{ABOVE, BELOW, check_code, check_text};
 use pmb_value::{Format, Linear11, RangeFault, Steps};
 
 /// A name, a text, and its code or fault.
+#[rattlefmt::skip]
 static CODES: [(&str, &str, Result<u16, RangeFault>); 18] = [
     ("exact", "12", Ok(0xd300)),
     ("one, at its least exponent", "1", Ok(0xba00)),
     ("a tie goes to the even code", "1023.5", Ok(0x0a00)),
     ("greatest", "33521664", Ok(0x7bff)),
-    (
-        "nearer to a code of another exponent",
-        "-1024.75",
-        Ok(0x0400),
-    ),
+    ("nearer to a code of another exponent", "-1024.75", Ok(0x0400)),
     ("a tie between two exponents", "-1025", Ok(0x0400)),
     ("least", "-33554432", Ok(0x7c00)),
     ("a tie at zero", "1/131072", Ok(0x0000)),
     ("a tie next to zero", "3/131072", Ok(0x8002)),
     ("zero", "0", Ok(0x0000)),
-    (
-        "62 bits over 62 bits",
-        "4611686018427387903/4611686018427387902",
-        Ok(0xba00),
-    ),
-    (
-        "62 bits over 62 bits, below zero",
-        "-4611686018427387903/4611686018427387902",
-        Ok(0xb400),
-    ),
+    ("62 bits over 62 bits", "4611686018427387903/4611686018427387902", Ok(0xba00)),
+    ("62 bits over 62 bits, below zero", "-4611686018427387903/4611686018427387902", Ok(0xb400)),
     ("least of all", "1/4611686018427387903", Ok(0x0000)),
     ("a little beyond a tie", "-1048577/137438953472", Ok(0x87ff)),
     ("over by one", "33521665", ABOVE),

@@ -3,6 +3,7 @@ use crate::checks::{ABOVE, BELOW, check_code, check_text};
 use pmb_value::{BadExponent, Linear11Fixed, RangeFault};
 
 /// A name, an exponent, a text, and its code or fault.
+#[rattlefmt::skip]
 static CODES: [(&str, i8, &str, Result<u16, RangeFault>); 22] = [
     ("exact", -3, "12", Ok(0xe860)),
     ("zero has the exponent", -3, "0", Ok(0xe800)),
@@ -24,18 +25,8 @@ static CODES: [(&str, i8, &str, Result<u16, RangeFault>); 22] = [
     ("greatest exponent, over", 15, "33521665", ABOVE),
     ("greatest exponent, a tie", 15, "16384", Ok(0x7800)),
     ("greatest exponent, the next tie", 15, "49152", Ok(0x7802)),
-    (
-        "62 bits over 62 bits",
-        -9,
-        "4611686018427387903/4611686018427387902",
-        Ok(0xba00),
-    ),
-    (
-        "62 bits over 62 bits, below zero",
-        -9,
-        "-4611686018427387903/4611686018427387902",
-        Ok(0xbe00),
-    ),
+    ("62 bits over 62 bits", -9, "4611686018427387903/4611686018427387902", Ok(0xba00)),
+    ("62 bits over 62 bits, below zero", -9, "-4611686018427387903/4611686018427387902", Ok(0xbe00)),
 ];
 
 #[test]

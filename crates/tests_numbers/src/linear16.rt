@@ -11,6 +11,7 @@ const NEAR_ONE: &str = "4611686018427387903/4611686018427387902";
 /// A little under minus one.
 const NEAR_MINUS_ONE: &str = "-4611686018427387903/4611686018427387902";
 
+#[rattlefmt::skip]
 static UNSIGNED: [Row; 12] = [
     ("fine, greatest", -16, "0.9999847412109375", Ok(0xffff)),
     ("fine, least", -16, "0", Ok(0)),
@@ -19,12 +20,7 @@ static UNSIGNED: [Row; 12] = [
     ("fine, a step under", -16, "-0.0000152587890625", BELOW),
     ("fine, a little under", -16, "-0.000001", BELOW),
     ("coarse, greatest", 15, "2147450880", Ok(0xffff)),
-    (
-        "coarse, a tie goes down to an even code",
-        15,
-        "16384",
-        Ok(0),
-    ),
+    ("coarse, a tie goes down to an even code", 15, "16384", Ok(0)),
     ("coarse, a tie goes up to an even code", 15, "49152", Ok(2)),
     ("coarse, a step over", 15, "2147483648", ABOVE),
     ("coarse, a little over", 15, "2147450880.000001", ABOVE),
@@ -39,6 +35,7 @@ fn ulinear16_codes(rt: HostRuntime) {
     }
 }
 
+#[rattlefmt::skip]
 static SIGNED: [Row; 16] = [
     ("fine, greatest", -16, "0.4999847412109375", Ok(0x7fff)),
     ("fine, least", -16, "-0.5", Ok(0x8000)),
@@ -55,12 +52,7 @@ static SIGNED: [Row; 16] = [
     ("coarse, a step under", 15, "-1073774592", BELOW),
     ("coarse, a little under", 15, "-1073741824.000001", BELOW),
     ("62 bits over 62 bits", -9, NEAR_ONE, Ok(0x0200)),
-    (
-        "62 bits over 62 bits, below zero",
-        -9,
-        NEAR_MINUS_ONE,
-        Ok(0xfe00),
-    ),
+    ("62 bits over 62 bits, below zero", -9, NEAR_MINUS_ONE, Ok(0xfe00)),
 ];
 
 #[test]

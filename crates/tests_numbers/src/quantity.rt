@@ -2,34 +2,15 @@
 use pmb_quantity::{Quantity, QuantityFault};
 
 /// A name, two numbers, and the numerator and denominator in lowest terms, or the fault.
+#[rattlefmt::skip]
 static QUOTIENTS: [(&str, i64, i64, Result<(i64, i64), QuantityFault>); 7] = [
     ("no denominator", 1, 0, Err(QuantityFault::ZeroDenominator)),
-    (
-        "halved, still too large",
-        i64::MIN,
-        2,
-        Err(QuantityFault::TooLarge),
-    ),
-    (
-        "least i64 by 4",
-        i64::MIN,
-        4,
-        Ok((-2_305_843_009_213_693_952, 1)),
-    ),
+    ("halved, still too large", i64::MIN, 2, Err(QuantityFault::TooLarge)),
+    ("least i64 by 4", i64::MIN, 4, Ok((-2_305_843_009_213_693_952, 1))),
     ("least i64 by itself", i64::MIN, i64::MIN, Ok((1, 1))),
     ("the sign goes to the numerator", 2, -6, Ok((-1, 3))),
-    (
-        "the denominator is too large",
-        1,
-        i64::MIN,
-        Err(QuantityFault::TooLarge),
-    ),
-    (
-        "2^62",
-        4_611_686_018_427_387_904,
-        1,
-        Err(QuantityFault::TooLarge),
-    ),
+    ("the denominator is too large", 1, i64::MIN, Err(QuantityFault::TooLarge)),
+    ("2^62", 4_611_686_018_427_387_904, 1, Err(QuantityFault::TooLarge)),
 ];
 
 #[test]
@@ -41,6 +22,7 @@ fn quotients(rt: HostRuntime) {
 }
 
 /// A name, a text, and its fault.
+#[rattlefmt::skip]
 static FAULTS: [(&str, &str, QuantityFault); 29] = [
     ("nothing", "", QuantityFault::Empty),
     ("no digit after the point", "1.", QuantityFault::BadDigit),
@@ -60,53 +42,17 @@ static FAULTS: [(&str, &str, QuantityFault); 29] = [
     ("a letter", "x", QuantityFault::BadDigit),
     ("one by zero", "1/0", QuantityFault::ZeroDenominator),
     ("zero by zero", "0/0", QuantityFault::ZeroDenominator),
-    (
-        "zero in three digits",
-        "-1/000",
-        QuantityFault::ZeroDenominator,
-    ),
-    (
-        "zero before too large",
-        "9223372036854775808/0",
-        QuantityFault::ZeroDenominator,
-    ),
+    ("zero in three digits", "-1/000", QuantityFault::ZeroDenominator),
+    ("zero before too large", "9223372036854775808/0", QuantityFault::ZeroDenominator),
     ("2^62", "4611686018427387904", QuantityFault::TooLarge),
     ("-2^62", "-4611686018427387904", QuantityFault::TooLarge),
-    (
-        "25 digits after the point",
-        "0.1234567890123456789012345",
-        QuantityFault::TooLarge,
-    ),
-    (
-        "2^-25 in 25 digits",
-        "0.0000000298023223876953125",
-        QuantityFault::TooLarge,
-    ),
-    (
-        "2^63 before the slash",
-        "9223372036854775808/3",
-        QuantityFault::TooLarge,
-    ),
-    (
-        "-2^63 before the slash",
-        "-9223372036854775808/3",
-        QuantityFault::TooLarge,
-    ),
-    (
-        "2^63 behind the slash",
-        "1/9223372036854775808",
-        QuantityFault::TooLarge,
-    ),
-    (
-        "44 digits",
-        "99999999999999999999999999999999999999999999",
-        QuantityFault::TooLarge,
-    ),
-    (
-        "24 digits after the point, too large in lowest terms",
-        "0.123456789012345678901234",
-        QuantityFault::TooLarge,
-    ),
+    ("25 digits after the point", "0.1234567890123456789012345", QuantityFault::TooLarge),
+    ("2^-25 in 25 digits", "0.0000000298023223876953125", QuantityFault::TooLarge),
+    ("2^63 before the slash", "9223372036854775808/3", QuantityFault::TooLarge),
+    ("-2^63 before the slash", "-9223372036854775808/3", QuantityFault::TooLarge),
+    ("2^63 behind the slash", "1/9223372036854775808", QuantityFault::TooLarge),
+    ("44 digits", "99999999999999999999999999999999999999999999", QuantityFault::TooLarge),
+    ("24 digits after the point, too large in lowest terms", "0.123456789012345678901234", QuantityFault::TooLarge),
 ];
 
 #[test]
@@ -117,6 +63,7 @@ fn faults_of_texts(rt: HostRuntime) {
 }
 
 /// A name, a text, and how its quantity is written.
+#[rattlefmt::skip]
 static TEXTS: [(&str, &str, &str); 15] = [
     ("a fraction with a decimal", "-6/4", "-1.5"),
     ("zero has no sign", "-0", "0"),
@@ -126,37 +73,13 @@ static TEXTS: [(&str, &str, &str); 15] = [
     ("no decimal", "1/3", "1/3"),
     ("greatest", "4611686018427387903", "4611686018427387903"),
     ("least", "-4611686018427387903", "-4611686018427387903"),
-    (
-        "greatest denominator",
-        "1/4611686018427387903",
-        "1/4611686018427387903",
-    ),
-    (
-        "numbers below 2^63",
-        "9223372036854775806/9223372036854775806",
-        "1",
-    ),
-    (
-        "zeros at the end don't count",
-        "1.50000000000000000000000000000000",
-        "1.5",
-    ),
-    (
-        "24 places read",
-        "0.000000059604644775390625",
-        "0.000000059604644775390625",
-    ),
-    (
-        "24 places written",
-        "1/16777216",
-        "0.000000059604644775390625",
-    ),
+    ("greatest denominator", "1/4611686018427387903", "1/4611686018427387903"),
+    ("numbers below 2^63", "9223372036854775806/9223372036854775806", "1"),
+    ("zeros at the end don't count", "1.50000000000000000000000000000000", "1.5"),
+    ("24 places read", "0.000000059604644775390625", "0.000000059604644775390625"),
+    ("24 places written", "1/16777216", "0.000000059604644775390625"),
     ("25 places are too many", "1/33554432", "1/33554432"),
-    (
-        "the longest decimal",
-        "4611686018427387903/16777216",
-        "274877906943.999999940395355224609375",
-    ),
+    ("the longest decimal", "4611686018427387903/16777216", "274877906943.999999940395355224609375"),
 ];
 
 #[test]

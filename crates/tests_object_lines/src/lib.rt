@@ -9,4 +9,6 @@ mod packets;
 #[cfg(test)]
 mod refusals;
 #[cfg(test)]
+mod seen;
+#[cfg(test)]
 mod words;

@@ -17,17 +17,10 @@ fn rows() -> &'static [Row] {
 }
 
 /// Packets of devices of the sample profile.
+#[rattlefmt::skip]
 static PACKETS: [Row; 5] = [
-    (
-        "write 58 21 00 18 pec",
-        "S b0 A 21 A 00 A 18 A f8 A P\n",
-        "VOUT_COMMAND 12",
-    ),
-    (
-        "read 58 88 : 00 d3",
-        "S b0 A 88 A S b1 A 00 A d3 N P\n",
-        "READ_VIN 12",
-    ),
+    ("write 58 21 00 18 pec", "S b0 A 21 A 00 A 18 A f8 A P\n", "VOUT_COMMAND 12"),
+    ("read 58 88 : 00 d3", "S b0 A 88 A S b1 A 00 A d3 N P\n", "READ_VIN 12"),
     ("refused 58 03 47", "S b0 A 03 A 47 N P\n", "byte refused"),
     ("refused 20", "S 40 N P\n", "address refused"),
     ("alert none", "S 19 N P\n", "no device"),

@@ -12,35 +12,12 @@ struct Row {
     end: (u64, u64),
 }
 
+#[rattlefmt::skip]
 static ROWS: [Row; 4] = [
-    Row {
-        text: b"",
-        rest: b"P\n",
-        here: (2, 1),
-        word: (1, 1),
-        end: (1, 2),
-    },
-    Row {
-        text: b"S ",
-        rest: b"b0 A 03 A P\n",
-        here: (2, 1),
-        word: (1, 13),
-        end: (1, 14),
-    },
-    Row {
-        text: b"# alert\n  S ",
-        rest: b"19 N P\n",
-        here: (3, 1),
-        word: (2, 10),
-        end: (2, 11),
-    },
-    Row {
-        text: b"S b0 A 03 A P\n\tS ",
-        rest: b"b0 A 8b A S b1 A 9a A 0c N P\n",
-        here: (3, 1),
-        word: (2, 31),
-        end: (2, 32),
-    },
+    Row { text: b"", rest: b"P\n", here: (2, 1), word: (1, 1), end: (1, 2) },
+    Row { text: b"S ", rest: b"b0 A 03 A P\n", here: (2, 1), word: (1, 13), end: (1, 14) },
+    Row { text: b"# alert\n  S ", rest: b"19 N P\n", here: (3, 1), word: (2, 10), end: (2, 11) },
+    Row { text: b"S b0 A 03 A P\n\tS ", rest: b"b0 A 8b A S b1 A 9a A 0c N P\n", here: (3, 1), word: (2, 31), end: (2, 32) },
 ];
 
 fn place(numbers: (u64, u64)) -> Place {

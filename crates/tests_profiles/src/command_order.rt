@@ -10,6 +10,7 @@ use std::alloc::Global;
 use std::process::Abort;
 
 /// Keys with two faults or more.
+#[rattlefmt::skip]
 static ORDER: [Row; 50] = [
     ("x = 1", Some(UnknownKey)),
     ("x = 1, code = 'a'", Some(UnknownKey)),
@@ -39,57 +40,27 @@ static ORDER: [Row; 50] = [
     ("code = 0xd0, kind = 'direct', b = 'a'", Some(MissingKey)),
     ("code = 0xd0, kind = 'direct', m = 'a'", Some(WrongType)),
     ("code = 0xd0, kind = 'direct', m = 0", Some(BadCoefficients)),
-    (
-        "code = 0xd0, kind = 'direct', m = 0, b = 'a'",
-        Some(BadCoefficients),
-    ),
-    (
-        "code = 0xd0, kind = 'direct', m = 1, r = 'a'",
-        Some(MissingKey),
-    ),
-    (
-        "code = 0xd0, kind = 'direct', m = 1, b = 'a'",
-        Some(WrongType),
-    ),
-    (
-        "code = 0xd0, kind = 'direct', m = 1, b = 32768",
-        Some(BadCoefficients),
-    ),
-    (
-        "code = 0xd0, kind = 'direct', m = 1, b = 32768, r = 'a'",
-        Some(BadCoefficients),
-    ),
-    (
-        "code = 0xd0, kind = 'direct', m = 1, b = 0, paged = 1",
-        Some(MissingKey),
-    ),
-    (
-        "code = 0xd0, kind = 'direct', m = 1, b = 0, r = 10, paged = 1",
-        Some(BadCoefficients),
-    ),
-    (
-        "code = 0xd0, kind = 'direct', m = 1, b = 0, r = 'a', initial = ''",
-        Some(WrongType),
-    ),
+    ("code = 0xd0, kind = 'direct', m = 0, b = 'a'", Some(BadCoefficients)),
+    ("code = 0xd0, kind = 'direct', m = 1, r = 'a'", Some(MissingKey)),
+    ("code = 0xd0, kind = 'direct', m = 1, b = 'a'", Some(WrongType)),
+    ("code = 0xd0, kind = 'direct', m = 1, b = 32768", Some(BadCoefficients)),
+    ("code = 0xd0, kind = 'direct', m = 1, b = 32768, r = 'a'", Some(BadCoefficients)),
+    ("code = 0xd0, kind = 'direct', m = 1, b = 0, paged = 1", Some(MissingKey)),
+    ("code = 0xd0, kind = 'direct', m = 1, b = 0, r = 10, paged = 1", Some(BadCoefficients)),
+    ("code = 0xd0, kind = 'direct', m = 1, b = 0, r = 'a', initial = ''", Some(WrongType)),
     ("code = 0xd0, m = 'a', b = 1", Some(WrongType)),
     ("code = 0xd0, m = 1, b = 'a'", Some(UnknownKey)),
     ("code = 0xd0, b = 'a', r = 1", Some(WrongType)),
     ("code = 0xd0, b = 1, r = 'a'", Some(UnknownKey)),
     ("code = 0xd0, r = 1, paged = 1", Some(UnknownKey)),
-    (
-        "b = 'a', m = 1, write = 'word', name = 'READ_VIN'",
-        Some(BadForm),
-    ),
+    ("b = 'a', m = 1, write = 'word', name = 'READ_VIN'", Some(BadForm)),
     ("b = 'a', m = 1, name = 'READ_VIN'", Some(UnknownKey)),
     ("b = 'a', name = 'READ_VIN'", Some(WrongType)),
     ("code = 0xd0, paged = 1", Some(WrongType)),
     ("code = 0xd0, paged = 1, initial = ''", Some(WrongType)),
     ("code = 0xd0, initial = 1", Some(WrongType)),
     ("code = 0xd0, initial = ''", Some(BadForm)),
-    (
-        "code = 0xd0, write = 'one', read = 'two', initial = 'zz'",
-        Some(BadForm),
-    ),
+    ("code = 0xd0, write = 'one', read = 'two', initial = 'zz'", Some(BadForm)),
     ("name = 'PAGE', paged = true, initial = '00'", Some(BadForm)),
 ];
 

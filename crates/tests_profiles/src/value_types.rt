@@ -30,44 +30,22 @@ static VALUES: [(Type, &str); 11] = [
 
 /// The text up to the value of a key of a device, the text behind it, and the type that it has to
 /// have.
+#[rattlefmt::skip]
 static DEVICE_KEYS: [(&str, &str, Type); 10] = [
     ("pec = 'off', address = ", "", Type::Integer),
     ("address = 0x10, pec = ", "", Type::Text),
     ("address = 0x10, pec = 'off', pages = ", "", Type::Integer),
-    (
-        "address = 0x10, pec = 'off', vout_mode = ",
-        "",
-        Type::Integer,
-    ),
-    (
-        "address = 0x10, pec = 'off', standard = ",
-        "",
-        Type::Boolean,
-    ),
-    (
-        "address = 0x10, pec = 'off', vout_direct = ",
-        "",
-        Type::Table,
-    ),
-    (
-        "address = 0x10, pec = 'off', vout_direct = { b = 1, r = 1, m = ",
-        " }",
-        Type::Integer,
-    ),
-    (
-        "address = 0x10, pec = 'off', vout_direct = { m = 1, r = 1, b = ",
-        " }",
-        Type::Integer,
-    ),
-    (
-        "address = 0x10, pec = 'off', vout_direct = { m = 1, b = 1, r = ",
-        " }",
-        Type::Integer,
-    ),
+    ("address = 0x10, pec = 'off', vout_mode = ", "", Type::Integer),
+    ("address = 0x10, pec = 'off', standard = ", "", Type::Boolean),
+    ("address = 0x10, pec = 'off', vout_direct = ", "", Type::Table),
+    ("address = 0x10, pec = 'off', vout_direct = { b = 1, r = 1, m = ", " }", Type::Integer),
+    ("address = 0x10, pec = 'off', vout_direct = { m = 1, r = 1, b = ", " }", Type::Integer),
+    ("address = 0x10, pec = 'off', vout_direct = { m = 1, b = 1, r = ", " }", Type::Integer),
     ("address = 0x10, pec = 'off', command = ", "", Type::Array),
 ];
 
 /// The same of the keys of a command.
+#[rattlefmt::skip]
 static COMMAND_KEYS: [(&str, Type); 18] = [
     ("read = 'one', code = ", Type::Integer),
     ("name = ", Type::Text),
@@ -76,18 +54,9 @@ static COMMAND_KEYS: [(&str, Type); 18] = [
     ("code = 0xd0, write = 'one', read = ", Type::Text),
     ("code = 0xd0, read = 'one', call = ", Type::Text),
     ("code = 0xd0, read = 'two', kind = ", Type::Text),
-    (
-        "code = 0xd0, read = 'two', kind = 'direct', b = 1, r = 1, m = ",
-        Type::Integer,
-    ),
-    (
-        "code = 0xd0, read = 'two', kind = 'direct', m = 1, r = 1, b = ",
-        Type::Integer,
-    ),
-    (
-        "code = 0xd0, read = 'two', kind = 'direct', m = 1, b = 1, r = ",
-        Type::Integer,
-    ),
+    ("code = 0xd0, read = 'two', kind = 'direct', b = 1, r = 1, m = ", Type::Integer),
+    ("code = 0xd0, read = 'two', kind = 'direct', m = 1, r = 1, b = ", Type::Integer),
+    ("code = 0xd0, read = 'two', kind = 'direct', m = 1, b = 1, r = ", Type::Integer),
     ("name = 'READ_VIN', m = ", Type::Integer),
     ("name = 'READ_VIN', b = ", Type::Integer),
     ("name = 'READ_VIN', r = ", Type::Integer),
@@ -95,10 +64,7 @@ static COMMAND_KEYS: [(&str, Type); 18] = [
     ("name = 'READ_VIN', initial = ", Type::Text),
     ("name = 'VIN_ON', exponent = ", Type::Integer),
     ("name = 'MFR_ID', exponent = ", Type::Integer),
-    (
-        "code = 0xd0, read = 'two', kind = 'linear11', exponent = ",
-        Type::Integer,
-    ),
+    ("code = 0xd0, read = 'two', kind = 'linear11', exponent = ", Type::Integer),
 ];
 
 #[test]
@@ -127,36 +93,13 @@ fn command_keys(rt: HostRuntime) {
 
 /// The name of a place, the text up to a value there, the text behind it, the type that it has to
 /// have, and the answer to another.
+#[rattlefmt::skip]
 static PLACES: [(&str, &str, &str, Type, Answer); 5] = [
     ("the devices", "device = ", "", Type::Array, Top(WrongType)),
-    (
-        "a device",
-        "device = [",
-        "]",
-        Type::Table,
-        Device(0, WrongType),
-    ),
-    (
-        "a second device",
-        "device = [{ address = 0x10, pec = 'off' }, ",
-        "]",
-        Type::Table,
-        Device(1, WrongType),
-    ),
-    (
-        "a command",
-        "device = [{ address = 0x10, pec = 'off', command = [",
-        "] }]",
-        Type::Table,
-        Command(0, 0, WrongType),
-    ),
-    (
-        "a second command",
-        "device = [{ address = 0x10, pec = 'off', command = [{ name = 'READ_VIN' }, ",
-        "] }]",
-        Type::Table,
-        Command(0, 1, WrongType),
-    ),
+    ("a device", "device = [", "]", Type::Table, Device(0, WrongType)),
+    ("a second device", "device = [{ address = 0x10, pec = 'off' }, ", "]", Type::Table, Device(1, WrongType)),
+    ("a command", "device = [{ address = 0x10, pec = 'off', command = [", "] }]", Type::Table, Command(0, 0, WrongType)),
+    ("a second command", "device = [{ address = 0x10, pec = 'off', command = [{ name = 'READ_VIN' }, ", "] }]", Type::Table, Command(0, 1, WrongType)),
 ];
 
 #[test]

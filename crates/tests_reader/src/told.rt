@@ -3,22 +3,7 @@
 use pmb_bus::{Event, Kinds};
 use pmb_line::line_of;
 use pmb_reader::{Outcome, Reader, Refusal};
-use pmb_transaction::Reason;
 use std::alloc::{AllocError, Global};
-
-fn name_of(reason: Reason) -> &'static str {
-    match reason {
-        Reason::ReadFirst => "ReadFirst",
-        Reason::BadRestart => "BadRestart",
-        Reason::BadPec => "BadPec",
-        Reason::UnknownDevice => "UnknownDevice",
-        Reason::UnknownCommand => "UnknownCommand",
-        Reason::TooLong => "TooLong",
-        Reason::TooShort => "TooShort",
-        Reason::WrongEvent => "WrongEvent",
-        Reason::Truncated => "Truncated",
-    }
-}
 
 static NAMES: [(Kinds, &str); 5] = [
     (Kinds::START, "Start"),
@@ -46,8 +31,8 @@ fn tell_kind(
 
 fn tell_refusal(text: &mut String, alloc: Global, refusal: Refusal) -> Result<(), AllocError> {
     let at = refusal.at;
-    let reason = name_of(refusal.reason);
-    text.push_str(format!(in alloc; "refusal at {at}: {reason}, expected")?.as_str())?;
+    let reason = refusal.reason;
+    text.push_str(format!(in alloc; "refusal at {at}: {reason:?}, expected")?.as_str())?;
     let mut is_first = true;
     for (kind, name) in &NAMES {
         is_first = tell_kind(text, refusal, *kind, name, is_first)?;

@@ -2,9 +2,10 @@
 
 use crate::held::holds;
 use arrayvec::ArrayVec;
+use plain_packets::part;
 use pmb_registers::Registers;
 use pmb_table::{Profile, SAMPLE};
-use pmb_transaction::{Part, Transaction};
+use pmb_transaction::Transaction;
 use std::test::Fail;
 
 /// The selected page, the bytes behind the address 58h of a leg that was refused, whether that was at
@@ -30,27 +31,15 @@ static REFUSED: [Row; 10] = [
     (0, b"\x88", true, b"\x00"),
 ];
 
-/// A part of a group, without a packet error code.
-fn part_of(addr: u8, code: u8, data: &[u8]) -> Part {
-    let mut bytes = ArrayVec::new();
-    let _ = bytes.try_extend_from_slice(data);
-    Part {
-        addr,
-        code,
-        bytes,
-        pec: false,
-    }
-}
-
 #[test]
 fn each_part_of_a_group_that_is_its_own_acts(rt: HostRuntime) -> Result<(), Fail> {
     let profile = Profile::from_toml(rt.alloc(), SAMPLE.as_bytes()).map_err(|_| "profile")?;
     let device = profile.device(0x58).ok_or("no device")?;
     let mut registers = Registers::new(rt.alloc(), device)?;
     let mut parts = ArrayVec::new();
-    let _ = parts.try_push(part_of(0x59, 0x21, &[0x00, 0x19]));
-    let _ = parts.try_push(part_of(0x58, 0x00, &[1]));
-    let _ = parts.try_push(part_of(0x58, 0x21, &[0x00, 0x18]));
+    let _ = parts.try_push(part(0x59, 0x21, &[0x00, 0x19], false));
+    let _ = parts.try_push(part(0x58, 0x00, &[1], false));
+    let _ = parts.try_push(part(0x58, 0x21, &[0x00, 0x18], false));
     registers.apply(&Transaction::Write { parts });
     assert_eq!(rt; registers.page(), 1);
     assert!(rt; holds(&registers, 0, 0x21, b"\x00\x00"));
@@ -86,7 +75,7 @@ fn the_parts_in_front_of_a_refusal_act_before_it_is_noted(rt: HostRuntime) -> Re
     let device = profile.device(0x58).ok_or("no device")?;
     let mut registers = Registers::new(rt.alloc(), device)?;
     let mut parts = ArrayVec::new();
-    let _ = parts.try_push(part_of(0x58, 0x00, &[1]));
+    let _ = parts.try_push(part(0x58, 0x00, &[1], false));
     let mut sent = ArrayVec::new();
     let _ = sent.try_push(0xc8);
     registers.apply(&Transaction::Refused {

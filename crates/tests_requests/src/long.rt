@@ -1,33 +1,18 @@
 //! Long lines: a piece repeated, and where a list has no room for what comes.
 
 use crate::says::answer;
-use arrayvec::ArrayVec;
+use harness::repeated;
 use pmb_note::Context;
 use pmb_table::{Profile, SAMPLE};
 use std::test::Fail;
 
-/// The front of a line, a piece that comes so many times behind it, its end, and what is answered.
-type Long = (
-    &'static str,
-    &'static str,
-    usize,
-    &'static str,
-    &'static str,
-);
+/// The front of a line, a piece, how many times it follows, the end, and the answer.
+#[rattlefmt::skip]
+type Long = (&'static str, &'static str, usize, &'static str, &'static str);
 
 /// The rows of the table. A call keeps the proof of a loop over them from carrying the table.
 fn rows() -> &'static [Long] {
     &LONGS
-}
-
-fn line(row: &Long) -> ArrayVec<u8, 2048> {
-    let mut line = ArrayVec::new();
-    let _ = line.try_extend_from_slice(row.0.as_bytes());
-    for _ in 0..row.2 {
-        let _ = line.try_extend_from_slice(row.1.as_bytes());
-    }
-    let _ = line.try_extend_from_slice(row.3.as_bytes());
-    line
 }
 
 /// Lines under the sample profile. A `*` stands for the line itself.
@@ -58,14 +43,14 @@ static LONGS: [Long; 17] = [
 fn long_lines(rt: HostRuntime) -> Result<(), Fail> {
     let profile = Profile::from_toml(rt.alloc(), SAMPLE.as_bytes())?;
     let context = Context::new(&profile);
-    for row in rows() {
-        let line = line(row);
-        let given = answer(&context, line.as_slice());
-        let told = match row.4 {
-            "*" => line.as_slice(),
-            told => told.as_bytes(),
-        };
-        assert!(rt; given.as_slice() == told, "at {}", row.4);
+    for &(front, piece, times, end, told) in rows() {
+        let line = repeated(rt.alloc(), front, piece, times, end)?;
+        let given = answer(&context, line.as_bytes());
+        let told = if told == "*" { line.as_str() } else { told };
+        assert!(rt;
+            given.as_slice() == told.as_bytes(),
+            "{front}, {times} of {piece}, {end}"
+        );
     }
     Ok(())
 }

@@ -6,14 +6,12 @@ use pmb_table::{Profile, SAMPLE};
 use std::test::Fail;
 
 /// Lines under the sample profile, before all transactions.
+#[rattlefmt::skip]
 static SAMPLES: [Row; 91] = [
     // Each kind.
     ("write 58 21 00 18 pec", "write 58 21 00 18 pec"),
     ("write 58 03 + 59 03", "write 58 03 + 59 03"),
-    (
-        "write 58 03 pec + 59 21 00 18",
-        "write 58 03 pec + 59 21 00 18",
-    ),
+    ("write 58 03 pec + 59 21 00 18", "write 58 03 pec + 59 21 00 18"),
     ("read 58 88", "read 58 88"),
     ("read 58 88 pec", "read 58 88 pec"),
     ("call 58 30 d0 01", "call 58 30 d0 01"),

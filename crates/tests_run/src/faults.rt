@@ -1,8 +1,9 @@
 //! Readers that give few bytes, and readers and writers that fail at each of their calls.
 
 use crate::rows::sample_rows;
-use crate::runs::{in_bytes, outcome_of, ran_to_write, tally_of};
-use pmb_io::{Failing, Io, ToolFault};
+use crate::runs::{Requests, tally_of};
+use harness::{Way, run_in, unlike};
+use pmb_io::ToolFault;
 use pmb_table::{Profile, SAMPLE};
 use std::test::Fail;
 
@@ -28,7 +29,7 @@ fn answered(lines: &[u8]) -> usize {
     count
 }
 
-/// The front of what is written that holds so many answers: the last line of each begins with `#`.
+/// The front of what is written that holds this many answers: the last line of each begins with `#`.
 fn answers(written: &str, most: usize) -> &[u8] {
     let mut left = most;
     let mut end: usize = 0;
@@ -48,14 +49,18 @@ fn answers(written: &str, most: usize) -> &[u8] {
 #[test]
 fn each_read_fails(rt: HostRuntime) -> Result<(), Fail> {
     let profile = Profile::from_toml(rt.alloc(), SAMPLE.as_bytes())?;
+    let task = Requests(rt.alloc(), &profile);
     for &(name, requests, written) in sample_rows() {
         let requests = requests.as_bytes();
-        for call in 0..requests.len() + 1 {
-            let mut reader = in_bytes(requests);
-            reader.fail_after(call as u64);
-            let ran = outcome_of(rt.alloc(), &profile, b"", &mut reader);
+        for call in 0..=requests.len() {
+            let ran = run_in(rt.alloc(), &task, requests, Way::FailingRead(call as u64));
+            let parts = (ran.answer, ran.written.as_slice());
             let front = answers(written, answered(&requests[..call]));
-            ran.check(&rt, name, "a read fails", Err(ToolFault::Read), front);
+            assert_eq!(rt;
+                parts,
+                (Err(ToolFault::Read), front),
+                "{name}, read {call} fails"
+            );
         }
     }
     Ok(())
@@ -65,15 +70,20 @@ fn each_read_fails(rt: HostRuntime) -> Result<(), Fail> {
 #[test]
 fn each_write_fails(rt: HostRuntime) -> Result<(), Fail> {
     let profile = Profile::from_toml(rt.alloc(), SAMPLE.as_bytes())?;
+    let task = Requests(rt.alloc(), &profile);
     for &(name, requests, written) in sample_rows() {
         let tally = tally_of(written);
         let count = tally.packets.saturating_add(tally.refusals);
-        for call in 0..count {
-            let answer = ran_to_write(rt.alloc(), &profile, requests.as_bytes(), call);
-            assert_eq!(rt; answer, Err(ToolFault::Write), "{name}, write {call}");
+        for call in 0..=count {
+            let way = Way::FailingWrite(call);
+            let ran = run_in(rt.alloc(), &task, requests.as_bytes(), way);
+            let wanted = if call < count {
+                Err(ToolFault::Write)
+            } else {
+                Ok(tally)
+            };
+            assert_eq!(rt; ran.answer, wanted, "{name}, write {call} fails");
         }
-        let answer = ran_to_write(rt.alloc(), &profile, requests.as_bytes(), count);
-        assert_eq!(rt; answer, Ok(tally), "{name}, all writes");
     }
     Ok(())
 }
@@ -81,13 +91,13 @@ fn each_write_fails(rt: HostRuntime) -> Result<(), Fail> {
 #[test]
 fn each_read_gives_few_bytes(rt: HostRuntime) -> Result<(), Fail> {
     let profile = Profile::from_toml(rt.alloc(), SAMPLE.as_bytes())?;
+    let task = Requests(rt.alloc(), &profile);
     for &(name, requests, written) in sample_rows() {
-        for more in 0..12 {
-            let mut reader = Failing::new(Io::new(requests.as_bytes()));
-            reader.give_at_most(more + 2);
-            let ran = outcome_of(rt.alloc(), &profile, b"", &mut reader);
-            let answer = Ok(tally_of(written));
-            ran.check(&rt, name, "in short reads", answer, written.as_bytes());
+        for most in 2..14 {
+            let (bytes, answer) = (requests.as_bytes(), Ok(tally_of(written)));
+            let ways = [Way::AtMost(most)];
+            let ran = unlike(rt.alloc(), &task, bytes, &ways, answer, written.as_bytes());
+            assert!(rt; ran.is_none(), "{name}: {ran:?}");
         }
     }
     Ok(())

@@ -12,10 +12,6 @@ mod long;
 #[cfg(test)]
 mod memory;
 #[cfg(test)]
-mod plain;
-#[cfg(test)]
-mod random;
-#[cfg(test)]
 mod registers;
 #[cfg(test)]
 mod rows;

@@ -1,8 +1,8 @@
 //! Each row fed twice in one run: the second answers are the first, their lines numbered on.
 
 use crate::rows::{Row, sample_rows};
-use crate::runs::{in_bytes, outcome_of, tally_of};
-use pmb_io::Io;
+use crate::runs::{Requests, tally_of};
+use harness::{Way, unlike};
 use pmb_table::{Profile, SAMPLE};
 use std::alloc::{AllocError, Global};
 use std::process::Abort;
@@ -22,14 +22,14 @@ fn ended(alloc: Global, requests: &str) -> Result<(String, usize), AllocError> {
     Ok((lines, count))
 }
 
-/// The number of a line, and what stands behind it, where an answer begins with a number.
+/// The number of a line, and what comes after it, where an answer begins with a number.
 fn numbered(answer: &str) -> Option<(usize, &str)> {
     let (number, fault) = answer.strip_prefix("# line ")?.split_once(": ")?;
     Some((number.parse().ok()?, fault))
 }
 
-/// What is written of requests behind so many lines.
-fn written_behind(alloc: Global, written: &str, lines: usize) -> Result<String, AllocError> {
+/// What is written of requests after this many lines.
+fn written_after(alloc: Global, written: &str, lines: usize) -> Result<String, AllocError> {
     let mut text = String::new(alloc);
     for answer in written.lines() {
         match numbered(answer) {
@@ -44,22 +44,24 @@ fn written_behind(alloc: Global, written: &str, lines: usize) -> Result<String, 
     Ok(text)
 }
 
-fn check_row(
-    rt: &impl Abort,
-    alloc: Global,
-    profile: &Profile,
-    row: Row,
-) -> Result<(), AllocError> {
+/// Whether the requests of a row, fed twice, are answered twice.
+fn check_row(rt: &impl Abort, task: Requests<'_>, row: Row) -> Result<(), AllocError> {
     let (name, requests, written) = row;
-    let (lines, count) = ended(alloc, requests)?;
-    let lines = format!(in alloc; "{lines}{lines}")?;
-    let behind = written_behind(alloc, written, count)?;
-    let written = format!(in alloc; "{written}{behind}")?;
+    let (lines, count) = ended(task.0, requests)?;
+    let lines = format!(in task.0; "{lines}{lines}")?;
+    let again = written_after(task.0, written, count)?;
+    let written = format!(in task.0; "{written}{again}")?;
     let answer = Ok(tally_of(written.as_str()));
-    let whole = outcome_of(alloc, profile, b"", &mut Io::new(lines.as_bytes()));
-    whole.check(rt, name, "twice", answer, written.as_bytes());
-    let bytes = outcome_of(alloc, profile, b"", &mut in_bytes(lines.as_bytes()));
-    bytes.check(rt, name, "twice, byte by byte", answer, written.as_bytes());
+    let ways = [Way::Whole, Way::OneByOne];
+    let ran = unlike(
+        task.0,
+        &task,
+        lines.as_bytes(),
+        &ways,
+        answer,
+        written.as_bytes(),
+    );
+    assert!(rt; ran.is_none(), "{name}, twice: {ran:?}");
     Ok(())
 }
 
@@ -67,7 +69,7 @@ fn check_row(
 fn each_row_comes_twice(rt: HostRuntime) -> Result<(), Fail> {
     let profile = Profile::from_toml(rt.alloc(), SAMPLE.as_bytes())?;
     for row in sample_rows() {
-        check_row(&rt, rt.alloc(), &profile, *row)?;
+        check_row(&rt, Requests(rt.alloc(), &profile), *row)?;
     }
     Ok(())
 }

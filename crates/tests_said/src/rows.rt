@@ -15,6 +15,7 @@ use std::test::Fail;
 type Row = (&'static str, &'static str);
 
 /// One leg, or a leg and a START.
+#[rattlefmt::skip]
 static WRITTEN: [Row; 14] = [
     ("S", "Truncated"),
     ("S b1", "ReadFirst"),
@@ -25,83 +26,37 @@ static WRITTEN: [Row; 14] = [
     ("S b0 A c8 A", "UnknownCommand device 58 to 58 sent c8"),
     ("S b0 A 21 A 00", "Truncated device 58 to 58 sent 21 00"),
     ("S b0 A 88 A 00", "WrongEvent device 58 to 58 sent 88"),
-    (
-        "S b0 A 03 A 47 A",
-        "BadPec device 58 to 58 sent 03 47 right 46",
-    ),
-    (
-        "S b0 A 21 A 00 A 18 A f9 A",
-        "BadPec device 58 to 58 sent 21 00 18 f9 right f8",
-    ),
-    (
-        "S b0 A 03 A 47 N S",
-        "WrongEvent device 58 to 58 sent 03 47",
-    ),
+    ("S b0 A 03 A 47 A", "BadPec device 58 to 58 sent 03 47 right 46"),
+    ("S b0 A 21 A 00 A 18 A f9 A", "BadPec device 58 to 58 sent 21 00 18 f9 right f8"),
+    ("S b0 A 03 A 47 N S", "WrongEvent device 58 to 58 sent 03 47"),
     ("S b0 A 03 A S b0", "BadRestart device 58 to 58 sent 03"),
     ("S b0 A 88 A S b3", "BadRestart device 58 to 58 sent 88"),
 ];
 
 /// Groups: the last written leg is told, and each has its own packet error code.
+#[rattlefmt::skip]
 static GROUPS: [Row; 7] = [
     ("S b0 A 03 A S P", "WrongEvent device 58 to 58 sent 03"),
     ("S b0 A 03 A S b2", "Truncated device 59 to 59 sent"),
     ("S b0 A 03 A S 40 A", "UnknownDevice device 20 to 20 sent"),
-    (
-        "S b0 A 03 A S b2 A c8 A",
-        "UnknownCommand device 59 to 59 sent c8",
-    ),
-    (
-        "S b2 A 03 A S b0 A 88 A",
-        "UnknownCommand device 58 to 58 sent 88",
-    ),
-    (
-        "S b0 A 03 A S b4 A 03 A 37 A",
-        "BadPec device 5a to 5a sent 03 37 right 12",
-    ),
-    (
-        "S b0 A 03 A S b2 A 03 A S b1",
-        "BadRestart device 59 to 59 sent 03",
-    ),
+    ("S b0 A 03 A S b2 A c8 A", "UnknownCommand device 59 to 59 sent c8"),
+    ("S b2 A 03 A S b0 A 88 A", "UnknownCommand device 58 to 58 sent 88"),
+    ("S b0 A 03 A S b4 A 03 A 37 A", "BadPec device 5a to 5a sent 03 37 right 12"),
+    ("S b0 A 03 A S b2 A 03 A S b1", "BadRestart device 59 to 59 sent 03"),
 ];
 
 /// Legs that are read: the code covers both legs.
+#[rattlefmt::skip]
 static READS: [Row; 9] = [
-    (
-        "S b0 A 88 A S b1",
-        "Truncated device 58 to 58 sent 88 reply",
-    ),
-    (
-        "S b0 A 88 A S b1 A N",
-        "WrongEvent device 58 to 58 sent 88 reply",
-    ),
-    (
-        "S b0 A 88 A S b1 A 00 N",
-        "TooShort device 58 to 58 sent 88 reply 00",
-    ),
-    (
-        "S b0 A 88 A S b1 A 00 A d3 A f7",
-        "BadPec device 58 to 58 sent 88 reply 00 d3 right f6",
-    ),
-    (
-        "S b0 A 99 A S b1 A 00 A 52",
-        "BadPec device 58 to 58 sent 99 reply 00 right 51",
-    ),
-    (
-        "S b0 A 99 A S b1 A 02 A 41 A 42 A 00",
-        "BadPec device 58 to 58 sent 99 reply 02 41 42 right 48",
-    ),
-    (
-        "S b4 A 99 A S b5 A 00 N",
-        "TooShort device 5a to 5a sent 99 reply 00",
-    ),
-    (
-        "S b2 A 19 A S b3 A b0 A",
-        "TooLong device 59 to 59 sent 19 reply b0",
-    ),
-    (
-        "S b0 A 88 A S b1 A 00 A d3 A f6 A",
-        "TooLong device 58 to 58 sent 88 reply 00 d3 f6",
-    ),
+    ("S b0 A 88 A S b1", "Truncated device 58 to 58 sent 88 reply"),
+    ("S b0 A 88 A S b1 A N", "WrongEvent device 58 to 58 sent 88 reply"),
+    ("S b0 A 88 A S b1 A 00 N", "TooShort device 58 to 58 sent 88 reply 00"),
+    ("S b0 A 88 A S b1 A 00 A d3 A f7", "BadPec device 58 to 58 sent 88 reply 00 d3 right f6"),
+    ("S b0 A 99 A S b1 A 00 A 52", "BadPec device 58 to 58 sent 99 reply 00 right 51"),
+    ("S b0 A 99 A S b1 A 02 A 41 A 42 A 00", "BadPec device 58 to 58 sent 99 reply 02 41 42 right 48"),
+    ("S b4 A 99 A S b5 A 00 N", "TooShort device 5a to 5a sent 99 reply 00"),
+    ("S b2 A 19 A S b3 A b0 A", "TooLong device 59 to 59 sent 19 reply b0"),
+    ("S b0 A 88 A S b1 A 00 A d3 A f6 A", "TooLong device 58 to 58 sent 88 reply 00 d3 f6"),
 ];
 
 /// Alerts: no device, and a code over the one leg.

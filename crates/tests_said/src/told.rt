@@ -5,20 +5,6 @@ use pmb_said::Said;
 use pmb_transaction::Reason;
 use std::alloc::{AllocError, Global};
 
-fn name_of(reason: Reason) -> &'static str {
-    match reason {
-        Reason::ReadFirst => "ReadFirst",
-        Reason::BadRestart => "BadRestart",
-        Reason::BadPec => "BadPec",
-        Reason::UnknownDevice => "UnknownDevice",
-        Reason::UnknownCommand => "UnknownCommand",
-        Reason::TooLong => "TooLong",
-        Reason::TooShort => "TooShort",
-        Reason::WrongEvent => "WrongEvent",
-        Reason::Truncated => "Truncated",
-    }
-}
-
 fn tell_byte(
     text: &mut String,
     alloc: Global,
@@ -56,7 +42,7 @@ pub(crate) fn told(
     refused: Option<Event>,
 ) -> Result<String, AllocError> {
     let mut text = String::new(alloc);
-    text.push_str(name_of(reason))?;
+    text.push_str(format!(in alloc; "{reason:?}")?.as_str())?;
     tell_byte(&mut text, alloc, "device", said.device())?;
     tell_byte(&mut text, alloc, "to", said.written_to())?;
     tell_bytes(&mut text, alloc, "sent", said.sent())?;

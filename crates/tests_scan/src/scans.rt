@@ -24,79 +24,24 @@ struct Row {
     end: Option<u64>,
 }
 
+#[rattlefmt::skip]
 static ROWS: [Row; 8] = [
     // two packets, the last word at the end of the text
-    Row {
-        capture: b"S b0 A 03 A P # a comment\nS 40 N P",
-        events: b"S b0 A 03 A packet S 40 N packet ",
-        places: &[],
-        used: 34,
-        bad: None,
-        end: None,
-    },
+    Row { capture: b"S b0 A 03 A P # a comment\nS 40 N P", events: b"S b0 A 03 A packet S 40 N packet ", places: &[], used: 34, bad: None, end: None },
     // the byte of a byte and its ACK is refused
-    Row {
-        capture: b"S b1 A 21 A P S b0 A 03 A P ",
-        events: b"S !b1 A 21 A P\nS b0 A 03 A packet ",
-        places: &[1],
-        used: 28,
-        bad: None,
-        end: None,
-    },
+    Row { capture: b"S b1 A 21 A P S b0 A 03 A P ", events: b"S !b1 A 21 A P\nS b0 A 03 A packet ", places: &[1], used: 28, bad: None, end: None },
     // the ACK is: the error code of a write of nothing is wrong
-    Row {
-        capture: b"S b0 A 03 A 47 A P ",
-        events: b"S b0 A 03 A 47 !A P\n",
-        places: &[6],
-        used: 19,
-        bad: None,
-        end: None,
-    },
+    Row { capture: b"S b0 A 03 A 47 A P ", events: b"S b0 A 03 A 47 !A P\n", places: &[6], used: 19, bad: None, end: None },
     // a STOP is refused, and is the first that is passed over
-    Row {
-        capture: b"S P\nS b0 A 03 A P\n",
-        events: b"S !P\nS b0 A 03 A packet ",
-        places: &[1],
-        used: 18,
-        bad: None,
-        end: None,
-    },
+    Row { capture: b"S P\nS b0 A 03 A P\n", events: b"S !P\nS b0 A 03 A packet ", places: &[1], used: 18, bad: None, end: None },
     // it ends inside a packet, whose last word ends with the text
-    Row {
-        capture: b"S b0 A 03",
-        events: b"S b0 A 03 ",
-        places: &[],
-        used: 9,
-        bad: None,
-        end: Some(4),
-    },
+    Row { capture: b"S b0 A 03", events: b"S b0 A 03 ", places: &[], used: 9, bad: None, end: Some(4) },
     // a word whose first byte begins no token
-    Row {
-        capture: b"S b0 A oops P\n",
-        events: b"S b0 A ",
-        places: &[],
-        used: 7,
-        bad: Some(7),
-        end: Some(3),
-    },
+    Row { capture: b"S b0 A oops P\n", events: b"S b0 A ", places: &[], used: 7, bad: Some(7), end: Some(3) },
     // one that goes on where a token can't
-    Row {
-        capture: b"S b0 A 03 A P\nS b0 A 0x ",
-        events: b"S b0 A 03 A packet S b0 A ",
-        places: &[],
-        used: 22,
-        bad: Some(21),
-        end: Some(9),
-    },
+    Row { capture: b"S b0 A 03 A P\nS b0 A 0x ", events: b"S b0 A 03 A packet S b0 A ", places: &[], used: 22, bad: Some(21), end: Some(9) },
     // one that ends where a token can't
-    Row {
-        capture: b"S b0 A 3",
-        events: b"S b0 A ",
-        places: &[],
-        used: 8,
-        bad: Some(7),
-        end: Some(3),
-    },
+    Row { capture: b"S b0 A 3", events: b"S b0 A ", places: &[], used: 8, bad: Some(7), end: Some(3) },
 ];
 
 /// What a scan comes to that takes a row's capture in two pieces.

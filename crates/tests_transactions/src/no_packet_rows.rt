@@ -9,36 +9,16 @@ use std::test::Fail;
 
 type Row = (&'static str, Said);
 
+#[rattlefmt::skip]
 static WRITES: [Row; 8] = [
     ("no parts", Said::Write(&[])),
-    (
-        "a device that is not there",
-        Said::Write(&[(0x20, 0x03, &[], false)]),
-    ),
-    (
-        "one device twice",
-        Said::Write(&[(0x58, 0x03, &[], false), (0x58, 0x03, &[], true)]),
-    ),
-    (
-        "a code that is not there",
-        Said::Write(&[(0x58, 0xc8, &[], false)]),
-    ),
-    (
-        "a command that is read alone",
-        Said::Write(&[(0x58, 0x88, &[0x00, 0x00], false)]),
-    ),
-    (
-        "a byte for a word",
-        Said::Write(&[(0x58, 0x21, &[0x00], false)]),
-    ),
-    (
-        "a packet error code where there are none",
-        Said::Write(&[(0x59, 0x03, &[], true)]),
-    ),
-    (
-        "no packet error code where there is one each time",
-        Said::Write(&[(0x5a, 0x03, &[], false)]),
-    ),
+    ("a device that is not there", Said::Write(&[(0x20, 0x03, &[], false)])),
+    ("one device twice", Said::Write(&[(0x58, 0x03, &[], false), (0x58, 0x03, &[], true)])),
+    ("a code that is not there", Said::Write(&[(0x58, 0xc8, &[], false)])),
+    ("a command that is read alone", Said::Write(&[(0x58, 0x88, &[0x00, 0x00], false)])),
+    ("a byte for a word", Said::Write(&[(0x58, 0x21, &[0x00], false)])),
+    ("a packet error code where there are none", Said::Write(&[(0x59, 0x03, &[], true)])),
+    ("no packet error code where there is one each time", Said::Write(&[(0x5a, 0x03, &[], false)])),
 ];
 
 fn read(addr: u8, code: u8, reply: &'static [u8], pec: bool) -> Said {

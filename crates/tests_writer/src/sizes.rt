@@ -4,21 +4,11 @@ ghost use Rattle.std.specs.Prelude.{◌≤◌};
 
 use crate::says::{answer, list};
 use arrayvec::ArrayVec;
+use plain_packets::seventeen_devices;
 use pmb_table::{Profile, SAMPLE};
 use pmb_transaction::{Part, Transaction};
 use std::alloc::{AllocError, Global};
 use std::test::Fail;
-
-/// Seventeen devices without packet error codes.
-fn seventeen(alloc: Global) -> Result<String, AllocError> {
-    let mut text = String::new(alloc);
-    for address in 0x10u8..0x21 {
-        text.push_str(format!(in alloc;
-            "[[device]]\naddress = {address}\npec = \"off\"\n"
-        )?.as_str())?;
-    }
-    Ok(text)
-}
 
 fn clear_faults(address: u8) -> Part {
     Part {
@@ -51,7 +41,7 @@ fn group_text(alloc: Global, size: u8) -> Result<String, AllocError> {
 // A 17th part has no room in a `Transaction`.
 #[test]
 fn groups_of_up_to_sixteen(rt: HostRuntime) -> Result<(), Fail> {
-    let text = seventeen(rt.alloc())?;
+    let text = seventeen_devices(rt.alloc())?;
     let profile = Profile::from_toml(rt.alloc(), text.as_bytes()).map_err(|_| "profile")?;
     for size in [1u8, 2, 15, 16] {
         let write = Transaction::Write { parts: group(size) };
@@ -68,7 +58,7 @@ fn groups_of_up_to_sixteen(rt: HostRuntime) -> Result<(), Fail> {
 
 #[test]
 fn refused_behind_none_and_fifteen(rt: HostRuntime) -> Result<(), Fail> {
-    let text = seventeen(rt.alloc())?;
+    let text = seventeen_devices(rt.alloc())?;
     let profile = Profile::from_toml(rt.alloc(), text.as_bytes()).map_err(|_| "profile")?;
     for size in [0u8, 1, 15] {
         let refused = Transaction::Refused {

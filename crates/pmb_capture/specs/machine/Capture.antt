@@ -1,6 +1,7 @@
 -- Where a `Capture` is within its capture.
 use Rattle.std.proofs.Common.{append_assoc, subst, sym}
 use Rattle.std.specs.Prelude.{◌≡◌, ℕ, List, ◌++◌, map}
+use Rattle.pmb_command.specs.Bus.{IsBus}
 use Rattle.pmb_command.specs.Parts.{DeviceParts}
 use Rattle.pmb_io.specs.declared.tally.Tally.{Tally}
 use Rattle.pmb_io.specs.Tally.{IsTallyOf}
@@ -31,6 +32,7 @@ module _ {O : Type 0} (TextOf : O → OutputText) (StandsBehind : O → List Tra
   pub record HasWritten (start now : Capture O) (bytes text : List ℕ) : Type 0 where
     pub reached : Reached
     pub profile : reached.profile ≡ capture_profile start
+    pub bus : IsBus reached.profile
     pub is_text : reached.text ≡ bytes
     pub stands : ScanStandsAt now.scan reached
     pub written : AccountStands TextOf StandsBehind start.account now.account (map outcome reached.spans) text

@@ -4,7 +4,7 @@ ghost use Rattle.std.specs.Prelude.{[]};
 ghost use Rattle.pmb_io.specs.Runs.{AsTool, Ran};
 ghost use Rattle.pmb_capture.specs.Written.{writing};
 
-use crate::capture::Capture;
+use crate::capture::{Capture, fronts_are_written};
 use crate::output::Output;
 use pmb_io::{Sink, Source, Tally, ToolFault, each_piece};
 use pmb_table::Profile;
@@ -30,7 +30,7 @@ pub(crate) fn write_capture<O: Output + Drop, R: Source, W: Sink>(
     match each_piece(&mut capture, first, reader, writer) {
         Ok(()) => Ok(capture.tally()),
         Err(fault) => {
-            capture.leave();
+            fronts_are_written::<O>();
             Err(ToolFault::from(fault))
         }
     }

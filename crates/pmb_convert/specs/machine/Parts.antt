@@ -4,7 +4,7 @@ use mir.Syntax.{Width}
 use Rattle.std.specs.Borrow.{Bor}
 use Rattle.pmb_convert.specs.Spelling.{Saying, linear11_fixed, ulinear16, slinear16, vout, direct, WritesInteger, WritesByte, WritesWord, WritesMode}
 
--- what a text has behind a prefix; nothing where it begins otherwise
+-- what a text has after a prefix; nothing where it begins otherwise
 abbrev pub StripsPrefix : List ℕ → List ℕ → Option (Bor (List ℕ)) → Type 0
 StripsPrefix prefix text rest = MatchOption rest ((tail : List ℕ) → text ≢ prefix ++ tail) (λ r. text ≡ prefix ++ r.now)
 

@@ -6,6 +6,6 @@ use Rattle.pmb_front.specs.Front.{HasMark}
 abbrev pub NoneEndsWithin : List ℕ → ℕ → Type 0
 NoneEndsWithin text count = (before line after : List ℕ) → HasMark text before line after → length (before ++ line) ≤ count → ⊥
 
--- with an LF behind it, a text ends in a line `%%` that starts here
+-- with an LF after it, a text ends in a line `%%` that starts here
 abbrev pub EndsInMark : List ℕ → ℕ → Type 0
 EndsInMark text start = HasMark (text ++ codes "\n") (take start text) (drop start text ++ codes "\n") []

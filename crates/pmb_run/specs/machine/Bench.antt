@@ -33,7 +33,7 @@ pub record BenchStands (bench : Bench) (ts : List TransactionData) : Type 0 wher
 
 -- ---- during a request
 
--- Of a packet the events `before` were read, behind n others, and `rest` were not: with the last one the
+-- Of a packet the events `before` were read, after n others, and `rest` were not: with the last one the
 -- transaction is given to the context.
 abbrev pub HaveRead : Bench → List TransactionData → ℕ → List Event → TransactionData → List Event → Type 0
 HaveRead bench ts n before t [] =
@@ -46,7 +46,7 @@ abbrev pub HaveHeard : Bench → List TransactionData → ℕ → List Event →
 HaveHeard bench ts n before =
     (t : TransactionData) (rest : List Event) → Packet (bench_profile bench) t (before ++ rest) → HaveRead bench ts n before t rest
 
--- A host runs on the bench, behind these transactions, and stands there.
+-- A host runs on the bench, after these transactions, and stands there.
 pub record RunsHost (ts : List TransactionData) (bench : Bench) (exchange : Exchange) (standing : ExchangeStanding) : Type 0 where
   pub stands : ExchangeStandsAt exchange bench.bus standing
   pub profile_is : standing.job.profile ≡ bench_profile bench

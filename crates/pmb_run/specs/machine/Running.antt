@@ -43,7 +43,7 @@ pub record RunnerTakes (ts : List TransactionData) (before after : Runner) (line
   pub tally : after.tally ≡ counted_in answer before.tally
   pub stands : BenchStands after.bench (ts ++ recorded_by answer)
 
--- The profile stays, and the text is the answers to the lines, which are counted; the bench stands behind
+-- The profile stays, and the text is the answers to the lines, which are counted; the bench stands after
 -- what was recorded of them.
 pub record RunnerStands (start now : Runner) (lines : List TextLine) (text : List ℕ) : Type 0 where
   pub same : now.bench.profile ≡ start.bench.profile

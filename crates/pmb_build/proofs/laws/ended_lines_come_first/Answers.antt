@@ -11,4 +11,4 @@ returns-clause-one c profile bytes a b bus =
 pub returns-clause-front : goal.returns-clause-front
 returns-clause-front c profile bytes more a b tally bus =
     ended_first profile c.one_transaction.ensures (c.one_packet.ensures profile) (c.one_line_fault.ensures profile) (λ line why u. c.no_parse_with_a_fault.ensures profile line why u bus)
-    bytes more a b tally
+    bytes more a b tally (c.ended_lines_stay.ensures most_build_line bytes more)

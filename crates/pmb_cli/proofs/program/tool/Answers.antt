@@ -1,45 +1,86 @@
-use Rattle.std.proofs.Common.{◌∙◌, sym}
-use Rattle.pmb_status.specs.declared.status.Status.TheVariants.{Done, Refusals, BadWords, IoFailed, NoMemory}
-use Rattle.pmb_cli.proofs.Codes.{by_code, code_within, ended_by_code, failed_by_code, one_of_three, one_of_two}
+use Rattle.std.proofs.Common.{inl, inr, map, refl, subst}
+use Rattle.pmb_table.specs.declared.sample.TheConstants.{SAMPLE}
+use Rattle.pmb_words.specs.Asked.{Asking, asking_of}
+use Rattle.pmb_cli.specs.Statuses.{StatusTells}
+use Rattle.pmb_cli.specs.Tasks.{DidTask}
+use Rattle.pmb_cli.proofs.Codes.{code_within}
+use Rattle.pmb_cli.proofs.Memory.{unread}
+use Rattle.pmb_cli.proofs.Often.{none_in_all}
+use Rattle.pmb_cli.proofs.Statuses.{does_none, no_memory_is_not_bad}
 use Rattle.pmb_cli.proofs.program.tool.Goals as goal
 
--- ---- what is said of a status is said of its number
+-- The words ask for something: nothing was written yet, it is done, and they ask for nothing else.
+pub returns-in-Ok-clause-ran : goal.returns-in-Ok-clause-ran
+returns-in-Ok-clause-ran g c =
+    let words = map g.S.AsStr.text c.args.words.now in
+    let asking : Asking = asking_of c.in-Ok.task in
+    let ask = c.in-Ok.ensures.ok in
+    let one = c.one_asking.ensures in
+    let did : DidTask g.R.Source.told g.W.Sink.told g.E.Sink.told SAMPLE.now asking (c.args.reader.now, c.args.out.now, c.args.err.now) (c.run_task.new.reader, c.run_task.new.out, c.run_task.new.err) c.run_task.result =
+    subst (λ (out : g.row.W.Denot). DidTask g.R.Source.told g.W.Sink.told g.E.Sink.told SAMPLE.now asking (c.args.reader.now, out, c.args.err.now) (c.run_task.new.reader, c.run_task.new.out, c.run_task.new.err) c.run_task.result) c.in-Ok.ensures.ok_quiet.0
+    (subst (λ (err : g.row.E.Denot). DidTask g.R.Source.told g.W.Sink.told g.E.Sink.told SAMPLE.now asking (c.args.reader.now, c.asked.new.out, err) (c.run_task.new.reader, c.run_task.new.out, c.run_task.new.err) c.run_task.result) c.in-Ok.ensures.ok_quiet.1 c.run_task.ensures) in (
+      c.run_task.result,
+      c.code.ensures,
+      record {
+        did = λ other also. subst (λ (a : Asking). DidTask g.R.Source.told g.W.Sink.told g.E.Sink.told SAMPLE.now a (c.args.reader.now, c.args.out.now, c.args.err.now) (c.run_task.new.reader, c.run_task.new.out, c.run_task.new.err) c.run_task.result) (one.one words asking other ask also) did;
+        unread = λ some. absurd (some ask.no_fault);
+        out_text = λ some done. absurd (some ask.no_fault);
+        not_refusals = λ some. absurd (some ask.no_fault);
+        helped = λ telling. absurd (one.not_told words asking ask telling);
+        refused = λ refused. absurd (one.not_refused words asking ask refused);
+        unwritten = λ refused. absurd (one.not_refused words asking ask refused);
+        nothing = λ none. absurd (one.something words asking ask none);
+        nothing_unread = λ none. absurd (one.something words asking ask none);
+        bad = λ bad. elim (did.bad bad) [
+          | inl none ↦ inr (inl (one.names_none words asking ask none))
+          | inr fault ↦ inr (inr (asking, ask, fault.0, fault.1))
+        ];
+        tells = did.tells;
+        err_text = did.err_text;
+        quiet = did.quiet;
+      },
+    )
 
-pub returns-clause-out_told : goal.returns-clause-out_told
-returns-clause-out_told g c some done = c.run_words.ensures.out_told some (by_code _ Done (sym c.code.ensures ∙ done))
+-- They ask for nothing, or there was no memory for them.
+pub returns-in-Err-clause-ran : goal.returns-in-Err-clause-ran
+returns-in-Err-clause-ran g c =
+    let tells : StatusTells g.R.Source.told g.W.Sink.told (c.args.reader.now, c.args.out.now) (c.args.reader.now, c.asked.new.out) c.in-Err.status = record {
+      unwritten = c.in-Err.ensures.wrote.unwritten;
+      none_failed = λ other. (refl, c.in-Err.ensures.wrote.none_failed other);
+      io_failed = λ failed. inr (inl (c.in-Err.ensures.wrote.io_failed failed));
+      reads = none_in_all _;
+    } in (
+      c.in-Err.status,
+      c.code-in-Err.ensures,
+      record {
+        did = λ asking ask.
+            let no_memory = c.in-Err.ensures.memory asking ask in
+            record {
+              did = does_none _ _ _ _ _ (inr no_memory);
+              tells = tells;
+              bad = λ bad. absurd (no_memory_is_not_bad _ no_memory bad);
+              bad_format = λ none. (inr no_memory, refl);
+              memory = λ _. unread g.R.Source.told asking _ _ refl;
+              err_text = c.in-Err.ensures.wrote.err_text;
+              quiet = c.in-Err.ensures.wrote.quiet;
+            };
+        unread = λ some. refl;
+        out_text = λ some. c.in-Err.ensures.wrote.out_text;
+        not_refusals = λ some. c.in-Err.ensures.wrote.not_refusals;
+        helped = c.in-Err.ensures.helped;
+        refused = c.in-Err.ensures.refused;
+        unwritten = c.in-Err.ensures.unwritten;
+        nothing = c.in-Err.ensures.nothing;
+        nothing_unread = λ none. refl;
+        bad = λ bad. inl (c.in-Err.ensures.told bad);
+        tells = tells;
+        err_text = c.in-Err.ensures.wrote.err_text;
+        quiet = c.in-Err.ensures.wrote.quiet;
+      },
+    )
 
-pub returns-clause-not_one : goal.returns-clause-not_one
-returns-clause-not_one g c some one = c.run_words.ensures.not_refusals some (by_code _ Refusals (sym c.code.ensures ∙ one))
+pub returns-in-Ok-clause-within : goal.returns-in-Ok-clause-within
+returns-in-Ok-clause-within g c = code_within _ c.code.ensures
 
-pub returns-clause-helped : goal.returns-clause-helped
-returns-clause-helped g c ask = one_of_three _ Done IoFailed NoMemory c.code.ensures (c.run_words.ensures.helped ask)
-
-pub returns-clause-refused : goal.returns-clause-refused
-returns-clause-refused g c refused = one_of_two _ BadWords NoMemory c.code.ensures (c.run_words.ensures.refused refused)
-
-pub returns-clause-told : goal.returns-clause-told
-returns-clause-told g c two = c.run_words.ensures.told (by_code _ BadWords (sym c.code.ensures ∙ two))
-
-pub returns-clause-nothing : goal.returns-clause-nothing
-returns-clause-nothing g c none = one_of_two _ BadWords NoMemory c.code.ensures (c.run_words.ensures.nothing none)
-
-pub returns-clause-err_told : goal.returns-clause-err_told
-returns-clause-err_told g c two = c.run_words.ensures.err_told (failed_by_code _ c.code.ensures two)
-
-pub returns-clause-quiet : goal.returns-clause-quiet
-returns-clause-quiet g c one = c.run_words.ensures.quiet (ended_by_code _ c.code.ensures one)
-
-pub returns-clause-bad_format : goal.returns-clause-bad_format
-returns-clause-bad_format g c bad = one_of_two _ BadWords NoMemory c.code.ensures (c.run_words.ensures.bad_format bad)
-
-pub returns-clause-did : goal.returns-clause-did
-returns-clause-did g c asking ask = (c.run_words.result, c.code.ensures, c.run_words.ensures.did asking ask)
-
-pub returns-clause-memory : goal.returns-clause-memory
-returns-clause-memory g c asking ask four = c.run_words.ensures.memory asking ask (by_code _ NoMemory (sym c.code.ensures ∙ four))
-
-pub returns-clause-status : goal.returns-clause-status
-returns-clause-status g c = (c.run_words.result, c.code.ensures, c.run_words.ensures.status)
-
-pub returns-clause-within : goal.returns-clause-within
-returns-clause-within g c = code_within _ c.code.ensures
+pub returns-in-Err-clause-within : goal.returns-in-Err-clause-within
+returns-in-Err-clause-within g c = code_within _ c.code-in-Err.ensures

@@ -1,8 +1,8 @@
-use Rattle.std.proofs.Common.{◌++◌, refl}
-use Rattle.pmb_common.specs.declared.legs.Legs.TheVariants.{Written, Both}
+use Rattle.std.proofs.Common.{[], ◌∷◌, ◌++◌, refl, sym, ◌∙◌}
+use Rattle.pmb_common.specs.declared.legs.Legs.TheVariants.{Written, Both, Group}
 use Rattle.pmb_common.specs.Front.{acked_text, end_text}
-use Rattle.pmb_common.proofs.Beginnings.{both_first, both_second, is_both, not_there, start_or_stop, written_first}
-use Rattle.pmb_common.proofs.Spelled.{both_found, written_there}
+use Rattle.pmb_common.proofs.Beginnings.{both_first, both_second, group_first, group_is_even, is_both, not_there, read_is_odd, start_or_stop, written_first}
+use Rattle.pmb_common.proofs.Spelled.{both_found, group_there, written_there}
 use Rattle.pmb_common.proofs.legs.front_legs.Goals as goal
 
 pub returns-in-Some-clause-spelled : goal.returns-in-Some-clause-spelled
@@ -23,52 +23,94 @@ returns-clause-spelled c =
     c.take_acked-behind.ensures.taken c.in_ok-second.ensures.spelled c.take_reply.ensures.spelled
 
 pub returns-in-Some-clause-found : goal.returns-in-Some-clause-found
-returns-in-Some-clause-found c Written all rest are split =
+returns-in-Some-clause-found c Written all rest are follows split =
     let one =
     written_first c.args.text.now c.in_ok-first.first.now c.take_acked-behind.result.now c.clear.new.self.items c.take_acked-behind.new.bytes.items
     c.clear.ensures c.in_ok-first.ensures.spelled c.take_acked-behind.ensures.all all rest are split in
     (refl, one.0)
-returns-in-Some-clause-found c (Both written) all rest are split =
+returns-in-Some-clause-found c (Both written) all rest are follows split =
     let one =
     both_first c.args.text.now c.in_ok-first.first.now c.take_acked-behind.result.now c.clear.new.self.items c.take_acked-behind.new.bytes.items
     c.clear.ensures c.in_ok-first.ensures.spelled c.take_acked-behind.ensures.all all rest written are split in
     absurd (start_or_stop _ c.in-Some.field-0.now c.take_acked-behind.result.now one.1 c.in-Some.ensures.spelled)
+returns-in-Some-clause-found c Group all rest are follows split =
+    let one =
+    group_first c.args.text.now c.in_ok-first.first.now c.take_acked-behind.result.now c.clear.new.self.items c.take_acked-behind.new.bytes.items
+    c.clear.ensures c.in_ok-first.ensures.spelled c.take_acked-behind.ensures.all all rest are follows split in
+    absurd (start_or_stop _ c.in-Some.field-0.now c.take_acked-behind.result.now (one.1 ∙ follows.split) c.in-Some.ensures.spelled)
 
 pub returns-in_err-second-clause-found : goal.returns-in_err-second-clause-found
-returns-in_err-second-clause-found c Written all rest are split =
+returns-in_err-second-clause-found c Written all rest are follows split =
     let one =
     written_first c.args.text.now c.in_ok-first.first.now c.take_acked-behind.result.now c.clear.new.self.items c.take_acked-behind.new.bytes.items
     c.clear.ensures c.in_ok-first.ensures.spelled c.take_acked-behind.ensures.all all rest are split in
     absurd (not_there c.behind_stop.result (c.behind_stop.ensures.found rest one.1) c.in_default.not-Some)
-returns-in_err-second-clause-found c (Both written) all rest are split =
+returns-in_err-second-clause-found c (Both written) all rest are follows split =
     let both = is_both written all are in
     let one =
     both_first c.args.text.now c.in_ok-first.first.now c.take_acked-behind.result.now c.clear.new.self.items c.take_acked-behind.new.bytes.items
     c.clear.ensures c.in_ok-first.ensures.spelled c.take_acked-behind.ensures.all all rest written are split in
     absurd (cc (c.in_err-second.ensures.found (acked_text both.back ++ (end_text both.last ++ rest)) one.1))
+returns-in_err-second-clause-found c Group all rest are follows split =
+    let one =
+    group_first c.args.text.now c.in_ok-first.first.now c.take_acked-behind.result.now c.clear.new.self.items c.take_acked-behind.new.bytes.items
+    c.clear.ensures c.in_ok-first.ensures.spelled c.take_acked-behind.ensures.all all rest are follows split in
+    absurd (cc (c.in_err-second.ensures.found (acked_text (follows.byte ∷ []) ++ follows.more) (one.1 ∙ follows.split)))
 
 pub returns-then-len-eq2-clause-found : goal.returns-then-len-eq2-clause-found
-returns-then-len-eq2-clause-found c Written all rest are split =
+returns-then-len-eq2-clause-found c Written all rest are follows split =
     let one =
     written_first c.args.text.now c.in_ok-first.first.now c.take_acked-behind.result.now c.clear.new.self.items c.take_acked-behind.new.bytes.items
     c.clear.ensures c.in_ok-first.ensures.spelled c.take_acked-behind.ensures.all all rest are split in
     absurd (not_there c.behind_stop.result (c.behind_stop.ensures.found rest one.1) c.in_default.not-Some)
-returns-then-len-eq2-clause-found c (Both written) all rest are split =
+returns-then-len-eq2-clause-found c (Both written) all rest are follows split =
     let one =
     both_first c.args.text.now c.in_ok-first.first.now c.take_acked-behind.result.now c.clear.new.self.items c.take_acked-behind.new.bytes.items
     c.clear.ensures c.in_ok-first.ensures.spelled c.take_acked-behind.ensures.all all rest written are split in
     both_second written c.take_acked-behind.result.now c.in_ok-second.second.now c.take_acked-behind.new.bytes.items c.take_second.new.bytes.items all rest
     c.take_second.result are one.0 c.in_ok-second.ensures.spelled c.take_second.ensures.found one.1
+returns-then-len-eq2-clause-found c Group all rest are follows split =
+    let one =
+    group_first c.args.text.now c.in_ok-first.first.now c.take_acked-behind.result.now c.clear.new.self.items c.take_acked-behind.new.bytes.items
+    c.clear.ensures c.in_ok-first.ensures.spelled c.take_acked-behind.ensures.all all rest are follows split in
+    absurd (cc (sym (group_is_even c.take_acked-behind.result.now c.in_ok-second.second.now rest c.is_even.result follows c.in_ok-second.ensures.spelled c.is_even.ensures one.1) ∙ c.if-is_even.false))
 
 pub returns-clause-found : goal.returns-clause-found
-returns-clause-found c Written all rest are split =
+returns-clause-found c Written all rest are follows split =
     let one =
     written_first c.args.text.now c.in_ok-first.first.now c.take_acked-behind.result.now c.clear.new.self.items c.take_acked-behind.new.bytes.items
     c.clear.ensures c.in_ok-first.ensures.spelled c.take_acked-behind.ensures.all all rest are split in
     absurd (not_there c.behind_stop.result (c.behind_stop.ensures.found rest one.1) c.in_default.not-Some)
-returns-clause-found c (Both written) all rest are split =
+returns-clause-found c (Both written) all rest are follows split =
     let one =
     both_first c.args.text.now c.in_ok-first.first.now c.take_acked-behind.result.now c.clear.new.self.items c.take_acked-behind.new.bytes.items
     c.clear.ensures c.in_ok-first.ensures.spelled c.take_acked-behind.ensures.all all rest written are split in
     both_second written c.take_acked-behind.result.now c.in_ok-second.second.now c.take_acked-behind.new.bytes.items c.take_reply.new.bytes.items all rest
     c.take_reply.result are one.0 c.in_ok-second.ensures.spelled c.take_reply.ensures.found one.1
+returns-clause-found c Group all rest are follows split =
+    let one =
+    group_first c.args.text.now c.in_ok-first.first.now c.take_acked-behind.result.now c.clear.new.self.items c.take_acked-behind.new.bytes.items
+    c.clear.ensures c.in_ok-first.ensures.spelled c.take_acked-behind.ensures.all all rest are follows split in
+    absurd (cc (sym (group_is_even c.take_acked-behind.result.now c.in_ok-second.second.now rest c.is_even.result follows c.in_ok-second.ensures.spelled c.is_even.ensures one.1) ∙ c.if-is_even.false))
+
+pub returns-then-is_even-clause-spelled : goal.returns-then-is_even-clause-spelled
+returns-then-is_even-clause-spelled c =
+    group_there c.args.text.now c.in_ok-first.first.now c.take_acked-behind.result.now c.clear.new.self.items c.take_acked-behind.new.bytes.items
+    c.clear.ensures c.in_ok-first.ensures.spelled c.take_acked-behind.ensures.taken
+
+pub returns-then-is_even-clause-found : goal.returns-then-is_even-clause-found
+returns-then-is_even-clause-found c Written all rest are follows split =
+    let one =
+    written_first c.args.text.now c.in_ok-first.first.now c.take_acked-behind.result.now c.clear.new.self.items c.take_acked-behind.new.bytes.items
+    c.clear.ensures c.in_ok-first.ensures.spelled c.take_acked-behind.ensures.all all rest are split in
+    absurd (not_there c.behind_stop.result (c.behind_stop.ensures.found rest one.1) c.in_default.not-Some)
+returns-then-is_even-clause-found c (Both written) all rest are follows split =
+    let one =
+    both_first c.args.text.now c.in_ok-first.first.now c.take_acked-behind.result.now c.clear.new.self.items c.take_acked-behind.new.bytes.items
+    c.clear.ensures c.in_ok-first.ensures.spelled c.take_acked-behind.ensures.all all rest written are split in
+    absurd (read_is_odd written c.take_acked-behind.result.now c.in_ok-second.second.now all rest c.is_even.result are c.in_ok-second.ensures.spelled c.is_even.ensures one.1 c.if-is_even.true)
+returns-then-is_even-clause-found c Group all rest are follows split =
+    let one =
+    group_first c.args.text.now c.in_ok-first.first.now c.take_acked-behind.result.now c.clear.new.self.items c.take_acked-behind.new.bytes.items
+    c.clear.ensures c.in_ok-first.ensures.spelled c.take_acked-behind.ensures.all all rest are follows split in
+    (refl, one.0)

@@ -9,14 +9,14 @@ use Rattle.pmb_common.proofs.legs.take_second.Goals as goal
 pub returns-clause-spelled : goal.returns-clause-spelled
 returns-clause-spelled c =
     let taken = c.take_acked-end.ensures.taken in
-    let written : c.len-written.result ≡ length c.args.bytes.now.items = omega arith in
+    let written : c.len-written.result ≡ length c.args.bytes.now.items = c.len-written.ensures in
     record {
       back = taken.more;
       last = c.in_ok-last.last;
       rest = drop 7 c.take_acked-end.result.now;
       some = omega (arith, ap length taken.added, length-append c.args.bytes.now.items taken.more);
       both = ap (λ (n : ℕ). Both n) written;
-      added = c.push.ensures.items ∙ ap (λ (l : List ℕ). l ++ c.in_ok-last.last ∷ []) taken.added;
+      added = c.push.ensures ∙ ap (λ (l : List ℕ). l ++ c.in_ok-last.last ∷ []) taken.added;
       split = taken.split ∙ ap (λ (l : List ℕ). acked_text taken.more ++ l) c.in_ok-last.ensures.spelled;
     }
 
@@ -40,8 +40,11 @@ returns-then-is_full-clause-found c back last rest is split =
 pub returns-clause-found : goal.returns-clause-found
 returns-clause-found c back last rest is split =
     let took = c.take_acked-end.ensures.all back (end_text last ++ rest) is.small (none_at_nack last rest) (omega (arith, is.few)) split in
-    let written : c.len-written.result ≡ length c.args.bytes.now.items = omega arith in
+    let written : c.len-written.result ≡ length c.args.bytes.now.items = c.len-written.ensures in
     let same : c.in_ok-last.last ≡ last = same_Some c.in_ok-last.last last (c.in_ok-last.ensures.only last rest is.small_last took.1) in (
       ap (λ (n : ℕ). Some (Both n)) written,
-      c.push.ensures.items ∙ ap (λ (l : List ℕ). l ++ c.in_ok-last.last ∷ []) took.0 ∙ ap (λ (n : ℕ). (c.args.bytes.now.items ++ back) ++ n ∷ []) same,
+      c.push.ensures ∙ ap (λ (l : List ℕ). l ++ c.in_ok-last.last ∷ []) took.0 ∙ ap (λ (n : ℕ). (c.args.bytes.now.items ++ back) ++ n ∷ []) same,
     )
+
+pub push-requires : goal.push-requires
+push-requires c = c.is_full.ensures.room c.if-is_full.false

@@ -13,7 +13,7 @@ loop-byte-preserved c =
     let new = c.loop-byte.bytes.items in
     let more : TakenFront text old (new ++ c.in-Some.byte ∷ []) (drop 5 rest) =
     taken_more text old new rest c.in-Some.byte (drop 5 rest) c.loop-byte.invariant c.in-Some.ensures.small c.in-Some.ensures.spelled in
-    rw (c.push.ensures.items, take_rest) more
+    rw (c.push.ensures, take_rest) more
 
 pub returns-then-is_full-clause-all : goal.returns-then-is_full-clause-all
 returns-then-is_full-clause-all c front rest small none room same =
@@ -29,3 +29,6 @@ pub returns-clause-all : goal.returns-clause-all
 returns-clause-all c front rest small none room same =
     all_taken c.args.text.now c.args.bytes.now.items c.loop-byte.bytes.items c.loop-byte.rest.now front rest c.loop-byte.invariant
     (λ byte more is_byte at_front. c.in_default.not-Some byte (c.front_acked.ensures.only byte more is_byte at_front)) small none same
+
+pub push-requires : goal.push-requires
+push-requires c = c.is_full.ensures.room c.if-is_full.false

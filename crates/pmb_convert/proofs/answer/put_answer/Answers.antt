@@ -1,7 +1,6 @@
 use Rattle.std.proofs.Common.{◌≡◌, List, ℕ, ◌++◌, codes, append_assoc, refl, subst}
 use Rattle.std.proofs.lemmas.Result.{on_ok_weaker}
 use Rattle.pmb_io.specs.Outgoing.{PutsText}
-use Rattle.pmb_io.proofs.Writing.{writes_then}
 use Rattle.pmb_convert.specs.Answer.{answer_line, fault_name}
 use Rattle.pmb_convert.specs.machine.Converting.{answer_of, converted_text}
 use Rattle.pmb_convert.proofs.answer.put_answer.Goals as goal
@@ -21,5 +20,5 @@ returns-clause-ok g c =
           (codes "! " ++ fault_name w.in-Err.fault, (rw (w.waiting-is, w.writer-is) w.in_ok-put_fault-in-Err.ensures.ok, rw w.in-Err.is (append_assoc (codes "! ") (fault_name w.in-Err.fault) (codes "\n"))))
     ] in
     on_ok_weaker c.put.result
-    (λ writes. subst (λ line. PutsText held waited (g.W.Sink.told c.put.new.writer).held c.put.new.waiting.items line) front.1.1 (writes_then _ _ _ _ _ _ _ _ front.1.0 writes))
+    (λ writes. subst (λ line. PutsText held waited (g.W.Sink.told c.put.new.writer).held c.put.new.waiting.items line) front.1.1 (c.texts_add_up.ensures.both _ _ _ _ _ _ _ _ front.1.0 writes))
     c.put.ensures.ok

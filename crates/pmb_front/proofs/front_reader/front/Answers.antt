@@ -21,7 +21,7 @@ loop-piece-init g c =
       none = subst NoMark (sym empty) none_in_nothing;
     }
 
--- A failed read is answered as such.
+-- A failed read is returned as such.
 pub returns-in-Err-clause-ok : goal.returns-in-Err-clause-ok
 returns-in-Err-clause-ok g c = tt
 

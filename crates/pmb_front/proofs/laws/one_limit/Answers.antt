@@ -1,4 +1,4 @@
-use Rattle.pmb_front.proofs.Limits.{fits, long_cannot_fit, late_cannot_fit, none_fits_behind}
+use Rattle.pmb_front.proofs.Limits.{fits, long_cannot_fit, late_cannot_fit, none_fits_later}
 use Rattle.pmb_front.proofs.laws.one_limit.Goals as goal
 
 pub returns-clause-fits : goal.returns-clause-fits
@@ -11,4 +11,4 @@ pub returns-clause-late : goal.returns-clause-late
 returns-clause-late c = late_cannot_fit
 
 pub returns-clause-stays : goal.returns-clause-stays
-returns-clause-stays c = none_fits_behind
+returns-clause-stays c = none_fits_later

@@ -73,7 +73,7 @@ returns-in_err-take_piece-2 g c =
     (c.in_ok-count.ensures.failed ∙ c.reads.invariant.reader_failures) (c.in_err-take_piece-2.ensures.failed.1 ∙ ap (λ n. raised n 1) c.reads.invariant.writer_failures)
     (c.reads.counter + 1, omega arith, one_read_more _ _ _ c.reads.counter c.in_ok-count.count c.reads.invariant.reads c.in_ok-count.ensures.read some))
 
--- nothing more is wanted behind a piece
+-- nothing more is wanted after a piece
 pub returns-in-Stop-2 : goal.returns-in-Stop-2
 returns-in-Stop-2 g c =
     let so_far = c.reads.invariant.so_far in

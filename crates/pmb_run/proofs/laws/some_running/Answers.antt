@@ -16,7 +16,7 @@ returns c bytes =
       allowed_or_fault = λ request sound. c.allowed_or_fault.ensures profile request bus (make_formats profile kept) sound;
       some_exchange = λ members request word number. c.some_exchange.ensures profile members request word number bus;
       packets = λ request word number reply. c.allowed_requests_have_packets.ensures profile request word number reply bus;
-      positive = λ n d above. (c.lowest_terms.ensures n d above).positive;
+      positive = c.readings_have_denominators.ensures;
     } in
     let fits = all_contained (λ m. IsState m.device m.state) (first_members profile) (λ m at. c.states_fit.ensures profile [] (first_members profile) m bus refl at) in
     some_text profile bus laws (first_good profile bus.devices kept fits) bytes

@@ -5,7 +5,7 @@ use Rattle.hex.specs.Hex.{encode_lower, lower_digits}
 use Rattle.hex.proofs.HexLemmas.{length-encode_with}
 use Rattle.pmb_run.proofs.result.append_bytes.Goals as goal
 
--- a byte behind another
+-- a byte after another
 abbrev byte_behind : ℕ → List ℕ
 byte_behind b = codes " " ++ encode_lower (b ∷ [])
 

@@ -35,7 +35,6 @@ returns c =
     let word = text_or c.get_str.result c.unwrap_or.result _ (first_of (codes "digits") rows) (codes "6") (c.get_str.ensures ∙ first_value-rows (found_of c.args.arguments.now) (codes "digits")) c.unwrap_or.ensures refl in
     let words = texts_or_none c.get_strs.result c.unwrap_or-2.result _ (all_of (codes "device") rows) (c.get_strs.ensures ∙ raw_values-rows (found_of c.args.arguments.now) (codes "device")) c.unwrap_or-2.ensures refl in
     record {
-      profile = c.profile.ensures;
       known = sym c.known.ensures ∙ c.in-Some.is;
       after_bad_word = c.after_bad_word.ensures;
       digits = subst (λ w. SpellsDigits w c.in-Some-read_digits.digits) word

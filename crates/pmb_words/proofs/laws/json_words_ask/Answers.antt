@@ -1,23 +1,17 @@
-use Rattle.pmb_words.proofs.JsonWords.{alone_is_nothing, asks_device, asks_digits, asks_with_flags, bad_device_asks_nothing, bad_digits_ask_nothing, no_flags, sample_flag, late_flag, fixed_flag, going_flag, two_flags}
+use Rattle.pmb_words.proofs.JsonWords.{alone_is_nothing, asks_device, asks_digits, asks_late, asks_late_fixed, asks_to_go_on, asks_two, bad_device_asks_nothing, bad_digits_ask_nothing}
 use Rattle.pmb_words.proofs.laws.json_words_ask.Goals as goal
 
-pub returns-clause-json : goal.returns-clause-json
-returns-clause-json c = asks_with_flags no_flags
-
-pub returns-clause-sample : goal.returns-clause-sample
-returns-clause-sample c = asks_with_flags sample_flag
-
 pub returns-clause-late : goal.returns-clause-late
-returns-clause-late c = asks_with_flags late_flag
+returns-clause-late c = asks_late
 
 pub returns-clause-late_fixed : goal.returns-clause-late_fixed
-returns-clause-late_fixed c = asks_with_flags fixed_flag
+returns-clause-late_fixed c = asks_late_fixed
 
 pub returns-clause-keep_going : goal.returns-clause-keep_going
-returns-clause-keep_going c = asks_with_flags going_flag
+returns-clause-keep_going c = asks_to_go_on
 
 pub returns-clause-two : goal.returns-clause-two
-returns-clause-two c = asks_with_flags two_flags
+returns-clause-two c = asks_two
 
 pub returns-clause-digits : goal.returns-clause-digits
 returns-clause-digits c = asks_digits

@@ -1,4 +1,4 @@
-use Rattle.std.proofs.Common.{[], ◌∷◌, ◌++◌, ap, append-nil, map, sym, ◌∙◌}
+use Rattle.std.proofs.Common.{ap, append-nil, map, sym, ◌∙◌}
 use Rattle.pmb_io.proofs.Writing.{on_ok_both}
 use Rattle.pmb_spans.specs.Spans.{ReadSpan, outcome}
 use Rattle.pmb_transaction.specs.Transaction.{transaction_data}

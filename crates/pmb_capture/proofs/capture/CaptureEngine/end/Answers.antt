@@ -27,7 +27,7 @@ returns-in-Some-clause-ends g c start bytes text written =
     let taken = subst (λ end. PutsOut (λ more. TakesEnd (λ reached text. AccountStands g.O.Output.text g.O.Output.Stands start.account c.take_end.new.visitor (map outcome reached.spans) text) written.reached end c.take_end.new.self (text ++ more))
     (g.W.Sink.told c.args.writer.now).held c.args.waiting.now.items (g.W.Sink.told c.take_end.new.writer).held c.take_end.new.waiting.items) c.in-Some.is
     (c.in_ok-take_end.ensures.takes start.account written.reached text written.stands written.written) in
-    let can_end = c.stop_at.ensures.can_end written.reached taken.holds.reads in
+    let can_end = c.stop_at.ensures.can_end written.reached written.bus taken.holds.reads in
     let output = g.O.Output.text start.account.output in
     let tally = c.stop_at.new.self.account.tally in
     on_ok_weaker c.stop_at.result (λ puts. record {

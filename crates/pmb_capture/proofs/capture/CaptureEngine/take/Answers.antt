@@ -1,4 +1,5 @@
-use Rattle.std.proofs.Common.{ℕ, Ok, ◌++◌, ap, map, subst, ◌∙◌}
+use Rattle.std.proofs.Common.{ℕ, Ok, ◌++◌, ap, map, subst, sym, ◌∙◌}
+use Rattle.pmb_command.specs.Bus.{IsBus}
 use Rattle.pmb_io.specs.Engines.{PutsOut}
 use Rattle.pmb_io.proofs.Writing.{writes_then}
 use Rattle.pmb_scan.specs.Scan.{TakesPiece}
@@ -18,6 +19,7 @@ returns-in-All-clause-takes g c start bytes text written =
       holds = record {
         reached = taken.holds.there;
         profile = taken.holds.profile ∙ written.profile;
+        bus = subst IsBus (sym taken.holds.profile) written.bus;
         is_text = taken.holds.used ∙ ap (λ b. b ++ c.args.piece.now) written.is_text;
         stands = taken.holds.stands;
         written = taken.holds.visited;
@@ -31,7 +33,7 @@ returns-in_ok-stop_at-in-Fault-clause-takes g c start bytes text written =
     (g.W.Sink.told c.args.writer.now).held c.args.waiting.now.items (g.W.Sink.told c.take_words.new.writer).held c.take_words.new.waiting.items) c.in-Fault.is
     (c.in_ok-take_words.ensures.takes start.account written.reached text written.stands written.written) in
     let stopped = c.in_ok-stop_at-in-Fault.ensures in
-    let can_end = stopped.can_end taken.holds.there taken.holds.reads in
+    let can_end = stopped.can_end taken.holds.there (subst IsBus (sym taken.holds.profile) written.bus) taken.holds.reads in
     let output = g.O.Output.text start.account.output in
     let tally = c.stop_at.new.self.account.tally in record {
       text = taken.text ++ fault_text output tally c.in-Fault.fault;

@@ -1,10 +1,10 @@
-use Rattle.std.proofs.Common.{List, ◌++◌, ◌+◌, ◌∙◌, refl, sym, ap, subst}
+use Rattle.std.proofs.Common.{List, ◌++◌, ◌+◌, ◌∙◌, sym, ap, subst}
 use Rattle.pmb_bus.specs.Event.{canonical_text}
 use Rattle.pmb_bus.specs.declared.event.Event.{Event}
 use Rattle.pmb_devices.specs.Runs.{all_after, first_members}
 use Rattle.pmb_devices.specs.declared.bus.Bus.{Bus}
 use Rattle.pmb_exchange.specs.Steps.{ExchangeStandsAt}
-use Rattle.pmb_io.proofs.Writing.{writes_as, writes_nothing}
+use Rattle.pmb_io.specs.Outgoing.{PutsText}
 use Rattle.pmb_run.proofs.Hearing.{heard_as, heard_beside}
 use Rattle.pmb_run.proofs.bench.Bench.next.Goals as goal
 
@@ -18,7 +18,8 @@ returns-in_ok-put_events-in-Recorded-clause-runs g c = λ ts standing runs.
     record {
       few = stepped.0;
       events = events;
-      writes = writes_as _ _ _ _ _ _ _ refl (ap canonical_text c.events.ensures) c.in_ok-put_events-in-Recorded.ensures.writes;
+      writes = subst (λ (es : List Event). PutsText (g.W.Sink.told c.args.writer.now).held c.args.waiting.now.items (g.W.Sink.told c.put_events.new.writer).held c.put_events.new.waiting.items (canonical_text es))
+          c.events.ensures c.in_ok-put_events-in-Recorded.ensures.writes;
       runs = record {
         stands = subst (λ (bus : Bus). ExchangeStandsAt c.next.new.self bus (record standing { events = standing.events ++ events; sent = standing.sent + 1 })) (sym c.hear.ensures.bus) stepped.1;
         profile_is = runs.profile_is ∙ same_profile;
@@ -34,7 +35,7 @@ pub returns-in-End-clause-runs : goal.returns-in-End-clause-runs
 returns-in-End-clause-runs g c = λ ts standing runs.
     let stepped = c.in-End.ensures standing runs.stands in record {
       over = stepped.0;
-      writes = writes_nothing _ _;
+      writes = c.texts_add_up.ensures.nothing _ _;
       runs = record {
         stands = stepped.1;
         profile_is = runs.profile_is;

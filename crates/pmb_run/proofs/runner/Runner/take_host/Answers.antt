@@ -1,6 +1,5 @@
 use Rattle.std.proofs.Common.{◌∙◌, ℕ, List, [], Option, refl, ap, subst, arith}
 use Rattle.std.proofs.lemmas.Result.{on_ok_weaker}
-use Rattle.pmb_io.proofs.Writing.{writes_nothing}
 use Rattle.pmb_io.specs.Outgoing.{PutsText}
 use Rattle.pmb_host.specs.declared.step.HostStep.{HostStep}
 use Rattle.pmb_run.specs.machine.Bench.{RunsOn, bench_profile}
@@ -20,7 +19,7 @@ loop-init g c = record {
       let bench = c.args.self.now.bench in record {
         few = omega arith;
         events = [];
-        writes = writes_nothing (g.W.Sink.told c.args.writer.now).held c.args.waiting.now.items;
+        writes = c.texts_add_up.ensures.nothing (g.W.Sink.told c.args.writer.now).held c.args.waiting.now.items;
         runs = runs_first ts bench request c.args.host c.new-exchange.result stands new c.packet_is_not_empty.ensures
             (c.new-exchange.ensures (bench_profile bench) request bench.bus (begins_on ts bench request c.args.host stands new));
       };
@@ -37,7 +36,7 @@ loop-preserved g c = record {
       let first = beginning_on ts c.args.self.now.bench request c.args.host stands new in
       let was = c.loop.invariant.runs ts request stands new in
       let standing = record first { events = was.events; sent = c.loop.counter } in
-      sent_more ts first c.loop.counter c.loop.self.bench c.next.new.self c.loop.exchange c.next.new.exchange
+      sent_more c.texts_add_up.ensures.both ts first c.loop.counter c.loop.self.bench c.next.new.self c.loop.exchange c.next.new.exchange
       (g.W.Sink.told c.args.writer.now).held (g.W.Sink.told c.loop.writer).held (g.W.Sink.told c.next.new.writer).held
       c.args.waiting.now.items c.loop.waiting.items c.next.new.waiting.items was
       (subst
@@ -63,7 +62,7 @@ returns-in-Some-clause-takes g c ts request line stands spells new =
     on_ok_weaker c.put.result
     (
     λ puts.
-    host_taken ts before c.count.new.self c.next.new.self c.loop.self.bench request c.args.host line c.loop.counter c.in-Some.end c.loop.exchange c.next.new.exchange
+    host_taken c.texts_add_up.ensures.both ts before c.count.new.self c.next.new.self c.loop.self.bench request c.args.host line c.loop.counter c.in-Some.end c.loop.exchange c.next.new.exchange
     (g.W.Sink.told c.args.writer.now).held (g.W.Sink.told c.loop.writer).held (g.W.Sink.told c.next.new.writer).held (g.W.Sink.told c.put.new.writer).held
     c.args.waiting.now.items c.loop.waiting.items c.next.new.waiting.items c.put.new.waiting.items stands new spells was ended
     (subst (λ (text : List ℕ). PutsText (g.W.Sink.told c.next.new.writer).held c.next.new.waiting.items (g.W.Sink.told c.put.new.writer).held c.put.new.waiting.items text)

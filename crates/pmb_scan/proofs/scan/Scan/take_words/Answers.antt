@@ -25,14 +25,14 @@ packets-preserved-in-Some g c = record {
       c.in_ok-visit_whole.ensures.visits refl (take_all _ _ (omega (arith, length-drop c.in-Some.whole.used c.packets.rest.now)));
 }
 
--- no packet was taken, and nothing has changed
+-- no packet was taken, and the scan stands where it stood
 pub words-init : goal.words-init
 words-init g c = record {
   failures = c.packets.invariant.failures;
   within = c.packets.invariant.within;
   shorter = omega arith;
   took = λ start reached text stands visited.
-      up_to_same g.V.Visitor.Stands start c.packets.visitor reached c.args.piece.now c.packets.rest.now _ _ _ _ text c.packets.self c.take_whole.new.self (c.take_whole.ensures.same (none_of c.take_whole.result c.in_default.not-Some))
+      up_to_same g.V.Visitor.Stands start c.packets.visitor reached c.args.piece.now c.packets.rest.now _ _ _ _ text c.packets.self c.take_whole.new.self (λ there stands. c.take_whole.ensures.same there stands (none_of c.take_whole.result c.in_default.not-Some))
       (c.packets.invariant.took start reached text stands visited);
 }
 

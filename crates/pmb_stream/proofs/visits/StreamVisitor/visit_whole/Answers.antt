@@ -36,7 +36,7 @@ returns-clause-visits g c start reached text n events stands between spells stan
             let ends = both b.read (reached.text ++ codes "S ") told.at.between (both reached.text (codes "S ") between (refl, refl)) in
             subst (λ (l : List ℕ). HasToldOf b start new (behind_whole reached n l events t) (text ++ puts.text)) (sym whole.text)
             (subst (λ (es : List Event). HasToldOf b start new (behind_whole reached n (canonical_text es) es t) (text ++ puts.text)) (sym is.split)
-            (told_whole b start mid new reached text n is.rest t told standing whole.common (same_then _ _ _ line.same packet.same) (packet.passing ∙ line.passing) packet.cleared
+            (told_whole b start mid new reached text n is.rest t told standing whole.common (c.is_group.ensures c.if-is_group.false) (same_then _ _ _ line.same packet.same) (packet.passing ∙ line.passing) packet.cleared
             (packet.knows _
             (line.knows (with_reached b there) is.rest told.at.knows ends is.small is.no_stop
             (omega (arith, c.saturating_sub.ensures, bytes_of))
@@ -44,3 +44,7 @@ returns-clause-visits g c start reached text n events stands between spells stan
             puts.text (puts.holds (with_reached b there) told.at.knows)));
       };
     }
+
+pub returns-then-is_group-clause-visits : goal.returns-then-is_group-clause-visits
+returns-then-is_group-clause-visits g c start reached text n events stands between spells standing whole count =
+    c.take_group.ensures.visits start reached text n events stands between spells standing whole

@@ -1,0 +1,65 @@
+//! The task that the words ask for.
+
+ghost use Rattle.std.specs.Prelude.{◌≡◌};
+ghost use Rattle.pmb_cli.specs.Tasks.{DidTask, conversion_of};
+ghost use Rattle.pmb_words.specs.Asked.{Convert, asking_of};
+
+use crate::works::{run_under_front, run_under_sample};
+use pmb_convert::laws::one_format;
+use pmb_convert::{Conversion, NumberFormat, convert_lines, parse_format};
+use pmb_io::{Sink, Source};
+use pmb_status::{Status, ended, tell_format};
+use pmb_table::SAMPLE;
+use pmb_words::{Direction, ProfilePlace, Task};
+use std::alloc::Global;
+
+/// Runs a task, and returns the exit status.
+pub(crate) fn run_task<R: Source, W: Sink, E: Sink>(
+    task: Task<'_>,
+    alloc: Global,
+    reader: &mut R,
+    out: &mut W,
+    err: &mut E,
+) -> Status
+    ensures { DidTask R.told W.told E.told SAMPLE.now (asking_of task.entry) (reader.old, out.old, err.old) (reader.new, out.new, err.new) result }
+{
+    match task {
+        Task::UnderProfile(place, work) => match place {
+            ProfilePlace::Sample => run_under_sample(&work, alloc, reader, out, err),
+            ProfilePlace::Front => run_under_front(&work, alloc, reader, out, err),
+        },
+        Task::Convert(direction, format) => run_lines(direction, format, reader, out, err),
+    }
+}
+
+/// Converts the lines that the reader gives in the format that a text names, and returns the exit
+/// status.
+fn run_lines<R: Source, W: Sink, E: Sink>(
+    direction: Direction,
+    format: &str,
+    reader: &mut R,
+    out: &mut W,
+    err: &mut E,
+) -> Status
+    ensures { DidTask R.told W.told E.told SAMPLE.now (Convert direction format.now) (reader.old, out.old, err.old) (reader.new, out.new, err.new) result }
+{
+    // A text names one format at most.
+    one_format();
+    match parse_format(format) {
+        Ok(format) => ended(
+            convert_lines(conversion(direction, format), &[], reader, out),
+            err,
+        ),
+        Err(fault) => tell_format(fault, err),
+    }
+}
+
+// The conversion in a format.
+fn conversion(direction: Direction, format: NumberFormat) -> Conversion
+    ensures { result ≡ conversion_of direction format }
+{
+    match direction {
+        Direction::Encode => Conversion::Encode(format),
+        Direction::Decode => Conversion::Decode(format),
+    }
+}

@@ -1,0 +1,50 @@
+-- The parts of a write, one by one.
+use Rattle.std.specs.Prelude.{◌≡◌, ◌≤◌, ◌<◌, ℕ, ◌+◌, Bool, List, [], ◌∷◌, ◌++◌, length, nat_eq}
+use Rattle.std.specs.List.{IsDistinct}
+use Rattle.pmb_bus.specs.declared.event.Event.{Event}
+use Rattle.pmb_bus.specs.declared.event.Event.TheVariants.{Stop}
+use Rattle.pmb_bus.specs.Event.{AreBytes, canonical_text}
+use Rattle.pmb_command.specs.Parts.{DeviceParts, IsNew}
+use Rattle.pmb_transaction.specs.Transaction.{PartData}
+use Rattle.pmb_transaction.specs.Packet.{PartsEvents, addresses, leg}
+use Rattle.pmb_common.specs.Common.{OneWritten}
+
+-- what a written leg with these bytes says
+abbrev pub SaysPart : List DeviceParts → List ℕ → Type 0
+SaysPart profile bytes = (address : ℕ) × (code : ℕ) × (data_bytes : List ℕ) × (with_pec : Bool) × OneWritten profile address code data_bytes with_pec bytes
+
+-- The part of a written leg with these bytes was put behind others, to other devices.
+pub record AddsPart (profile : List DeviceParts) (old : List PartData) (new : List PartData) (bytes : List ℕ) : Type 0 where
+  pub part : PartData
+  pub added : new ≡ old ++ part ∷ []
+  pub says : OneWritten profile part.addr part.code part.bytes part.pec bytes
+  pub other : IsNew part.addr (addresses old)
+  pub room : length old < 16
+
+-- Parts were taken from the front of a text: so many events, with STOP.
+pub record TakenParts (profile : List DeviceParts) (text : List ℕ) (parts : List PartData) (count : ℕ) (behind : List ℕ) : Type 0 where
+  pub legs : List Event
+  pub each : PartsEvents profile parts legs
+  pub distinct : IsDistinct nat_eq (addresses parts)
+  pub few : length parts ≤ 16
+  pub split : text ≡ canonical_text legs ++ behind
+  pub counted : count ≡ length legs + 1
+
+-- The other parts of a write stand in front of a text, up to STOP; those before them had these addresses.
+pub record MoreParts (profile : List DeviceParts) (taken : List ℕ) (text : List ℕ) : Type 0 where
+  pub parts : List PartData
+  pub legs : List Event
+  pub each : PartsEvents profile parts legs
+  pub distinct : IsDistinct nat_eq (taken ++ addresses parts)
+  pub few : length taken + length parts ≤ 16
+  pub small : AreBytes legs
+  pub rest : List ℕ
+  pub split : text ≡ canonical_text (legs ++ Stop ∷ []) ++ rest
+
+-- A group stands in front of a text: these are the bytes of its first leg.
+pub record SayGroup (profile : List DeviceParts) (text : List ℕ) (bytes : List ℕ) : Type 0 where
+  pub first : PartData
+  pub says : OneWritten profile first.addr first.code first.bytes first.pec bytes
+  pub behind : List ℕ
+  pub split : text ≡ canonical_text (leg bytes) ++ behind
+  pub more : MoreParts profile (first.addr ∷ []) behind
