@@ -1,7 +1,9 @@
-//! Gives a bus of simulated devices signals from a fixed seed, for `bench/run` to count what one costs.
+//! Gives a bus of simulated devices signals from a fixed seed, for `bench/run` to count what one
+//! costs.
 //!
-//! Standard input is a profile, and the word says how many packets there are. Writes and reads of a word go to
-//! its devices in turn of a random draw, some of them in groups of two, and each is ended by STOP.
+//! Standard input is a profile, and the word says how many packets there are. Writes and reads of a
+//! word go to its devices in turn of a random draw, some of them in groups of two, and each is
+//! ended by STOP.
 #![tactic(auto)]
 
 use plain_packets::Random;
@@ -70,7 +72,7 @@ fn run(bus: &mut Bus<'_>, profile: &Profile, packets: u32) -> u64 {
     host.signals
 }
 
-/// The number of packets that the first word behind the program's name tells.
+/// The number of packets that the first word after the program's name tells.
 fn count(rt: &HostRuntime) -> io::Result<u32> {
     let words: Vec<String> = std::env::args(rt)?.collect(rt.alloc())?;
     let count = match words.get(1) {

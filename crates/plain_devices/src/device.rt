@@ -93,7 +93,7 @@ impl<'p> PlainDevice<'p> {
         self.device.address() * 2 + 1
     }
 
-    /// The answer behind these legs, the last of which is under way.
+    /// The answer after these legs, the last of which is under way.
     fn answer(&self, legs: &[PlainLeg], signal: HostSignal) -> Result<DeviceSignal, AllocError> {
         let Some((leg, earlier)) = legs.split_last() else {
             return Ok(DeviceSignal::Silent);
@@ -281,7 +281,7 @@ impl<'p> PlainDevice<'p> {
         }
     }
 
-    /// What STOP does behind these legs.
+    /// What STOP does after these legs.
     fn effect(&self, legs: &[PlainLeg]) -> Result<Effect, AllocError> {
         let own = self.write_byte();
         let Some(at) = legs.iter().position(|leg| leg.is_taken_by(own)) else {
@@ -310,7 +310,7 @@ impl<'p> PlainDevice<'p> {
         self.written(leg.bytes.as_slice())
     }
 
-    /// What is noted of a byte that was refused behind those that were taken: something where a byte
+    /// What is noted of a byte that was refused after those that were taken: something where a byte
     /// had a place there.
     fn refused(&self, first: bool, front: &[u8]) -> Result<Effect, AllocError> {
         if front.len() == 1 {

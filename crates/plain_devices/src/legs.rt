@@ -3,12 +3,12 @@
 use pmb_device::{DeviceSignal, HostSignal};
 use std::alloc::{AllocError, Global};
 
-/// A leg: the bytes that the host sent, an address first, and all signals behind the address.
+/// A leg: the bytes that the host sent, an address first, and all signals after the address.
 #[derive(Drop)]
 pub(crate) struct PlainLeg {
     pub bytes: Vec<u8>,
     pub behind: Vec<HostSignal>,
-    /// How many of the bytes the device took: those in front of the first that it did not.
+    /// How many of the bytes the device took: those before the first that it did not.
     taken: usize,
 }
 

@@ -17,6 +17,6 @@ no_stop events none before after split =
     let stands : Contains (before ++ Stop ∷ after) Stop = Contains-append_right before (Stop ∷ after) Stop (0, omega arith, refl) in
     All-contains (λ (event : Event). event ≢ Stop) events Stop none (subst (λ (all : List Event). Contains all Stop) (sym split) stands) refl
 
--- one STOP behind such events ends them
+-- one STOP after such events ends them
 pub ends : (front : List Event) → NoneStops front → EndsAtStop (front ++ Stop ∷ [])
 ends front none = record { front = front; no_stop = no_stop front none; split = refl }

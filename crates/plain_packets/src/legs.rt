@@ -36,7 +36,7 @@ pub(crate) fn require(holds: bool) -> Result<(), NoPacket> {
     }
 }
 
-/// A sort of body: what is sent to a device behind its address.
+/// A sort of body: what is sent to a device after its address.
 #[derive(Clone, Copy)]
 pub enum Body {
     /// A command is written, with or without a packet error code.
@@ -47,7 +47,7 @@ pub enum Body {
     Call,
 }
 
-/// The sorts that a leg may have: behind other parts a command is written.
+/// The sorts that a leg may have: after other parts a command is written.
 pub fn allowed(first_leg: bool) -> &'static [Body] {
     if first_leg {
         &[
@@ -107,7 +107,7 @@ pub fn reply_form(device: &DeviceProfile, body: Body, code: u8) -> Result<Form, 
     form.ok_or(NoPacket::AgainstTheRules)
 }
 
-/// The form of the data behind the code in a body of this sort: to be read takes none.
+/// The form of the data after the code in a body of this sort: to be read takes none.
 pub fn form_of(device: &DeviceProfile, body: Body, code: u8) -> Result<Form, NoPacket> {
     let form = reply_form(device, body, code)?;
     match body {

@@ -62,8 +62,8 @@ fn end_with(mut events: Vec<Event>, bytes: &[u8]) -> Result<Vec<Event>, NoPacket
     Ok(events)
 }
 
-/// The leg that was sent, and the leg of the reply in the form; a packet error code covers the bytes
-/// of both.
+/// The leg that was sent, and the leg of the reply in the form; a packet error code covers the
+/// bytes of both.
 fn answered(
     alloc: Global,
     device: &DeviceProfile,
@@ -105,7 +105,7 @@ fn refused_byte_events(
     bytes.push(address_byte(addr, false)?)?;
     bytes.extend_from_slice(sent)?;
     if let Some((_, front)) = bytes.as_slice().split_last() {
-        // The address byte may be refused by no device; the first byte behind it may have any
+        // The address byte may be refused by no device; the first byte after it may have any
         // value.
         if !sent.is_empty() {
             let device = device(profile, addr)?;

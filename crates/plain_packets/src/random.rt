@@ -7,7 +7,7 @@ use pmb_table::Form;
 pub struct Random(u32);
 
 impl Random {
-    /// The numbers behind a seed, which is not 0.
+    /// The numbers after a seed, which is not 0.
     pub fn new(seed: u32) -> Random {
         Random(seed)
     }

@@ -141,7 +141,7 @@ fn parts_of(
     Ok(Some(parts))
 }
 
-/// A refused packet in which bytes are sent to an address behind some parts.
+/// A refused packet in which bytes are sent to an address after some parts.
 fn refused(parts: &ArrayVec<Part, 15>, addr: u8, sent: &[u8]) -> Result<Transaction, AllocError> {
     Ok(Transaction::Refused {
         parts: parts.clone()?,

@@ -17,7 +17,7 @@ record IsOne (text : List ℕ) (event : Event) : Type 0 where
   opened : open_word text ≡ []
   outside : ends_in_comment text ≡ false
 
--- a token in front of a text that spells events
+-- a token at the front of a text that spells events
 one_more : (text rest : List ℕ) (event : Event) (events : List Event) → IsOne text event → Spells rest events
     → Spells (text ++ rest) (event ∷ events)
 one_more text rest event events one spells =

@@ -1,4 +1,4 @@
--- Packet error codes as numbers and as the bits of bytes; one byte more, and more bytes behind.
+-- Packet error codes as numbers and as the bits of bytes; one byte more, and more bytes after.
 use Rattle.std.proofs.Common.{◌≡◌, ℕ, ◌+◌, ◌<◌, ◌%◌, ◌^◌, zero, suc, Bool, true, false, ◌&&◌, ◌==◌, List, [], ◌∷◌, ◌++◌, length, refl, sym, ap, subst, ◌∙◌, append_assoc, arith}
 use Rattle.std.specs.Prelude.{bit_xor}
 use Rattle.std.specs.Bool.{beq}
@@ -116,7 +116,7 @@ message-append : (a b : List ℕ) → message (a ++ b) ≡ message a ++ message 
 message-append [] b = refl
 message-append (x ∷ a) b = ap (λ m. bits_of x ++ m) (message-append a b) ∙ sym (append_assoc (bits_of x) (message a) (message b))
 
--- the code of bytes behind others, by the remainder of these
+-- the code of bytes after others, by the remainder of these
 pec-append : (a b : List ℕ) → pec (a ++ b) ≡ number (left_after (length (message b)) (plus (bits_of (pec a)) (times_x8 (message b))))
 unfolding pec
 pec-append a b =
@@ -128,7 +128,7 @@ pec-append a b =
     ∙ ap (λ r. left_after (length (message b)) (plus r (times_x8 (message b)))) (sym (bits_of_pec a))
     )
 
--- bytes of one code stay so with the same bytes behind them
+-- bytes of one code stay so with the same bytes after them
 pub pec_alike : (a b more : List ℕ) → pec a ≡ pec b → pec (a ++ more) ≡ pec (b ++ more)
 pec_alike a b more same =
     pec-append a more
@@ -152,7 +152,7 @@ pec_of_zero : pec (0 ∷ []) ≡ 0
 unfolding plus divide_step left_after number pec
 pec_of_zero = refl
 
--- bytes with their code behind them have the code 0
+-- bytes with their code after them have the code 0
 pub pec_of_whole : (bytes : List ℕ) → pec (bytes ++ pec bytes ∷ []) ≡ 0
 pec_of_whole bytes =
     pec_step bytes (pec bytes) ∙ ap (λ n. pec (n ∷ [])) (xor_self (pec bytes)) ∙ pec_of_zero

@@ -69,7 +69,7 @@ length-plus p [] short = refl
 length-plus [] (d ∷ q) short = absurd (omega arith)
 length-plus (c ∷ p) (d ∷ q) short = ap suc (length-plus p q (omega arith))
 
--- a sum behind zeros, and behind the same coefficients
+-- a sum after zeros, and after the same coefficients
 plus_behind_zeros : (n : ℕ) (p q : List Bool) → plus (replicate n false ++ p) (replicate n false ++ q) ≡ replicate n false ++ plus p q
 unfolding plus
 plus_behind_zeros zero p q = refl
@@ -86,7 +86,7 @@ plus_behind (c ∷ m) p q = cc (differ_zero c, plus_behind m p q)
 
 -- ---- division
 
--- the coefficients of the generator behind its highest one
+-- the coefficients of the generator after its highest one
 abbrev low : List Bool
 low = behind_highest generator
 
@@ -99,7 +99,7 @@ times_true : (p : List Bool) → times (true ∷ p) generator ≡ true ∷ plus 
 unfolding plus times
 times_true p = refl
 
--- Dividing undoes multiplying: what stands behind the product is left.
+-- Dividing undoes multiplying: what stands after the product is left.
 pub left_behind_product : (n : ℕ) (q t : List Bool) → length q ≡ n → 8 ≤ length t
     → left_after n (plus (times q generator) (replicate n false ++ t)) ≡ t
 unfolding plus divide_step left_after times
@@ -153,7 +153,7 @@ length-quotient : (n : ℕ) (p : List Bool) → length (quotient n p) ≡ n
 length-quotient zero p = refl
 length-quotient (suc n) p = ap suc (length-quotient n (divide_step p))
 
--- what is divided is the product and what is left behind it
+-- what is divided is the product and what is left after it
 product_and_left : (n : ℕ) (p : List Bool) → length p ≡ n + 8
     → p ≡ plus (times (quotient n p) generator) (replicate n false ++ left_after n p)
 unfolding plus divide_step left_after times
@@ -200,7 +200,7 @@ unfolding left_after
 left_after-append [] k p = refl
 left_after-append (c ∷ m) k p = left_after-append m k (divide_step p)
 
--- The remainder of one polynomial behind another depends on the first one's remainder alone.
+-- The remainder of one polynomial after another depends on the first one's remainder alone.
 pub remainder-append : (m k : List Bool) → remainder (m ++ k) ≡ left_after (length k) (plus (remainder m) (times_x8 k))
 remainder-append m k =
     let enough : 8 ≤ length (times_x8 k) = omega (arith, length-times_x8 k) in

@@ -18,12 +18,12 @@ pub record FedTo (before : Lexer) (piece : List ℕ) (i : ℕ) (now : Lexer) : T
   pub sound : (fault : LexFault) → IsFaulted before fault → ⊥
 
 module _ (before now : Lexer) (piece : List ℕ) (i d : ℕ) (fed : FedTo before piece i now) (within : i < length piece) where
-  -- the text behind one byte more
+  -- the text after one byte more
   one_more : (text : List ℕ) → (text ++ take i piece) ++ get_or piece i d ∷ [] ≡ text ++ take (i + 1) piece
   one_more text =
       append_assoc text (take i piece) (get_or piece i d ∷ []) ∙ ap (λ (part : List ℕ). text ++ part) (sym (take_more piece i d within))
 
-  -- where a lexer stands behind one byte more
+  -- where a lexer stands after one byte more
   behind : (n : ℕ) (text : List ℕ) (events : List Event) (after : Lexer)
       → LexerStandsAt after ((n + i) + 1) ((text ++ take i piece) ++ get_or piece i d ∷ []) events
       → LexerStandsAt after (n + (i + 1)) (text ++ take (i + 1) piece) events
@@ -54,7 +54,7 @@ module _ (before now : Lexer) (piece : List ℕ) (i d : ℕ) (fed : FedTo before
         stands = behind n text (events ++ event ∷ []) after (steps (n + i) (text ++ take i piece) events here);
       }
 
-  -- what goes on behind a byte that is refused
+  -- what goes on after a byte that is refused
   onwards : (text more : List ℕ)
       → (text ++ take i piece) ++ get_or piece i d ∷ (drop (i + 1) piece ++ more) ≡ (text ++ piece) ++ more
   onwards text more =

@@ -28,7 +28,7 @@ space_stays : (before : Bool) → in_comment before 32 ≡ before
 space_stays true = refl
 space_stays false = refl
 
--- a lexer behind the end of a text, as if a space of no bytes stood there
+-- a lexer after the end of a text, as if a space of no bytes stood there
 stands_at_end : (before : Lexer) (n : ℕ) (text : List ℕ) (events found : List Event) (place : Place)
     → LexerStandsAt before n text events → AreTokens (filter is_word (open_word text ∷ [])) found → IsPlace place n (text ++ 32 ∷ [])
     → LexerStandsAt (record before { place = place }) n (text ++ 32 ∷ []) (events ++ found)
@@ -41,7 +41,7 @@ stands_at_end before n text events found place stands word here =
       place = here;
     }
 
--- behind the end no word is under way
+-- after the end no word is under way
 opened_at_end : (text : List ℕ) → open_word (text ++ 32 ∷ []) ≡ []
 opened_at_end text = (cut_by text 32 (space_cuts (ends_in_comment text))).opened
 

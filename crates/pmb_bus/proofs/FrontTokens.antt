@@ -1,4 +1,4 @@
--- A token in front of a piece of text, and its separator, taken at once.
+-- A token at the front of a piece of text, and its separator, taken at once.
 use Rattle.std.proofs.Common.{◌≡◌, ◌↔◌, ℕ, ◌+◌, ◌-◌, ◌*◌, ◌≤◌, inl, inr, true, false, Option, Some, None, is_some, IsSome, IfSome, List, [], ◌∷◌, ◌++◌, length, take, drop, get_or, refl, sym, ap, subst, ◌∙◌, arith}
 use Rattle.std.proofs.lemmas.List.{append_assoc, take_at, length-append}
 use Rattle.std.proofs.lemmas.Bool.{cases_eq, ne_eqb}
@@ -37,7 +37,7 @@ front_digits (a ∷ b ∷ c ∷ rest) byte long token separates = record {
   counted = refl;
 }
 
--- the same, and ACK and a separator behind it
+-- the same, and ACK and a separator after it
 pub front_digits_acked : (text : List ℕ) (byte : ℕ) → 5 ≤ length text
     → byte_event (hex_digit_value (get_or text 0 0)) (hex_digit_value (get_or text 1 0)) ≡ Some (Byte byte)
     → is_separator (get_or text 2 0) ≡ true → get_or text 3 0 ≡ 65 → is_separator (get_or text 4 0) ≡ true
@@ -105,7 +105,7 @@ front_acked_exactly (a ∷ b ∷ c ∷ d ∷ e ∷ rest) None long token space l
       ),
 )
 
--- behind a separator is between words
+-- after a separator is between words
 separator_behind : (b : ℕ) → is_separator b ≡ true → place_behind_word b ≡ places.Between
 separator_behind b separates =
     elim (cases_eq b 35) [
@@ -117,7 +117,7 @@ separator_behind b separates =
 separator_ends : (b : ℕ) → is_separator b ≡ true → ends_word b ≡ true
 separator_ends b separates = rw separates refl
 
--- a lexer stands behind a word that is a token, and that no byte has ended
+-- a lexer stands after a word that is a token, and that no byte has ended
 record BehindWord (now : Lexer) (n : ℕ) (text : List ℕ) (events : List Event) (word : List ℕ) (event : Event) (used : ℕ) : Type 0 where
   stands : LexerStandsAt now (n + length word) (text ++ word) events
   outside : ends_in_comment (text ++ word) ≡ false
@@ -129,14 +129,14 @@ module _ (before : Lexer) (n : ℕ) (text : List ℕ) (events : List Event) (sta
   here : IsPlace places.Between n text
   here = subst (λ (place : Place). IsPlace place n text) between stands.place
 
-  -- behind the first byte of a token
+  -- after the first byte of a token
   behind_first : (b : ℕ) → ends_word b ≡ false → starts_token b ≡ true
       → LexerStandsAt (advanced before (places.One before.used b)) (n + 1) (text ++ b ∷ []) events
   behind_first b goes_on starts =
       stands_longer before (advanced before (places.One before.used b)) n text b events (places.One before.used b) stands refl here.1 goes_on
       (lengthens_first n text b before.used stands.counted here.0 here.1 goes_on starts)
 
-  -- behind a letter that is a token
+  -- after a letter that is a token
   behind_letter : (b : ℕ) (event : Event) → letter_event b ≡ Some event
       → BehindWord (advanced before (places.One before.used b)) n text events (b ∷ []) event before.used
   behind_letter b event letter =
@@ -147,7 +147,7 @@ module _ (before : Lexer) (n : ℕ) (text : List ℕ) (events : List Event) (sta
         counted = refl;
       }
 
-  -- behind the second digit of a token
+  -- after the second digit of a token
   behind_second : (a b high low : ℕ) → hex_digit_value a ≡ Some high → hex_digit_value b ≡ Some low
       → LexerStandsAt (advanced (advanced before (places.One before.used a)) (places.Two before.used (high * 16 + low))) (n + 2) (text ++ a ∷ b ∷ []) events
   behind_second a b high low is_high is_low =
@@ -164,7 +164,7 @@ module _ (before : Lexer) (n : ℕ) (text : List ℕ) (events : List Event) (sta
       subst (λ (m : ℕ). LexerStandsAt two m (text ++ a ∷ b ∷ []) events) count
       (subst (λ (all : List ℕ). LexerStandsAt two ((n + 1) + 1) all events) whole second)
 
-  -- behind two digits
+  -- after two digits
   behind_digits : (a b high low : ℕ) → hex_digit_value a ≡ Some high → hex_digit_value b ≡ Some low
       → BehindWord (advanced (advanced before (places.One before.used a)) (places.Two before.used (high * 16 + low))) n text events (a ∷ b ∷ []) (Byte (high * 16 + low)) before.used
   behind_digits a b high low is_high is_low =
@@ -176,7 +176,7 @@ module _ (before : Lexer) (n : ℕ) (text : List ℕ) (events : List Event) (sta
         counted = omega arith;
       }
 
--- ---- a separator behind it
+-- ---- a separator after it
 
 -- the token and the separator are what was used
 record TookToken (piece word : List ℕ) (separator used : ℕ) : Type 0 where
@@ -196,7 +196,7 @@ took_token piece word rest separator used split counted =
       within = omega (arith, fits, counted);
     }
 
--- behind the separator
+-- after the separator
 ends_behind : (now after : Lexer) (n : ℕ) (text : List ℕ) (events : List Event) (word : List ℕ) (event : Event) (start : ℕ) (piece rest : List ℕ) (separator used : ℕ)
     → BehindWord now n text events word event start → is_separator separator ≡ true → piece ≡ word ++ separator ∷ rest → used ≡ length word + 1
     → after ≡ record { place = places.Between; used = capped (start + used) } → EndsWord n text events piece used after event
@@ -217,7 +217,7 @@ ends_behind now after n text events word event start piece rest separator used b
           (subst (λ (t : List ℕ). LexerStandsAt after ((n + length word) + 1) t (events ++ event ∷ [])) all stands);
     }
 
--- A token and a separator in front of a piece: two or three steps are this one.
+-- A token and a separator at the front of a piece: two or three steps are this one.
 pub front_token_ends : (before after : Lexer) (n : ℕ) (text : List ℕ) (events : List Event) (piece : List ℕ) (used : ℕ) (event : Event)
     → LexerStandsAt before n text events → before.place ≡ places.Between → BeginsWithToken piece event used
     → after ≡ record { place = places.Between; used = capped (before.used + used) } → EndsWord n text events piece used after event
@@ -258,7 +258,7 @@ pub ends_between : (lexer : Lexer) (n : ℕ) (text : List ℕ) (events : List Ev
     → lexer.place ≡ places.Between → EndsBetween text
 ends_between lexer n text events stands between = subst (λ (place : Place). IsPlace place n text) between stands.place
 
--- A byte, ACK and a separator behind each in front of a piece: five steps are these two.
+-- A byte, ACK and a separator after each at the front of a piece: five steps are these two.
 pub front_acked_feeds : (before after : Lexer) (n : ℕ) (text : List ℕ) (events : List Event) (piece : List ℕ) (byte : ℕ)
     → LexerStandsAt before n text events → before.place ≡ places.Between → BeginsWithToken piece (Byte byte) 3 × BeginsWithToken (drop 3 piece) Ack 2
     → after ≡ record { place = places.Between; used = capped (before.used + 5) } → FeedsAcked n text events piece byte after

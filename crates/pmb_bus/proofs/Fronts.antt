@@ -1,4 +1,4 @@
--- What stands in front of the word under way, and the first word of a text that is no token.
+-- What stands before the word under way, and the first word of a text that is no token.
 use Rattle.std.proofs.Common.{◌≡◌, ℕ, Bool, true, false, inl, inr, None, List, [], ◌∷◌, ◌++◌, length, refl, sym, ap, subst, ◌∙◌}
 use Rattle.std.specs.List.{filter}
 use Rattle.std.proofs.lemmas.List.{append-nil, append_assoc, length-append}
@@ -31,7 +31,7 @@ open_word_in_comment =
 
 -- ---- the front of a text
 
--- what stands in front of the word under way at the end of a text
+-- what stands before the word under way at the end of a text
 pub record InFront (text : List ℕ) : Type 0 where
   pub front : List ℕ
   pub split : text ≡ front ++ open_word text

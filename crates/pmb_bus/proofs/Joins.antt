@@ -45,7 +45,7 @@ between_stays (places.Faulted fault) n m text longer between is here = absurd is
 counts_on : (used n more : ℕ) → used ≡ capped n → min (used + more) (2 ^ 64 - 1) ≡ capped (n + more)
 counts_on used n more same = omega arith
 
--- a lexer behind bytes that were read elsewhere
+-- a lexer after bytes that were read elsewhere
 pub stands_behind_skipped : (before after : Lexer) (n : ℕ) (text bytes : List ℕ) (events more : List Event) → LexerStandsAt before n text events
     → after ≡ record { place = before.place; used = min (before.used + length bytes) (2 ^ 64 - 1) } → EndsBetween text → EndsBetween bytes → Spells bytes more
     → LexerStandsAt after (n + length bytes) (text ++ bytes) (events ++ more)

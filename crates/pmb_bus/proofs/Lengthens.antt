@@ -23,7 +23,7 @@ opens_none (places.One at first) n text one is = elim one [ inl between ↦ cc b
 opens_none (places.Two at byte) n text one is = elim one [ inl between ↦ cc between | inr comment ↦ cc comment ]
 opens_none (places.Faulted fault) n text one is = absurd is
 
--- what is behind a byte of a word
+-- what is after a byte of a word
 record Behind (n : ℕ) (text : List ℕ) (b : ℕ) : Type 0 where
   opened : open_word (text ++ b ∷ []) ≡ open_word text ++ b ∷ []
   outside : ends_in_comment (text ++ b ∷ []) ≡ false

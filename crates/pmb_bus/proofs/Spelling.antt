@@ -115,7 +115,7 @@ first_stays : (run : List ℕ) (all more : List (List ℕ)) → last_run (run �
 first_stays run [] more none some = absurd (some (ap (λ (word : List ℕ). word ∷ []) none))
 first_stays run (next ∷ all) more none some = refl
 
--- what goes on behind the end of a word leaves the first word
+-- what goes on after the end of a word leaves the first word
 front_word_stays : (front back : List ℕ) → 0 < length front → open_word front ≡ [] → front_word (front ++ back) ≡ front_word front
 front_word_stays front back some none =
     let has = slice_split-HasRuns is_separator (blanked_from false front) in
@@ -137,7 +137,7 @@ between_opens_none front more none outside opened =
     ∙ ap last_run (glue-nil (runs more))
     ) ∙ opened
 
--- no bad word stands in front of another
+-- no bad word stands before another
 no_bad_word_before : (text : List ℕ) (a b : List Event) (i j : ℕ) (first : FirstBadWord text a i) (second : FirstBadWord text b j)
     → length first.front < length second.front → ⊥
 no_bad_word_before text a b i j first second shorter =

@@ -3,7 +3,7 @@ use Rattle.std.proofs.Common.{◌≡◌, ℕ, Bool, true, false, cond, List, [],
 use Rattle.std.specs.List.{slice_split, onto_first}
 use Rattle.pmb_bus.specs.Text.{all_but_last, last_run}
 
--- a list in front of the first run
+-- a list before the first run
 abbrev pub glue : List ℕ → List (List ℕ) → List (List ℕ)
 glue word [] = []
 glue word (run ∷ runs) = (word ++ run) ∷ runs
@@ -35,14 +35,14 @@ slice_split-HasRuns p (x ∷ xs) =
       | false ↦ onto_first-HasRuns x (slice_split p xs)
     ]
 
--- an element in front of runs that are joined
+-- an element before runs that are joined
 onto_first-joined : (x : ℕ) (runs : List (List ℕ)) (first : List ℕ) (more : List (List ℕ))
     → onto_first x (joined runs (first ∷ more)) ≡ joined (onto_first x runs) (first ∷ more)
 onto_first-joined x [] first more = refl
 onto_first-joined x (run ∷ []) first more = refl
 onto_first-joined x (run ∷ next ∷ runs) first more = refl
 
--- one more element in front of a list whose runs are `joined`
+-- one more element before a list whose runs are `joined`
 joined-cons : (cut : Bool) (x : ℕ) (run : List ℕ) (runs : List (List ℕ)) (first : List ℕ) (more all : List (List ℕ))
     → all ≡ joined (run ∷ runs) (first ∷ more)
     → cond cut ([] ∷ all) (onto_first x all) ≡ joined (cond cut ([] ∷ run ∷ runs) (onto_first x (run ∷ runs))) (first ∷ more)

@@ -37,7 +37,7 @@ ended_by text b events found cuts ended word =
 
 -- ---- one byte more
 
--- a lexer behind one byte more
+-- a lexer after one byte more
 abbrev pub advanced : Lexer → Place → Lexer
 advanced lexer place = record { place = place; used = min (lexer.used + 1) (2 ^ 64 - 1) }
 
@@ -45,7 +45,7 @@ advanced lexer place = record { place = place; used = min (lexer.used + 1) (2 ^ 
 counts : (used n : ℕ) → used ≡ capped n → min (used + 1) (2 ^ 64 - 1) ≡ capped (n + 1)
 counts used n same = omega arith
 
--- behind a byte that ends the word under way
+-- after a byte that ends the word under way
 pub stands_behind : (before after : Lexer) (n : ℕ) (text : List ℕ) (b : ℕ) (events found : List Event) (place : Place)
     → LexerStandsAt before n text events → after ≡ advanced before place → is_separator (blank (ends_in_comment text) b) ≡ true
     → AreTokens (filter is_word (open_word text ∷ [])) found → IsPlace place (n + 1) (text ++ b ∷ [])
@@ -63,7 +63,7 @@ stands_behind before after n text b events found place stands is cuts word here 
     }
     )
 
--- the place behind a byte that ends a word
+-- the place after a byte that ends a word
 pub place_behind_is : (n : ℕ) (text : List ℕ) (b : ℕ) → ends_in_comment text ≡ false → ends_word b ≡ true
     → IsPlace (place_behind_word b) n (text ++ b ∷ [])
 place_behind_is n text b outside ends =
@@ -81,7 +81,7 @@ place_behind_is n text b outside ends =
           (opened, inside ∙ (in_comment_from_out b).1 other)
     ]
 
--- behind a byte that ends the word under way, if there is one
+-- after a byte that ends the word under way, if there is one
 pub stands_end : (before after : Lexer) (n : ℕ) (text : List ℕ) (b : ℕ) (events found : List Event) → LexerStandsAt before n text events
     → after ≡ advanced before (place_behind_word b) → ends_in_comment text ≡ false → ends_word b ≡ true
     → AreTokens (filter is_word (open_word text ∷ [])) found → LexerStandsAt after (n + 1) (text ++ b ∷ []) (events ++ found)
@@ -90,7 +90,7 @@ stands_end before after n text b events found stands is outside ends word =
     subst (λ (v : Bool). is_separator (blank v b) ≡ true) (sym outside) (ends_word_cuts b ends) in
     stands_behind before after n text b events found (place_behind_word b) stands is cuts word (place_behind_is (n + 1) text b outside ends)
 
--- behind a byte of a comment
+-- after a byte of a comment
 pub stands_in_comment : (before after : Lexer) (n : ℕ) (text : List ℕ) (b : ℕ) (events : List Event) (place : Place)
     → LexerStandsAt before n text events → before.place ≡ places.Comment → after ≡ advanced before place
     → (open_word (text ++ b ∷ []) ≡ [] → ends_in_comment (text ++ b ∷ []) ≡ in_comment true b → IsPlace place (n + 1) (text ++ b ∷ []))
@@ -105,7 +105,7 @@ stands_in_comment before after n text b events place stands comment is here =
     (here (cut_by text b cuts).opened (ends_in_comment_by text b ∙ ap (λ (v : Bool). in_comment v b) was.1))
     )
 
--- behind a word with which some token begins
+-- after a word with which some token begins
 begins_word : (text : List ℕ) (events : List Event) → EndedWordsSpell text events → ends_in_comment text ≡ false
     → BeginsToken (open_word text) → BeginsText text
 begins_word text events ended outside begins =
@@ -120,7 +120,7 @@ begins_word text events ended outside begins =
           )
     ]
 
--- behind one more byte of a word
+-- after one more byte of a word
 pub stands_longer : (before after : Lexer) (n : ℕ) (text : List ℕ) (b : ℕ) (events : List Event) (place : Place)
     → LexerStandsAt before n text events → after ≡ advanced before place → ends_in_comment text ≡ false → ends_word b ≡ false
     → Lengthens n text b (Ok place) → LexerStandsAt after (n + 1) (text ++ b ∷ []) events

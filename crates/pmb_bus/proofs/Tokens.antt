@@ -52,7 +52,7 @@ pub cases_word : (word : List ℕ) → (word ≡ []) ⊎ (is_word word ≡ true)
 cases_word [] = inl refl
 cases_word (b ∷ rest) = inr refl
 
--- with a byte behind it a word is one
+-- with a byte after it a word is one
 pub is_word-append : (word : List ℕ) (b : ℕ) (rest : List ℕ) → is_word (word ++ b ∷ rest) ≡ true
 is_word-append [] b rest = refl
 is_word-append (a ∷ word) b rest = refl

@@ -31,7 +31,7 @@ ends_in_comment_from-append before [] back = refl
 ends_in_comment_from-append before (b ∷ front) back = ends_in_comment_from-append (in_comment before b) front back
 
 module _ (front back : List ℕ) where
-  -- what goes on behind a text, with the word under way in front
+  -- what goes on after a text, with the word under way in front
   abbrev pub going_on : List (List ℕ)
   going_on = glue (open_word front) (runs_from (ends_in_comment front) back)
 
@@ -166,7 +166,7 @@ word_byte b goes_on =
     let parts = or_parts (is_separator b) (b == 35) goes_on in
     ((in_comment_from_out b).1 (λ hash. cc (parts.1, ap (λ (v : ℕ). v == 35) hash)), parts.0)
 
--- behind a `#` each byte cuts
+-- after a `#` each byte cuts
 pub comment_cuts : (before : Bool) (b : ℕ) → in_comment before b ≡ true → is_separator (blank before b) ≡ true
 comment_cuts before b inside = ap is_separator (blank_in before b inside)
 

@@ -45,7 +45,7 @@ Feeds n text events piece used answers.Need after = NeedsMore n text events piec
 Feeds n text events piece used (answers.Event event) after = EndsWord n text events piece used after event
 Feeds n text events piece used (answers.Fault fault) after = Refuses n text events piece used after fault
 
--- A piece begins with a byte and its ACK and a space behind each: two hexadecimal digits, a space,
+-- A piece begins with a byte and its ACK and a space after each: two hexadecimal digits, a space,
 -- `A` and a space.
 pub record BeginsAcked (piece : List ℕ) : Type 0 where
   pub high : ℕ
@@ -55,7 +55,8 @@ pub record BeginsAcked (piece : List ℕ) : Type 0 where
   pub high_digit : is_hex_digit high ≡ true
   pub low_digit : is_hex_digit low ≡ true
 
--- A byte and its ACK are in front of a piece, five bytes with what ends each word: what two calls of `feed` answer.
+-- A byte and its ACK are at the front of a piece, five bytes with what ends each word: what two
+-- calls of `feed` answer.
 pub record FeedsAcked (n : ℕ) (text : List ℕ) (events : List Event) (piece : List ℕ) (byte : ℕ) (after : Lexer) : Type 0 where
   pub between : Lexer
   pub ends_byte : EndsWord n text events piece 3 between (Byte byte)

@@ -40,7 +40,7 @@ plus p [] = p
 plus [] (d ∷ q) = d ∷ q
 plus (c ∷ p) (d ∷ q) = differ c d ∷ plus p q
 
--- the coefficients behind the highest one
+-- the coefficients after the highest one
 abbrev pub behind_highest : List Bool → List Bool
 behind_highest [] = []
 behind_highest (c ∷ p) = p

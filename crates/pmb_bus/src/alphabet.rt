@@ -97,15 +97,15 @@ pub(crate) fn starts_token(byte: u8) -> bool
     letter(byte).is_some() || digit(byte).is_some()
 }
 
-/// A token in front of a text, and how many bytes it has with the separator behind it.
+/// A token at the front of a text, and how many bytes it has with the separator after it.
 #[derive(Clone, Copy)]
 pub(crate) struct FrontToken {
     pub(crate) event: Event,
     pub(crate) used: usize,
 }
 
-/// The token in front of a text of three bytes or more, where it and a separator behind it lie in
-/// the first three.
+/// The token at the front of a text of three bytes or more, where it and a separator after it lie
+/// in the first three.
 #[inline(always)]
 pub(crate) fn front_token(bytes: &[u8]) -> Option<FrontToken>
     ensures token { IfSome result (λ token. BeginsWithToken bytes.now token.event token.used) }
@@ -129,8 +129,8 @@ pub(crate) fn front_token(bytes: &[u8]) -> Option<FrontToken>
     None
 }
 
-/// The byte that stands with ACK behind it in front of a text, where both and a space behind each are
-/// its first five bytes.
+/// The byte that stands with ACK after it at the front of a text, where both and a space after each
+/// are its first five bytes.
 #[inline(always)]
 pub(crate) fn front_acked(bytes: &[u8]) -> Option<u8>
     ensures tokens { IfSome result (λ byte. BeginsWithToken bytes.now (BusEvent.Byte byte) 3 × BeginsWithToken (drop 3 bytes.now) BusEvent.Ack 2) }

@@ -35,7 +35,7 @@ pub fn each_text_is_read()
         ⊎ ((events : List Event) × (place : ℕ) × FirstBadWord text events place) }
 {}
 
-/// A text has one first bad word at most, and the same events in front of it.
+/// A text has one first bad word at most, and the same events before it.
 pub fn one_bad_word()
     ensures { (text : List ℕ) (a b : List Event) (i j : ℕ) → FirstBadWord text a i → FirstBadWord text b j
         → (a ≡ b) × (i ≡ j) }
@@ -46,7 +46,7 @@ pub fn spelled_has_no_bad_word()
     ensures { (text : List ℕ) (a b : List Event) (i : ℕ) → Spells text a → FirstBadWord text b i → ⊥ }
 {}
 
-/// Where the first of two texts ends between words, both, one behind the other, spell the events of
+/// Where the first of two texts ends between words, both, one after the other, spell the events of
 /// the first and then those of the second; the first bad word of the second is that of both. A text
 /// that ends with LF ends between words.
 pub fn texts_may_be_cut_between_words()
@@ -79,12 +79,12 @@ pub fn pec_is_all_that_counts()
     ensures { (a b more : List ℕ) → pec a ≡ pec b → pec (a ++ more) ≡ pec (b ++ more) }
 {}
 
-/// Bytes and their own code behind them leave no remainder.
+/// Bytes and their own code after them leave no remainder.
 pub fn pec_leaves_no_remainder()
     ensures { (bytes : List ℕ) → pec (bytes ++ pec bytes ∷ []) ≡ 0 }
 {}
 
-/// The code is the one byte whose bits, behind some multiple of the generator, make the message
+/// The code is the one byte whose bits, after some multiple of the generator, make the message
 /// times x^8: the remainder, told without a division.
 pub fn pec_is_the_remainder()
     ensures { (bytes : List ℕ) (code : ℕ) → code < 256

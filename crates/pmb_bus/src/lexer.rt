@@ -6,8 +6,8 @@
 //! specs: a new place needs its line there, and its arm in `Place::end` and `Place::lengthened`.
 //!
 //! Most of a capture is tokens with one separator each. Between words `feed` takes such a token at
-//! once, where it and its separator lie in the next three bytes, and `feed_acked` a byte and its ACK,
-//! in five. All else goes byte by byte.
+//! once, where it and its separator lie in the next three bytes, and `feed_acked` a byte and its
+//! ACK, in five. All else goes byte by byte.
 
 ghost use Rattle.std.specs.Prelude.{◌≡◌, ◌↔◌, ◌+◌, ◌<◌, ◌≤◌, ◌++◌, ℕ, IsSome, IfSome, None, length, true, false, List, [], Err};
 ghost use Rattle.pmb_bus.specs.declared.event.Event.{Event as BusEvent};
@@ -34,7 +34,7 @@ pub enum LexFault {
 pub enum Step {
     /// All of the piece is used. A word may be under way.
     Need,
-    /// A word has ended: the last byte used is the separator or the `#` behind it.
+    /// A word has ended: the last byte used is the separator or the `#` after it.
     Event(Event),
     /// The next byte is not used: no text of events goes on with it.
     Fault(LexFault),
@@ -54,18 +54,18 @@ pub struct Lexed {
 enum Place {
     /// Between words.
     Between,
-    /// In a comment, behind its `#`.
+    /// In a comment, after its `#`.
     Comment,
-    /// Behind the first byte of a word, which lies at `at`.
+    /// After the first byte of a word, which lies at `at`.
     One { at: u64, first: u8 },
-    /// Behind the two digits of `byte`, the first of which lies at `at`.
+    /// After the two digits of `byte`, the first of which lies at `at`.
     Two { at: u64, byte: u8 },
     /// A word was no token.
     Faulted(LexFault),
 }
 
 impl Place {
-    // The place behind a byte that ends a word.
+    // The place after a byte that ends a word.
     #[inline]
     fn behind(byte: u8) -> Place
         ensures { result ≡ place_behind_word byte }
@@ -94,7 +94,7 @@ impl Place {
         }
     }
 
-    // The place behind one more byte of a word, the byte at offset `used`.
+    // The place after one more byte of a word, the byte at offset `used`.
     #[inline]
     fn lengthened(self, byte: u8, used: u64) -> Result<Place, LexFault>
         ensures lengthens { (n : ℕ) (text : List ℕ) → used ≡ capped n → IsPlace self n text
@@ -146,7 +146,7 @@ impl Lexer {
 
     /// Takes the next piece of the text.
     ///
-    /// A piece is used up to the end of its first word, or whole: the bytes behind `used` are to be
+    /// A piece is used up to the end of its first word, or whole: the bytes after `used` are to be
     /// given again. After a fault every such call answers that fault and uses nothing.
     #[inline(always)]
     pub fn feed(&mut self, bytes: &[u8]) -> Lexed
@@ -170,11 +170,11 @@ impl Lexer {
         self.feed_bytes(bytes)
     }
 
-    /// Takes a byte and its ACK in front of a piece as two calls of [`feed`](Lexer::feed) would, and
-    /// answers the byte: five bytes of the piece are used. Else nothing changes, and the piece is to be
-    /// given to `feed`.
+    /// Takes a byte and its ACK at the front of a piece as two calls of [`feed`](Lexer::feed)
+    /// would, and answers the byte: five bytes of the piece are used. Else nothing changes, and the
+    /// piece is to be given to `feed`.
     ///
-    /// Most words of a capture are bytes and their ACK. Those are taken so that have a space behind
+    /// Most words of a capture are bytes and their ACK. Those are taken so that have a space after
     /// each, where no word and no comment is under way.
     #[inline(always)]
     pub fn feed_acked(&mut self, bytes: &[u8]) -> Option<u8>
@@ -195,8 +195,8 @@ impl Lexer {
         Some(byte)
     }
 
-    /// Whether the text so far ends between words: no word and no comment is under way, and no fault
-    /// was met.
+    /// Whether the text so far ends between words: no word and no comment is under way, and no
+    /// fault was met.
     #[inline(always)]
     pub fn is_between(&self) -> bool
         ensures between { (n : ℕ) (text : List ℕ) (events : List BusEvent) → LexerStandsAt self.now n text events
@@ -206,8 +206,8 @@ impl Lexer {
         matches!(self.place, Place::Between)
     }
 
-    /// Passes over bytes of the text that were read elsewhere. They begin and end between words, and
-    /// spell events.
+    /// Passes over bytes of the text that were read elsewhere. They begin and end between words,
+    /// and spell events.
     #[inline(always)]
     pub fn skip(&mut self, bytes: &[u8])
         ensures stands { (n : ℕ) (text : List ℕ) (events more : List BusEvent) → LexerStandsAt self.old n text events

@@ -30,7 +30,7 @@ const REMAINDERS: [u8; 256] = [
     0xde, 0xd9, 0xd0, 0xd7, 0xc2, 0xc5, 0xcc, 0xcb, 0xe6, 0xe1, 0xe8, 0xef, 0xfa, 0xfd, 0xf4, 0xf3,
 ];
 
-/// The packet error code of bytes and one more byte behind them, where `crc` is the code of those
+/// The packet error code of bytes and one more byte after them, where `crc` is the code of those
 /// bytes, or 0 if there are none (SMBus 3.0 section 6.4).
 ///
 /// For any `crc` it is the code of the one byte `crc ^ byte`.

@@ -14,7 +14,7 @@ start_of number =
     if number == 1 then Some LateFixedMode else (
     if number == 2 then Some Late else None))
 
--- what is done behind a word that is no token
+-- what is done after a word that is no token
 abbrev pub bad_words_of : ℕ → Option BadWords
 bad_words_of number =
     if number == 0 then Some End else (

@@ -13,10 +13,10 @@ use pmb_late::Start;
 pub struct PmbChoice {
     /// The most digits after the point of a number, from 0 to 12.
     pub digits: u8,
-    /// What is known of PAGE and VOUT_MODE where the capture begins: 0 for both, 1 for VOUT_MODE alone,
-    /// 2 for neither.
+    /// What is known of PAGE and VOUT_MODE where the capture begins: 0 for both, 1 for VOUT_MODE
+    /// alone, 2 for neither.
     pub start: u8,
-    /// What is done behind a word that is no token: 0 to end there, 1 to go on with the next line.
+    /// What is done after a word that is no token: 0 to end there, 1 to go on with the next line.
     pub bad_words: u8,
 }
 
@@ -62,7 +62,7 @@ fn start(number: u8) -> Option<Start>
     }
 }
 
-/// What is done behind a word that is no token.
+/// What is done after a word that is no token.
 fn bad_words(number: u8) -> Option<BadWords>
     ensures { result ≡ bad_words_of number }
 {

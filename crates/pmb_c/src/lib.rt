@@ -1,19 +1,20 @@
 //! The library for C: thin exports over the crates that do the work.
 //!
-//! Without memory there are packet error codes, every number format in both directions, the texts of
-//! quantities, the names of commands and of status bits, and the events of a capture's text
+//! Without memory there are packet error codes, every number format in both directions, the texts
+//! of quantities, the names of commands and of status bits, and the events of a capture's text
 //! ([`firmware`]), with the library's version ([`version`]). With memory for a profile, and the
-//! caller's room for what is written, there are `show`, `check`, `build`, `run` and `json` over whole
-//! inputs ([`whole`]).
+//! caller's room for what is written, there are `show`, `check`, `build`, `run` and `json` over
+//! whole inputs ([`whole`]).
 //!
 //! A C caller is checked by nobody, so no export has a premise on values: each is itself the test
 //! of what it is given. What a C type can't say is the header's to say: no pointer is null, and
-//! behind each is what its type and length tell. `include/pmb.h` has the same names.
+//! after each is what its type and length tell. `include/pmb.h` has the same names.
 //!
 //! ```c
 //! #include "pmb.h"
 //! uint16_t code;
-//! pmb_encode(&(pmb_format){ .kind = PMB_LINEAR11 }, (pmb_quantity){ 12, 1 }, &code);   /* 0xd300 */
+//! pmb_encode(&(pmb_format){ .kind = PMB_LINEAR11 }, (pmb_quantity){ 12, 1 }, &code);   /* 0xd300
+//! */
 //! ```
 #![tactic(auto)]
 

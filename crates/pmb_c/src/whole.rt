@@ -2,9 +2,9 @@
 //! subcommand of `pmb` of that name writes, by the same functions.
 //!
 //! A profile takes memory, and with `pmb_run` its devices do. What is written goes to the caller's
-//! room. Each call returns how many bytes the text has, also where they don't fit: then those that do
-//! stand in the room. What stands in the room behind the text stays, and all does where the status is
-//! neither that all went well nor that there was no room.
+//! room. Each call returns how many bytes the text has, also where they don't fit: then those that
+//! do stand in the room. What stands in the room after the text stays, and all does where the
+//! status is neither that all went well nor that there was no room.
 
 ghost use Rattle.std.specs.Prelude.{◌≡◌};
 ghost use Rattle.pmb_c.specs.Choice.{chosen};
@@ -35,7 +35,8 @@ pub extern "C" fn pmb_show(
     told.length
 }
 
-/// Writes a line for each refusal of a capture, and one with the numbers of packets and refusals, as
+/// Writes a line for each refusal of a capture, and one with the numbers of packets and refusals,
+/// as
 /// `pmb check` does.
 #[unsafe(no_mangle)]
 pub extern "C" fn pmb_check(

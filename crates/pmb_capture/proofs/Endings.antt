@@ -32,7 +32,7 @@ use Rattle.pmb_capture.proofs.Outcomes.{adds_refusal, counts_both, refusal_count
 use Rattle.pmb_capture.proofs.Spans.{all_but_the_end, no_end, one_end, reads_as}
 use Rattle.pmb_capture.proofs.Texts.{text_append}
 
--- the text of a fault, and of the end behind it
+-- the text of a fault, and of the end after it
 abbrev pub fault_text : OutputText → Tally → LexFault → List ℕ
 fault_text output tally (BadToken at) = bad_token_line at ++ output.at_end tally
 

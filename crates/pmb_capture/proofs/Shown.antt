@@ -20,7 +20,7 @@ tally_same s t packets refusals first second =
     ap (λ (n : ℕ). record s { packets = n }) (first.packets_counted ∙ sym second.packets_counted)
     ∙ ap (λ (n : ℕ). record t { refusals = n }) (first.refusals_counted ∙ sym second.refusals_counted)
 
--- the same behind texts that are one
+-- the same after texts that are one
 same_text : (output : OutputText) (a b text other : List ℕ) (s t : Tally) → a ≡ text ++ output.at_end s → b ≡ other ++ output.at_end t → text ≡ other → s ≡ t → a ≡ b
 same_text output a b text other s t first second same tally =
     first ∙ (ap (λ l. l ++ output.at_end s) same ∙ (ap (λ (u : Tally). other ++ output.at_end u) tally ∙ sym second))

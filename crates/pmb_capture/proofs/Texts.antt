@@ -24,14 +24,14 @@ text_append output before (Refusal refusal ∷ a) b =
     ap (λ text. refusal_line refusal ++ text) (text_append output before a b)
     ∙ sym (append_assoc (refusal_line refusal) (text_behind output before a) (text_behind output (before ++ accepted_in a) b))
 
--- behind some, from the start
+-- after some, from the start
 pub texts_then : (output : OutputText) (outcomes a b : List Outcome)
     → text_behind output (accepted_in outcomes) (a ++ b) ≡ text_behind output (accepted_in outcomes) a ++ text_behind output (accepted_in (outcomes ++ a)) b
 texts_then output outcomes a b =
     text_append output (accepted_in outcomes) a b
     ∙ ap (λ ts. text_behind output (accepted_in outcomes) a ++ text_behind output ts b) (sym (accepted_append outcomes a))
 
--- a line is made behind what waits: a transaction's own, the mark of a comment, a note and LF
+-- a line is made after what waits: a transaction's own, the mark of a comment, a note and LF
 pub noted : (line note waited lined marked said ended : List ℕ) → lined ≡ waited ++ line → marked ≡ lined ++ codes " # " → said ≡ marked ++ note → ended ≡ said ++ codes "\n"
     → ended ≡ waited ++ (line ++ (codes " # " ++ (note ++ codes "\n")))
 noted line note waited lined marked said ended own mark says end =
@@ -40,7 +40,7 @@ noted line note waited lined marked said ended own mark says end =
     end ∙ (ap (λ l. l ++ codes "\n") so_far ∙ (append_assoc ((waited ++ line) ++ codes " # ") note (codes "\n")
     ∙ (append_assoc (waited ++ line) (codes " # ") last ∙ append_assoc waited line (codes " # " ++ last))))
 
--- pieces, each behind those before it
+-- pieces, each after those before it
 pub of_seven : (a b c d e f g l0 l1 l2 l3 l4 l5 l6 l7 : List ℕ) → l0 ≡ [] → l1 ≡ l0 ++ a → l2 ≡ l1 ++ b → l3 ≡ l2 ++ c → l4 ≡ l3 ++ d → l5 ≡ l4 ++ e → l6 ≡ l5 ++ f → l7 ≡ l6 ++ g
     → l7 ≡ a ++ b ++ c ++ d ++ e ++ f ++ g
 of_seven a b c d e f g l0 l1 l2 l3 l4 l5 l6 l7 none first second third fourth fifth sixth seventh = cc

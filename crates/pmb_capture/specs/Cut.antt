@@ -1,4 +1,4 @@
--- A capture's text that is cut behind a STOP.
+-- A capture's text that is cut after a STOP.
 use Rattle.std.specs.Prelude.{ℕ, ◌+◌, List}
 use Rattle.pmb_bus.specs.declared.event.Event.{Event}
 use Rattle.pmb_bus.specs.Text.{EndsBetween, Spells}

@@ -7,7 +7,7 @@ use Rattle.pmb_transaction.specs.Reading.{Outcome, Accepted, Refusal}
 use Rattle.pmb_transaction.specs.Transaction.{TransactionData}
 use Rattle.pmb_capture.specs.Lines.{refusal_line}
 
--- What a command writes: a text for each transaction, behind those before it in the capture, and one
+-- What a command writes: a text for each transaction, after those before it in the capture, and one
 -- at the end.
 pub record OutputText : Type 0 where
   pub of_packet : List TransactionData → TransactionData → List ℕ
@@ -53,7 +53,7 @@ but_truncation outcomes = filter (λ outcome. not (is_truncation outcome)) outco
 
 -- ---- their text
 
--- What is written of outcomes behind some transactions: the text of each packet, and a line for each
+-- What is written of outcomes after some transactions: the text of each packet, and a line for each
 -- refusal.
 abbrev pub text_behind : OutputText → List TransactionData → List Outcome → List ℕ
 text_behind output before [] = []

@@ -1,5 +1,5 @@
--- What `show` writes for the bytes of a capture: a line with a note for each packet, a line for each
--- refusal, and one for a word that is no token.
+-- What `show` writes for the bytes of a capture: a line with a note for each packet, a line for
+-- each refusal, and one for a word that is no token.
 use Rattle.std.specs.Prelude.{ℕ, List, [], ◌∷◌, ◌++◌, codes}
 use Rattle.pmb_bus.specs.Text.{BeginsText}
 use Rattle.pmb_command.specs.Parts.{DeviceParts}
@@ -11,12 +11,12 @@ use Rattle.pmb_transaction.specs.Transaction.{TransactionData}
 use Rattle.pmb_capture.specs.Output.{OutputText}
 use Rattle.pmb_capture.specs.Written.{Writes, WritesAtEnd, WritesFront, WritesUpToStop}
 
--- A transaction's line behind others: its own, and as a comment its note, which is what it says by
+-- A transaction's line after others: its own, and as a comment its note, which is what it says by
 -- the PAGE and VOUT_MODE that those before it told.
 abbrev pub noted_line : List DeviceParts → List TransactionData → TransactionData → List ℕ
 noted_line profile before t = line t ++ (codes " # " ++ (note profile before t ++ codes "\n"))
 
--- the lines of transactions in order, behind others
+-- the lines of transactions in order, after others
 abbrev pub noted_behind : List DeviceParts → List TransactionData → List TransactionData → List ℕ
 noted_behind profile before [] = []
 noted_behind profile before (t ∷ ts) = noted_line profile before t ++ noted_behind profile (before ++ t ∷ []) ts

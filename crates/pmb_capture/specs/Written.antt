@@ -22,7 +22,7 @@ module _ (output : OutputText) (profile : List DeviceParts) where
     pub counts : IsTallyOf (packets_in outcomes) (refusals_in outcomes) tally
 
   -- A word of the bytes is no token: the events are those of the words before the first such, whose
-  -- line comes behind theirs and counts as a refusal. A packet under way there is not reported.
+  -- line comes after theirs and counts as a refusal. A packet under way there is not reported.
   pub record WritesUpToBadWord (bytes : List ℕ) (text : List ℕ) (tally : Tally) : Type 0 where
     pub events : List Event
     pub outcomes : List Outcome
@@ -46,8 +46,8 @@ module _ (output : OutputText) (profile : List DeviceParts) where
     pub writes : WritesUpToBadWord bytes text tally
     pub whatever_follows : (more : List ℕ) → WritesUpToBadWord (bytes ++ more) text tally
 
-  -- What is written for bytes that more may follow, and that begin some text that spells events: the
-  -- text of each packet and each refusal of the words that have ended.
+  -- What is written for bytes that more may follow, and that begin some text that spells events:
+  -- the text of each packet and each refusal of the words that have ended.
   pub record WritesSoFar (bytes : List ℕ) (text : List ℕ) : Type 0 where
     pub events : List Event
     pub outcomes : List Outcome
@@ -63,8 +63,8 @@ module _ (output : OutputText) (profile : List DeviceParts) where
     pub so_far : WritesSoFar bytes text
     pub writes : Writes bytes (text ++ rest) tally
 
-  -- What a command is to write of a capture. More is wanted of bytes that begin some text that spells
-  -- events.
+  -- What a command is to write of a capture. More is wanted of bytes that begin some text that
+  -- spells events.
   abbrev pub writing : Job Tally
   writing = record {
     Whole = λ tally bytes text. WritesAtEnd bytes text tally;

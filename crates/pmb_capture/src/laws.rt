@@ -23,7 +23,8 @@ use pmb_transaction::laws::{
     captures_may_be_cut_behind_stop, captures_read_as_written, each_list_has_a_reading, one_reading,
 };
 
-/// What is shown of bytes, and its tally, is a function of the bytes under a profile that is accepted.
+/// What is shown of bytes, and its tally, is a function of the bytes under a profile that is
+/// accepted.
 pub fn one_showing()
     ensures { (profile : List DeviceParts) (bytes a b : List ℕ) (s t : Tally) → IsBus profile
         → Shows profile bytes a s → Shows profile bytes b t → (a ≡ b) × (s ≡ t) }
@@ -64,7 +65,7 @@ pub fn some_check()
 }
 
 /// The capture of transactions, however it is spelled, is shown as their lines, each with its note
-/// behind those before it, and nothing in it is refused, under a profile that is accepted.
+/// after those before it, and nothing in it is refused, under a profile that is accepted.
 pub fn captures_are_shown()
     ensures { (profile : List DeviceParts) (ts : List TransactionData) (events : List Event) (bytes : List ℕ) → IsBus profile
         → Capture profile ts events → Spells bytes events
@@ -73,9 +74,9 @@ pub fn captures_are_shown()
     captures_read_as_written();
 }
 
-/// Where a capture's text is cut behind a STOP, as behind a line that ends with one, the counts of
-/// its two pieces add up to those of the whole, whatever the second piece is, under a profile that is
-/// accepted: in a check as where it is shown.
+/// Where a capture's text is cut after a STOP, as after a line that ends with one, the counts of
+/// its two pieces add up to those of the whole, whatever the second piece is, under a profile that
+/// is accepted: in a check as where it is shown.
 pub fn counts_add_up()
     ensures checked { (profile : List DeviceParts) (front back : List ℕ) (a b all : List ℕ) (s t tally : Tally) → IsBus profile
         → EndsAtCut front → Checks profile front a s → Checks profile back b t → Checks profile (front ++ back) all tally

@@ -15,8 +15,8 @@ use pmb_note::Context;
 use pmb_table::Profile;
 use pmb_transaction::Transaction;
 
-/// The most bytes of what is written of a packet: a transaction's line, the mark of a comment, a note
-/// and LF.
+/// The most bytes of what is written of a packet: a transaction's line, the mark of a comment, a
+/// note and LF.
 const MOST: usize = 12544 + 3 + 8192 + 1;
 
 /// Writes the line of each packet's transaction with its note, and nothing at the end.
@@ -38,7 +38,7 @@ impl<'p> PacketLines<'p> {
         }
     }
 
-    /// Has the line of the next packet's transaction wait behind what waits, and takes what that one
+    /// Has the line of the next packet's transaction wait after what waits, and takes what that one
     /// tells.
     fn append_transaction(&mut self, transaction: &Transaction, waiting: &mut Waiting)
         requires { length waiting.old.items + MOST ≤ ROOM }

@@ -25,7 +25,7 @@ pub record Fits (form : Form) (bytes : List ℕ) : Type 0 where
   pub small : AreByteValues bytes
   pub taken : Takes form (length bytes)
 
--- The wire of a form: the data themselves, low byte first; those of a block behind their count.
+-- The wire of a form: the data themselves, low byte first; those of a block after their count.
 abbrev pub wire : Form → List ℕ → List ℕ
 wire Zero bytes = bytes
 wire One bytes = bytes

@@ -1,10 +1,11 @@
-//! How the data of a command go over the bus: how many bytes a form takes, and which bytes spell them.
+//! How the data of a command go over the bus: how many bytes a form takes, and which bytes spell
+//! them.
 
 ghost use Rattle.std.specs.Prelude.{◌≡◌, ◌↔◌, ◌≤◌, ◌++◌, ℕ, List, length, IsTrue, IfSome, MatchOption};
 ghost use Rattle.std.specs.Option.{option_to_list};
 ghost use Rattle.pmb_command.specs.Wire.{Fits, Takes, wire, wire_length};
 
-/// The data that a packet has behind its command code (PMBus Part II 1.3, Appendix I; SMBus 3.0
+/// The data that a packet has after its command code (PMBus Part II 1.3, Appendix I; SMBus 3.0
 /// section 6.5).
 #[derive(Clone, Copy, Debug, PartialEq, Eq)]
 pub enum Form {
@@ -72,8 +73,8 @@ impl Form {
         }
     }
 
-    /// How many bytes the wire has that begins with these bytes, 0 to 256: the form's `length`, or of
-    /// a block 1 and its count, which comes first (SMBus 3.0 section 6.5.7).
+    /// How many bytes the wire has that begins with these bytes, 0 to 256: the form's `length`, or
+    /// of a block 1 and its count, which comes first (SMBus 3.0 section 6.5.7).
     #[inline]
     pub fn wire_length(self, bytes: &[u8]) -> usize
         ensures length { result ≡ wire_length self bytes.now }
@@ -86,7 +87,7 @@ impl Form {
         }
     }
 
-    /// The data whose wire these bytes are: of a block those behind its count.
+    /// The data whose wire these bytes are: of a block those after its count.
     #[inline]
     pub fn data_within(self, bytes: &[u8]) -> &[u8]
         requires { (whole : List ℕ) × (bytes.now ≡ wire self whole) }

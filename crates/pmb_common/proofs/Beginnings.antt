@@ -1,4 +1,4 @@
--- What is taken of a text in front of which the legs of a common packet stand.
+-- What is taken of a text before which the legs of a common packet stand.
 use Rattle.std.proofs.Common.{◌≡◌, ℕ, ◌%◌, ◌<◌, ◌≤◌, Bool, true, nat_eq, Option, Some, None, List, [], ◌∷◌, ◌++◌, length, take, drop, refl, sym, ap, subst, ◌∙◌, arith, append_assoc, length-append}
 use Rattle.std.proofs.lemmas.List.{length-take-le, take-append-drop}
 use Rattle.std.specs.Prelude.{IsSome}
@@ -131,7 +131,7 @@ module _ (text first behind old new : List ℕ) (none : old ≡ []) (begins : te
       let took = takes both.front behind_first both.small_front (none_at_start (acked_text both.back ++ (end_text both.last ++ rest))) few here in
       (took.0 ∙ ap (λ (l : List ℕ). l ++ both.front) none, took.1)
 
--- the text behind START
+-- the text after START
 same_behind : (behind second more : List ℕ) → behind ≡ start ++ second → behind ≡ start ++ more → second ≡ more
 same_behind behind second more one other = let joined : start ++ second ≡ start ++ more = sym one ∙ other in cc joined
 
@@ -161,7 +161,7 @@ group_is_even behind second rest result next begins tells same =
     tells next.byte next.more next.small (same_behind behind second (acked_text (next.byte ∷ []) ++ next.more) begins (same ∙ next.split))
     ∙ ap (λ (n : ℕ). nat_eq n 0) next.even
 
--- of the second leg those behind START
+-- of the second leg those after START
 pub both_second : (written : ℕ) (behind second front new all rest : List ℕ) (result : Option Legs) (are : IsOfLegs (Both written) all)
     → front ≡ (is_both written all are).front → behind ≡ start ++ second → FindsSecond second front new result
     → behind ≡ start ++ (acked_text (is_both written all are).back ++ (end_text (is_both written all are).last ++ rest))

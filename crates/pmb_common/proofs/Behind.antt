@@ -17,7 +17,7 @@ behind_two false to_write code data_wire bytes same = ap (drop 2) same
 behind_two true to_write code data_wire bytes same =
     ap (drop 2) same ∙ sym (ap (λ (l : List ℕ). data_wire ++ pec (take 2 l ++ data_wire) ∷ []) same)
 
--- data behind some bytes, which the packet error code covers too
+-- data after some bytes, which the packet error code covers too
 behind_front : (with_pec : Bool) (before data_wire bytes : List ℕ) (n : ℕ) → bytes ≡ before ++ checked with_pec before data_wire → n ≡ length before
     → drop n bytes ≡ checked with_pec (take n bytes) data_wire
 behind_front with_pec before data_wire bytes n whole long =
@@ -28,7 +28,7 @@ behind_front with_pec before data_wire bytes n whole long =
     ap (λ (k : ℕ). drop k bytes) long ∙ ap (drop (length before)) whole ∙ drop-append_seam before behind in
     second ∙ ap (λ (l : List ℕ). checked with_pec l data_wire) (sym first)
 
--- of a written leg, behind the address byte and the code
+-- of a written leg, after the address byte and the code
 pub written_data : (profile : List DeviceParts) (address code : ℕ) (data_bytes : List ℕ) (with_pec : Bool) (bytes : List ℕ)
     → (says : OneWritten profile address code data_bytes with_pec bytes)
     → drop 2 bytes ≡ checked with_pec (take 2 bytes) (wire says.allowed.form data_bytes)
@@ -40,7 +40,7 @@ written_data profile address code data_bytes with_pec bytes says =
     behind_two with_pec (write_address address) code (wire says.allowed.form data_bytes) bytes
     (says.spelled ∙ ap (λ (l : List ℕ). write_address address ∷ l) body)
 
--- of both legs of a read, behind both address bytes and the code
+-- of both legs of a read, after both address bytes and the code
 pub read_data : (profile : List DeviceParts) (address code : ℕ) (data_bytes : List ℕ) (with_pec : Bool) (bytes : List ℕ)
     → (says : OneRead profile address code data_bytes with_pec bytes)
     → drop 3 bytes ≡ checked with_pec (take 3 bytes) (wire says.form data_bytes)
@@ -49,7 +49,7 @@ read_data profile address code data_bytes with_pec bytes says =
 
 -- ---- of both legs of a call
 
--- the reply, behind the second address byte
+-- the reply, after the second address byte
 pub call_reply : (profile : List DeviceParts) (address code : ℕ) (sent reply : List ℕ) (with_pec : Bool) (bytes : List ℕ) (written : ℕ)
     → (says : OneCalled profile address code reply with_pec bytes sent written)
     → drop (written + 1) bytes ≡ checked with_pec (take (written + 1) bytes) (wire says.form reply)

@@ -141,7 +141,7 @@ takes_call profile text rest address code sent data_bytes with_pec bytes written
 
 -- ---- from the packet to its legs
 
--- The legs that stand in front of a text, and what they say.
+-- The legs that stand at the front of a text, and what they say.
 pub record CommonLegs (profile : List DeviceParts) (text : List ℕ) : Type 0 where
   pub legs : Legs
   pub all : List ℕ
@@ -366,6 +366,6 @@ module _ (profile : List DeviceParts) (bus : IsBus profile)
   legs_of t events rest (device_read read) packet split = read_legs read events rest packet split
   legs_of t events rest (device_called call) packet split = call_legs call events rest packet split
 
-  -- The legs of a common packet in front of a text.
+  -- The legs of a common packet at the front of a text.
   pub common_legs : BeginsCommon profile text → CommonLegs profile text
   common_legs begins = legs_of begins.2 begins.3.events begins.3.rest begins.3.common begins.3.packet begins.3.split

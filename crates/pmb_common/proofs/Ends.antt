@@ -54,8 +54,8 @@ both_text front to_read reply =
     ap (λ (events : List Event). canonical_text (Start ∷ events)) (append_assoc (acked front) second (Stop ∷ []))
     ∙ ap (λ (text : List ℕ). canonical_text (Start ∷ []) ++ text) (text-append (acked front) (second ++ Stop ∷ []))
 
--- The text of both legs, by the bytes of the first, those behind the second START but for the last, and
--- the last.
+-- The text of both legs, by the bytes of the first, those after the second START but for the last,
+-- and the last.
 pub read_text : (front : List ℕ) (to_read : ℕ) (back : List ℕ) (last : ℕ)
     → canonical_text (read_events (length front) (front ++ to_read ∷ (back ++ last ∷ [])))
     ≡ canonical_text (Start ∷ []) ++ (acked_text front ++ (canonical_text (Start ∷ []) ++ (acked_text (to_read ∷ back) ++ end_text last)))

@@ -1,4 +1,4 @@
--- The words in front of a text, by its first bytes.
+-- The words at the front of a text, by its first bytes.
 use Rattle.std.proofs.Common.{◌≡◌, ℕ, ◌%◌, ◌<◌, ◌≤◌, Option, Some, None, List, [], ◌∷◌, ◌++◌, length, get_or, drop, sym, ap, ◌∙◌, arith}
 use Rattle.std.specs.Prelude.{IfSome}
 use Rattle.hex.specs.Hex.{encode_with}
@@ -26,7 +26,7 @@ pub low_digit : (text : List ℕ) (byte : ℕ) (rest : List ℕ) → text ≡ ac
 unfolding encode_with
 low_digit text byte rest same = ap (λ (l : List ℕ). get_or l 1 0) same
 
--- the word in front of it
+-- the word before it
 pub acked_word : (text : List ℕ) (byte : ℕ) (rest : List ℕ) → text ≡ acked_text (byte ∷ []) ++ rest
     → canonical_text (Byte byte ∷ []) ≡ get_or text 0 0 ∷ get_or text 1 0 ∷ get_or text 2 0 ∷ []
 unfolding encode_with

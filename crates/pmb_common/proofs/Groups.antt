@@ -51,7 +51,7 @@ leg_text bytes behind = append_assoc start (acked_text bytes) behind
 length-leg_text : (bytes : List ℕ) → length (canonical_text (leg bytes)) ≡ 2 + 5 * length bytes
 length-leg_text bytes = omega (arith, length-append start (acked_text bytes), length-acked_text bytes)
 
--- what stands behind a leg
+-- what stands after a leg
 pub behind_leg : (text : List ℕ) (bytes : List ℕ) (rest : List ℕ) (n : ℕ) → text ≡ canonical_text (leg bytes) ++ rest → n ≡ 2 + 5 * length bytes → drop n text ≡ rest
 behind_leg text bytes rest n split long =
     ap (drop n) split
@@ -130,7 +130,7 @@ takes_parts profile text parts rest behind used count taken some ends long =
 
 -- ---- parts that follow
 
--- The next one, behind START.
+-- The next one, after START.
 pub record NextPart (profile : List DeviceParts) (taken : List ℕ) (text : List ℕ) : Type 0 where
   pub part : PartData
   pub bytes : List ℕ
@@ -144,7 +144,7 @@ pub record NextPart (profile : List DeviceParts) (taken : List ℕ) (text : List
   pub room : length taken < 16
   pub more : MoreParts profile (taken ++ part.addr ∷ []) behind
 
--- what stands behind a part is the START of the next one, or STOP
+-- what stands after a part is the START of the next one, or STOP
 none_behind : (profile : List DeviceParts) (parts : List PartData) (legs : List Event) (rest : List ℕ) → PartsEvents profile parts legs
     → NoneAcked (canonical_text (legs ++ Stop ∷ []) ++ rest)
 none_behind profile [] legs rest each = subst (λ (l : List Event). NoneAcked (canonical_text (l ++ Stop ∷ []) ++ rest)) (sym each) (none_at_stop rest)
@@ -230,7 +230,7 @@ more_behind profile old new part bytes text adds says more =
     subst (λ (l : List ℕ). MoreParts profile l text)
     (ap (λ (a : ℕ). addresses old ++ a ∷ []) (sym same) ∙ sym (addresses-push old adds.part) ∙ ap addresses (sym adds.added)) more
 
--- behind the first part
+-- after the first part
 pub first_more : (profile : List DeviceParts) (text : List ℕ) (old new : List PartData) (bytes : List ℕ) (n : ℕ) → old ≡ [] → AddsPart profile old new bytes
     → SayGroup profile text bytes → n ≡ 2 + 5 * length bytes → MoreParts profile (addresses new) (drop n text)
 first_more profile text old new bytes n none adds say long =
@@ -240,7 +240,7 @@ first_more profile text old new bytes n none adds say long =
 
 -- ---- the bytes of a leg that was taken
 
--- those that were put behind none
+-- those that were put after none
 pub taken_leg : (leg_bytes behind old new bytes : List ℕ) → old ≡ [] → TakenFront leg_bytes old new behind → bytes ≡ new → leg_bytes ≡ acked_text bytes ++ behind
 taken_leg leg_bytes behind old new bytes none taken same =
     let all : taken.more ≡ bytes = sym (same ∙ taken.added ∙ ap (λ (l : List ℕ). l ++ taken.more) none) in

@@ -1,4 +1,4 @@
--- Legs in front of a text, by what was taken of it.
+-- Legs at the front of a text, by what was taken of it.
 use Rattle.std.proofs.Common.{◌≡◌, ℕ, ◌≤◌, Option, Some, None, List, [], ◌∷◌, ◌++◌, length, sym, ap, ◌∙◌, arith, append_assoc}
 use Rattle.std.specs.Prelude.{IfSome}
 use Rattle.pmb_bus.specs.declared.event.Event.TheVariants.{Start, Stop}

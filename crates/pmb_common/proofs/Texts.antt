@@ -10,7 +10,7 @@ use Rattle.pmb_transaction.specs.Packet.{acked}
 use Rattle.pmb_common.specs.Front.{NoneAcked, acked_text, end_text, lower_digit}
 use Rattle.pmb_common.proofs.Digits.{no_digit, same_byte}
 
--- ---- one behind the other
+-- ---- one after the other
 
 pub text-append : (a b : List Event) → canonical_text (a ++ b) ≡ canonical_text a ++ canonical_text b
 text-append a b = flat_map-append text_of a b
@@ -35,7 +35,7 @@ length-acked_text (b ∷ bytes) = omega (arith, length-acked_text bytes)
 
 -- ---- where it ends
 
--- behind STOP, START, and a byte with NACK
+-- after STOP, START, and a byte with NACK
 pub none_at_stop : (rest : List ℕ) → NoneAcked (canonical_text (Stop ∷ []) ++ rest)
 unfolding encode_with
 none_at_stop rest byte more small same =

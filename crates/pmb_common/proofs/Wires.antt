@@ -1,4 +1,4 @@
--- Data in a form in front of bytes, and the packet error code behind them.
+-- Data in a form before bytes, and the packet error code after them.
 use Rattle.std.proofs.Common.{◌≡◌, ℕ, ◌+◌, ◌<◌, ◌≤◌, zero, suc, Bool, true, false, List, [], ◌∷◌, ◌++◌, length, get_or, take, drop, refl, sym, ap, ◌∙◌, arith, length-append}
 use Rattle.std.proofs.lemmas.List.{append-nil, length-take-le, take-append-drop}
 use Rattle.std.proofs.Math.Seq.{take-add, take-length, take-append_seam, drop-append_seam}
@@ -67,7 +67,7 @@ wire_ends Four data_bytes more fits = sym fits.taken
 wire_ends Eight data_bytes more fits = sym fits.taken
 wire_ends Block data_bytes more fits = omega arith
 
--- ---- the code behind them
+-- ---- the code after them
 
 pub checked_is : (with_pec : Bool) (before bytes : List ℕ) → checked with_pec before bytes ≡ bytes ++ code_behind with_pec (before ++ bytes)
 checked_is false before bytes = sym (append-nil bytes)
@@ -78,7 +78,7 @@ module _ (form : Form) (bytes : List ℕ) (from : ℕ) (len : ℕ) (with_pec : B
   covered : take len (drop from bytes) ≡ wire form data_bytes → take (from + len) bytes ≡ take from bytes ++ wire form data_bytes
   covered front = take-add from len bytes ∙ ap (λ (l : List ℕ). take from bytes ++ l) front
 
-  -- the wire of data, and behind it a code or none
+  -- the wire of data, and after it a code or none
   pub data_said : take len (drop from bytes) ≡ wire form data_bytes → drop len (drop from bytes) ≡ code_behind with_pec (take (from + len) bytes)
       → drop from bytes ≡ checked with_pec (take from bytes) (wire form data_bytes)
   data_said front behind =
@@ -105,7 +105,7 @@ module _ (form : Form) (bytes : List ℕ) (from : ℕ) (len : ℕ) (with_pec : B
     in_front : take len (drop from bytes) ≡ wire form data_bytes
     in_front = ap (λ (n : ℕ). take n (drop from bytes)) long ∙ ap (take (length (wire form data_bytes))) split ∙ take-append_seam (wire form data_bytes) rest
 
-    -- and behind them the code
+    -- and after them the code
     pub code_there : drop len (drop from bytes) ≡ code_behind with_pec (take (from + len) bytes)
     unfolding rest
     code_there =

@@ -1,4 +1,4 @@
--- Packet error codes behind bytes.
+-- Packet error codes after bytes.
 use Rattle.std.specs.Prelude.{ℕ, Bool, true, false, List, [], ◌∷◌}
 use Rattle.pmb_bus.specs.Pec.{pec}
 

@@ -12,9 +12,9 @@ use Rattle.pmb_transaction.specs.Transaction.{PartData, ReadData, CallData, Tran
 use Rattle.pmb_transaction.specs.Body.{forms, checked, WriteBody}
 use Rattle.pmb_transaction.specs.Packet.{Packet, leg, nacked}
 
--- The table of the transactions whose packets are taken at once, in every form of their data, with or
--- without a packet error code (SMBus 3.0 section 6.5). Each byte is acknowledged, but for the last one
--- that is read.
+-- The table of the transactions whose packets are taken at once, in every form of their data, with
+-- or without a packet error code (SMBus 3.0 section 6.5). Each byte is acknowledged, but for the
+-- last one that is read.
 pub data IsCommon : TransactionData → Type 0 where
   -- S addr+W A code A data A .. [pec A] [S addr+W A code A data A .. [pec A]] .. P
   parts_written : (parts : List PartData) → IsCommon (Write parts)
@@ -23,8 +23,8 @@ pub data IsCommon : TransactionData → Type 0 where
   -- S addr+W A code A data A .. S addr+R A reply A .. [pec] N P
   device_called : (t : CallData) → IsCommon (Call t)
 
--- A text begins with the text of a common packet, the canonical text of its events: so many bytes, and
--- so many events.
+-- A text begins with the text of a common packet, the canonical text of its events: so many bytes,
+-- and so many events.
 pub record TakesPacket (profile : List DeviceParts) (text : List ℕ) (used : ℕ) (count : ℕ) (t : TransactionData) : Type 0 where
   pub common : IsCommon t
   pub events : List Event
@@ -40,8 +40,8 @@ BeginsCommon profile text = (used : ℕ) × (count : ℕ) × (t : TransactionDat
 
 -- ---- the bytes of a packet, its address bytes too
 
--- The events of two legs, so many bytes in the first and the others in the second: those that are read
--- have NACK behind the last.
+-- The events of two legs, so many bytes in the first and the others in the second: those that are
+-- read have NACK after the last.
 abbrev pub read_events : ℕ → List ℕ → List Event
 read_events written bytes =
     leg (take written bytes) ++ (leg (take 1 (drop written bytes)) ++ nacked (drop 1 (drop written bytes))) ++ Stop ∷ []

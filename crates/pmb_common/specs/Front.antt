@@ -1,4 +1,4 @@
--- Acknowledged bytes in front of a text.
+-- Acknowledged bytes at the front of a text.
 use Rattle.std.specs.Prelude.{◌≡◌, ◌<◌, ℕ, List, [], ◌∷◌, ◌++◌, slice_index}
 use Rattle.hex.specs.Hex.{lower_digits}
 use Rattle.pmb_bus.specs.declared.event.Event.TheVariants.{Byte, Nack, Stop}
@@ -18,11 +18,11 @@ end_text last = canonical_text (Byte last ∷ Nack ∷ Stop ∷ [])
 abbrev pub acked_text : List ℕ → List ℕ
 acked_text bytes = canonical_text (acked bytes)
 
--- no byte with its ACK stands in front of a text
+-- no byte with its ACK stands at the front of a text
 abbrev pub NoneAcked : List ℕ → Type 0
 NoneAcked text = (byte : ℕ) (rest : List ℕ) → byte < 256 → text ≡ acked_text (byte ∷ []) ++ rest → ⊥
 
--- Bytes with their ACKs were taken from the front of a text and put behind others.
+-- Bytes with their ACKs were taken from the front of a text and put after others.
 pub record TakenFront (text : List ℕ) (old : List ℕ) (new : List ℕ) (behind : List ℕ) : Type 0 where
   pub more : List ℕ
   pub added : new ≡ old ++ more

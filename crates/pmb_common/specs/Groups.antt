@@ -13,7 +13,7 @@ use Rattle.pmb_common.specs.Common.{OneWritten}
 abbrev pub SaysPart : List DeviceParts → List ℕ → Type 0
 SaysPart profile bytes = (address : ℕ) × (code : ℕ) × (data_bytes : List ℕ) × (with_pec : Bool) × OneWritten profile address code data_bytes with_pec bytes
 
--- The part of a written leg with these bytes was put behind others, to other devices.
+-- The part of a written leg with these bytes was put after others, to other devices.
 pub record AddsPart (profile : List DeviceParts) (old : List PartData) (new : List PartData) (bytes : List ℕ) : Type 0 where
   pub part : PartData
   pub added : new ≡ old ++ part ∷ []
@@ -30,7 +30,8 @@ pub record TakenParts (profile : List DeviceParts) (text : List ℕ) (parts : Li
   pub split : text ≡ canonical_text legs ++ behind
   pub counted : count ≡ length legs + 1
 
--- The other parts of a write stand in front of a text, up to STOP; those before them had these addresses.
+-- The other parts of a write stand at the front of a text, up to STOP; those before them had these
+-- addresses.
 pub record MoreParts (profile : List DeviceParts) (taken : List ℕ) (text : List ℕ) : Type 0 where
   pub parts : List PartData
   pub legs : List Event
@@ -41,7 +42,7 @@ pub record MoreParts (profile : List DeviceParts) (taken : List ℕ) (text : Lis
   pub rest : List ℕ
   pub split : text ≡ canonical_text (legs ++ Stop ∷ []) ++ rest
 
--- A group stands in front of a text: these are the bytes of its first leg.
+-- A group stands at the front of a text: these are the bytes of its first leg.
 pub record SayGroup (profile : List DeviceParts) (text : List ℕ) (bytes : List ℕ) : Type 0 where
   pub first : PartData
   pub says : OneWritten profile first.addr first.code first.bytes first.pec bytes

@@ -18,7 +18,7 @@ leg_events Written bytes = leg bytes ++ Stop ∷ []
 leg_events (Both written) bytes = read_events written bytes
 leg_events Group bytes = leg bytes
 
--- how many bytes the legs have at least: in one that is read, one stands behind the address
+-- how many bytes the legs have at least: in one that is read, one stands after the address
 abbrev pub least : Legs → ℕ
 least Written = 0
 least (Both written) = written + 2
@@ -42,7 +42,7 @@ pub record IsOfLegs (legs : Legs) (bytes : List ℕ) : Type 0 where
   pub few : length bytes ≤ 516
   pub reads : Reads legs bytes
 
--- Behind the first leg of a group stands another one, which begins with an even byte.
+-- After the first leg of a group stands another one, which begins with an even byte.
 pub record NextWritten (behind : List ℕ) : Type 0 where
   pub byte : ℕ
   pub small : byte < 256
@@ -55,11 +55,11 @@ Follows Written behind = ⊤
 Follows (Both written) behind = ⊤
 Follows Group behind = NextWritten behind
 
--- The text of legs with these bytes stands in front of a text.
+-- The text of legs with these bytes stands at the front of a text.
 abbrev pub BeginsWithLegs : Legs → List ℕ → List ℕ → Type 0
 BeginsWithLegs legs bytes text = (rest : List ℕ) × (text ≡ canonical_text (leg_events legs bytes) ++ rest)
 
--- A second leg was taken from the front of a text, and its bytes put behind those of the first.
+-- A second leg was taken from the front of a text, and its bytes put after those of the first.
 pub record TakenSecond (legs : Legs) (text : List ℕ) (first : List ℕ) (all : List ℕ) : Type 0 where
   pub back : List ℕ
   pub last : ℕ
@@ -69,25 +69,26 @@ pub record TakenSecond (legs : Legs) (text : List ℕ) (first : List ℕ) (all :
   pub added : all ≡ (first ++ back) ++ last ∷ []
   pub split : text ≡ acked_text back ++ (end_text last ++ rest)
 
--- Bytes of a second leg, which find room behind those of the first.
+-- Bytes of a second leg, which find room after those of the first.
 pub record IsSecond (first : List ℕ) (back : List ℕ) (last : ℕ) : Type 0 where
   pub some : 1 ≤ length back
   pub small : AreByteValues back
   pub small_last : last < 256
   pub few : length (first ++ back) ≤ 515
 
--- Such a leg in front of a text is taken.
+-- Such a leg at the front of a text is taken.
 abbrev pub FindsSecond : List ℕ → List ℕ → List ℕ → Option Legs → Type 0
 FindsSecond text first new result = (back : List ℕ) (last : ℕ) (rest : List ℕ) → IsSecond first back last → text ≡ acked_text back ++ (end_text last ++ rest)
     → (result ≡ Some (Both (length first))) × (new ≡ (first ++ back) ++ last ∷ [])
 
--- What both legs with these bytes say. A first leg of two bytes is that of a read: a call sends data.
+-- What both legs with these bytes say. A first leg of two bytes is that of a read: a call sends
+-- data.
 abbrev pub SayBoth : List DeviceParts → ℕ → List ℕ → Type 0
 SayBoth profile written bytes =
     ((written ≡ 2) × (address : ℕ) × (code : ℕ) × (reply : List ℕ) × (with_pec : Bool) × OneRead profile address code reply with_pec bytes)
     ⊎ ((2 < written) × (address : ℕ) × (code : ℕ) × (sent : List ℕ) × (reply : List ℕ) × (with_pec : Bool) × OneCalled profile address code reply with_pec bytes sent written)
 
--- What legs in front of a text say, with these bytes.
+-- What legs at the front of a text say, with these bytes.
 abbrev pub SayLegs : List DeviceParts → List ℕ → Legs → List ℕ → Type 0
 SayLegs profile text Written bytes = SaysPart profile bytes
 SayLegs profile text (Both written) bytes = SayBoth profile written bytes

@@ -1,4 +1,4 @@
-//! Data in a form, and the packet error code behind them.
+//! Data in a form, and the packet error code after them.
 
 ghost use Rattle.std.specs.Prelude.{◌≡◌, ◌≤◌, Bool, IfSome, IsSome, List, Some, ℕ, length, drop, take};
 ghost use Rattle.pmb_command.specs.PecMode.{AllowsPec};
@@ -46,8 +46,8 @@ pub(crate) fn whole_data(form: Form, bytes: &[u8]) -> Option<&[u8]>
     Some(form.data_within(bytes))
 }
 
-/// The data that stand in a packet's bytes from an index on, in a form, up to the end or up to a packet
-/// error code that is right and that the mode allows.
+/// The data that stand in a packet's bytes from an index on, in a form, up to the end or up to a
+/// packet error code that is right and that the mode allows.
 #[inline(always)]
 pub(crate) fn data_from(form: Form, mode: PecMode, bytes: &[u8], from: usize) -> Option<Data<'_>>
     requires { from ≤ length bytes.now }

@@ -1,8 +1,8 @@
-//! The packet in front of a text.
+//! The packet at the front of a text.
 //!
-//! The bytes of a packet are collected in `bytes`, which no contract speaks of: a try that fails leaves
-//! them behind, and nothing is read from them. The parts of a group are kept one by one, so such a try
-//! can leave some of them kept too.
+//! The bytes of a packet are collected in `bytes`, which no contract speaks of: a try that fails
+//! leaves them after, and nothing is read from them. The parts of a group are kept one by one, so
+//! such a try can leave some of them kept too.
 
 ghost use Rattle.std.specs.Prelude.{◌≡◌, ◌<◌, ◌≤◌, ◌+◌, ◌*◌, ◌++◌, List, ℕ, IsSome, IfSome, length};
 ghost use Rattle.pmb_bus.specs.Event.{canonical_text};
@@ -29,8 +29,8 @@ pub struct Taken {
     pub events: usize,
 }
 
-/// Takes common packets at once. What is kept of one is kept elsewhere: this has the room in which the
-/// bytes of a packet are collected.
+/// Takes common packets at once. What is kept of one is kept elsewhere: this has the room in which
+/// the bytes of a packet are collected.
 #[derive(Drop)]
 pub struct Common {
     bytes: PacketBytes,
@@ -44,9 +44,9 @@ impl Common {
         }
     }
 
-    /// Takes the common packet in front of a text that begins between two packets, and keeps its
-    /// transaction as the one that ended last. It returns `None` where none lies whole in front; what
-    /// is kept can have changed then too.
+    /// Takes the common packet at the front of a text that begins between two packets, and keeps
+    /// its transaction as the one that ended last. It returns `None` where none lies whole in
+    /// front; what is kept can have changed then too.
     pub fn take(&mut self, kept: &mut Kept, profile: &Profile, text: &[u8]) -> Option<Taken>
         ensures takes { IfSome result (λ taken. TakesPacket profile.now text.now taken.used taken.events kept.new.last) }
         ensures some { IfSome result (λ taken. 0 < taken.used) }
@@ -74,7 +74,7 @@ fn both_legs(bytes: &[u8]) -> Taken
     }
 }
 
-// Keeps the transaction of the legs that stand in front of a text, where they are those of one.
+// Keeps the transaction of the legs that stand at the front of a text, where they are those of one.
 #[inline]
 fn keep(
     kept: &mut Kept,

@@ -9,7 +9,7 @@ ghost use Rattle.pmb_common.specs.Inside.{IsInside};
 use crate::words::spelled_byte;
 use pmb_bus::Event;
 
-/// The event whose canonical text stands in front of a text; `None` where that is STOP.
+/// The event whose canonical text stands at the front of a text; `None` where that is STOP.
 pub fn front_event(text: &[u8]) -> Option<Event>
     ensures found { (event : BusEvent) (rest : List ℕ) → IsInside event → text.now ≡ text_of event ++ rest → result ≡ Some event }
     ensures within { IfSome result (λ event. length (text_of event) ≤ length text.now) }

@@ -21,7 +21,7 @@ use pmb_table::Profile;
 /// How many parts a group has at most.
 const PARTS: usize = 16;
 
-/// Keeps the part that a written leg of these bytes is, behind others, and returns whether it is one
+/// Keeps the part that a written leg of these bytes is, after others, and returns whether it is one
 /// that may stand there.
 #[inline(never)]
 fn keep_part(kept: &mut Kept, profile: &Profile, bytes: &[u8]) -> bool
@@ -42,7 +42,8 @@ fn keep_part(kept: &mut Kept, profile: &Profile, bytes: &[u8]) -> bool
     true
 }
 
-/// Takes the group in front of a text, up to STOP, and keeps it. The bytes are those of its first leg.
+/// Takes the group at the front of a text, up to STOP, and keeps it. The bytes are those of its
+/// first leg.
 #[inline(never)]
 pub(crate) fn take_group(
     kept: &mut Kept,

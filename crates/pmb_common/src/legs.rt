@@ -1,4 +1,4 @@
-//! The legs of a packet in front of a text.
+//! The legs of a packet at the front of a text.
 
 ghost use Rattle.std.specs.Prelude.{◌≡◌, List, ℕ, Some, [], ◌++◌, IfSome};
 ghost use Rattle.pmb_bus.specs.Event.{canonical_text};
@@ -14,12 +14,12 @@ pub(crate) enum Legs {
     Written,
     /// A written one of this many bytes, and one that is read.
     Both { written: usize },
-    /// A written one, and behind it others that are written.
+    /// A written one, and after it others that are written.
     Group,
 }
 
-/// The legs in front of a text, up to STOP, where they are those of a common packet; of a group only the
-/// first. Their bytes are put in place of others.
+/// The legs at the front of a text, up to STOP, where they are those of a common packet; of a group
+/// only the first. Their bytes are put in place of others.
 #[inline]
 pub(crate) fn front_legs(text: &[u8], bytes: &mut PacketBytes) -> Option<Legs>
     ensures spelled { IfSome result (λ legs. BeginsWithLegs legs bytes.new.items text.now) }
@@ -42,7 +42,8 @@ pub(crate) fn front_legs(text: &[u8], bytes: &mut PacketBytes) -> Option<Legs>
     take_reply(second, bytes)
 }
 
-/// Takes the second leg in front of a text, up to STOP, and puts its bytes behind those of the first.
+/// Takes the second leg at the front of a text, up to STOP, and puts its bytes after those of the
+/// first.
 #[inline(always)]
 fn take_second(text: &[u8], bytes: &mut PacketBytes) -> Option<Legs>
     ensures spelled { IfSome result (λ legs. TakenSecond legs text.now bytes.old.items bytes.new.items) }
@@ -61,8 +62,8 @@ fn take_second(text: &[u8], bytes: &mut PacketBytes) -> Option<Legs>
     Some(Legs::Both { written })
 }
 
-/// Takes the second leg of a call. Calls are rare, so this is not inlined: only a read, whose first leg
-/// has two bytes, has `take_second` in place.
+/// Takes the second leg of a call. Calls are rare, so this is not inlined: only a read, whose first
+/// leg has two bytes, has `take_second` in place.
 #[inline(never)]
 fn take_reply(text: &[u8], bytes: &mut PacketBytes) -> Option<Legs>
     ensures spelled { IfSome result (λ legs. TakenSecond legs text.now bytes.old.items bytes.new.items) }

@@ -1,7 +1,7 @@
 //! Whole common packets, taken at once from the text of a capture.
 //!
 //! Most of a capture is writes, to one device or to a group, reads and process calls, every byte
-//! acknowledged. Where the canonical text of such a packet lies whole in front of a piece,
+//! acknowledged. Where the canonical text of such a packet lies whole at the front of a piece,
 //! [`Common::take`] takes it at once: one space between words, digits in lower case and a LF after
 //! STOP. All else is left to be taken event by event.
 //!

@@ -1,14 +1,14 @@
 //! The bytes of a packet.
 //!
-//! An `ArrayVec` clears each place that is no longer in use. Here they stay as they are: none is read
-//! before a byte is put there, and a packet pays for none that it doesn't use.
+//! An `ArrayVec` clears each place that is no longer in use. Here they stay as they are: none is
+//! read before a byte is put there, and a packet pays for none that it doesn't use.
 
 ghost use Rattle.std.specs.Prelude.{◌≡◌, ◌≤◌, ◌<◌, ◌++◌, ◌∷◌, [], false, length, nat_eq};
 
 use std::marker::Model;
 
-/// How many bytes a packet has at most: those of a block process call, with two address bytes, a code,
-/// two blocks of a count and 255 bytes each, and a packet error code.
+/// How many bytes a packet has at most: those of a block process call, with two address bytes, a
+/// code, two blocks of a count and 255 bytes each, and a packet error code.
 const PLACES: usize = 516;
 
 /// The bytes of a packet, one after the other.
@@ -65,7 +65,7 @@ impl PacketBytes {
         self.len == PLACES
     }
 
-    /// Puts one behind the others.
+    /// Puts one after the others.
     #[inline(always)]
     pub(crate) fn push(&mut self, byte: u8)
         requires { length self.old.items < 516 }

@@ -1,8 +1,8 @@
-//! Words in front of a text.
+//! Words at the front of a text.
 //!
-//! Each word is taken with the one space that follows it. `DIGITS` is laid out 16 bytes a row, the high
-//! digit of the byte down and the low digit across; the proof of `digit_value` computes over the whole
-//! table that each entry is the value of its digit.
+//! Each word is taken with the one space that follows it. `DIGITS` is laid out 16 bytes a row, the
+//! high digit of the byte down and the low digit across; the proof of `digit_value` computes over
+//! the whole table that each entry is the value of its digit.
 
 ghost use Rattle.std.specs.Prelude.{◌≡◌, ◌≤◌, ◌<◌, List, [], ◌∷◌, ◌++◌, ◌%◌, ℕ, IfSome, IsSome, Some, drop, length, nat_eq};
 ghost use Rattle.pmb_bus.specs.declared.event.Event.{Event as BusEvent};
@@ -62,7 +62,7 @@ pub(crate) fn spelled_byte(first: u8, second: u8, space: u8) -> Option<u8>
     }
 }
 
-/// The byte in front of a text, with ACK behind it: five bytes of the text.
+/// The byte at the front of a text, with ACK after it: five bytes of the text.
 #[inline(always)]
 fn front_acked(text: &[u8]) -> Option<u8>
     ensures spelled { IfSome result (λ byte. text.now ≡ acked_text (byte ∷ []) ++ drop 5 text.now) }
@@ -82,7 +82,7 @@ fn front_acked(text: &[u8]) -> Option<u8>
     spelled_byte(*first, *second, *space)
 }
 
-/// The byte in front of a text, with NACK and STOP behind it: seven bytes of the text.
+/// The byte at the front of a text, with NACK and STOP after it: seven bytes of the text.
 #[inline(always)]
 pub(crate) fn front_last(text: &[u8]) -> Option<u8>
     ensures spelled { IfSome result (λ byte. text.now ≡ end_text byte ++ drop 7 text.now) }
@@ -106,7 +106,7 @@ pub(crate) fn front_last(text: &[u8]) -> Option<u8>
     spelled_byte(*first, *second, *space)
 }
 
-/// The text behind START, where that stands in front.
+/// The text after START, where that stands in front.
 #[inline(always)]
 pub(crate) fn behind_start(text: &[u8]) -> Option<&[u8]>
     ensures spelled { IfSome result (λ behind. text.now ≡ canonical_text (BusEvent.Start ∷ []) ++ behind.now) }
@@ -118,7 +118,7 @@ pub(crate) fn behind_start(text: &[u8]) -> Option<&[u8]>
     }
 }
 
-/// The text behind STOP, where that stands in front.
+/// The text after STOP, where that stands in front.
 #[inline(always)]
 pub(crate) fn behind_stop(text: &[u8]) -> Option<&[u8]>
     ensures spelled { IfSome result (λ behind. text.now ≡ canonical_text (BusEvent.Stop ∷ []) ++ behind.now) }
@@ -130,8 +130,8 @@ pub(crate) fn behind_stop(text: &[u8]) -> Option<&[u8]>
     }
 }
 
-/// Whether the byte in front of a text, where one with its ACK stands there, is even, as the address
-/// byte of a leg that is written is.
+/// Whether the byte at the front of a text, where one with its ACK stands there, is even, as the
+/// address byte of a leg that is written is.
 #[inline(always)]
 pub(crate) fn is_even(text: &[u8]) -> bool
     ensures { (byte : ℕ) (rest : List ℕ) → byte < 256 → text.now ≡ acked_text (byte ∷ []) ++ rest → result ≡ nat_eq (byte % 2) 0 }
@@ -145,8 +145,8 @@ pub(crate) fn is_even(text: &[u8]) -> bool
     }
 }
 
-/// Puts the acknowledged bytes in front of a text behind others, as many as there are and find room,
-/// and returns the text behind them.
+/// Puts the acknowledged bytes at the front of a text after others, as many as there are and find
+/// room, and returns the text after them.
 #[inline(always)]
 pub(crate) fn take_acked<'t>(text: &'t [u8], bytes: &mut PacketBytes) -> &'t [u8]
     ensures taken { TakenFront text.now bytes.old.items bytes.new.items result.now }

@@ -22,7 +22,7 @@ use Rattle.pmb_device.proofs.Signals.{first_byte, is_to_first, is_to_none}
 use Rattle.pmb_device.proofs.Owns.{is_some, same_byte, same_own, same_head, same_some}
 
 module _ (device : DeviceParts) (state : DeviceState) where
-  -- ---- where the own leg is, behind START
+  -- ---- where the own leg is, after START
 
   pub own_here : (k : Kept) (earlier : List Leg) (leg : Leg) → sent leg ≡ [] → OwnIsIn device state k earlier leg → k.own ≡ some_is_to (write_address device.address) earlier
   own_here k earlier leg nothing (none own before is) = own ∙ sym before
@@ -30,7 +30,7 @@ module _ (device : DeviceParts) (state : DeviceState) where
   own_here k earlier leg nothing (ended before own mid bytes split o) =
       o.kept_own ∙ sym (ap (some_is_to (write_address device.address)) split ∙ is_some _ before own mid (is_to_first _ _ bytes own o.bytes_are ∙ same_byte (write_address device.address)))
 
-  -- a leg that is read stands behind one that is the device's own
+  -- a leg that is read stands after one that is the device's own
   pub read_behind_own : (earlier : List Leg) (address : ℕ) (body : List ℕ) → IsRead device earlier address body → is_behind_own device earlier ≡ true
   read_behind_own earlier address body r =
       ap (is_behind_own device) r.asked.alone ∙ is_to_first _ _ body r.asked.first r.asked.own ∙ same_byte (write_address device.address)

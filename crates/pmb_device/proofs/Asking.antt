@@ -179,7 +179,7 @@ gives_none_yet x device state (Inside earlier leg) reply waits stands =
       },
     )
 
--- or behind the last one
+-- or after the last one
 pub gives_no_more : (x : Exchange) (device : DeviceParts) (state : DeviceState) (legs : Legs) → x.phase ≡ phases.Reply → length x.reply.items ≤ x.given → StandsIn x device state legs
     → AnswersAskBehind device state legs answered.Silent x
 gives_no_more x device state Outside reply past stands = cc (reply, stands.behind)

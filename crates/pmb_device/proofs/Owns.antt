@@ -9,7 +9,7 @@ use Rattle.pmb_device.specs.Rules.{IsWritten, TakesAll}
 use Rattle.pmb_device.specs.machine.Standing.{BytesAre, IsOwn, Kept, Notes, OwnIsIn, answers, ended, head_is_to, no_answer, none, under_way}
 use Rattle.pmb_device.proofs.Signals.{is_to_first, some_of_both}
 
--- ---- legs behind
+-- ---- legs after
 
 -- some legs begin with the same addresses where their last ones do
 pub same_head : (a : ℕ) (mid : List Leg) (leg other : Leg) → is_to a leg ≡ is_to a other → head_is_to a (mid ++ leg ∷ []) ≡ head_is_to a (mid ++ other ∷ [])
@@ -51,7 +51,7 @@ pub same_byte : (a : ℕ) → nat_eq a a ≡ true
 same_byte a = eq-eqb a a refl
 
 module _ (device : DeviceParts) (state : DeviceState) where
-  -- ---- the own leg, where other legs stand behind it
+  -- ---- the own leg, where other legs stand after it
 
   pub same_notes : (noted : Option CmlBit) (before : List Leg) (bytes : List ℕ) (behind others : List Leg)
       → head_is_to (read_address device.address) behind ≡ head_is_to (read_address device.address) others
@@ -110,7 +110,7 @@ module _ (device : DeviceParts) (state : DeviceState) where
     noted = r.noted;
   }
 
-  -- a byte behind the address, of which the device takes none
+  -- a byte after the address, of which the device takes none
   pub own_passes : (k : Kept) (earlier : List Leg) (leg longer : Leg) (address : ℕ) (bytes : List ℕ) (byte : ℕ) → sent leg ≡ address ∷ bytes
       → sent longer ≡ address ∷ bytes ++ byte ∷ []
       → (IsWritten device earlier address → TakesAll device (leg_place earlier) [] bytes → ⊥)
@@ -146,7 +146,7 @@ module _ (device : DeviceParts) (state : DeviceState) where
       ended before own (mid ++ leg ∷ []) bytes (ap (λ (legs : List Leg). legs ++ leg ∷ []) split ∙ append_assoc before (own ∷ mid) (leg ∷ []))
       (same_own k before own bytes (mid ++ leg ∷ []) ((mid ++ leg ∷ []) ++ [] ∷ []) (head_more _ mid leg ([] ∷ [])) (some_more _ (mid ++ leg ∷ [])) o)
 
-  -- it stands behind the device's own leg, and that is the packet's first
+  -- it stands after the device's own leg, and that is the packet's first
   pub own_is : (k : Kept) (earlier : List Leg) (leg : Leg) → OwnIsIn device state k earlier leg → k.own ≡ some_is_to (write_address device.address) (earlier ++ leg ∷ [])
   own_is k earlier leg (none own before is) =
       own ∙ sym (some_of_both (write_address device.address) earlier (leg ∷ []) ∙ ap (λ (b : Bool). b || (is_to (write_address device.address) leg || false)) before ∙ ap (λ (b : Bool). b || false) is)

@@ -73,14 +73,14 @@ module _ (device : DeviceParts) (state : DeviceState) where
 
   -- ---- in a reply
 
-  -- the reply goes on behind another signal than NACK
+  -- the reply goes on after another signal than NACK
   pub going_stays : (leg : Leg) (address : ℕ) (bytes : List ℕ) (more : Leg) → sent leg ≡ address ∷ bytes → is_ended device more ≡ false
       → is_ended device (behind_address leg) ≡ false → is_ended device (behind_address (leg ++ more)) ≡ false
   going_stays leg address bytes more is other going =
       ap (is_ended device) (behind_more leg address bytes more is) ∙ ended_both device (behind_address leg) more
       ∙ ap (λ (b : Bool). b || is_ended device more) going ∙ other
 
-  -- behind ACK nothing waits
+  -- after ACK nothing waits
   pub counts_ack : (most given : ℕ) (waits : Bool) (signals : Leg) → HasGiven device most given waits signals → HasGiven device most given false (signals ++ Ack ∷ [])
   counts_ack most given waits signals (inl counts) =
       let same = given_both device false signals (Ack ∷ []) in

@@ -70,7 +70,7 @@ one_byte all.Block is = cc is
 pub page_form : (device : DeviceParts) (form : Form) → IsDevice device → (forms device 0x00).write ≡ Some form → form ≡ One
 page_form device form accepted is = one_byte form (subst (λ (o : Option Form). is_kept o (Some One) ≡ true) is (page_in device.commands accepted.commands).1)
 
--- the body of a read or a call is no value of PAGE behind the code of PAGE
+-- the body of a read or a call is no value of PAGE after the code of PAGE
 no_page_value : (device : DeviceParts) (body : List ℕ) (byte : ℕ) (rest : List ℕ) → IsDevice device → IsRequest device body → body ≡ 0x00 ∷ byte ∷ rest → ⊥
 no_page_value device body byte rest accepted (inl (code, form, read)) is = cc (sym read.spelled ∙ is)
 no_page_value device body byte rest accepted (inr (code, form, content, call)) is =

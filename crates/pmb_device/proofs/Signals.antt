@@ -1,4 +1,4 @@
--- Signals of a leg, and one more behind them.
+-- Signals of a leg, and one more after them.
 use Rattle.std.proofs.Common.{◌≡◌, ℕ, ◌+◌, Bool, true, false, ◌||◌, List, [], ◌∷◌, ◌++◌, refl, ap, ◌∙◌, arith, nat_eq}
 use Rattle.std.proofs.lemmas.List.{append-nil}
 use Rattle.std.proofs.lemmas.List.Folds.{list_any-append}
@@ -19,11 +19,11 @@ sent_both (Ack ∷ a) b = sent_both a b
 sent_both (Nack ∷ a) b = sent_both a b
 sent_both (Stop ∷ a) b = sent_both a b
 
--- behind a signal with no byte
+-- after a signal with no byte
 pub sent_same : (leg : Leg) (signal : HostSignal) → sent (signal ∷ []) ≡ [] → sent (leg ++ signal ∷ []) ≡ sent leg
 sent_same leg signal none = sent_both leg (signal ∷ []) ∙ ap (λ (bs : List ℕ). sent leg ++ bs) none ∙ append-nil (sent leg)
 
--- behind one more byte
+-- after one more byte
 pub sent_more : (leg : Leg) (byte : ℕ) → sent (leg ++ Byte byte ∷ []) ≡ sent leg ++ byte ∷ []
 sent_more leg byte = sent_both leg (Byte byte ∷ [])
 
@@ -31,7 +31,7 @@ sent_more leg byte = sent_both leg (Byte byte ∷ [])
 pub first_byte : (leg : Leg) (byte : ℕ) → sent leg ≡ [] → sent (leg ++ Byte byte ∷ []) ≡ byte ∷ []
 first_byte leg byte none = sent_more leg byte ∙ ap (λ (bs : List ℕ). bs ++ byte ∷ []) none
 
--- one byte behind others
+-- one byte after others
 pub next_byte : (leg : Leg) (address : ℕ) (bytes : List ℕ) (byte : ℕ) → sent leg ≡ address ∷ bytes → sent (leg ++ Byte byte ∷ []) ≡ address ∷ bytes ++ byte ∷ []
 next_byte leg address bytes byte is = sent_more leg byte ∙ ap (λ (bs : List ℕ). bs ++ byte ∷ []) is
 
@@ -48,7 +48,7 @@ is_to_none a leg is = ap (is_first_byte a) is
 pub some_of_both : (a : ℕ) (legs more : List Leg) → some_is_to a (legs ++ more) ≡ (some_is_to a legs || some_is_to a more)
 some_of_both a legs more = list_any-append (is_to a) legs more
 
--- ---- behind the address
+-- ---- after the address
 
 pub behind_more : (leg : Leg) (address : ℕ) (bytes : List ℕ) (more : Leg) → sent leg ≡ address ∷ bytes
     → behind_address (leg ++ more) ≡ behind_address leg ++ more
@@ -60,7 +60,7 @@ behind_more (Ack ∷ leg) address bytes more is = behind_more leg address bytes 
 behind_more (Nack ∷ leg) address bytes more is = behind_more leg address bytes more is
 behind_more (Stop ∷ leg) address bytes more is = behind_more leg address bytes more is
 
--- nothing stands behind the first byte
+-- nothing stands after the first byte
 pub behind_first_byte : (leg : Leg) (byte : ℕ) → sent leg ≡ [] → behind_address (leg ++ Byte byte ∷ []) ≡ []
 behind_first_byte [] byte is = refl
 behind_first_byte (Start ∷ leg) byte is = behind_first_byte leg byte is

@@ -11,7 +11,7 @@ use Rattle.pmb_leg.specs.Leg.{place_of}
 use Rattle.pmb_device.specs.Rules.{AllowedAt, BeginsAt, GoesOn, IsPageValue, TakesByte, TakesAll}
 
 module _ (device : DeviceParts) (place : LegPlace) where
-  -- ---- bytes behind others
+  -- ---- bytes after others
 
   -- those in front are taken too
   pub front_taken : (taken front rest : List ℕ) → TakesAll device place taken (front ++ rest) → TakesAll device place taken front
@@ -34,7 +34,7 @@ module _ (device : DeviceParts) (place : LegPlace) where
 
 -- ---- as a written leg says it
 
--- parts behind which a leg has this place
+-- parts after which a leg has this place
 pub some_parts : (place : LegPlace) → (parts : List PartData) × (place_of parts ≡ place)
 some_parts First = ([], refl)
 some_parts Later = (record { addr = 0; code = 0; bytes = []; pec = false } ∷ [], refl)

@@ -1,4 +1,4 @@
--- A byte behind the address of a device's own leg.
+-- A byte after the address of a device's own leg.
 use Rattle.std.proofs.Common.{◌≡◌, ℕ, inl, inr, Bool, true, false, Option, None, List, [], ◌∷◌, ◌++◌, refl, sym, ap, subst, ◌∙◌, IsTrue, ◌↔◌}
 use Rattle.pmb_command.specs.Parts.{DeviceParts}
 use Rattle.pmb_bus.specs.Address.{write_address}
@@ -23,7 +23,7 @@ use Rattle.pmb_device.proofs.Signals.{next_byte}
 use Rattle.pmb_device.proofs.Taken.{one_more_taken, taken_at}
 use Rattle.pmb_device.proofs.Asking.{no_address}
 
--- nothing is noted where no leg stands behind
+-- nothing is noted where no leg stands after
 pub none_noted : (device : DeviceParts) (state : DeviceState) (noted : Option CmlBit) (before : List Leg) (bytes : List ℕ) → Notes device state noted before bytes [] → noted ≡ None
 none_noted device state noted before bytes (answers has is) = cc has.read
 none_noted device state noted before bytes (no_answer has is) = is

@@ -1,8 +1,8 @@
 -- What a simulated device answers to a signal, and where that leads.
 --
--- `DeviceStandsAt device standing` says where a device stands that was made from a profile and given
--- some signals since: its state at the last STOP, or its first one, and the legs that the signals make
--- since then. What this says of a device's own fields is in `machine`.
+-- `DeviceStandsAt device standing` says where a device stands that was made from a profile and
+-- given some signals since: its state at the last STOP, or its first one, and the legs that the
+-- signals make since then. What this says of a device's own fields is in `machine`.
 use Rattle.pmb_registers.specs.State.{DeviceState}
 use Rattle.pmb_device.specs.declared.signal.HostSignal.{HostSignal}
 use Rattle.pmb_device.specs.declared.signal.HostSignal.TheVariants.{Start, Byte, Ask, Ack, Nack, Stop}
@@ -13,7 +13,7 @@ use Rattle.pmb_device.specs.Rules.{Answers}
 use Rattle.pmb_device.specs.Ends.{Ends}
 pub use Rattle.pmb_device.specs.machine.Device.{DeviceStanding, DeviceStandsAt}
 
--- Where it stands behind a signal: its state stays but at STOP, which ends the packet.
+-- Where it stands after a signal: its state stays but at STOP, which ends the packet.
 abbrev pub Leads : DeviceStanding → HostSignal → Device → Type 0
 Leads standing Start new = DeviceStandsAt new (record standing { legs = with_signal standing.legs Start })
 Leads standing (Byte b) new = DeviceStandsAt new (record standing { legs = with_signal standing.legs (Byte b) })

@@ -1,5 +1,6 @@
 -- What STOP does to a simulated device. Its registers and its page change at STOP alone, by its own
--- legs of the packet: this project's own rule, for which PMBus Part I 1.3 section 5.2.3 asks in groups.
+-- legs of the packet: this project's own rule, for which PMBus Part I 1.3 section 5.2.3 asks in
+-- groups.
 use Rattle.std.specs.Prelude.{◌≡◌, ℕ, ◌⊎◌, Bool, true, false, List, [], ◌∷◌, ◌++◌}
 use Rattle.pmb_command.specs.Parts.{DeviceParts}
 use Rattle.pmb_bus.specs.Address.{write_address, read_address}
@@ -14,7 +15,7 @@ use Rattle.pmb_device.specs.Rules.{GoesOn, TakesByte, TakesAll}
 
 module _ (device : DeviceParts) where
   -- The leg of a packet that is written to the device: the first that begins with its address for
-  -- writing. Behind the address these bytes were sent.
+  -- writing. After the address these bytes were sent.
   pub record OwnLeg (legs : List Leg) (bytes : List ℕ) : Type 0 where
     pub earlier : List Leg
     pub own : Leg
@@ -23,15 +24,15 @@ module _ (device : DeviceParts) where
     pub first : some_is_to (write_address device.address) earlier ≡ false
     pub bytes_are : sent own ≡ write_address device.address ∷ bytes
 
-  -- A body in a leg all of whose bytes were taken, where the device is not read behind it: a write
+  -- A body in a leg all of whose bytes were taken, where the device is not read after it: a write
   -- takes effect, and nothing else does.
   pub data Acts (bytes : List ℕ) (before after : DeviceState) : Type 0 where
     writes : (code : ℕ) (content : List ℕ) (with_pec : Bool) → WriteBody device code content with_pec bytes
         → after ≡ after_write device code content before → Acts bytes before after
     no_write : (IsWriteBody device bytes → ⊥) → after ≡ before → Acts bytes before after
 
-  -- Where it is read directly behind the packet's first leg, in which it was asked, and refuses, that
-  -- is noted in STATUS_CML.
+  -- Where it is read directly after the packet's first leg, in which it was asked, and refuses,
+  -- that is noted in STATUS_CML.
   pub data NotesAnswer (earlier : List Leg) (bytes : List ℕ) (behind : List Leg) (before after : DeviceState) : Type 0 where
     asked : earlier ≡ [] → IsReadBody device bytes ⊎ IsCallBody device bytes → (next : Leg) (more : List Leg) → behind ≡ next ∷ more
         → some_is_to (read_address device.address) (next ∷ []) ≡ true
@@ -39,7 +40,8 @@ module _ (device : DeviceParts) where
     not_asked : (earlier ≡ [] → IsReadBody device bytes ⊎ IsCallBody device bytes → (next : Leg) (more : List Leg) → behind ≡ next ∷ more
         → some_is_to (read_address device.address) (next ∷ []) ≡ true → ⊥) → after ≡ before → NotesAnswer earlier bytes behind before after
 
-  -- A byte was refused, behind some that were taken: that is noted where some byte had a place there.
+  -- A byte was refused, after some that were taken: that is noted where some byte had a place
+  -- there.
   pub record Refuses (place : LegPlace) (bytes : List ℕ) (before after : DeviceState) : Type 0 where
     pub front : List ℕ
     pub byte : ℕ
@@ -59,7 +61,7 @@ module _ (device : DeviceParts) where
       (ReadOrActs (some_is_to (read_address device.address) behind) earlier bytes behind before after)
       (Refuses (leg_place earlier) bytes before after)
 
-  -- What STOP makes of the device's state behind the legs of a packet: its own leg acts, or it notes
+  -- What STOP makes of the device's state after the legs of a packet: its own leg acts, or it notes
   -- what it refused; without an own leg nothing changes.
   pub data LegsEnd (legs : List Leg) (before after : DeviceState) : Type 0 where
     own_leg : (bytes : List ℕ) → (own : OwnLeg legs bytes) → OwnLegEnds own.earlier bytes own.behind before after → LegsEnd legs before after

@@ -1,8 +1,9 @@
 -- What an exchange answers to signals, and what it tells at STOP.
 --
--- `StandsIn exchange device state legs` says that an exchange was made for this device and given the
--- signals of these legs since the last STOP, and that the device's state was this one all along.
--- `IsAskedIn exchange device state legs byte body` says that behind those legs came this byte too,
+-- `StandsIn exchange device state legs` says that an exchange was made for this device and given
+-- the signals of these legs since the last STOP, and that the device's state was this one all
+-- along.
+-- `IsAskedIn exchange device state legs byte body` says that after those legs came this byte too,
 -- and that the device's registers have to answer this body. What they say of the fields is in
 -- `machine`, and nothing here needs it to be understood.
 use Rattle.std.specs.Prelude.{◌≡◌, ℕ, ◌<◌, ◌≤◌, ◌⊎◌, Some, List, [], ◌∷◌, length}

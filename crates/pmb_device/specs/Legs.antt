@@ -1,7 +1,7 @@
 -- The signals of a packet under way, cut at each START.
 --
--- A leg runs from one START to the next one or to STOP. The byte that comes first in it is an address,
--- and its bytes are all that follow, refused ones too (SMBus 3.0 section 6.5).
+-- A leg runs from one START to the next one or to STOP. The byte that comes first in it is an
+-- address, and its bytes are all that follow, refused ones too (SMBus 3.0 section 6.5).
 use Rattle.std.specs.Prelude.{ℕ, Bool, false, List, [], ◌∷◌, ◌++◌, nat_eq}
 use Rattle.std.specs.List.{list_any}
 use Rattle.pmb_leg.specs.declared.place.LegPlace.{LegPlace}
@@ -9,7 +9,7 @@ use Rattle.pmb_leg.specs.declared.place.LegPlace.TheVariants.{First, Later}
 use Rattle.pmb_device.specs.declared.signal.HostSignal.{HostSignal}
 use Rattle.pmb_device.specs.declared.signal.HostSignal.TheVariants.{Start, Byte, Ask, Ack, Nack, Stop}
 
--- the signals of a leg behind its START
+-- the signals of a leg after its START
 abbrev pub Leg : Type 0
 Leg = List HostSignal
 
@@ -27,7 +27,7 @@ abbrev pub with_other : Legs → HostSignal → Legs
 with_other Outside signal = Outside
 with_other (Inside earlier leg) signal = Inside earlier (leg ++ signal ∷ [])
 
--- the legs behind one signal more
+-- the legs after one signal more
 abbrev pub with_signal : Legs → HostSignal → Legs
 with_signal legs Start = with_start legs
 with_signal legs (Byte b) = with_other legs (Byte b)
@@ -38,7 +38,7 @@ with_signal legs Stop = Outside
 
 -- ---- bytes of a leg
 
--- the bytes that the host sent in it: an address, and those behind it
+-- the bytes that the host sent in it: an address, and those after it
 abbrev pub sent : Leg → List ℕ
 sent [] = []
 sent (Start ∷ leg) = sent leg
@@ -60,7 +60,7 @@ is_to address leg = is_first_byte address (sent leg)
 abbrev pub some_is_to : ℕ → List Leg → Bool
 some_is_to address legs = list_any (is_to address) legs
 
--- the signals behind its address
+-- the signals after its address
 abbrev pub behind_address : Leg → Leg
 behind_address [] = []
 behind_address (Start ∷ leg) = behind_address leg

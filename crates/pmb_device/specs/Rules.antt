@@ -34,7 +34,7 @@ module _ (device : DeviceParts) where
   abbrev pub BeginsAt : LegPlace → List ℕ → Type 0
   BeginsAt place bytes = (body : List ℕ) × (rest : List ℕ) × AllowedAt place body × (body ≡ bytes ++ rest)
 
-  -- Some byte has a place behind these: they are none, or begin a body that is longer.
+  -- Some byte has a place after these: they are none, or begin a body that is longer.
   abbrev pub GoesOn : LegPlace → List ℕ → Type 0
   GoesOn place bytes = (bytes ≡ []) ⊎ ((body : List ℕ) × AllowedAt place body × IsProperPrefix bytes body)
 
@@ -42,13 +42,13 @@ module _ (device : DeviceParts) where
   abbrev pub IsPageValue : List ℕ → ℕ → Type 0
   IsPageValue bytes byte = bytes ≡ 0x00 ∷ [] → (byte < device.pages) ⊎ (byte ≡ all_pages)
 
-  -- The device takes a byte behind some that it took: a body that is allowed there begins so, and a
+  -- The device takes a byte after some that it took: a body that is allowed there begins so, and a
   -- page is there.
   pub record TakesByte (place : LegPlace) (bytes : List ℕ) (byte : ℕ) : Type 0 where
     pub begins : BeginsAt place (bytes ++ byte ∷ [])
     pub page : IsPageValue bytes byte
 
-  -- It takes each of some bytes, behind those that it took.
+  -- It takes each of some bytes, after those that it took.
   abbrev pub TakesAll : LegPlace → List ℕ → List ℕ → Type 0
   TakesAll place taken [] = Unit {0}
   TakesAll place taken (byte ∷ bytes) = TakesByte place taken byte × TakesAll place (taken ++ byte ∷ []) bytes
@@ -61,14 +61,15 @@ module _ (device : DeviceParts) where
     pub own : address ≡ write_address device.address
     pub once : some_is_to (write_address device.address) earlier ≡ false
 
-  -- The device is asked: the body of a read or of a call is in the packet's first leg, which is written to it.
+  -- The device is asked: the body of a read or of a call is in the packet's first leg, which is
+  -- written to it.
   pub record IsAsked (earlier : List Leg) (body : List ℕ) : Type 0 where
     pub first : Leg
     pub alone : earlier ≡ first ∷ []
     pub own : sent first ≡ write_address device.address ∷ body
     pub request : IsReadBody device body ⊎ IsCallBody device body
 
-  -- The leg reads the device: it begins with the device's address for reading, directly behind the
+  -- The leg reads the device: it begins with the device's address for reading, directly after the
   -- packet's first leg, in which the device is asked.
   pub record IsRead (earlier : List Leg) (address : ℕ) (body : List ℕ) : Type 0 where
     pub own : address ≡ read_address device.address
@@ -98,8 +99,8 @@ module _ (device : DeviceParts) where
   is_ended (Nack ∷ leg) = true
   is_ended (Stop ∷ leg) = is_ended leg
 
-  -- Whether the last byte asked for still waits for the host's ACK behind some signals, and how many are
-  -- given in them: one for each Ask that does not come while another one waits.
+  -- Whether the last byte asked for still waits for the host's ACK after some signals, and how many
+  -- are given in them: one for each Ask that does not come while another one waits.
   abbrev pub waits_behind : Bool → Leg → Bool
   waits_behind waiting [] = waiting
   waits_behind waiting (Start ∷ leg) = waits_behind waiting leg
@@ -123,15 +124,15 @@ module _ (device : DeviceParts) where
   byte_or_silent None = answers.Silent
   byte_or_silent (Some byte) = answers.Byte byte
 
-  -- What an Ask gets behind an address and some signals, in a leg with a reply of these bytes: the next
-  -- byte, unless one waits for its ACK, the host ended the reply, or all were given.
+  -- What an Ask gets after an address and some signals, in a leg with a reply of these bytes: the
+  -- next byte, unless one waits for its ACK, the host ended the reply, or all were given.
   abbrev pub next_of : List ℕ → Leg → DeviceSignal
   next_of bytes leg =
       if is_ended leg || waits_behind false leg then answers.Silent else byte_or_silent (slice_get bytes (given_behind false leg))
 
   -- ---- answers
 
-  -- to a byte behind an address, where the leg is written to the device
+  -- to a byte after an address, where the leg is written to the device
   abbrev pub AnswersWritten : LegPlace → List ℕ → ℕ → DeviceSignal → Type 0
   AnswersWritten place bytes byte result =
       Whether (TakesAll place [] bytes) (Whether (TakesByte place bytes byte) (result ≡ answers.Ack) (result ≡ answers.Nack)) (result ≡ answers.Silent)
@@ -148,7 +149,7 @@ module _ (device : DeviceParts) where
     others : (IsWritten earlier address → ⊥) → ((body : List ℕ) → IsRead earlier address body → ⊥) → result ≡ answers.Silent
         → AnswersAddress state earlier address result
 
-  -- to a byte in a leg in which some bytes were sent: an address, or one behind it
+  -- to a byte in a leg in which some bytes were sent: an address, or one after it
   abbrev pub AnswersByte : DeviceState → List Leg → List ℕ → ℕ → DeviceSignal → Type 0
   AnswersByte state earlier [] byte result = AnswersAddress state earlier byte result
   AnswersByte state earlier (address ∷ bytes) byte result =
@@ -162,7 +163,7 @@ module _ (device : DeviceParts) where
     not_read : ((address : ℕ) (bytes : List ℕ) → sent leg ≡ address ∷ bytes → (body : List ℕ) → IsRead earlier address body
         → (reply : List ℕ) → answer device state body ≡ Ok reply → ⊥) → result ≡ answers.Silent → AnswersAsk state earlier leg result
 
-  -- What the device answers to a signal behind those of a packet, in its state since the last STOP.
+  -- What the device answers to a signal after those of a packet, in its state since the last STOP.
   -- Outside of legs it is silent, and to START, ACK, NACK and STOP.
   abbrev pub Answers : DeviceState → Legs → HostSignal → DeviceSignal → Type 0
   Answers state Outside signal result = result ≡ answers.Silent

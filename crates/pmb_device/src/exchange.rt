@@ -1,10 +1,10 @@
 //! What a device does in the packet under way, without its registers.
 //!
 //! [`Phase`] says what it does with the signals of the leg under way: what each phase says of the
-//! signals that came stands in `specs/machine/Standing`. In its own leg a byte is taken or refused as
-//! it comes; what the leg does is told at STOP. Its registers are needed at two places alone: where
-//! it is read and was asked something ([`Heard::Read`]), and at STOP ([`Exchange::outcome`]). To legs
-//! of others it is silent, and each of their signals is one comparison.
+//! signals that came stands in `specs/machine/Standing`. In its own leg a byte is taken or refused
+//! as it comes; what the leg does is told at STOP. Its registers are needed at two places alone:
+//! where it is read and was asked something ([`Heard::Read`]), and at STOP ([`Exchange::outcome`]).
+//! To legs of others it is silent, and each of their signals is one comparison.
 
 ghost use Rattle.std.specs.Prelude.{◌≡◌, ◌≢◌, ◌≤◌, ◌↔◌, ◌∷◌, [], ◌++◌, ℕ, List, IsTrue, Ok, Err, Some, None, length, false, true};
 ghost use Rattle.pmb_command.specs.Parts.{DeviceParts};
@@ -38,7 +38,7 @@ pub enum Heard {
     Ack,
     /// It refuses the byte.
     Nack,
-    /// It is read, behind the body of [`Exchange::body`]: whether it answers is for its registers to
+    /// It is read, after the body of [`Exchange::body`]: whether it answers is for its registers to
     /// tell, and [`Exchange::reply`] or [`Exchange::refuse`] has to follow.
     Read,
 }
@@ -63,7 +63,7 @@ pub(crate) enum Phase {
     Deaf,
     /// It replies.
     Reply,
-    /// START came, and no byte behind it.
+    /// START came, and no byte after it.
     Start,
     /// It takes the bytes of its own leg.
     Written,
@@ -76,13 +76,13 @@ pub struct Exchange<'p> {
     phase: Phase,
     /// Which leg of its packet the one under way is.
     place: LegPlace,
-    /// Whether the packet's first leg is its own, and the leg under way stands directly behind it.
+    /// Whether the packet's first leg is its own, and the leg under way stands directly after it.
     behind_first: bool,
     /// Whether a leg of the packet is its own; the four fields below speak of that one.
     own: bool,
     /// Whether it refused a byte of it.
     refused: bool,
-    /// Whether its address for reading came behind it.
+    /// Whether its address for reading came after it.
     read: bool,
     /// What it notes in STATUS_CML at STOP.
     noted: Option<CmlBit>,
@@ -96,8 +96,8 @@ pub struct Exchange<'p> {
     waits: bool,
 }
 
-/// Whether a byte is no page number that the device lacks: behind the code of PAGE alone it is a page
-/// of the device, or ffh for all of them.
+/// Whether a byte is no page number that the device lacks: after the code of PAGE alone it is a
+/// page of the device, or ffh for all of them.
 fn is_page_value(device: &DeviceProfile, bytes: &[u8], byte: u8) -> bool
     ensures { IsTrue result ↔ IsPageValue device.now bytes.now byte }
 {
@@ -107,7 +107,7 @@ fn is_page_value(device: &DeviceProfile, bytes: &[u8], byte: u8) -> bool
     }
 }
 
-/// What is noted where a byte is refused behind these.
+/// What is noted where a byte is refused after these.
 fn refusal_bit(bytes: &[u8]) -> CmlBit
     ensures { (byte : ℕ) → Some result ≡ bit_of_sent (bytes.now ++ byte ∷ []) }
 {
@@ -118,7 +118,8 @@ fn refusal_bit(bytes: &[u8]) -> CmlBit
     }
 }
 
-/// Takes a byte in a leg that is written to the device, and tells whether it did. Else nothing changes.
+/// Takes a byte in a leg that is written to the device, and tells whether it did. Else nothing
+/// changes.
 fn take_byte(leg: &mut WrittenLeg, device: &DeviceProfile, byte: u8) -> bool
     ensures takes { leg.old.device ≡ device.now → (IsTrue result ↔ TakesByte device.now leg.old.place leg.old.bytes byte) }
     ensures taken { IsTrue result → leg.new ≡ record leg.old { bytes = leg.old.bytes ++ byte ∷ [] } }
@@ -245,7 +246,7 @@ impl<'p> Exchange<'p> {
         }
     }
 
-    /// Takes its own address for reading, behind its own leg.
+    /// Takes its own address for reading, after its own leg.
     fn be_read(&mut self) -> Heard
         requires phase { self.old.phase ≡ Phase.Start }
         requires own { self.old.own ≡ true }
@@ -273,7 +274,7 @@ impl<'p> Exchange<'p> {
         self.phase = Phase::Written;
     }
 
-    /// Whether its registers have to answer what its own leg asks, directly behind that.
+    /// Whether its registers have to answer what its own leg asks, directly after that.
     fn is_asked(&self) -> bool
         ensures asked { IsTrue result → IsAskable self.now }
         ensures not_asked { result ≡ false → IsAskable self.now → ⊥ }
@@ -281,7 +282,7 @@ impl<'p> Exchange<'p> {
         self.behind_first && !self.refused && self.leg.asked().is_some()
     }
 
-    /// Takes or refuses a byte behind the address of its own leg.
+    /// Takes or refuses a byte after the address of its own leg.
     fn data_byte(&mut self, byte: u8) -> Heard
         requires { self.old.phase ≡ Phase.Written }
         ensures { (device : DeviceParts) (state : DeviceState) (legs : Legs) → StandsIn self.old device state legs
@@ -296,7 +297,7 @@ impl<'p> Exchange<'p> {
         Heard::Nack
     }
 
-    /// What the device is asked: the code and the bytes behind it in its own leg.
+    /// What the device is asked: the code and the bytes after it in its own leg.
     pub fn body(&self) -> &[u8]
         ensures { (device : DeviceParts) (state : DeviceState) (legs : Legs) (byte : ℕ) (body : List ℕ)
             → IsAskedIn self.now device state legs byte body → result.now ≡ body }

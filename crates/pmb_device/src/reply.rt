@@ -46,7 +46,7 @@ fn form_of_request(device: &DeviceProfile, leg: &WrittenLeg) -> Option<Form>
     }
 }
 
-/// The packet error code of some bytes and more behind them, where `so_far` is that of the former.
+/// The packet error code of some bytes and more after them, where `so_far` is that of the former.
 fn pec_over(so_far: u8, bytes: &[u8]) -> u8
     ensures { (front : List ℕ) → pec front ≡ so_far → result ≡ pec (front ++ bytes.now) }
 {
@@ -57,7 +57,7 @@ fn pec_over(so_far: u8, bytes: &[u8]) -> u8
     crc
 }
 
-/// The packet error code of a leg that is written, and of the address behind it that is read.
+/// The packet error code of a leg that is written, and of the address after it that is read.
 fn pec_in_front(device: &DeviceProfile, body: &[u8]) -> u8
     ensures { result ≡ pec (write_address device.now.address ∷ body.now ++ read_address device.now.address ∷ []) }
 {
@@ -80,7 +80,7 @@ fn put_wire(bytes: &mut ArrayVec<u8, 257>, form: Form, content: &[u8])
     let _ = bytes.try_extend_from_slice(content);
 }
 
-/// Puts the packet error code behind the bytes of a reply, where the device's packets have one.
+/// Puts the packet error code after the bytes of a reply, where the device's packets have one.
 fn put_code(bytes: &mut ArrayVec<u8, 257>, device: &DeviceProfile, body: &[u8])
     requires { length bytes.old.items ≤ 256 }
     ensures { bytes.new.items ≡ checked (carries_pec device.now device.now.pec)

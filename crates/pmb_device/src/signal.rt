@@ -9,9 +9,9 @@ pub enum HostSignal {
     Byte(u8),
     /// The clocks for a byte that a device is to put on the bus.
     Ask,
-    /// ACK behind such a byte.
+    /// ACK after such a byte.
     Ack,
-    /// NACK behind such a byte.
+    /// NACK after such a byte.
     Nack,
     /// STOP.
     Stop,

@@ -24,7 +24,7 @@ use Rattle.pmb_devices.proofs.ReadLegs.{alerts_change_nothing, answered_changes_
 use Rattle.pmb_devices.proofs.Refusals.{address_refused, byte_refused, read_refused}
 use Rattle.pmb_devices.proofs.Writes.{PartLegs, by_test, others_leave, parts_act, parts_elsewhere, run_parts}
 
--- behind legs that ended, none is under way outside of a packet
+-- after legs that ended, none is under way outside of a packet
 closed_ends : (device : DeviceParts) (legs : Legs) (before after : DeviceState) → Ends device legs before after → LegsEnd device (closed legs) before after
 closed_ends device Outside before after same = no_leg refl same
 closed_ends device (Inside earlier leg) before after ends = ends
@@ -34,7 +34,7 @@ module _ (profile : List DeviceParts) (members : List InState) (member : InState
     (after : DeviceState) (ends : LegsEnd member.device (closed final) member.state after) where
   -- ---- complete parts
 
-  -- What STOP makes of a member behind the legs of parts.
+  -- What STOP makes of a member after the legs of parts.
   parts_end : (parts : List PartData) (legs : List Leg) → PartLegs profile members [] parts legs → IsDistinct nat_eq (addresses parts)
       → LegsEnd member.device legs member.state after → after ≡ after_parts member.device parts member.state
   parts_end parts legs each distinct ended =

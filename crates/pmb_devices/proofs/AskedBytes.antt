@@ -84,7 +84,7 @@ some_sent (Stop ∷ s) c behind is = some_sent s c behind is
 -- ---- signals of the leg
 
 module _ (members : List InState) (final : Legs) (alone : HasAddressAlone final) (earlier : List Leg) (r : ℕ) where
-  -- the host sent no byte behind the address
+  -- the host sent no byte after the address
   no_byte : (s : Leg) (c : ℕ) (events : List Event) → has_start events ≡ false
       → Stands members final (Inside earlier ((Byte r ∷ s) ++ Byte c ∷ [])) events → ⊥
   no_byte s c events none stands =

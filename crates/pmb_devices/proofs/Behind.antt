@@ -1,4 +1,4 @@
--- Where a bus stands behind one signal more.
+-- Where a bus stands after one signal more.
 use Rattle.std.proofs.Common.{subst, ◌≡◌, ◌≢◌, List, [], ◌∷◌, ◌++◌, map, refl, ap}
 use Rattle.pmb_command.specs.Parts.{DeviceParts}
 use Rattle.pmb_registers.specs.State.{InState}
@@ -15,7 +15,7 @@ use Rattle.pmb_devices.specs.machine.Hands.{AllMoved}
 
 -- ---- what came since the last STOP
 
--- the legs behind one signal more
+-- the legs after one signal more
 pub legs_behind : (legs : Legs) (history : List AnsweredSignal) (next : AnsweredSignal) → legs_after legs (history ++ next ∷ []) ≡ with_signal (legs_after legs history) next.signal
 legs_behind legs [] next = refl
 legs_behind legs (exchange ∷ history) next = legs_behind (with_signal legs exchange.signal) history next
@@ -39,7 +39,7 @@ led standing Ack d other leads = leads
 led standing Nack d other leads = leads
 led standing Stop d other leads = absurd (other refl)
 
--- Behind a signal other than STOP all devices stand behind it.
+-- After a signal other than STOP all devices stand after it.
 pub all_stand_behind : (legs : Legs) (signal : HostSignal) → signal ≢ Stop → (devices : List Device) (members : List InState) (results : List DeviceSignal)
     → AllMoved legs signal devices members results → AllStand (with_signal legs signal) devices members
 all_stand_behind legs signal other [] [] [] all = tt

@@ -96,7 +96,7 @@ is_at page code r = nat_eq r.code code && is_of_page page r.page
 abbrev one_register : ℕ → List ℕ → Option ℕ → RegisterData
 one_register code bytes page = record { code = code; page = page; bytes = bytes }
 
--- the first one, or one behind it
+-- the first one, or one after it
 held_first : (test : Bool) (r : RegisterData) (rest : Option RegisterData) (bytes : List ℕ) → r.bytes ≡ bytes
     → (test ≡ false → bytes_of rest ≡ Some bytes) → bytes_of (cond test (Some r) rest) ≡ Some bytes
 held_first true r rest bytes same later = ap (λ (bs : List ℕ). Some bs) same

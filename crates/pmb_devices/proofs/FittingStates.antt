@@ -35,7 +35,7 @@ module _ (page code : ℕ) (P : List ℕ → Type 0) where
   abbrev pub Has : Option RegisterData → Type 0
   Has found = (bytes : List ℕ) × (bytes_of found ≡ Some bytes) × P bytes
 
-  -- the register in front is the one, or another behind it
+  -- the register in front is the one, or another after it
   chosen : (test : Bool) (r after : RegisterData) (rest behind : Option RegisterData) → (test ≡ true → P r.bytes → P after.bytes)
       → (Has rest → Has behind) → Has (cond test (Some r) rest) → Has (cond test (Some after) behind)
   chosen true r after rest behind here later has = (after.bytes, refl, here refl (subst P (sym (same_Some r.bytes has.0 has.1)) has.2))
@@ -56,7 +56,7 @@ module _ (page code : ℕ) (P : List ℕ → Type 0) where
         ) later has
     front_changed false r rest behind coded later has = chosen (is_at page code r) r r rest behind (λ here such. such) later has
 
-    -- what is found behind a change is such
+    -- what is found after a change is such
     pub has_changed : (rs : List RegisterData) → Has (find (is_at page code) rs)
         → Has (find (is_at page code) (changed selected codes change rs))
     has_changed [] has = absurd (cc (has.1))

@@ -1,4 +1,5 @@
--- The bytes of a leg that is written, each with the answer of the bus, and what a member took of them.
+-- The bytes of a leg that is written, each with the answer of the bus, and what a member took of
+-- them.
 use Rattle.std.proofs.Common.{◌≡◌, ℕ, inl, inr, List, [], ◌∷◌, ◌++◌, None, Result, Ok, Err, refl, sym, ap, subst, ◌∙◌, append_assoc, arith}
 use Rattle.std.specs.List.{Contains}
 use Rattle.std.proofs.lemmas.List.{append-nil}
@@ -85,14 +86,14 @@ ack_to_read device state earlier body is (others none nor silent) = absurd (nor 
 -- ---- runs of bytes
 
 module _ (members : List InState) where
-  -- each byte had ACK, behind some of its leg
+  -- each byte had ACK, after some of its leg
   abbrev pub Acked : List Leg → List ℕ → List ℕ → Type 0
   Acked earlier front [] = Unit {0}
   Acked earlier front (b ∷ bytes) =
       BusAnswers members (Inside earlier (byte_leg front)) (Byte b) answers.Ack × Acked earlier (front ++ b ∷ []) bytes
 
   module _ (final : Legs) where
-    -- Bytes were sent behind others of a leg that is written, and had ACK.
+    -- Bytes were sent after others of a leg that is written, and had ACK.
     pub record Ran (earlier : List Leg) (addr : ℕ) (done bytes : List ℕ) (rest : List Event) : Type 0 where
       pub acked_are : Acked earlier (write_address addr ∷ done) bytes
       pub stands : Stands members final (Inside earlier (byte_leg (write_address addr ∷ done ++ bytes))) rest
@@ -159,7 +160,7 @@ module _ (members : List InState) where
     member_answers legs signal result bus =
         All-contains (AnswersOrSilent legs signal result) members member (All-from_recursion (AnswersOrSilent legs signal result) members bus.each) in_bus
 
-    -- The answer to a byte behind bytes that the member took, in a leg that is written to it.
+    -- The answer to a byte after bytes that the member took, in a leg that is written to it.
     answer_written : (earlier : List Leg) (address : ℕ) (bytes : List ℕ) (b : ℕ) (result : DeviceSignal) → IsWritten member.device earlier address
         → TakesAll member.device (leg_place earlier) [] bytes
         → AnswersByte member.device member.state earlier (sent (byte_leg (address ∷ bytes))) b result

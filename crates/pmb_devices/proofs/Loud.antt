@@ -1,4 +1,5 @@
--- At most one device of a bus is not silent at a signal: the one to whose address the leg under way is.
+-- At most one device of a bus is not silent at a signal: the one to whose address the leg under way
+-- is.
 use Rattle.std.proofs.Common.{◌≡◌, ◌≢◌, ℕ, zero, suc, ◌<◌, ◌⊎◌, inl, inr, false, List, [], ◌∷◌, length, map, get_or, nat_eq, refl, sym, ap, ◌∙◌, arith}
 use Rattle.std.specs.List.{AllByRecursion, Contains, IsDistinct}
 use Rattle.std.proofs.lemmas.Bool.{eqb-false}
@@ -17,7 +18,7 @@ use Rattle.pmb_devices.specs.machine.Hands.{AllMoved, last_loud, or_else}
 
 -- ---- to whom a signal speaks
 
--- the first of some bytes, or one behind none
+-- the first of some bytes, or one after none
 abbrev first_or : List ℕ → ℕ → ℕ
 first_or [] byte = byte
 first_or (address ∷ bytes) byte = address

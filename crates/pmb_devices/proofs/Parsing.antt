@@ -1,4 +1,4 @@
--- The signals from which events were recorded: START from START alone, and a byte behind an address
+-- The signals from which events were recorded: START from START alone, and a byte after an address
 -- for writing from the host's byte alone.
 use Rattle.std.proofs.Common.{◌≡◌, ◌≢◌, ℕ, false, List, [], ◌∷◌, ◌++◌, refl, sym, ap, subst, ◌∙◌, append_assoc}
 use Rattle.std.proofs.lemmas.List.{append-nil}
@@ -44,7 +44,7 @@ acknowledged_is answers.Ack is = refl
 acknowledged_is answers.Nack is = absurd (cc is)
 acknowledged_is (answers.Byte b) is = absurd (cc is)
 
--- events behind one of which none is START
+-- events after one of which none is START
 pub no_start_behind : (event : Event) (more : List Event) → has_start (event ∷ more) ≡ false → has_start more ≡ false
 no_start_behind wire.Start more none = absurd (cc none)
 no_start_behind (wire.Byte b) more none = none
@@ -62,7 +62,7 @@ abbrev pub IsUnread : Leg → Type 0
 IsUnread leg = (n : ℕ) (bytes : List ℕ) → sent leg ≡ read_address n ∷ bytes → ⊥
 
 module _ (members : List InState) (final : Legs) where
-  -- Behind some legs events and STOP were recorded, of signals that led to the final legs.
+  -- After some legs events and STOP were recorded, of signals that led to the final legs.
   pub record Stands (legs : Legs) (events : List Event) : Type 0 where
     pub more : List AnsweredSignal
     pub answered : AreAnswered members legs more
@@ -93,7 +93,7 @@ module _ (members : List InState) (final : Legs) where
   started Outside events stands = stands
   started (Inside earlier leg) events stands = stands
 
-  -- Behind START a leg begins.
+  -- After START a leg begins.
   pub behind_start : (legs : Legs) (rest : List Event) → Stands legs (wire.Start ∷ rest) → Stands (Inside (closed legs) []) rest
   behind_start legs rest stands = started legs rest (start_from legs rest stands.more stands.answered stands.spelled stands.ends)
 
@@ -154,7 +154,7 @@ module _ (members : List InState) (final : Legs) where
   byte_from earlier leg b event rest unread (exchange ∷ more) answered spelled ends =
       byte_of earlier leg b event rest unread exchange.signal exchange.result more answered.1 answered.2 spelled ends
 
-  -- Behind a byte in a leg that reads no device stands the host's byte.
+  -- After a byte in a leg that reads no device stands the host's byte.
   pub behind_byte : (earlier : List Leg) (leg : Leg) (b : ℕ) (event : Event) (rest : List Event) → IsUnread leg
       → Stands (Inside earlier leg) (wire.Byte b ∷ event ∷ rest) → Sent earlier leg b event rest
   behind_byte earlier leg b event rest unread stands =

@@ -1,5 +1,5 @@
--- Packets in which a device is read: behind its own leg there is one that begins with its address for
--- reading, or the Alert Response Address alone.
+-- Packets in which a device is read: after its own leg there is one that begins with its address
+-- for reading, or the Alert Response Address alone.
 use Rattle.std.proofs.Common.{◌≡◌, ℕ, ◌⊎◌, inl, inr, Bool, true, false, ◌||◌, Option, List, [], ◌∷◌, ◌++◌, nat_eq, refl, sym, ap, subst, ◌∙◌, append_assoc}
 use Rattle.std.specs.List.{Contains}
 use Rattle.std.proofs.lemmas.Bool.{eqb-true, or_from}
@@ -35,7 +35,7 @@ module _ (members : List InState) (member : InState) (in_bus : Contains members 
   elsewhere_read n bytes leg is =
       is_to_other (write_address member.device.address) (read_address n) bytes leg (λ same. no_read_address member.device.address n (sym same)) is
 
-  -- What STOP makes of a member behind a leg that is written and one that is read.
+  -- What STOP makes of a member after a leg that is written and one that is read.
   pub data TwoLegsEnd (addr : ℕ) (body : List ℕ) (after : DeviceState) : Type 0 where
     own : addr ≡ member.device.address → after ≡ with_noted member.device (bit_of_answer (answer member.device member.state body)) member.state
         → TwoLegsEnd addr body after

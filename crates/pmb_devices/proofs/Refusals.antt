@@ -1,4 +1,5 @@
--- A leg that is refused behind complete parts: its address, a byte, or the address for reading behind it.
+-- A leg that is refused after complete parts: its address, a byte, or the address for reading after
+-- it.
 use Rattle.std.proofs.Common.{◌≡◌, ℕ, ◌⊎◌, inl, inr, Bool, true, false, if◌then◌else◌, Some, List, [], ◌∷◌, ◌++◌, nat_eq, refl, sym, ap, subst, ◌∙◌, append_assoc}
 use Rattle.std.specs.List.{Contains, IsDistinct, list_any}
 use Rattle.std.proofs.lemmas.Bool.{eq-eqb, eqb-true, or_from}
@@ -46,7 +47,7 @@ module _ (device : DeviceParts) (place : LegPlace) where
   takes_last taken (b ∷ front) last all =
       subst (λ (bs : List ℕ). TakesByte device place bs last) (append_assoc taken (b ∷ []) front) (takes_last (taken ++ b ∷ []) front last all.1)
 
-  -- There is one byte that is refused behind bytes that are taken.
+  -- There is one byte that is refused after bytes that are taken.
   pub record SameByte (front before : List ℕ) (last byte : ℕ) : Type 0 where
     pub fronts : front ≡ before
     pub bytes : last ≡ byte
@@ -105,7 +106,8 @@ nothing_acts device before after (no_write none same) = same
 
 module _ (profile : List DeviceParts) (members : List InState) (member : InState) (in_bus : Contains members member)
     (the_own : (found : DeviceParts) → device_with member.device.address profile ≡ Some found → found ≡ member.device) where
-  -- Parts, and one leg more that is written: where that is the member's own, STOP notes what it refused.
+  -- Parts, and one leg more that is written: where that is the member's own, STOP notes what it
+  -- refused.
   last_ends : (parts : List PartData) (addr : ℕ) (bytes : List ℕ) (legs : List Leg) (last : Leg) (after : DeviceState)
       → PartLegs profile members [] parts legs → IsDistinct nat_eq (addresses parts) → IsNew addr (addresses parts)
       → sent last ≡ write_address addr ∷ bytes
@@ -150,14 +152,14 @@ module _ (profile : List DeviceParts) (members : List InState) (member : InState
       )
       )
 
-  -- behind some parts the bodies are those of a later leg
+  -- after some parts the bodies are those of a later leg
   allowed_at : (device : DeviceParts) (parts : List PartData) (legs : List Leg) (body : List ℕ) → PartLegs profile members [] parts legs
       → Allowed device parts body → AllowedAt device (leg_place legs) body
   allowed_at device [] legs body each allowed = subst (λ (ls : List Leg). AllowedAt device (leg_place ls) body) (sym each) allowed
   allowed_at device (part ∷ parts) legs body each allowed =
       subst (λ (ls : List Leg). AllowedAt device (leg_place ls) body) (sym each.2) allowed
 
-  -- a byte has a place behind those in front of it
+  -- a byte has a place after those before it
   room_at : (device : DeviceParts) (parts : List PartData) (legs : List Leg) (front : List ℕ) → PartLegs profile members [] parts legs
       → (front ≡ []) ⊎ ((body : List ℕ) × Allowed device parts body × IsProperPrefix front body) → GoesOn device (leg_place legs) front
   room_at device parts legs front each (inl none) = inl none

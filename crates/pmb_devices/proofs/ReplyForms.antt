@@ -19,7 +19,7 @@ use Rattle.pmb_device.specs.Exchange.{IsFormOfRequest}
 use Rattle.pmb_devices.specs.Replies.{IsState}
 use Rattle.pmb_devices.proofs.Commands.{coefficients_kept, command_code, command_is, command_of, kept_at, kept_is, read_register}
 
--- ---- data in front of others
+-- ---- data before others
 
 -- as many bytes in front are the same
 front_is : (n : ℕ) (a b behind more : List ℕ) → length a ≡ n → length b ≡ n → a ++ behind ≡ b ++ more → a ≡ b

@@ -75,7 +75,7 @@ module _ (members : List InState) (member : InState) (same : (m : InState) → C
   abbrev asked_leg : Leg
   asked_leg = byte_leg (write_address member.device.address ∷ body)
 
-  -- a device that is read behind the leg has the member's address, and was asked the body
+  -- a device that is read after the leg has the member's address, and was asked the body
   read_there : (device : DeviceParts) (address : ℕ) (others : List ℕ) → IsRead device (asked_leg ∷ []) address others
       → (device.address ≡ member.device.address) × (others ≡ body)
   read_there device address others is =
@@ -126,7 +126,7 @@ module _ (members : List InState) (member : InState) (same : (m : InState) → C
 
   module _ (in_bus : Contains members member) (final : Legs) (alone : HasAddressAlone final)
       (request : IsReadBody member.device body ⊎ IsCallBody member.device body) where
-    -- The member gave ACK to be read, and these bytes were recorded behind that.
+    -- The member gave ACK to be read, and these bytes were recorded after that.
     pub record Turned (bytes : List ℕ) : Type 0 where
       pub ok : bit_of_answer (answer member.device member.state body) ≡ None
       pub stands : Stands members final (Inside (asked_leg ∷ []) (Byte (read_address member.device.address) ∷ [])) (nacked bytes ++ event.Stop ∷ [])

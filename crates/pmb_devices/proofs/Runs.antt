@@ -93,7 +93,7 @@ pub first_devices : (profile : List DeviceParts) → map (λ m. m.device) (first
 first_devices profile =
     map-map (λ (m : InState). m.device) (λ (d : DeviceParts). record { device = d; state = first_state d }) profile ∙ map-id profile
 
--- transactions behind a first one
+-- transactions after a first one
 one_then_others : (t : TransactionData) (ts : List TransactionData) (members : List InState)
     → all_after ts (map (after_one t) members) ≡ all_after (t ∷ ts) members
 one_then_others t ts members =
@@ -170,7 +170,8 @@ module _ (profile : List DeviceParts) where
 
     -- ---- a run
 
-    -- A stretch that is a transaction's packet makes of the devices what the transaction makes of them.
+    -- A stretch that is a transaction's packet makes of the devices what the transaction makes of
+    -- them.
     stretch_applied : (members next : List InState) (stretch : List AnsweredSignal) (t : TransactionData) → map (λ m. m.device) members ≡ profile
         → AreAnswered members Outside stretch → Packet profile t (recorded_events stretch ++ wire.Stop ∷ [])
         → AllEnd (legs_after Outside stretch) members next → next ≡ map (after_one t) members
@@ -178,7 +179,7 @@ module _ (profile : List DeviceParts) where
         all_are_applied t (legs_after Outside stretch) members next ends
         (λ member after inside ended. transactions_are_applied profile members stretch t member after bus are answered packet inside ended)
 
-    -- where a run's first stretch ends, and what comes behind it
+    -- where a run's first stretch ends, and what comes after it
     first_stretch : (stretch : List AnsweredSignal) (more : List (List AnsweredSignal)) (history : List AnsweredSignal)
         → run_events (stretch ∷ more) ++ recorded_events history ≡ recorded_events stretch ++ wire.Stop ∷ (run_events more ++ recorded_events history)
     first_stretch stretch more history =

@@ -1,4 +1,5 @@
--- A reading goes from STOP to STOP: what is accepted or refused takes the events up to and with the first one.
+-- A reading goes from STOP to STOP: what is accepted or refused takes the events up to and with the
+-- first one.
 use Rattle.std.proofs.Common.{◌≡◌, ◌≢◌, ℕ, ◌+◌, ◌⊎◌, inl, inr, List, [], ◌∷◌, ◌++◌, length, refl, sym, ap, subst, ◌∙◌, append_assoc}
 use Rattle.pmb_bus.specs.declared.event.Event.{Event}
 use Rattle.pmb_bus.specs.declared.event.Event.TheVariants.{Stop}
@@ -16,7 +17,7 @@ pub no_stop_in_none : HasNoStop []
 no_stop_in_none [] after split = cc split
 no_stop_in_none (e ∷ before) after split = cc split
 
--- nor do those behind an event that is none
+-- nor do those after an event that is none
 pub no_stop_behind : (event : Event) (events : List Event) → event ≢ Stop → HasNoStop events → HasNoStop (event ∷ events)
 no_stop_behind event events other none [] after split = other (cc split)
 no_stop_behind event events other none (e ∷ before) after split = none before after (cc split)
@@ -30,7 +31,7 @@ not_none (e ∷ front) event rest split = cc split
 pub first_is_other : (event : Event) (events : List Event) → HasNoStop (event ∷ events) → event ≢ Stop
 first_is_other event events none is = none [] events (ap (λ (e : Event). e ∷ events) is)
 
--- nor do those behind the first hold one
+-- nor do those after the first hold one
 pub no_stop_in_tail : (event : Event) (events : List Event) → HasNoStop (event ∷ events) → HasNoStop events
 no_stop_in_tail event events none before after split = none (event ∷ before) after (ap (λ (es : List Event). event ∷ es) split)
 
@@ -40,7 +41,7 @@ no_stop-append [] b none nor = nor
 no_stop-append (e ∷ a) b none nor =
     no_stop_behind e (a ++ b) (first_is_other e a none) (no_stop-append a b (no_stop_in_tail e a none) nor)
 
--- there is an outcome in front of none
+-- there is an outcome before none
 nothing_behind : (outcomes : List Outcome) (last : Outcome) → outcomes ++ last ∷ [] ≡ [] → ⊥
 nothing_behind [] last same = cc same
 nothing_behind (o ∷ outcomes) last same = cc same
@@ -58,7 +59,7 @@ same_cut (d ∷ a) (e ∷ b) x y none nor same =
     let tails : a ≡ b = rest.0 in
     (cc (first, tails), rest.1)
 
--- Events that end with a STOP, and others behind them that end with one: what is left of them behind
+-- Events that end with a STOP, and others after them that end with one: what is left of them after
 -- the first STOP.
 record Left (since rest : List Event) : Type 0 where
   before : List Event
@@ -80,7 +81,7 @@ left_behind since [] (e ∷ front) rest none same = one_more_left since front re
 left_behind since (e ∷ a) [] rest none same = absurd (first_is_other e a none (cc same))
 left_behind since (d ∷ a) (e ∷ front) rest none same = left_behind since a front rest (no_stop_in_tail d a none) (cc same)
 
--- The first STOP is the last one, or events are left that end so behind it.
+-- The first STOP is the last one, or events are left that end so after it.
 behind_first : (since a before rest : List Event) → HasNoStop a → AreStopped before → HasNoStop since
     → a ++ Stop ∷ rest ≡ before ++ (since ++ Stop ∷ []) → ((a ≡ since) × (rest ≡ [])) ⊎ Left since rest
 behind_first since a before rest none (inl empty) nor same =
@@ -99,14 +100,14 @@ behind_first since a before rest none (inr w) nor same =
 module _ (profile : List DeviceParts) where
   -- ---- what each outcome takes
 
-  -- A packet in front of others goes up to the first STOP.
+  -- A packet before others goes up to the first STOP.
   pub record UpToStop (t : TransactionData) (events rest : List Event) : Type 0 where
     pub front : List Event
     pub no_stop : HasNoStop front
     pub packet : Packet profile t (front ++ Stop ∷ [])
     pub split : events ≡ front ++ Stop ∷ rest
 
-  -- no transaction is accepted in front of no events
+  -- no transaction is accepted before no events
   pub not_in_none : (t : TransactionData) (rest : List Event) → UpToStop t [] rest → ⊥
   not_in_none t rest taken = no_stop_in_none taken.front rest taken.split
 
@@ -131,7 +132,8 @@ module _ (profile : List DeviceParts) where
 
     -- ---- to the last STOP
 
-    -- What is read last is behind the first STOP, so it is no other than the last one that what is left has.
+    -- What is read last is after the first STOP, so it is no other than the last one that what is
+    -- left has.
     goes_on : (n : ℕ) (more : List Outcome) (t : TransactionData) (since a before rest : List Event) → HasNoStop a → AreStopped before → HasNoStop since
         → a ++ Stop ∷ rest ≡ before ++ (since ++ Stop ∷ []) → ReadsFrom profile n rest (more ++ Accepted t ∷ [])
         → ((left : List Event) → AreStopped left → rest ≡ left ++ (since ++ Stop ∷ []) → Packet profile t (since ++ Stop ∷ []))

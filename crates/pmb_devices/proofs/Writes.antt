@@ -36,12 +36,12 @@ others_leave device (part ∷ parts) state new =
     ap (λ (b : Bool). after_parts device parts (if b then after_write device part.code part.bytes state else state)) other
     ∙ others_leave device parts state both.1
 
--- a number that is none of some is not in front of others
+-- a number that is none of some is not before others
 pub none_of : (n : ℕ) (xs : List ℕ) → AllByRecursion (λ x. nat_eq n x ≡ false) xs → IsNew n xs
 none_of n [] all = refl
 none_of n (x ∷ xs) all = or_from (nat_eq n x) (list_any (nat_eq n) xs) all.0 (none_of n xs all.1)
 
--- the first of distinct numbers is new behind it, and the others are distinct
+-- the first of distinct numbers is new after it, and the others are distinct
 pub new_behind_first : (n : ℕ) (xs : List ℕ) → IsDistinct nat_eq (n ∷ xs) → IsNew n xs × IsDistinct nat_eq xs
 unfolding IsDistinct
 new_behind_first n xs own = (none_of n xs own.0, own.1)
@@ -82,7 +82,7 @@ module _ (profile : List DeviceParts) (members : List InState) where
     pub each : PartLegs (closed legs) parts new
     pub stands : Stands members final reached rest
 
-  -- the legs of parts, and what comes behind them
+  -- the legs of parts, and what comes after them
   pub run_parts : (final legs : Legs) (parts : List PartData) (events rest : List Event) → PartsEvents profile parts events
       → Stands members final legs (events ++ rest) → Reached final legs parts rest
   run_parts final legs [] events rest each stands = record {
@@ -180,7 +180,7 @@ module _ (profile : List DeviceParts) (members : List InState) where
           | inr w ↦ absurd (w.0 taken)
         ]
 
-    -- The part for the member acts, and those behind it do nothing to it.
+    -- The part for the member acts, and those after it do nothing to it.
     own_part_acts : (part : PartData) (parts : List PartData) (earlier : List Leg) (first : Leg) (later back : List Leg) (before after : DeviceState)
         → PartLeg earlier part first → PartLegs (earlier ++ first ∷ []) parts later → IsNew part.addr (addresses parts)
         → some_is_to (write_address member.device.address) earlier ≡ false → some_is_to (read_address member.device.address) back ≡ false

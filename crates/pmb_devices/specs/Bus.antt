@@ -1,8 +1,9 @@
 -- A bus of devices: what is recorded of the host's signals and the devices' answers.
 --
--- Each device answers for itself. A byte is recorded with ACK where a device gave one, and else with
--- NACK, as the wire has it (SMBus 3.0 section 6.5). An Ask to which no device gave a byte is recorded
--- as NACK alone, so that no byte stands in a capture that nobody sent: this project's own rule.
+-- Each device answers for itself. A byte is recorded with ACK where a device gave one, and else
+-- with NACK, as the wire has it (SMBus 3.0 section 6.5). An Ask to which no device gave a byte is
+-- recorded as NACK alone, so that no byte stands in a capture that nobody sent: this project's own
+-- rule.
 use Rattle.std.specs.Prelude.{◌≢◌, ◌⊎◌, List, [], ◌∷◌, ◌++◌}
 use Rattle.std.specs.List.{AllByRecursion, Contains}
 use Rattle.pmb_bus.specs.declared.event.Event.{Event}
@@ -60,14 +61,15 @@ pub record AnsweredSignal : Type 0 where
   pub signal : HostSignal
   pub result : DeviceSignal
 
--- what came since the last STOP: each signal, other than STOP, has the answer of the bus behind those before it
+-- what came since the last STOP: each signal, other than STOP, has the answer of the bus after
+-- those before it
 abbrev pub AreAnswered : List InState → Legs → List AnsweredSignal → Type 0
 AreAnswered members legs [] = Unit {0}
 AreAnswered members legs (exchange ∷ more) =
     (exchange.signal ≢ Stop) × BusAnswers members legs exchange.signal exchange.result
     × AreAnswered members (with_signal legs exchange.signal) more
 
--- the legs that they make, behind others
+-- the legs that they make, after others
 abbrev pub legs_after : Legs → List AnsweredSignal → Legs
 legs_after legs [] = legs
 legs_after legs (exchange ∷ more) = legs_after (with_signal legs exchange.signal) more

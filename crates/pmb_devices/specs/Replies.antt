@@ -22,7 +22,7 @@ pub record IsState (device : DeviceParts) (state : DeviceState) : Type 0 where
   pub holds : (code page : ℕ) (command : CommandParts) (form : Form) → command_with code device.commands ≡ Some command
       → register_form command.entry.shape ≡ Some form → (page < device.pages) ⊎ (command.entry.paged ≡ false) → Holds state code page form
 
--- In the leg under way the host sent an address and no byte behind it.
+-- In the leg under way the host sent an address and no byte after it.
 abbrev pub HasAddressAlone : Legs → Type 0
 HasAddressAlone Outside = ⊥
 HasAddressAlone (Inside earlier leg) = (address : ℕ) × (sent leg ≡ address ∷ [])

@@ -1,5 +1,5 @@
--- What a bus of devices went through since it was made: stretches of signals, each ended by STOP, and
--- what came since the last one.
+-- What a bus of devices went through since it was made: stretches of signals, each ended by STOP,
+-- and what came since the last one.
 use Rattle.std.specs.Prelude.{◌≡◌, ◌⊎◌, List, [], ◌∷◌, ◌++◌, map}
 use Rattle.pmb_bus.specs.declared.event.Event.{Event}
 use Rattle.pmb_bus.specs.declared.event.Event.TheVariants.{Stop}
@@ -17,7 +17,7 @@ use Rattle.pmb_devices.specs.Bus.{AreAnswered, AnsweredSignal, recorded_events, 
 abbrev pub first_members : List DeviceParts → List InState
 first_members profile = map (λ device. record { device = device; state = first_state device }) profile
 
--- Each device goes where STOP leads it behind these legs.
+-- Each device goes where STOP leads it after these legs.
 abbrev pub AllEnd : Legs → List InState → List InState → Type 0
 AllEnd legs [] [] = Unit {0}
 AllEnd legs [] (new ∷ news) = ⊥

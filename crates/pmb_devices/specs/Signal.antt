@@ -1,8 +1,8 @@
 -- What a bus answers to a signal, and what it makes of its devices.
 --
--- `BusStandsAt bus standing` says where a bus stands that was made from a profile and given some signals
--- since: `standing` has all of them, with their answers. What this says of the fields is in `machine`, and
--- nothing here needs it to be understood.
+-- `BusStandsAt bus standing` says where a bus stands that was made from a profile and given some
+-- signals since: `standing` has all of them, with their answers. What this says of the fields is in
+-- `machine`, and nothing here needs it to be understood.
 use Rattle.std.specs.Prelude.{◌≡◌, ◌≢◌, ℕ, List, [], ◌∷◌, ◌++◌, map}
 use Rattle.std.specs.List.{AllByRecursion, Contains}
 use Rattle.pmb_bus.specs.declared.event.Event.TheVariants as events
@@ -25,8 +25,8 @@ pub use Rattle.pmb_devices.specs.machine.Standing.{BusStanding, BusStandsAt}
 abbrev pub all_applied : TransactionData → List InState → List InState
 all_applied t members = map (λ member. record { device = member.device; state = apply member.device t member.state }) members
 
--- What STOP makes of the bus. Where it ends the packet of a transaction, whatever came before, that is
--- what the transaction makes of each device.
+-- What STOP makes of the bus. Where it ends the packet of a transaction, whatever came before, that
+-- is what the transaction makes of each device.
 pub record BusEnds (standing : BusStanding) (new : Bus) : Type 0 where
   pub members : List InState
   pub ends : AllEnd (legs_after Outside standing.history) standing.members members
@@ -35,7 +35,7 @@ pub record BusEnds (standing : BusStanding) (new : Bus) : Type 0 where
       → Packet (map (λ member. member.device) standing.members) t (recorded_events standing.history ++ events.Stop ∷ [])
       → members ≡ all_applied t standing.members
 
--- where the bus stands behind a signal and the answer to it, other than at STOP
+-- where the bus stands after a signal and the answer to it, other than at STOP
 abbrev pub behind : BusStanding → HostSignal → DeviceSignal → BusStanding
 behind standing signal result = record standing { history = standing.history ++ record { signal = signal; result = result } ∷ [] }
 

@@ -25,7 +25,7 @@ pub fn states_fit()
 {}
 
 /// Where what is recorded since the last STOP is, with STOP, the packet of a read or a call, and
-/// the host sent no byte behind the address for reading, the reply is the device's answer in its
+/// the host sent no byte after the address for reading, the reply is the device's answer in its
 /// state before.
 pub fn replies_are_answers()
     ensures read { (profile : List DeviceParts) (stretches : List (List AnsweredSignal)) (now : List InState) (history : List AnsweredSignal)

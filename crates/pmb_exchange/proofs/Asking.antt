@@ -1,5 +1,5 @@
--- A run whose task is a read or a call: it ends with the device's own reply, or where the device refuses
--- to be read.
+-- A run whose task is a read or a call: it ends with the device's own reply, or where the device
+-- refuses to be read.
 use Rattle.std.proofs.Common.{◌≡◌, ℕ, ◌+◌, ◌<◌, ◌≤◌, ◌⊎◌, Bool, true, false, if◌then◌else◌, Option, Some, Result, Ok, Err, List, [], ◌∷◌, ◌++◌, length, map, flat_map, nat_eq, refl, sym, ap, subst, ◌∙◌, append_assoc, arith}
 use Rattle.std.specs.List.{AllByRecursion, Contains, IsDistinct}
 use Rattle.std.proofs.lemmas.List.{append-nil}
@@ -77,7 +77,7 @@ err_of device (Err bit) result is none = (bit, refl)
 
 -- ---- a byte in two legs
 
--- A byte of a leg of bytes, or the one byte of the leg behind it.
+-- A byte of a leg of bytes, or the one byte of the leg after it.
 pub data InTwo (first : List ℕ) (second : ℕ) (legs : List (List ℕ)) (bytes : List ℕ) (b : ℕ) (more : List ℕ) : Type 0 where
   in_first : legs ≡ [] → first ≡ bytes ++ b ∷ more → InTwo first second legs bytes b more
   in_second : legs ≡ first ∷ [] → bytes ≡ [] → b ≡ second → InTwo first second legs bytes b more
@@ -127,7 +127,7 @@ right_code device On true before told (c ∷ []) rest allows long is = ap (λ (n
 right_code device Optional true before told (c ∷ []) rest allows long is = ap (λ (n : ℕ). n ∷ []) (cc is)
 right_code device mode true before told (c ∷ d ∷ code) rest allows long is = absurd (omega (arith, long))
 
--- what is behind the same bytes
+-- what is after the same bytes
 same_back : (front a b : List ℕ) → front ++ a ≡ front ++ b → a ≡ b
 same_back [] a b is = is
 same_back (x ∷ front) a b is =
@@ -147,7 +147,7 @@ module _ (job : Job) (members : List InState) (heard : List AnsweredSignal) (ste
 
   -- ---- the address for reading
 
-  -- behind an ACK to it the device has a reply
+  -- after an ACK to it the device has a reply
   read_ok : (all : List AnsweredSignal) (tail : List HostSignal) → AreAnswered members Outside all → GoWell all
       → sent_signals all ≡ flat_map leg_signals two_legs ++ tail → (reply : List ℕ) × (answer a.member.device a.member.state body ≡ Ok reply)
   read_ok all tail answered well is =
@@ -166,7 +166,7 @@ module _ (job : Job) (members : List InState) (heard : List AnsweredSignal) (ste
       ok_of a.member.device (answer a.member.device a.member.state body) here.one.result
       (read_answer members a.member a.in_bus a.same body form a.only a.request here.one.result bus_byte) ack
 
-  -- What a run has behind both legs.
+  -- What a run has after both legs.
   pub record Behind (all : List AnsweredSignal) (tail : List HostSignal) : Type 0 where
     pub reply : List ℕ
     pub ok : answer a.member.device a.member.state body ≡ Ok reply

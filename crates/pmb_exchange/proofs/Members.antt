@@ -1,4 +1,5 @@
--- The device of an address among those of a bus, and what it answers to bytes that are written to it.
+-- The device of an address among those of a bus, and what it answers to bytes that are written to
+-- it.
 use Rattle.std.proofs.Common.{◌≡◌, ℕ, suc, inl, inr, Bool, true, false, cond, Option, Some, List, [], ◌∷◌, map, nat_eq, refl, subst, arith}
 use Rattle.std.specs.List.{Contains}
 use Rattle.std.proofs.lemmas.Bool.{eqb-true}
@@ -60,7 +61,7 @@ own_address device state earlier result own (written is ack) = ack
 own_address device state earlier result own (read body is same) = absurd (no_read_address device.address device.address is.own)
 own_address device state earlier result own (others none nor silent) = absurd (none own)
 
--- a byte behind bytes that it took
+-- a byte after bytes that it took
 own_byte : (device : DeviceParts) (state : DeviceState) (earlier : List Leg) (address : ℕ) (bytes : List ℕ) (b : ℕ) (result : DeviceSignal)
     → IsWritten device earlier address → TakesAll device (leg_place earlier) [] bytes
     → AnswersByte device state earlier (sent (byte_leg (address ∷ bytes))) b result

@@ -127,7 +127,7 @@ module _ (profile : List DeviceParts) where
   -- ---- a part, its device and the legs before it
 
   module _ (members : List InState) where
-    -- A part behind others is written to a device of the bus, to which none before it is.
+    -- A part after others is written to a device of the bus, to which none before it is.
     pub record PartAt (before : List PartData) (part : PartData) : Type 0 where
       pub member : InState
       pub in_bus : Contains members member

@@ -1,4 +1,5 @@
--- What was answered at one place of a list of signals: the legs there are known by the signals before.
+-- What was answered at one place of a list of signals: the legs there are known by the signals
+-- before.
 use Rattle.std.proofs.Common.{◌≡◌, ℕ, List, [], ◌∷◌, ◌++◌, map, flat_map, refl, sym, ap, ◌∙◌, append_assoc}
 use Rattle.std.proofs.lemmas.List.{append-nil}
 use Rattle.pmb_registers.specs.State.{InState}
@@ -13,7 +14,7 @@ use Rattle.pmb_host.specs.Steps.{GoWell, sent_signals}
 
 -- ---- legs
 
--- the legs that signals make, behind others
+-- the legs that signals make, after others
 abbrev pub legs_by : Legs → List HostSignal → Legs
 legs_by legs [] = legs
 legs_by legs (signal ∷ more) = legs_by (with_signal legs signal) more
@@ -37,7 +38,7 @@ pub legs_by_leg : (legs : Legs) (bytes : List ℕ) (more : List HostSignal)
 legs_by_leg Outside bytes more = legs_by_bytes [] [] bytes more
 legs_by_leg (Inside earlier leg) bytes more = legs_by_bytes (earlier ++ leg ∷ []) [] bytes more
 
--- legs of bytes, behind others
+-- legs of bytes, after others
 abbrev pub behind_legs : Legs → List (List ℕ) → Legs
 behind_legs legs [] = legs
 behind_legs legs (bytes ∷ more) = behind_legs (Inside (closed legs) (byte_leg bytes)) more
@@ -56,7 +57,7 @@ closed_legs legs [] = sym (append-nil (closed legs))
 closed_legs legs (bytes ∷ all) =
     closed_legs (Inside (closed legs) (byte_leg bytes)) all ∙ append_assoc (closed legs) (byte_leg bytes ∷ []) (map byte_leg all)
 
--- Behind whole legs and some bytes of the next one.
+-- After whole legs and some bytes of the next one.
 pub legs_at : (all : List (List ℕ)) (bytes : List ℕ)
     → legs_by Outside (flat_map leg_signals all ++ leg_signals bytes) ≡ Inside (map byte_leg all) (byte_leg bytes)
 legs_at all bytes =
@@ -75,7 +76,7 @@ module _ (members : List InState) where
   answer_at legs [] one behind answered = answered.1
   answer_at legs (first ∷ before) one behind answered = answer_at (with_signal legs first.signal) before one behind answered.2
 
-  -- what was answered behind some signals
+  -- what was answered after some signals
   pub answered_behind : (legs : Legs) (before behind : List AnsweredSignal) → AreAnswered members legs (before ++ behind)
       → AreAnswered members (legs_by legs (sent_signals before)) behind
   answered_behind legs [] behind answered = answered

@@ -1,4 +1,4 @@
--- The bytes that a device gives to the Asks behind its address for reading: those of its reply, one
+-- The bytes that a device gives to the Asks after its address for reading: those of its reply, one
 -- after the other.
 use Rattle.std.proofs.Common.{◌≡◌, ℕ, zero, suc, ◌<◌, ◌≤◌, ◌⊎◌, inl, inr, Bool, false, ◌||◌, if◌then◌else◌, Option, Some, None, Result, Ok, Err, List, [], ◌∷◌, ◌++◌, length, drop, refl, sym, ap, subst, ◌∙◌, append_assoc, length-append, arith}
 use Rattle.std.specs.List.{AllByRecursion, Contains, slice_get}
@@ -61,7 +61,7 @@ module _ (device : DeviceParts) where
   given_asks zero = refl
   given_asks (suc k) = omega (arith, given_asks k)
 
-  -- Behind so many Asks and ACKs the byte at that place comes next.
+  -- After so many Asks and ACKs the byte at that place comes next.
   pub next_asks : (all : List ℕ) (k : ℕ) → next_of device all (asks k) ≡ byte_or_silent device (slice_get all k)
   next_asks all k =
       let chosen = λ (ended waits : Bool) (n : ℕ). if ended || waits then answers.Silent else byte_or_silent device (slice_get all n) in
@@ -94,7 +94,7 @@ module _ (members : List InState) (member : InState) (in_bus : Contains members 
   abbrev pub asking_leg : Leg
   asking_leg = byte_leg (write_address member.device.address ∷ body)
 
-  -- the device is read behind it
+  -- the device is read after it
   is_read : IsRead member.device (asking_leg ∷ []) (read_address member.device.address) body
   is_read = record {
     own = refl;
@@ -157,7 +157,7 @@ module _ (members : List InState) (member : InState) (in_bus : Contains members 
     ask_answer k result (not_read none given) =
         absurd (none (read_address member.device.address) (sent (asks k)) refl body is_read reply ok)
 
-    -- An Ask behind some gets the byte at its place, where there is one.
+    -- An Ask after some gets the byte at its place, where there is one.
     pub ask_given : (k b : ℕ) (result : DeviceSignal) → slice_get all_bytes k ≡ Some b
         → BusAnswers members (Inside (asking_leg ∷ []) (Byte (read_address member.device.address) ∷ asks k)) Ask result → result ≡ answers.Byte b
     ask_given k b result there bus =
@@ -289,7 +289,8 @@ long_wire Four a b same = same
 long_wire Eight a b same = same
 long_wire Block a b same = ap suc same
 
--- Bytes that were read, of a wire as long as another that begins so: if one goes on so does the other.
+-- Bytes that were read, of a wire as long as another that begins so: if one goes on so does the
+-- other.
 pub goes_on_too : (form : Form) (told reply code behind bytes to_read rest : List ℕ) → Takes form (length told) → Takes form (length reply)
     → length code ≤ length behind → bytes ++ to_read ≡ wire form told ++ code → bytes ++ rest ≡ wire form reply ++ behind
     → length bytes < length (bytes ++ to_read) → length bytes < length (bytes ++ rest)

@@ -1,4 +1,4 @@
--- The signals of a task: where a byte stands in its legs, and an Ask behind them.
+-- The signals of a task: where a byte stands in its legs, and an Ask after them.
 use Rattle.std.proofs.Common.{◌≡◌, ◌≢◌, ℕ, zero, suc, ◌<◌, List, [], ◌∷◌, ◌++◌, length, map, flat_map, refl, sym, ap, ◌∙◌, append_assoc, arith}
 use Rattle.std.specs.List.{AllByRecursion}
 use Rattle.pmb_device.specs.declared.signal.HostSignal.{HostSignal}
@@ -49,7 +49,7 @@ leg_behind_first : (legs : List (List ℕ)) (bytes : List ℕ) (tail : List Host
 leg_behind_first [] bytes tail = λ b more is. cc is
 leg_behind_first (leg ∷ legs) bytes tail = λ b more is. cc is
 
--- A byte stands in one of some legs, behind some of the leg's bytes.
+-- A byte stands in one of some legs, after some of the leg's bytes.
 pub record InLegs (legs before : List (List ℕ)) (bytes : List ℕ) (b : ℕ) : Type 0 where
   pub more : List ℕ
   pub behind : List (List ℕ)
@@ -82,14 +82,14 @@ in_legs (leg ∷ legs) (first ∷ before) bytes b tail behind no_byte no_start i
     let legs_are : legs ≡ before ++ (bytes ++ b ∷ more.more) ∷ more.behind = more.split in
     record { more = more.more; behind = more.behind; split = cc }
 
--- ---- behind the legs
+-- ---- after the legs
 
--- an Ask and the ACK behind it, so many times
+-- an Ask and the ACK after it, so many times
 abbrev pub asks : ℕ → List HostSignal
 asks zero = []
 asks (suc n) = Ask ∷ Ack ∷ asks n
 
--- what is behind the legs begins with no byte and no START
+-- what is after the legs begins with no byte and no START
 pub reading_no_byte : (bytes : List ℕ) → NoByteFirst (reading_signals bytes ++ Stop ∷ [])
 reading_no_byte [] = λ b more is. cc is
 reading_no_byte (x ∷ []) = λ b more is. cc is
@@ -113,7 +113,7 @@ no_ask_legs : (legs : List (List ℕ)) → NoAsk (flat_map leg_signals legs)
 no_ask_legs [] = tt
 no_ask_legs (leg ∷ legs) = ((λ is. cc is), no_ask_bytes leg (flat_map leg_signals legs) (no_ask_legs legs))
 
--- An Ask is behind signals without one.
+-- An Ask is after signals without one.
 pub record AskBehind (front xs tail behind : List HostSignal) : Type 0 where
   pub asked : List HostSignal
   pub front_is : xs ≡ front ++ asked

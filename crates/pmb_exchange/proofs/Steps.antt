@@ -1,4 +1,5 @@
--- The steps of an exchange: each signal of the host goes to the bus, and behind STOP the exchange is over.
+-- The steps of an exchange: each signal of the host goes to the bus, and after STOP the exchange is
+-- over.
 use Rattle.std.proofs.Common.{◌≡◌, ◌≢◌, ℕ, ◌+◌, ◌<◌, Bool, true, false, Option, Some, None, List, [], ◌∷◌, ◌++◌, length, refl, sym, ap, subst, ◌∙◌, length-append, arith}
 use Rattle.std.specs.List.{AllByRecursion, Contains}
 use Rattle.std.proofs.lemmas.List.{append-nil}
@@ -105,7 +106,7 @@ no_send number NoAlert signal told = told
 -- ---- a signal
 
 module _ (standing : ExchangeStanding) (new : Host) (bus after : Bus) (result : DeviceSignal) where
-  -- where the exchange stands behind a signal
+  -- where the exchange stands after a signal
   abbrev pub with_events : List Event → ExchangeStanding
   with_events es = record standing { events = standing.events ++ es; sent = standing.sent + 1 }
 

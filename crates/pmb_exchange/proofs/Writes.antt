@@ -190,7 +190,7 @@ module _ (profile : List DeviceParts) (number : Option NumberFormat) (parts : Li
             let all = ap length cut.split ∙ length-append cut.before (cut.here ∷ cut.behind) in
             omega (arith, few, all)
 
-        -- a write body is allowed behind any parts
+        -- a write body is allowed after any parts
         allowed : (before : List PartData) → IsWriteBody legs_here.1.device legs_here.1.body → Allowed legs_here.1.device before legs_here.1.body
         allowed [] write = inl write
         allowed (part ∷ before) write = write

@@ -35,7 +35,7 @@ module _ (profile : List DeviceParts) (members : List InState) where
     abbrev pub IsBad : Type 0
     IsBad = IsNoPage at.member.device at.accepted part.code part.bytes part.pec at.body at.write
 
-    -- The answer to a byte behind some of the leg: ACK, but where the value of PAGE is none.
+    -- The answer to a byte after some of the leg: ACK, but where the value of PAGE is none.
     pub data ByteAnswer (bytes : List ℕ) (b : ℕ) (result : DeviceSignal) : Type 0 where
       acked : result ≡ answers.Ack → ByteAnswer bytes b result
       refused : IsBad → bytes ≡ write_address at.member.device.address ∷ 0x00 ∷ [] → (result ≡ answers.Ack → ⊥) → ByteAnswer bytes b result
@@ -47,7 +47,7 @@ module _ (profile : List DeviceParts) (members : List InState) where
         let first : part.code ≡ c = cc (sym (code_first at.member.device at.accepted part.code part.bytes part.pec at.body at.write) ∙ is) in
         sym first ∙ bad.page
 
-    -- behind the address
+    -- after the address
     behind_address : (bytes : List ℕ) (b : ℕ) (more : List ℕ) (result : DeviceSignal) → at.body ≡ bytes ++ b ∷ more
         → BusAnswers members (Inside (legs_before before) (byte_leg (write_address at.member.device.address ∷ bytes))) (Byte b) result
         → PageOrNot at.member.device at.accepted part.code part.bytes part.pec at.body at.write
@@ -127,7 +127,7 @@ module _ (profile : List DeviceParts) (members : List InState) where
 
     -- ---- in what a host heard
 
-    -- a value that is no page is not acknowledged, behind the code of PAGE
+    -- a value that is no page is not acknowledged, after the code of PAGE
     refuted : (result : DeviceSignal) (v : ℕ) (rest : List ℕ) → IsBad → at.body ≡ 0x00 ∷ v ∷ rest
         → BusAnswers members (Inside (legs_before before) (byte_leg (write_address at.member.device.address ∷ 0x00 ∷ []))) (Byte v) result → result ≡ answers.Ack → ⊥
     refuted result v rest bad is bus ack =

@@ -1,4 +1,5 @@
--- A host's run on a bus of simulated devices, from its first signal to STOP and the end that it tells.
+-- A host's run on a bus of simulated devices, from its first signal to STOP and the end that it
+-- tells.
 use Rattle.std.specs.Prelude.{◌≡◌, ℕ, List, [], ◌∷◌, ◌++◌, map}
 use Rattle.std.specs.List.{Contains}
 use Rattle.pmb_bus.specs.declared.event.Event.TheVariants as events
@@ -33,7 +34,7 @@ pub record AreMembers (job : Job) (members : List InState) : Type 0 where
   pub devices_are : map (λ member. member.device) members ≡ job.profile
   pub fit : (member : InState) → Contains members member → IsState member.device member.state
 
--- The host sent each signal as the next one behind those before it.
+-- The host sent each signal as the next one after those before it.
 abbrev pub AreSentInTurn : Job → List AnsweredSignal → Type 0
 AreSentInTurn job heard =
     (before : List AnsweredSignal) (one : AnsweredSignal) (behind : List AnsweredSignal) → heard ≡ before ++ one ∷ behind → IsNext job before one.signal
@@ -45,12 +46,12 @@ HasEnded job heard (Done answer) =
     (reply : List ℕ) × Succeeds job.profile job.task heard reply × IsTold job.profile job.task job.number reply (reply_data answer)
 HasEnded job heard (Failed fault) = Fails job.profile job.task heard fault
 
--- Signals, and STOP behind them.
+-- Signals, and STOP after them.
 abbrev pub stopped : List AnsweredSignal → DeviceSignal → List AnsweredSignal
 stopped heard result = heard ++ record { signal = Stop; result = result } ∷ []
 
--- What a host did on a bus is the exchange that its task asks for: that transaction is recorded, and the
--- end that is told is its.
+-- What a host did on a bus is the exchange that its task asks for: that transaction is recorded,
+-- and the end that is told is its.
 pub record IsExchanged (job : Job) (members : List InState) (heard : List AnsweredSignal) (step : HostStep) : Type 0 where
   pub done : TransactionData
   pub exchanges : Exchanges members job.task done

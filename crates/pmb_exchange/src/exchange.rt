@@ -1,7 +1,7 @@
 //! An exchange.
 //!
-//! The host is given the bus's answer to the signal before, and the bus the host's signal, until the host
-//! tells how it ended.
+//! The host is given the bus's answer to the signal before, and the bus the host's signal, until
+//! the host tells how it ended.
 
 ghost use Rattle.std.specs.Prelude.{List};
 ghost use Rattle.pmb_command.specs.Parts.{DeviceParts};
@@ -33,8 +33,8 @@ pub struct Exchange<'p> {
 }
 
 impl<'p> Exchange<'p> {
-    /// An exchange in which nothing was sent. The host is to be new, and the bus that of its profile,
-    /// between packets.
+    /// An exchange in which nothing was sent. The host is to be new, and the bus that of its
+    /// profile, between packets.
     pub fn new(host: Host<'p>) -> Self
         ensures { (profile : List DeviceParts) (request : RequestData) (bus : BusParts) (b : Begins profile request host.entry bus)
             → ExchangeStandsAt result bus (beginning profile request host.entry bus b) }
@@ -47,8 +47,8 @@ impl<'p> Exchange<'p> {
     }
 
     /// The next signal and what is recorded of it, or how the host ended: there are at most 4,161
-    /// signals, the last of them STOP, at which the devices act. Behind the end it is told again, and the
-    /// bus is left alone. It is always the same bus.
+    /// signals, the last of them STOP, at which the devices act. After the end it is told again,
+    /// and the bus is left alone. It is always the same bus.
     pub fn next(&mut self, bus: &mut Bus<'p>) -> Step
         ensures { (standing : ExchangeStanding) → ExchangeStandsAt self.old bus.old standing → StepsTo standing result self.new bus.new }
     {

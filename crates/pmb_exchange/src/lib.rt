@@ -1,8 +1,8 @@
 //! A host run against a bus of simulated devices, request by request.
 //!
-//! An [`Exchange`] is made of a [`Host`](pmb_host::Host). Each call of [`Exchange::next`] gives the bus
-//! the host's next signal and returns what was recorded of it; behind STOP it returns how the host ended.
-//! It takes no memory.
+//! An [`Exchange`] is made of a [`Host`](pmb_host::Host). Each call of [`Exchange::next`] gives the
+//! bus the host's next signal and returns what was recorded of it; after STOP it returns how the
+//! host ended. It takes no memory.
 //!
 //! ```rust
 //! let mut bus = Bus::new(rt.alloc(), &profile)?;

@@ -24,7 +24,7 @@ pub nothing : (n : ℕ) (a : List ℕ) → Appends [] n a a
 unfolding members_text
 nothing n a = record { items = sym (append-nil a); longer = omega arith; writable = tt }
 
--- one member, and others behind it
+-- one member, and others after it
 pub then : {x : Member} {ys : List Member} {m n : ℕ} {a b c : List ℕ} → Appends (x ∷ []) m a b → Appends ys n b c → Appends (x ∷ ys) (m + n) a c
 then {x} {ys} {m} {n} {a} {b} {c} first second = record {
   items = second.items ∙ ap (λ (zs : List ℕ). zs ++ members_text Later ys) first.items ∙ append_assoc a (members_text Later (x ∷ [])) (members_text Later ys)
@@ -75,7 +75,7 @@ texts_in_parts place xs ys =
     ∙ items_in_parts place (map string xs) (map string ys)
     ∙ ap (λ (p : Place). items_text place (map string xs) ++ items_text p (map string ys)) (same_place place xs)
 
--- some texts, and others in the place behind them
+-- some texts, and others in the place after them
 pub then_texts : {place next : Place} {xs ys : List (List ℕ)} {m n : ℕ} {a b c : List ℕ} → next ≡ place_behind place xs → AppendsTexts place xs m a b → AppendsTexts next ys n b c
     → AppendsTexts place (xs ++ ys) (m + n) a c
 then_texts {place} {next} {xs} {ys} {m} {n} {a} {b} {c} is first second = record {

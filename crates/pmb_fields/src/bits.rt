@@ -13,7 +13,8 @@ use itoa::Buffer;
 use pmb_command::bit_name;
 use pmb_object::{Place, begin_array, end_array, text_item};
 
-/// Appends the set bits of a status register of one byte or two; nothing for another number of bytes.
+/// Appends the set bits of a status register of one byte or two; nothing for another number of
+/// bytes.
 pub(crate) fn append_status<const N: usize>(
     out: &mut ArrayVec<u8, N>,
     access: Access,
@@ -76,7 +77,7 @@ fn append_set_bits<const N: usize>(
     }
 }
 
-/// Appends a bit where it is set, and returns the place behind it.
+/// Appends a bit where it is set, and returns the place after it.
 fn append_set_bit<const N: usize>(
     out: &mut ArrayVec<u8, N>,
     place: Place,

@@ -39,10 +39,10 @@ impl PmbEvent {
 
 /// Takes the next piece of a capture's text, up to the end of its next event, or whole.
 ///
-/// `used` is told how many bytes of the piece were used: those behind are to be given again. The status
-/// is that all is used and no event has ended; or that a word is no token, which begins at the
-/// lexer's `at`, and then every such call says so again and uses nothing. Then the event stays as it
-/// was.
+/// `used` is told how many bytes of the piece were used: those after are to be given again. The
+/// status is that all is used and no event has ended; or that a word is no token, which begins at
+/// the lexer's `at`, and then every such call says so again and uses nothing. Then the event stays
+/// as it was.
 pub fn lex(lexer: &mut PmbLexer, piece: &[u8], used: &mut usize, event: &mut PmbEvent) -> i32
     ensures stands { (n : ℕ) (text : List ℕ) (events : List BusEvent) → StandsAt lexer.old n text events
         → Lexes n text events piece.now used.new lexer.new event.old result event.new }
@@ -71,7 +71,8 @@ fn tell(step: Step, event: &mut PmbEvent) -> i32
 
 /// Takes the end of a capture's text: it ends the word under way as a separator would.
 ///
-/// The status is that no word was under way; or that a word is no token, which begins at the lexer's
+/// The status is that no word was under way; or that a word is no token, which begins at the
+/// lexer's
 /// `at`. Then the event stays as it was.
 pub fn lex_end(lexer: &mut PmbLexer, event: &mut PmbEvent) -> i32
     ensures stands { (n : ℕ) (text : List ℕ) (events : List BusEvent) → StandsAt lexer.old n text events

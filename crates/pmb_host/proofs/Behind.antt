@@ -46,7 +46,7 @@ writing_more host new job heard signal result has reply fault good none w = reco
   not_failed = fault ∙ w.not_failed;
 }
 
--- ---- behind a byte
+-- ---- after a byte
 
 bytes_length : (bytes : List ℕ) → length (map Byte bytes) ≡ length bytes
 bytes_length [] = refl
@@ -110,7 +110,7 @@ module _ (host : Host) (job : Job) (heard : List AnsweredSignal) (byte : ℕ) (a
     sent_is = at.inside.sent_is;
   }
 
--- ---- behind START
+-- ---- after START
 
 pub behind_start : (host : Host) (job : Job) (heard : List AnsweredSignal) (leg place crc : ℕ) (form : Option Form) (result : DeviceSignal) → (at : AtLeg host job heard) → place ≡ 0
     → leg ≡ length at.before + 1

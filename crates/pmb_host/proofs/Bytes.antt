@@ -1,4 +1,4 @@
--- The byte of a leg behind those that were sent.
+-- The byte of a leg after those that were sent.
 use Rattle.std.proofs.Common.{◌≡◌, ℕ, ◌-◌, ◌≤◌, Bool, true, false, Option, Some, None, List, [], ◌∷◌, ◌++◌, length, refl, sym, ap, subst, ◌∙◌, arith, suc}
 use Rattle.std.specs.List.{slice_get}
 use Rattle.std.specs.Option.{IfSome, option_map, option_to_list}
@@ -13,12 +13,12 @@ use Rattle.pmb_host.specs.Signals.{leg_form, legs_of, reply_form, reply_has_pec}
 use Rattle.pmb_host.specs.machine.Legs.{coded_with, leg_bytes, plain_bytes}
 use Rattle.pmb_host.specs.machine.Standing.{AreAddresses, BehindByte, InLeg, IsIncoming, IsLegSent, Job, covered}
 
--- the one behind bytes
+-- the one after bytes
 get_behind : {X : Type 0} (bytes more : List X) → slice_get (bytes ++ more) (length bytes) ≡ slice_get more 0
 get_behind [] more = refl
 get_behind (b ∷ bytes) more = get_behind bytes more
 
--- the leg behind others
+-- the leg after others
 get_next : {X : Type 0} (before : List X) (leg : X) (behind : List X) → slice_get (before ++ leg ∷ behind) (length before) ≡ Some leg
 get_next before leg behind = get_behind before (leg ∷ behind)
 
@@ -26,7 +26,7 @@ no_more : (bytes more : List ℕ) → bytes ++ more ≡ [] → (bytes ≡ []) ×
 no_more [] more is = (refl, is)
 no_more (b ∷ bytes) more is = absurd (cc is)
 
--- where a code behind them is right as soon as it is due
+-- where a code after them is right as soon as it is due
 coded_at : (bytes more plain : List ℕ) (code right : ℕ) → bytes ++ more ≡ plain ++ right ∷ [] → (bytes ≡ plain → code ≡ right)
     → slice_get (plain ++ code ∷ []) (length bytes) ≡ slice_get more 0
 coded_at [] more [] code right is due = ap Some (due refl) ∙ sym (ap (λ (bs : List ℕ). slice_get bs 0) is)

@@ -1,5 +1,5 @@
--- How many signals there are at most: 16 legs of at most 259 bytes, or two legs and a reply of at most
--- 257 bytes.
+-- How many signals there are at most: 16 legs of at most 259 bytes, or two legs and a reply of at
+-- most 257 bytes.
 use Rattle.std.proofs.Common.{◌≡◌, ℕ, ◌+◌, ◌*◌, ◌<◌, ◌≤◌, Bool, true, false, if◌then◌else◌, Option, Some, None, List, [], ◌∷◌, ◌++◌, length, map, flat_map, refl, ap, ◌∙◌, arith, length-append}
 use Rattle.std.specs.List.{AllByRecursion}
 use Rattle.std.proofs.lemmas.List.{length-map}
@@ -96,7 +96,7 @@ read_short (Some form) with_pec bytes all =
 
 -- ---- all
 
--- behind the legs are those with which bytes are read, and STOP
+-- after the legs are those with which bytes are read, and STOP
 pub signals_length : (legs : List (List ℕ)) (bytes : List ℕ) → length (signals legs bytes) ≡ length (flat_map leg_signals legs) + 2 * length bytes + 1
 signals_length legs bytes =
     let all = length-append (flat_map leg_signals legs) (reading_signals bytes ++ Stop ∷ []) in

@@ -193,7 +193,7 @@ same_told job heard None (Some reply) number step last ends tells before =
     let then = before ends.2.0 kept.holds in
     now.1 ∙ ap Done (same_reply now.0 then.0 (now.2 ∙ sym then.2)) ∙ sym then.1
 
--- A host behind STOP tells how it ended, the first time and each time.
+-- A host after STOP tells how it ended, the first time and each time.
 pub end_steps : (standing : HostStanding) (answer : DeviceSignal) (host : Host) (step : HostStep) → host.phase ≡ phases.End → HostStandsAt host standing → Tells host step → Steps standing answer step host
 end_steps standing answer host step phase_is at tells = by_ended standing.ended (subst (InPhase host standing) phase_is at) where
   by_ended : (ended : Option HostStep) → InEnd host standing ended

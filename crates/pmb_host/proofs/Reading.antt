@@ -66,7 +66,7 @@ are_all Block with_pec (count ∷ bytes) small many =
 
 -- ---- more that would be all
 
--- zeros behind them change nothing in their number
+-- zeros after them change nothing in their number
 same_length : (form : Form) (bytes : List ℕ) (n : ℕ) → wire_length form (bytes ++ replicate n 0) ≡ wire_length form bytes
 same_length Zero bytes n = refl
 same_length One bytes n = refl

@@ -43,7 +43,7 @@ events_of (Ack ∷ more) read = events.Ack ∷ events_of more read
 events_of (Nack ∷ more) read = events.Nack ∷ events_of more read
 events_of (Stop ∷ more) read = events.Stop ∷ events_of more read
 
--- those of one signal are recorded in front of the others
+-- those of one signal are recorded before the others
 recorded_first : (signal : HostSignal) (result : DeviceSignal) (more : List AnsweredSignal) → IsGood signal result
     → recorded_events more ≡ events_of (sent_signals more) (bytes_read more)
     → recorded signal result ++ recorded_events more ≡ events_of (signal ∷ sent_signals more) (byte_of signal result ++ bytes_read more)
@@ -82,8 +82,8 @@ reading_events [] = refl
 reading_events (b ∷ []) = refl
 reading_events (b ∷ c ∷ bytes) = ap (λ (es : List Event). events.Byte b ∷ events.Ack ∷ es) (reading_events (c ∷ bytes))
 
--- What is recorded of a request that was done: its legs, each byte acknowledged, the bytes of the reply
--- with NACK behind the last, and STOP.
+-- What is recorded of a request that was done: its legs, each byte acknowledged, the bytes of the
+-- reply with NACK after the last, and STOP.
 pub recorded_done : (profile : List DeviceParts) (task : TransactionData) (heard : List AnsweredSignal) → Completes profile task heard
     → recorded_events heard ≡ flat_map leg (legs_of profile task) ++ (nacked (bytes_read heard) ++ events.Stop ∷ [])
 recorded_done profile task heard done =
@@ -221,7 +221,8 @@ module _ (profile : List DeviceParts) (bus : IsBus profile) where
           spelled = is;
         }
 
-  -- What is recorded of a request that was done is the packet of its task, with the reply that was read.
+  -- What is recorded of a request that was done is the packet of its task, with the reply that was
+  -- read.
   pub packet_of : (request : RequestData) (word : ℕ) (number : Option NumberFormat) (content bytes : List ℕ) (es : List Event) → IsAllowed profile request word number
       → SaysReply profile (task_of request word) content bytes
       → es ≡ flat_map leg (legs_of profile (task_of request word)) ++ (nacked bytes ++ events.Stop ∷ [])

@@ -1,4 +1,4 @@
--- STOP comes next: behind what did not go well, or behind all.
+-- STOP comes next: after what did not go well, or after all.
 use Rattle.std.proofs.Common.{◌≡◌, ◌≢◌, ℕ, ◌+◌, ◌-◌, ◌<◌, inr, Bool, ◌&&◌, Option, Some, None, is_some, List, [], ◌∷◌, ◌++◌, length, flat_map, refl, ap, ◌∙◌, arith, append_assoc, length-append}
 use Rattle.std.specs.Prelude.{nat_eq}
 use Rattle.std.specs.List.{AllByRecursion}
@@ -17,7 +17,7 @@ use Rattle.pmb_host.specs.machine.Standing.{AtStop, EndsSo, HasJob, InReply, IsI
 use Rattle.pmb_host.proofs.Sending.{as_many_sent, next_ask, no_stop_before}
 use Rattle.pmb_host.proofs.Behind.{job_stays}
 
--- ---- behind what did not go well
+-- ---- after what did not go well
 
 -- a signal in the place of STOP is STOP
 last_is_stop : (front xs : List HostSignal) (signal : HostSignal) → front ++ Stop ∷ [] ≡ xs ++ signal ∷ [] → signal ≡ Stop
@@ -56,7 +56,7 @@ module _ (host : Host) (job : Job) (heard : List AnsweredSignal) (signal : HostS
   pub no_stop_with : (result : DeviceSignal) → AllByRecursion (λ one. one.signal ≢ Stop) (with_signal heard signal result)
   no_stop_with result = no_stop_both heard result (no_stop_before job heard signal next)
 
-  -- behind an answer that is not the one it needs
+  -- after an answer that is not the one it needs
   pub gives_up_behind : (new : Host) (result : DeviceSignal) → HasJob new job → (IsGood signal result → ⊥)
       → ((stopped : DeviceSignal) → EndsSo new.reply new.fault job (with_signal (with_signal heard signal result) Stop stopped))
       → AtStop new job (with_signal heard signal result)

@@ -1,4 +1,4 @@
--- A byte of a reply was given: ACK comes next, or NACK behind the last one, and how it then ends.
+-- A byte of a reply was given: ACK comes next, or NACK after the last one, and how it then ends.
 use Rattle.std.proofs.Common.{◌≡◌, ◌≢◌, ℕ, ◌<◌, ◌≤◌, inl, Bool, true, Option, Some, None, List, [], ◌∷◌, ◌++◌, length, flat_map, refl, sym, ap, subst, ◌∙◌, append_assoc}
 use Rattle.std.proofs.lemmas.List.{append-nil}
 use Rattle.std.proofs.lemmas.Grind.{flat_map-append}
@@ -112,7 +112,7 @@ module _ (host : Host) (job : Job) (heard : List AnsweredSignal) (at : InReply h
         subst (λ (f : Option Form). IsIncoming new.reply f with_pec (bytes_read given)) (sym at.short.form_is)
         (subst (λ (bs : List ℕ). IsIncoming new.reply (Some form) with_pec bs) (sym read_is) read)
 
-    -- Behind the ACK the next Ask follows, whatever is answered.
+    -- After the ACK the next Ask follows, whatever is answered.
     pub goes_on_reading : length bytes < whole_length form with_pec bytes → new.fault ≡ None → new.crc ≡ pec (flat_map (λ leg. leg) (job_legs job) ++ bytes) → (result : DeviceSignal) → InReply new job (with_signal given Ack result)
     goes_on_reading short not_failed crc_is result =
         let read_all = sym (read_then short result) in record {
@@ -173,10 +173,10 @@ module _ (host : Host) (job : Job) (heard : List AnsweredSignal) (at : InReply h
           read_whole (subst (λ (fault : Option HostFault). IsSaid fault job (bytes_read given)) (sym failed)
           (refl, λ content said. say_none form with_pec (bytes_read heard) (bytes_before job.profile job.task) byte host.crc at.crc_is coded wrong content (unsaid content said)))
 
--- ---- behind the last byte
+-- ---- after the last byte
 
 module _ (host : Host) (job : Job) (heard : List AnsweredSignal) (at : IsRead host job heard) where
-  -- with nothing behind the bytes they are all
+  -- with nothing after the bytes they are all
   none_more : AreRead (reply_form job.profile job.task) (reply_has_pec job.task) (bytes_read heard ++ [])
   none_more = subst (λ (bs : List ℕ). AreRead (reply_form job.profile job.task) (reply_has_pec job.task) bs) (sym (append-nil (bytes_read heard))) at.all
 

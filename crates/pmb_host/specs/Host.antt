@@ -1,7 +1,7 @@
 -- Where a host stands, and what its next step is.
 --
--- `HostStandsAt host standing` says where a host stands. What this says of its fields is in `machine`,
--- and nothing here needs it to be understood.
+-- `HostStandsAt host standing` says where a host stands. What this says of its fields is in
+-- `machine`, and nothing here needs it to be understood.
 use Rattle.std.specs.Prelude.{◌≡◌, ◌≢◌, ℕ, ◌<◌, Option, Some, None, MatchOption, List, [], ◌∷◌, ◌++◌, length}
 use Rattle.std.specs.List.{AllByRecursion}
 use Rattle.pmb_command.specs.Parts.{DeviceParts}
@@ -33,7 +33,8 @@ pub record IsNewHost (profile : List DeviceParts) (request : RequestData) (host 
 abbrev pub heard_with : HostStanding → DeviceSignal → List AnsweredSignal
 heard_with standing result = standing.heard ++ answered standing.last result
 
--- The next signal: that of the transaction while all goes well, or STOP after the first that does not.
+-- The next signal: that of the transaction while all goes well, or STOP after the first that does
+-- not.
 pub data IsNext (job : Job) (heard : List AnsweredSignal) (signal : HostSignal) : Type 0 where
   goes_on : GoesOn job.profile job.task heard signal → IsNext job heard signal
   gives_up : GivesUp job.profile job.task heard signal → IsNext job heard signal
@@ -65,7 +66,8 @@ FirstSteps standing heard (Send signal) new = Sends standing heard signal new
 FirstSteps standing heard (Done answer) new = Ends standing heard (Done answer) new × IsDone standing heard answer
 FirstSteps standing heard (Failed fault) new = Ends standing heard (Failed fault) new × Fails standing.job.profile standing.job.task heard fault
 
--- What a step is, behind the answer to the signal before. Behind the last one it is that one for ever.
+-- What a step is, after the answer to the signal before. After the last one it is that one for
+-- ever.
 abbrev pub Steps : HostStanding → DeviceSignal → HostStep → Host → Type 0
 Steps standing result step new =
     MatchOption standing.ended (FirstSteps standing (heard_with standing result) step new)

@@ -20,15 +20,16 @@ abbrev pub last_step : Result Reply HostFault → HostStep
 last_step (Ok answer) = Done answer
 last_step (Err fault) = Failed fault
 
--- Each byte was acknowledged, each Ask given a byte, and the bytes that were read say a reply, with the
--- right packet error code where one was asked for.
+-- Each byte was acknowledged, each Ask given a byte, and the bytes that were read say a reply, with
+-- the right packet error code where one was asked for.
 pub record GoesRight (job : Job) (heard : List AnsweredSignal) : Type 0 where
   pub well : GoWell heard
   pub reply : List ℕ
   pub says : SaysReply job.profile job.task reply (bytes_read heard)
 
--- The signals of a run are these, and it ended so: there are at most 4,161, the last of them STOP, the only
--- one. It succeeds exactly where all went right, and then tells the reply of the request's packet.
+-- The signals of a run are these, and it ended so: there are at most 4,161, the last of them STOP,
+-- the only one. It succeeds exactly where all went right, and then tells the reply of the request's
+-- packet.
 pub record IsRun (job : Job) (heard : List AnsweredSignal) (result : Result Reply HostFault) : Type 0 where
   pub few : length heard ≤ 4161
   pub front : List AnsweredSignal
@@ -39,7 +40,8 @@ pub record IsRun (job : Job) (heard : List AnsweredSignal) (result : Result Repl
   pub exact : IsOk result ↔ GoesRight job heard
   pub told : MatchResult result (IsDone (beginning job) heard) (Fails job.profile job.task heard)
 
--- A host made a run on a wire, and has ended: a wire that stood at some signals stands at these behind them.
+-- A host made a run on a wire, and has ended: a wire that stood at some signals stands at these
+-- after them.
 pub record Drives (job : Job) (Before After : List AnsweredSignal → Type 0) (new : Host) (result : Result Reply HostFault) : Type 0 where
   pub heard : List AnsweredSignal
   pub put : (earlier : List AnsweredSignal) → Before earlier → After (earlier ++ heard)

@@ -1,8 +1,8 @@
 -- The signals with which a host does what a transaction asks for.
 --
--- Of a written leg they are START and its bytes, which the device acknowledges. To read, the address for
--- reading has a leg of its own, and behind it an Ask stands for each byte of the reply, with ACK behind
--- it, but behind the last one NACK (SMBus 3.0 section 6.5).
+-- Of a written leg they are START and its bytes, which the device acknowledges. To read, the
+-- address for reading has a leg of its own, and after it an Ask stands for each byte of the reply,
+-- with ACK after it, but after the last one NACK (SMBus 3.0 section 6.5).
 use Rattle.std.specs.Prelude.{◌≡◌, ℕ, Bool, false, if◌then◌else◌, Option, Some, None, List, [], ◌∷◌, ◌++◌, length, map, flat_map, slice_get}
 use Rattle.pmb_bus.specs.Address.{write_address, read_address}
 use Rattle.pmb_command.specs.declared.form.Form.{Form}
@@ -71,8 +71,8 @@ reply_has_pec NoAlert = false
 
 -- ---- what is read
 
--- Bytes are all that is read: the wire of data in the form, and where a packet error code was asked for
--- one more byte, right or wrong.
+-- Bytes are all that is read: the wire of data in the form, and where a packet error code was asked
+-- for one more byte, right or wrong.
 pub record AreAll (form : Form) (with_pec : Bool) (bytes : List ℕ) : Type 0 where
   pub reply : List ℕ
   pub code : List ℕ
@@ -85,8 +85,8 @@ abbrev pub AreRead : Option Form → Bool → List ℕ → Type 0
 AreRead None with_pec bytes = bytes ≡ []
 AreRead (Some form) with_pec bytes = AreAll form with_pec bytes
 
--- The bytes that were read say a reply, with the right packet error code where one was asked for: that
--- covers the bytes of both legs before it too.
+-- The bytes that were read say a reply, with the right packet error code where one was asked for:
+-- that covers the bytes of both legs before it too.
 pub record SayReply (form : Form) (with_pec : Bool) (before : List ℕ) (reply : List ℕ) (bytes : List ℕ) : Type 0 where
   pub fits : Fits form reply
   pub spelled : bytes ≡ checked with_pec before (wire form reply)

@@ -1,7 +1,7 @@
 -- What a host does next, by what it heard: the signals that it sent, each with the answer to it.
 --
--- While all goes well it sends the signals of its transaction in order. Behind the first that does not
--- go well it sends STOP, which is always the last one. Then it tells how it ended.
+-- While all goes well it sends the signals of its transaction in order. After the first that does
+-- not go well it sends STOP, which is always the last one. Then it tells how it ended.
 use Rattle.std.specs.Prelude.{◌≡◌, ◌≢◌, ℕ, ◌+◌, Bool, true, ◌&&◌, Option, Some, None, List, [], ◌∷◌, ◌++◌, is_some, length, map, flat_map, nat_eq}
 use Rattle.std.specs.List.{AllByRecursion}
 use Rattle.pmb_command.specs.Parts.{DeviceParts}
@@ -121,7 +121,7 @@ module _ (profile : List DeviceParts) (task : TransactionData) where
     pub completes : Completes heard
     pub wrong : (reply : List ℕ) → SaysReply reply (bytes_read heard) → ⊥
 
-  -- Behind the first signal that did not go well came STOP.
+  -- After the first signal that did not go well came STOP.
   pub record StopsBehind (heard front : List AnsweredSignal) (failed : AnsweredSignal) : Type 0 where
     pub result : DeviceSignal
     pub split : heard ≡ front ++ failed ∷ record { signal = Stop; result = result } ∷ []
@@ -155,8 +155,8 @@ module _ (profile : List DeviceParts) (task : TransactionData) where
     no_byte : GetsNoByte heard → fault ≡ NoByte → Fails heard fault
     bad_pec : HasBadPec heard → fault ≡ BadPec → Fails heard fault
 
-  -- What is told of a reply: that all was written, its bytes, or, where a format is given, the value of
-  -- the word that they are.
+  -- What is told of a reply: that all was written, its bytes, or, where a format is given, the
+  -- value of the word that they are.
   pub data IsTold (number : Option NumberFormat) (reply : List ℕ) (told : ReplyData) : Type 0 where
     written : reply_form profile task ≡ None → told ≡ AllWritten → IsTold number reply told
     bytes : is_some (reply_form profile task) ≡ true → number ≡ None → told ≡ AllBytes reply → IsTold number reply told

@@ -1,8 +1,8 @@
 //! The host.
 //!
-//! [`Phase`] says what comes next, and `leg` and `place` where in the transaction that is: each byte is
-//! found by its place, so that nothing of the transaction is copied. Behind the legs the bytes of the
-//! reply are kept as they come.
+//! [`Phase`] says what comes next, and `leg` and `place` where in the transaction that is: each
+//! byte is found by its place, so that nothing of the transaction is copied. After the legs the
+//! bytes of the reply are kept as they come.
 
 ghost use Rattle.std.specs.Prelude.{◌≡◌, ℕ, Bool, Some, ◌≤◌, ◌-◌, ◌++◌, ◌<◌, ◌&&◌, if◌then◌else◌, List, is_some, length, nat_eq, slice_get, option_map, IfSome, None, [], ◌∷◌, true, false, IfOk, IfErr, ◌↔◌, IsOk, MatchResult, map};
 ghost use Rattle.std.specs.Option.{option_to_list};
@@ -112,10 +112,11 @@ fn read_of(addr: u8, code: u8, pec: bool) -> Transaction
 impl<'p> Host<'p> {
     /// A host that will do what the request asks for, or the first fault of the request.
     ///
-    /// A write, a read or a call is `Invalid` for the reasons of [`check`], in its order. To set or get a
-    /// quantity the device and the command have to be known, and data of the command have to be written
-    /// or read; then they have to be a number (`NotAQuantity`), the packet error code allowed, the mode of an
-    /// output voltage known (`ModeUnknown`) and of a known format (`Mode`), and the quantity in range.
+    /// A write, a read or a call is `Invalid` for the reasons of [`check`], in its order. To set or
+    /// get a quantity the device and the command have to be known, and data of the command have to
+    /// be written or read; then they have to be a number (`NotAQuantity`), the packet error code
+    /// allowed, the mode of an output voltage known (`ModeUnknown`) and of a known format (`Mode`),
+    /// and the quantity in range.
     pub fn new(profile: &'p Profile, request: Request) -> Result<Host<'p>, HostFault>
         ensures made { IfOk result (IsNewHost profile.now (request_data request)) }
         ensures first { IfErr result (IsFault profile.now (request_data request)) }
@@ -261,9 +262,9 @@ impl<'p> Host<'p> {
         }
     }
 
-    /// The next step, where `answer` is the device's answer to the signal before: it counts where that
-    /// was a byte or an Ask. There are at most 4,161 signals, the last of them STOP. Behind it the end
-    /// is told, again and again.
+    /// The next step, where `answer` is the device's answer to the signal before: it counts where
+    /// that was a byte or an Ask. There are at most 4,161 signals, the last of them STOP. After it
+    /// the end is told, again and again.
     pub fn next(&mut self, answer: DeviceSignal) -> HostStep
         ensures { (standing : HostStanding) → HostStandsAt self.old standing → Steps standing answer result self.new }
     {
@@ -368,8 +369,8 @@ impl<'p> Host<'p> {
         }
     }
 
-    /// The packet error code of the bytes before a leg that it covers: that of a part covers its own leg
-    /// alone, that of a reply both legs.
+    /// The packet error code of the bytes before a leg that it covers: that of a part covers its
+    /// own leg alone, that of a reply both legs.
     fn crc_before_leg(&self) -> u8
         ensures { result ≡ (if is_some self.now.reply then self.now.crc else 0) }
     {
@@ -418,7 +419,7 @@ impl<'p> Host<'p> {
         HostStep::Send(HostSignal::Byte(byte))
     }
 
-    /// Goes on behind a leg: to the next one, to the reply, or to STOP.
+    /// Goes on after a leg: to the next one, to the reply, or to STOP.
     fn end_leg(&mut self) -> HostStep
         ensures { (standing : HostStanding) (heard : List AnsweredSignal) → IsLegSent self.old standing.job heard → FirstSteps standing heard result self.new }
     {
@@ -438,7 +439,7 @@ impl<'p> Host<'p> {
         self.reply.is_some() && self.leg == 2
     }
 
-    /// Goes on behind a byte that was acknowledged, and gives up behind another.
+    /// Goes on after a byte that was acknowledged, and gives up after another.
     fn heard_of_byte(&mut self, answer: DeviceSignal) -> HostStep
         ensures { (standing : HostStanding) → IsSent self.old standing.job standing.heard standing.last → FirstSteps standing (heard_with standing answer) result self.new }
     {
@@ -495,7 +496,7 @@ impl<'p> Host<'p> {
         }
     }
 
-    /// Sends NACK behind the last byte of a reply.
+    /// Sends NACK after the last byte of a reply.
     fn end_reply(&mut self) -> HostStep
         ensures { (standing : HostStanding) (heard : List AnsweredSignal) → IsRead self.old standing.job heard → FirstSteps standing heard result self.new }
     {
@@ -525,8 +526,8 @@ impl<'p> Host<'p> {
     }
 }
 
-/// Takes a byte of a reply, behind bytes with this packet error code. Where none is to come it is one
-/// byte too many, and the last.
+/// Takes a byte of a reply, after bytes with this packet error code. Where none is to come it is
+/// one byte too many, and the last.
 fn taken(reply: &mut Option<Incoming>, byte: u8, crc: u8) -> ReplyState
     ensures { (form : Form) (with_pec : Bool) (bytes : List ℕ) → IsIncoming reply.old (Some form) with_pec bytes → length bytes < 257
         → IsIncoming reply.new (Some form) with_pec (bytes ++ byte ∷ []) × IsState result form with_pec (bytes ++ byte ∷ []) byte crc }
@@ -553,7 +554,7 @@ fn reply_of(number: Option<NumberFormat>, data: &[u8]) -> Reply
     }
 }
 
-/// The count that data in a form have in front of them, where there is a form.
+/// The count that data in a form have before them, where there is a form.
 fn count_of(form: Option<Form>, bytes: &[u8]) -> Option<u8>
     requires { length bytes.now ≤ 255 }
     ensures { option_to_list result ++ bytes.now ≡ wire_in form bytes.now }

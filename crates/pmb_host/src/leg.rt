@@ -4,8 +4,8 @@ ghost use Rattle.std.specs.Prelude.{◌≡◌, ◌++◌, slice_get};
 ghost use Rattle.std.specs.Option.{option_to_list};
 ghost use Rattle.pmb_host.specs.machine.Legs.{coded_with, plain_bytes, wire_of};
 
-/// The bytes of a leg: an address, and behind it a command code, the count of a block, data and a packet
-/// error code, where there are such.
+/// The bytes of a leg: an address, and after it a command code, the count of a block, data and a
+/// packet error code, where there are such.
 #[derive(Clone, Copy, Debug)]
 pub(crate) struct Leg<'a> {
     pub address: u8,
@@ -26,7 +26,7 @@ impl Leg<'_> {
         }
     }
 
-    /// The byte at a place behind the address.
+    /// The byte at a place after the address.
     fn behind_address(&self, place: usize, crc: u8) -> Option<u8>
         ensures { result ≡ slice_get (coded_with self.now.pec crc (option_to_list self.now.code ++ wire_of self.now)) place }
     {
@@ -39,7 +39,7 @@ impl Leg<'_> {
         }
     }
 
-    /// The byte at a place behind the code.
+    /// The byte at a place after the code.
     fn behind_code(&self, place: usize, crc: u8) -> Option<u8>
         ensures { result ≡ slice_get (coded_with self.now.pec crc (wire_of self.now)) place }
     {
@@ -52,7 +52,7 @@ impl Leg<'_> {
         }
     }
 
-    /// The byte at a place behind the count: of the data, or the packet error code behind them.
+    /// The byte at a place after the count: of the data, or the packet error code after them.
     fn data_at(&self, place: usize, crc: u8) -> Option<u8>
         ensures { result ≡ slice_get (coded_with self.now.pec crc self.now.«data».now) place }
     {

@@ -7,7 +7,7 @@ ghost use Rattle.pmb_host.specs.machine.Replies.{Holds, IsState, whole_length};
 use arrayvec::ArrayVec;
 use pmb_command::Form;
 
-/// How far a reply is, behind a byte of it.
+/// How far a reply is, after a byte of it.
 #[derive(Clone, Copy, Debug, PartialEq, Eq)]
 pub(crate) enum ReplyState {
     /// There is more to come.
@@ -18,7 +18,7 @@ pub(crate) enum ReplyState {
     BadPec,
 }
 
-/// A reply under way: data in a form, and behind them a packet error code where one was asked for.
+/// A reply under way: data in a form, and after them a packet error code where one was asked for.
 #[derive(Clone, Debug, Drop)]
 pub(crate) struct Incoming {
     form: Form,
@@ -56,7 +56,7 @@ impl Incoming {
         self.bytes.len() >= self.wire_length() + usize::from(self.pec)
     }
 
-    /// Takes the next byte, behind bytes with this packet error code.
+    /// Takes the next byte, after bytes with this packet error code.
     pub fn take(&mut self, byte: u8, crc: u8) -> ReplyState
         ensures form { self.new.form ≡ self.old.form }
         ensures pec { self.new.pec ≡ self.old.pec }

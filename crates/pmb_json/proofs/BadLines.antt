@@ -7,7 +7,7 @@ use Rattle.pmb_io.specs.Lines.{HasNoLf}
 use Rattle.pmb_json.specs.Text.{IsBehindLine}
 use Rattle.pmb_json.proofs.Lines.{SplitsLine, bad_behind, bad_in_line, behind_front, front_cut}
 
--- a text has one line at its front, and what stands behind that
+-- a text has one line at its front, and what stands after that
 pub one_line : (a b x y : List ℕ) → HasNoLf a → HasNoLf b → IsBehindLine x → IsBehindLine y → a ++ x ≡ b ++ y → (a ≡ b) × (x ≡ y)
 one_line [] [] x y here there behind also same = (refl, same)
 one_line [] (c ∷ b) [] y here there behind also same = absurd (cc same)

@@ -1,4 +1,4 @@
--- The word under way behind bytes that end between words.
+-- The word under way after bytes that end between words.
 use Rattle.std.proofs.Common.{◌≡◌, ℕ, Bool, true, false, inl, inr, List, [], ◌∷◌, ◌++◌, refl, sym, ap, subst, ◌∙◌, append_assoc, append-nil}
 use Rattle.std.proofs.lemmas.Bool.{cases_Bool}
 use Rattle.pmb_bus.specs.Text.{EndsBetween, ends_in_comment, ends_in_comment_from, in_comment, is_separator, is_word, open_word}

@@ -61,7 +61,8 @@ module _ (places : ℕ) (profile : List DeviceParts) (devices : List ℕ) (late 
   abbrev whole : ChoiceData
   whole = record { digits = places; start = AllKnown; devices = devices }
 
-  -- where the piece stands and where the whole does, with m events and some transactions before the piece
+  -- where the piece stands and where the whole does, with m events and some transactions before the
+  -- piece
   record Beside (b w : Before) : Type 0 where
     n : w.n ≡ m + b.n
     ts : w.ts ≡ before ++ b.ts
@@ -89,7 +90,7 @@ module _ (places : ℕ) (profile : List DeviceParts) (devices : List ℕ) (late 
     from_there : ObjectsFrom whole profile after w bytes bad others counts
     no_more : EachSaysNoMore objects others
 
-  -- .. and behind a bad line
+  -- .. and after a bad line
   record OthersBehind (after : BadWords) (w : Before) (line : BadLine) (rest : List ℕ) (objects : List Object) : Type 0 where
     more : List BadLine
     others : List Object
@@ -180,7 +181,7 @@ module _ (places : ℕ) (profile : List DeviceParts) (devices : List ℕ) (late 
             );
       }
 
--- ---- cut behind a first piece
+-- ---- cut after a first piece
 
 module _ (places : ℕ) (profile : List DeviceParts) (devices : List ℕ) (late : Start) (front : List ℕ) (first : CanBeCutBehind profile late front)
     (agree : (ts : List TransactionData) → Agree profile late AllKnown ts (transactions_in first.spans ++ ts))

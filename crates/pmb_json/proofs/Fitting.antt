@@ -30,7 +30,7 @@ of_entry code None is = tt
 of_entry code (Some device) is =
     of_command (command_with code device.commands) (the_found (λ (c : CommandParts). IsOfWords c.entry.kind) (λ c. nat_eq c.entry.code code) device.commands is.commands)
 
--- ---- behind transactions that tell bytes
+-- ---- after transactions that tell bytes
 
 module _ (choice : ChoiceData) (profile : List DeviceParts) (bus : IsBus profile) (formats : AllMakeFormats profile) (before : List TransactionData) (tell : AllTellBytes before) where
   pub device_is_seen : (addr : ℕ) → IsSeen (seen_behind choice profile before) addr

@@ -63,7 +63,7 @@ is_open : (after : BadWords) (bytes : List ℕ) → (after ≡ End → BeginsTex
 is_open End bytes opens = opens refl
 is_open GoOn bytes opens = tt
 
--- where reading ends at bad words all bytes stand behind the first
+-- where reading ends at bad words all bytes stand after the first
 from_first : (after : BadWords) (read used bytes : List ℕ) → after ≡ End → (read ≡ []) ⊎ (after ≡ GoOn) → bytes ≡ read ++ used → bytes ≡ used
 from_first after read used bytes ends (inl none) is = is ∙ ap (λ (l : List ℕ). l ++ used) none
 from_first after read used bytes ends (inr goes) is = let differ : End ≡ GoOn = sym ends ∙ goes in absurd (cc differ)

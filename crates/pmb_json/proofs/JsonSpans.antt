@@ -111,7 +111,7 @@ module _ (below : Below) (choice : ChoiceData) (profile : List DeviceParts) (bus
     objects_are_json before tell (TruncatedSpan n front refusal ∷ spans) say =
         (refusal_is_json before tell (n + length front) front None refusal, objects_are_json before tell spans say.1)
 
-  -- of a text that stands behind what was read
+  -- of a text that stands after what was read
   pub spans_are_json : (read : List ℕ) (n : ℕ) (text : List ℕ) (before : List TransactionData) → AllTellBytes before → (spans : List Span) → AllSayPackets profile spans
       → AreJson (span_objects choice profile (event_place read n text) before spans)
   spans_are_json read n text before tell spans say = objects_are_json (event_place read n text) (events_are_placed below read n text) before tell spans say

@@ -1,4 +1,4 @@
--- What follows behind bad lines, from the first byte on.
+-- What follows after bad lines, from the first byte on.
 use Rattle.std.proofs.Common.{◌≡◌, ◌⊎◌, ℕ, ◌+◌, inl, inr, List, [], ◌∷◌, ◌++◌, length, refl, sym, ap, subst, ◌∙◌, append_assoc, append-nil}
 use Rattle.pmb_bus.specs.Text.{FirstBadWord}
 use Rattle.pmb_command.specs.Parts.{DeviceParts}
@@ -78,7 +78,7 @@ module _ (choice : ChoiceData) (profile : List DeviceParts) where
       (rest, [], refl, behind, is_bad, refl, goes_nowhere after rest _ _ nowhere (refl, refl, refl))
 
   module _ (after : BadWords) (Holds : Before → List ℕ → List ℕ → Type 0) (bytes text : List ℕ) (behind : Behind choice profile after Holds bytes text) where
-    -- what is written behind there is written in all
+    -- what is written after there is written in all
     pub writes_json : (tail said : List ℕ) (more : List BadLine) (others : List Object) (counts : CountsData) (tally : Tally)
         → ObjectsFrom choice profile after behind.b (behind.used ++ tail) more others counts → behind.put ++ said ≡ object_lines choice.devices (others ++ end_objects counts)
         → IsTallyOf counts.packets (counts.refusals + counts.bad_tokens) tally → WritesJson choice profile after (bytes ++ tail) (text ++ said) tally

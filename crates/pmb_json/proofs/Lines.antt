@@ -25,7 +25,7 @@ front_cut (x ∷ line) rest is =
       | inr keeps ↦ front_keeps x (line ++ rest) keeps ∙ (ap (λ (l : List ℕ). x ∷ l) (front_cut line rest is) ∙ sym (front_keeps x line keeps))
     ]
 
--- bytes up to a LF, and what stands behind
+-- bytes up to a LF, and what stands after
 pub record SplitsLine (bytes : List ℕ) : Type 0 where
   pub line : List ℕ
   pub rest : List ℕ
@@ -83,7 +83,7 @@ same_split (c ∷ a) (d ∷ b) x y is long =
     let fronts = more.0 in
     let whole : c ∷ a ≡ d ∷ b = cc in (whole, more.1)
 
--- what is said of a front and of the bytes behind it
+-- what is said of a front and of the bytes after it
 pub record IsBadBehind (front rest : List ℕ) (events : List Event) : Type 0 where
   pub between : EndsBetween front
   pub spells : Spells front events

@@ -73,7 +73,7 @@ module _ (choice : ChoiceData) (profile : List DeviceParts) where
       ap (λ (place : Place). bad_token_object (capped (b.n + length bad.events)) place (open_word ((b.read ++ bad.front) ++ bad.line))) there.placed
       ∙ object_same (capped (b.n + length bad.events)) (place_behind (b.read ++ bad.front)) (open_word ((b.read ++ bad.front) ++ bad.line)) (front_word (bad.line ++ more)) (ap (take 32) there.opened ∙ sym told)
 
-  -- it goes out behind those in front of it
+  -- it goes out after those before it
   pub lines_with_word : (b : Before) (bad : BadLine) (more put said : List ℕ) (word : Object) → put ≡ object_lines choice.devices (front_objects choice profile b (longer_line bad more))
       → said ≡ object_lines choice.devices (word ∷ []) → word ≡ word_object choice profile b (longer_line bad more)
       → put ++ said ≡ object_lines choice.devices (bad_line_objects choice profile b (longer_line bad more))
@@ -83,7 +83,7 @@ module _ (choice : ChoiceData) (profile : List DeviceParts) where
       ∙ (ap (λ (l : List ℕ). object_lines choice.devices front ++ l) (said_are ∙ ap (λ (o : Object). object_lines choice.devices (o ∷ [])) is)
       ∙ sym (lines_append choice.devices front (word_object choice profile b (longer_line bad more) ∷ [])))
 
-  -- and the counts behind it
+  -- and the counts after it
   pub lines_with_counts : (b : Before) (bad : BadLine) (more put said : List ℕ) (counts : CountsData) → put ≡ object_lines choice.devices (bad_line_objects choice profile b (longer_line bad more))
       → said ≡ object_lines choice.devices (end_objects counts) → put ++ said ≡ object_lines choice.devices (bad_line_objects choice profile b (longer_line bad more) ++ end_objects counts)
   lines_with_counts b bad more put said counts put_are said_are =
@@ -109,7 +109,7 @@ module _ (choice : ChoiceData) (profile : List DeviceParts) where
   abbrev pub met : Before → Reached → List ℕ → BadLine
   met b reached front = record { front = front; events = reached.events; spans = moved_spans b.n reached.spans; line = open_word reached.text }
 
-  -- the first bad word stands behind that front
+  -- the first bad word stands after that front
   pub met_word : (reached : Reached) (front rest : List ℕ) → reached.text ≡ front ++ open_word reached.text → OpenWordIsBad reached.text (reached.text ++ rest) reached.events
       → FirstBadWord (front ++ (open_word reached.text ++ rest)) reached.events (length front)
   met_word reached front rest split bad =

@@ -64,7 +64,7 @@ module _ (choice : ChoiceData) (profile : List DeviceParts)
   one_out b bad rest o p (inr x) (inl y) = absurd (x.0 y.0)
   one_out b bad rest o p (inr x) (inr y) = x.1 ∙ sym y.1
 
-  -- what holds behind a bad line
+  -- what holds after a bad line
   abbrev Behind : BadWords → Before → List BadLine → List Object → BadLine → List ℕ → Type 0
   Behind after b more objects bad rest =
       GoesOn after rest

@@ -36,7 +36,7 @@ module _ (choice : ChoiceData) (profile : List DeviceParts)
     (one_spelling : (text : List ℕ) (a b : List Event) → Spells text a → Spells text b → a ≡ b)
     (one_bad_word : (text : List ℕ) (a b : List Event) (i j : ℕ) → FirstBadWord text a i → FirstBadWord text b j → (a ≡ b) × (i ≡ j))
     (no_bad : (text : List ℕ) (a b : List Event) (i : ℕ) → Spells text a → FirstBadWord text b i → ⊥) where
-  -- the objects of the same events, and what was counted behind them
+  -- the objects of the same events, and what was counted after them
   one_reading : (b : Before) (bytes : List ℕ) (objects others : List Object) (c d : CountsData) → ReadsToEnd choice profile b bytes objects c
       → ReadsToEnd choice profile b bytes others d → (objects ≡ others) × (c ≡ d)
   one_reading b bytes objects others c d x y =
@@ -50,7 +50,7 @@ module _ (choice : ChoiceData) (profile : List DeviceParts)
   bad_word_there b bytes x rest split behind bad =
       subst (λ (text : List ℕ). FirstBadWord text x.events (length x.front)) (sym split) (bad_word_in_text x.front x.line rest x.events behind bad.word)
 
-  -- bytes have one first bad line, and one rest behind it
+  -- bytes have one first bad line, and one rest after it
   pub one_bad_line : (b : Before) (bytes : List ℕ) (x y : BadLine) (rest other : List ℕ) → bytes ≡ x.front ++ x.line ++ rest → bytes ≡ y.front ++ y.line ++ other
       → IsBehindLine rest → IsBehindLine other → IsBadLine choice profile b x → IsBadLine choice profile b y → (x ≡ y) × (rest ≡ other)
   one_bad_line b bytes x y rest other first second behind also bad too =
@@ -61,13 +61,13 @@ module _ (choice : ChoiceData) (profile : List DeviceParts)
       let spans = one_list_of_spans b.n y.events bad.all too.all (subst (λ (es : List Event). SpansFrom profile b.n es bad.all) words.0 bad.reads) too.reads in
       (line_same x y parts.0 words.0 (bad.reported ∙ ap (filter is_whole) spans ∙ sym too.reported) lines.0, lines.1)
 
-  -- what holds behind a bad line
+  -- what holds after a bad line
   abbrev Behind : BadWords → Before → List BadLine → List Object → CountsData → BadLine → List ℕ → Type 0
   Behind after b more others counts bad rest =
       GoesOn after rest (λ behind. ObjectsFrom choice profile after (behind_line b bad) behind more others counts)
       ((more ≡ []) × (others ≡ []) × (counts ≡ (behind_line b bad).counts))
 
-  -- the objects behind the same bad line, if so behind the next LF
+  -- the objects after the same bad line, if so after the next LF
   one_behind : (after : BadWords) (b : Before) (xs ys : List BadLine) (o p : List Object) (c d : CountsData) (bad : BadLine) (rest : List ℕ)
       → ((there : Before) (bytes : List ℕ) → ObjectsFrom choice profile GoOn there bytes xs o c → ObjectsFrom choice profile GoOn there bytes ys p d → (o ≡ p) × (c ≡ d))
       → Behind after b xs o c bad rest → Behind after b ys p d bad rest → (o ≡ p) × (c ≡ d)

@@ -162,7 +162,7 @@ module _ (places : ℕ) (acc : Access) (device : DeviceParts) (code : ℕ) where
 
 -- ---- objects
 
--- what is known in a piece and in the whole agrees, behind some transactions of each
+-- what is known in a piece and in the whole agrees, after some transactions of each
 pub record Agree (profile : List DeviceParts) (a b : LateStart) (x y : List TransactionData) : Type 0 where
   pub pages : (addr number : ℕ) → page a profile x addr ≡ Some number → page b profile y addr ≡ Some number
   pub modes : (addr : ℕ) → (w : Option ℕ) × AgreesWith (mode a profile x addr) w × (mode b profile y addr ≡ known_as w)

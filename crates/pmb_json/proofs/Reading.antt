@@ -132,7 +132,7 @@ module _ (choice : ChoiceData) (profile : List DeviceParts) (b : Before) (scan :
 
   -- ---- the bytes end
 
-  -- the objects of those in front of the end, and of the end
+  -- the objects of those before the end, and of the end
   ends_objects : (there : Reached) (last : List Span) (place_text : List ℕ)
       → span_objects choice profile (event_place b.read b.n place_text) b.ts (moved_spans b.n (there.spans ++ last))
       ≡ span_objects choice profile (event_place b.read b.n place_text) b.ts (moved_spans b.n there.spans)

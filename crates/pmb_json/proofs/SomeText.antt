@@ -27,7 +27,7 @@ module _ (choice : ChoiceData) (profile : List DeviceParts) (some_spans : (n : �
   abbrev HasObjects : BadWords → Before → List ℕ → Type 0
   HasObjects after b bytes = (bad : List BadLine) × (objects : List Object) × (counts : CountsData) × ObjectsFrom choice profile after b bytes bad objects counts
 
-  -- .. and so has what stands behind a bad line
+  -- .. and so has what stands after a bad line
   abbrev HasObjectsBehind : BadWords → Before → BadLine → List ℕ → Type 0
   HasObjectsBehind after b bad rest =
       (more : List BadLine) × (others : List Object) × (counts : CountsData)

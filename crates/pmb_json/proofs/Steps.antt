@@ -1,4 +1,4 @@
--- A `Json` behind bytes more.
+-- A `Json` after bytes more.
 use Rattle.std.proofs.Common.{◌≡◌, ◌≢◌, ◌⊎◌, ℕ, ◌+◌, ◌<◌, ◌≤◌, true, inl, inr, List, [], ◌∷◌, ◌++◌, drop, length, take, refl, sym, ap, subst, ◌∙◌, append_assoc, append-nil, arith, length-append, length-take, take-append-drop}
 use Rattle.pmb_bus.specs.Text.{EndsBetween, FirstBadWord, front_word, is_word, open_word}
 use Rattle.pmb_command.specs.Parts.{DeviceParts}
@@ -289,7 +289,7 @@ with_lf bytes count ends =
     omega (arith, ap (λ (l : List ℕ). length l) whole, length-append (take (count + 1) bytes) tail, length-append (take count bytes ++ 10 ∷ []) tail) in
     (same_split (take (count + 1) bytes) (take count bytes ++ 10 ∷ []) tail tail whole lengths).0
 
--- reading begins anew behind it
+-- reading begins anew after it
 pub begins_anew : (choice : ChoiceData) (profile : List DeviceParts) (after : BadWords) (given text at_hand : List ℕ) (count : ℕ) (old mid new : Stream) (scan : Scan) → after ≡ GoOn → EndsLine at_hand count
     → ((text : List ℕ) → EndsBetween (text ++ 10 ∷ [])) → stream_choice new ≡ choice → stream_profile new ≡ profile → ScanStandsAt scan (at_start profile)
     → ((b : Before) → StreamKnows b old → StreamKnows (with_bytes b (take (count + 1) at_hand)) mid) → ((b : Before) → StreamKnows b mid → EndsBetween b.read → StreamBegins b new)

@@ -84,6 +84,6 @@ page_of : (start : Start) (ts : List TransactionData) (found : Option DevicePart
 page_of start ts None tell = tt
 page_of start ts (Some device) tell = behind_transactions device ts (first_known start device) tell (at_first_known start)
 
--- PAGE is a byte behind transactions that tell bytes
+-- PAGE is a byte after transactions that tell bytes
 pub page_is_byte : (start : Start) (profile : List DeviceParts) (ts : List TransactionData) (addr : ℕ) → AllTellBytes ts → IfSome (page start profile ts addr) (λ page. page < 256)
 page_is_byte start profile ts addr tell = page_of start ts (device_with addr profile) tell

@@ -66,7 +66,7 @@ solid_first b w solid =
       | inr keeps ↦ let same : b ∷ front_word w ≡ b ∷ w = sym (front_keeps b w keeps) ∙ solid in (keeps, cc)
     ]
 
--- they are in front of the word that goes on with them
+-- they are before the word that goes on with them
 pub solid_then : (w rest : List ℕ) → front_word w ≡ w → front_word (w ++ rest) ≡ w ++ front_word rest
 solid_then [] rest solid = refl
 solid_then (b ∷ w) rest solid =

@@ -11,7 +11,8 @@ use Rattle.pmb_json.specs.SoFar.{HasWrittenJson}
 use Rattle.pmb_json.specs.Text.{WritesJson}
 use Rattle.pmb_stream.specs.Choice.{ChoiceData}
 
--- The word under way at the end of the bytes is their first that is no token, and has fewer than 32 bytes.
+-- The word under way at the end of the bytes is their first that is no token, and has fewer than 32
+-- bytes.
 pub record EndsInShortBadWord (bytes : List ℕ) : Type 0 where
   pub front : List ℕ
   pub word : List ℕ
@@ -22,7 +23,7 @@ pub record EndsInShortBadWord (bytes : List ℕ) : Type 0 where
   pub short : length word < 32
 
 -- More is wanted of bytes that begin some text that spells events, and of those that end in such a
--- word; and always where reading goes on behind bad words.
+-- word; and always where reading goes on after bad words.
 abbrev pub IsOpenJson : BadWords → List ℕ → Type 0
 IsOpenJson End bytes = BeginsText bytes ⊎ EndsInShortBadWord bytes
 IsOpenJson GoOn bytes = Unit {0}

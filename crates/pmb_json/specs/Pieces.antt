@@ -25,7 +25,8 @@ IsUnknown m = (m ≡ named (codes "page") null) ⊎ (m ≡ named (codes "raw") (
 abbrev pub IsNumber : Member → Type 0
 IsNumber m = (m.key ≡ codes "value") ⊎ (m.key ≡ codes "number")
 
--- Each member that a piece gives is given by the whole, but for where it begins and what is not known.
+-- Each member that a piece gives is given by the whole, but for where it begins and what is not
+-- known.
 pub record SayNoMore (piece whole : List Member) : Type 0 where
   pub each : (m : Member) → Contains piece m → IsWhere m ⊎ (IsUnknown m ⊎ Contains whole m)
 
@@ -41,9 +42,9 @@ EachSaysNoMore [] (whole ∷ others) = ⊥
 EachSaysNoMore (piece ∷ pieces) [] = ⊥
 EachSaysNoMore (piece ∷ pieces) (whole ∷ others) = SaysNoMore piece whole × EachSaysNoMore pieces others
 
--- Behind such bytes a capture can be cut, so that the rest is read late: they spell events of which the
--- last is STOP, no word and no comment goes on, and what they tell of PAGE and VOUT_MODE is what each
--- device can have where the rest begins.
+-- After such bytes a capture can be cut, so that the rest is read late: they spell events of which
+-- the last is STOP, no word and no comment goes on, and what they tell of PAGE and VOUT_MODE is
+-- what each device can have where the rest begins.
 pub record CanBeCutBehind (profile : List DeviceParts) (start : Start) (front : List ℕ) : Type 0 where
   pub events : List Event
   pub spans : List Span

@@ -1,4 +1,5 @@
--- What `json` has written for bytes that more may follow: the objects of all that has ended in them.
+-- What `json` has written for bytes that more may follow: the objects of all that has ended in
+-- them.
 use Rattle.std.specs.Prelude.{◌≡◌, ◌⊎◌, ◌<◌, ℕ, List, [], ◌∷◌, ◌++◌, filter, length}
 use Rattle.pmb_bus.specs.declared.event.Event.{Event}
 use Rattle.pmb_bus.specs.Text.{BeginsText, EndedWordsSpell, FirstBadWord, front_word}
@@ -38,8 +39,8 @@ module _ (choice : ChoiceData) (profile : List DeviceParts) where
       (IsUnderWay bad.line rest × (objects ≡ front_objects choice profile b bad))
       ⊎ ((IsUnderWay bad.line rest → ⊥) × (objects ≡ bad_line_objects choice profile b bad))
 
-  -- The objects so far of bytes from there on, with these bad lines. Reading goes on behind bad lines,
-  -- as it is wanted.
+  -- The objects so far of bytes from there on, with these bad lines. Reading goes on after bad
+  -- lines, as it is wanted.
   abbrev pub SoFarFrom : BadWords → Before → List ℕ → List BadLine → List Object → Type 0
   SoFarFrom after b bytes [] objects = ReadsSoFar b bytes objects
   SoFarFrom after b bytes (bad ∷ more) objects =

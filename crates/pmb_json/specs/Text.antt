@@ -21,7 +21,7 @@ use Rattle.pmb_stream.specs.Spans.{after_spans, event_place, span_objects, trans
 
 -- ---- where reading begins anew
 
--- A word that is no token, with the rest of its line, and in front of it bytes that spell events,
+-- A word that is no token, with the rest of its line, and before it bytes that spell events,
 -- which read as spans. It begins `line`.
 pub record BadLine : Type 0 where
   pub front : List ℕ
@@ -29,7 +29,7 @@ pub record BadLine : Type 0 where
   pub spans : List Span
   pub line : List ℕ
 
--- behind those bytes, where the word stands
+-- after those bytes, where the word stands
 abbrev pub at_word : Before → BadLine → Before
 at_word b bad = record {
   read = b.read ++ bad.front;
@@ -38,7 +38,7 @@ at_word b bad = record {
   counts = after_spans b.counts bad.spans;
 }
 
--- behind that line and its LF; what was dropped was no event
+-- after that line and its LF; what was dropped was no event
 abbrev pub behind_line : Before → BadLine → Before
 behind_line b bad = record {
   read = b.read ++ bad.front ++ bad.line ++ character "\n" ∷ [];
@@ -47,12 +47,13 @@ behind_line b bad = record {
   counts = after_bad_token (after_spans b.counts bad.spans);
 }
 
--- nothing, or LF and what stands behind it
+-- nothing, or LF and what stands after it
 abbrev pub IsBehindLine : List ℕ → Type 0
 IsBehindLine [] = Unit {0}
 IsBehindLine (byte ∷ bytes) = byte ≡ character "\n"
 
--- What holds where reading begins anew behind a LF, if it is to go on there and there is one; and else.
+-- What holds where reading begins anew after a LF, if it is to go on there and there is one; and
+-- else.
 abbrev pub GoesOn : BadWords → List ℕ → (List ℕ → Type 0) → Type 0 → Type 0
 GoesOn End rest Holds Else = Else
 GoesOn GoOn [] Holds Else = Else
@@ -79,7 +80,7 @@ module _ (choice : ChoiceData) (profile : List DeviceParts) where
     pub reads : SpansFrom profile b.n bad.events all
     pub reported : bad.spans ≡ filter is_whole all
 
-  -- the objects of what stands in front of the word, and that of the word
+  -- the objects of what stands before the word, and that of the word
   abbrev pub front_objects : Before → BadLine → List Object
   front_objects b bad = span_objects choice profile (event_place b.read b.n (bad.front ++ bad.line)) b.ts bad.spans
 
@@ -89,8 +90,8 @@ module _ (choice : ChoiceData) (profile : List DeviceParts) where
   abbrev pub bad_line_objects : Before → BadLine → List Object
   bad_line_objects b bad = front_objects b bad ++ word_object b bad ∷ []
 
-  -- The objects of bytes from there on, with these bad lines, and what was counted behind all. Reading
-  -- ends at the first bad line, or, where it is to go on, begins anew behind each.
+  -- The objects of bytes from there on, with these bad lines, and what was counted after all.
+  -- Reading ends at the first bad line, or, where it is to go on, begins anew after each.
   abbrev pub ObjectsFrom : BadWords → Before → List ℕ → List BadLine → List Object → CountsData → Type 0
   ObjectsFrom after b bytes [] objects counts = ReadsToEnd b bytes objects counts
   ObjectsFrom after b bytes (bad ∷ more) objects counts =

@@ -1,4 +1,4 @@
-/// What is done behind a word that is no token.
+/// What is done after a word that is no token.
 #[derive(Clone, Copy, Debug, PartialEq, Eq)]
 pub enum BadWords {
     /// Reading ends there.

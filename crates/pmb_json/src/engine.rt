@@ -1,8 +1,8 @@
 //! From the text of a capture to its objects, in pieces.
 //!
-//! Between two bad words a scan reads on, and the stream is told. A bad word's bytes are taken until
-//! 32 have come or it has ended: then its object goes out. What is left of its line is taken and
-//! dropped, and a new scan begins behind it.
+//! Between two bad words a scan reads on, and the stream is told. A bad word's bytes are taken
+//! until 32 have come or it has ended: then its object goes out. What is left of its line is taken
+//! and dropped, and a new scan begins after it.
 
 ghost use Rattle.std.specs.Prelude.{◌≡◌, ◌⊎◌, ◌≢◌, ◌++◌, ◌≤◌, ◌<◌, ℕ, List, [], OnOk, IfOk, length};
 ghost use Rattle.pmb_bus.specs.Text.{front_word, open_word};
@@ -40,13 +40,13 @@ enum Inside {
     BadLine,
 }
 
-/// What is left of a piece behind a bad line.
+/// What is left of a piece after a bad line.
 enum Left<'b> {
     /// All of it is used.
     Nothing,
     /// No more is wanted.
     Stop,
-    /// Behind the LF of the line.
+    /// After the LF of the line.
     Bytes(&'b [u8]),
 }
 
@@ -96,8 +96,8 @@ impl<'p> Json<'p> {
         self.stream.tally()
     }
 
-    /// Leaves the text where it is, and puts out no more: what came of it so far is a front of what it
-    /// would come to.
+    /// Leaves the text where it is, and puts out no more: what came of it so far is a front of what
+    /// it would come to.
     pub(crate) fn leave(&mut self)
         ensures { (start : Json) (bytes text : List ℕ) → HasPutOut start self.old bytes text
             → WritesJsonFront (json_choice start) (json_profile start) (json_bad_words start) bytes text }
@@ -183,8 +183,8 @@ impl<'p> Json<'p> {
         self.end_bad_word(rest, waiting, writer)
     }
 
-    /// Puts out the object of the bad word, of which no more is wanted, and drops what is left of its
-    /// line.
+    /// Puts out the object of the bad word, of which no more is wanted, and drops what is left of
+    /// its line.
     fn end_bad_word<'b, W: Sink>(
         &mut self,
         rest: &'b [u8],
@@ -211,7 +211,7 @@ impl<'p> Json<'p> {
         }
     }
 
-    /// Drops what is left of a bad line. Behind its LF reading begins anew.
+    /// Drops what is left of a bad line. After its LF reading begins anew.
     fn drop_line<'b>(&mut self, bytes: &'b [u8]) -> Left<'b>
         ensures takes { (start : Json) (given text : List ℕ) → self.old.inside ≡ inside.BadLine → StandsInBadLine bytes.now start self.old given text
             → TakesLine start self.new given bytes.now result text }

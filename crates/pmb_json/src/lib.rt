@@ -1,8 +1,8 @@
 //! `json`: what a capture says, as lines of JSON.
 //!
-//! [`json`] writes an object for each packet, each refusal and each word that is no token, as soon as
-//! it has ended, and at the end how often each device came. Behind a word that is no token reading
-//! ends, or goes on with the next line ([`BadWords`]).
+//! [`json`] writes an object for each packet, each refusal and each word that is no token, as soon
+//! as it has ended, and at the end how often each device came. After a word that is no token
+//! reading ends, or goes on with the next line ([`BadWords`]).
 //!
 //! ```rust
 //! let choice = Choice { digits: Digits::default(), start: Start::AllKnown, devices: &[] };

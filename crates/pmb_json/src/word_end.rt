@@ -33,7 +33,7 @@ pub(crate) fn word_bytes(bytes: &[u8], had: usize) -> usize
     count
 }
 
-/// How many bytes stand in front of the first LF, if there is one.
+/// How many bytes stand before the first LF, if there is one.
 pub(crate) fn line_bytes(bytes: &[u8]) -> Option<usize>
     ensures within { IfSome result (λ count. count < length bytes.now) }
     ensures line { MatchOption result (HasNoLf bytes.now) (λ count. EndsLine bytes.now count) }
@@ -48,14 +48,15 @@ pub(crate) fn line_bytes(bytes: &[u8]) -> Option<usize>
     None
 }
 
-/// Whether no more is told of a word that has so many bytes: a byte follows that ends it, or 32 came.
+/// Whether no more is told of a word that has so many bytes: a byte follows that ends it, or 32
+/// came.
 pub(crate) fn is_over(rest: &[u8], had: usize) -> bool
     ensures { MatchBool result ((rest.now ≢ []) ⊎ (32 ≤ had)) ((rest.now ≡ []) × (had < 32)) }
 {
     !rest.is_empty() || had >= WORD
 }
 
-/// What stands behind so many bytes; nothing where there are fewer.
+/// What stands after so many bytes; nothing where there are fewer.
 pub(crate) fn behind(bytes: &[u8], count: usize) -> &[u8]
     ensures rest { result.now ≡ drop count bytes.now }
     ensures less { length result.now ≤ length bytes.now }

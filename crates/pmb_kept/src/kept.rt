@@ -239,7 +239,7 @@ impl Kept {
         };
     }
 
-    /// The packet was refused behind its parts, where these bytes were taken, and the next one not,
+    /// The packet was refused after its parts, where these bytes were taken, and the next one not,
     /// or to be read was refused.
     pub fn end_refused(&mut self, address: u8, taken: &[u8], refused: Option<u8>, to_read: bool)
         requires parts { length self.old.parts ≤ 15 }

@@ -1,8 +1,8 @@
 //! Parts that are written over in place.
 //!
 //! A part has room for 255 bytes, which is cleared where one is made or dropped. So the parts of a
-//! write stay when the next one begins, and are written over one after the other; those that are left
-//! over are dropped at its end.
+//! write stay when the next one begins, and are written over one after the other; those that are
+//! left over are dropped at its end.
 
 ghost use Rattle.std.specs.Prelude.{◌≡◌, ◌<◌, ◌≤◌, ◌+◌, ◌++◌, ◌∷◌, [], length, map, take};
 ghost use Rattle.std.specs.Option.{option_to_list};
@@ -40,7 +40,7 @@ fn write_over(part: &mut Part, addr: u8, code: u8, data_bytes: &[u8], pec: bool)
     part.pec = pec;
 }
 
-/// Puts a part behind the first ones, in place of the one that stands there, if one does.
+/// Puts a part after the first ones, in place of the one that stands there, if one does.
 #[inline]
 pub(crate) fn put_part<const N: usize>(
     parts: &mut ArrayVec<Part, N>,

@@ -48,7 +48,7 @@ pub record DeviceKeys : Type 0 where
   pub vout_direct : Option Coefficients
   pub commands : Items
 
--- the keys that may be there, each ruled in its turn, behind those that have to be
+-- the keys that may be there, each ruled in its turn, after those that have to be
 abbrev pub other_keys : ℕ → PecMode → Members → Result DeviceKeys FaultKind
 other_keys address pec ms =
     bind (defaulted pages_rule 1 (codes "pages") ms) (λ pages.

@@ -66,7 +66,7 @@ fn device_keys<'a>(table: &'a Table, taken: &[u8]) -> Result<DeviceKeys<'a>, Fau
     other_keys(table, address, pec)
 }
 
-/// The keys of a device's table that may be there, each ruled in its turn, behind those that have
+/// The keys of a device's table that may be there, each ruled in its turn, after those that have
 /// to be.
 fn other_keys(table: &Table, address: u8, pec: PecMode) -> Result<DeviceKeys<'_>, FaultKind>
     ensures read { bind result (λ k. Ok (keys_parts k)) ≡ other_keys address pec (table_view table.now) }

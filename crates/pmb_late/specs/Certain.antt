@@ -1,5 +1,5 @@
--- What it means that PAGE or VOUT_MODE is known: it is the same whatever they were where the capture
--- begins.
+-- What it means that PAGE or VOUT_MODE is known: it is the same whatever they were where the
+-- capture begins.
 use Rattle.std.specs.Prelude.{◌≡◌, ◌⊎◌, ℕ, ◌<◌, ⊤, Option, Some, None, List, [], ◌∷◌, flat_map, fold, length, replicate}
 use Rattle.std.specs.List.{AllByRecursion}
 use Rattle.pmb_command.specs.Parts.{DeviceParts}
@@ -14,8 +14,8 @@ use Rattle.pmb_late.specs.declared.start.Start.TheVariants.{AllKnown, Late, Late
 abbrev pub IsOwnPage : DeviceParts → ℕ → Type 0
 IsOwnPage device page = (page < device.pages) ⊎ (page ≡ all_pages)
 
--- What PAGE and VOUT_MODE of a device may be where the capture begins: PAGE selects one of its pages
--- or all, and each page has any VOUT_MODE, or the one of the profile where that is fixed.
+-- What PAGE and VOUT_MODE of a device may be where the capture begins: PAGE selects one of its
+-- pages or all, and each page has any VOUT_MODE, or the one of the profile where that is fixed.
 abbrev pub CanBegin : Start → DeviceParts → PagingData → Type 0
 CanBegin AllKnown device p = p ≡ first_paging device
 CanBegin Late device p = IsOwnPage device p.page × (length p.modes ≡ device.pages)
@@ -54,7 +54,7 @@ IsOwnPageTold device t = t.addr ≡ device.address → t.code ≡ page_code → 
 abbrev pub IsFixedModeTold : DeviceParts → RegisterTold → Type 0
 IsFixedModeTold device t = t.addr ≡ device.address → t.code ≡ vout_mode_code → (mode : ℕ) → t.bytes ≡ mode ∷ [] → mode ≡ device.vout_mode
 
--- Transactions behind which a capture may be cut, so that the rest is read as the start says: where
+-- Transactions after which a capture may be cut, so that the rest is read as the start says: where
 -- all is known there are none, and else PAGE is only ever set to pages that the device has, or ffh,
 -- and a VOUT_MODE that is fixed only to that of the profile.
 abbrev pub CanBeCutAfter : Start → DeviceParts → List TransactionData → Type 0

@@ -57,7 +57,7 @@ module _ (profile : List DeviceParts) where
       (line_one : (t : TransactionData) → All (λ b. b ≢ 10) (line t)) (line_short : (t : TransactionData) (events : List Event) → Packet profile t events → length (line t) ≤ 12544)
       (note_one : (before : List TransactionData) (t : TransactionData) (events : List Event) → Packet profile t events → All (λ b. b ≢ 10) (note profile before t))
       (note_short : (before : List TransactionData) (t : TransactionData) (events : List Event) → Packet profile t events → length (note profile before t) ≤ 8192) where
-    -- What is answered to the lines of transactions behind others.
+    -- What is answered to the lines of transactions after others.
     record Answered (lines : List TextLine) (ts : List TransactionData) (events : List Event) : Type 0 where
       answers : List BuildAnswer
       each : BuildsEach profile lines answers

@@ -28,7 +28,7 @@ use Rattle.pmb_laws.proofs.SpelledText.{comment_first, events_first}
 
 -- ---- comments
 
--- a line that is a comment, in front of a text
+-- a line that is a comment, at the front of a text
 line_first : (comment rest : List ℕ) (events : List Event) → no_lf comment ≡ true → Spells rest events → Spells ((35 ∷ comment ++ 10 ∷ []) ++ rest) events
 line_first comment rest events one spells =
     subst (λ (text : List ℕ). Spells text events) (sym (ap (λ (text : List ℕ). 35 ∷ text) (append_assoc comment (10 ∷ []) rest))) (comment_first comment rest events one spells)

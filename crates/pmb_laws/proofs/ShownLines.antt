@@ -11,11 +11,11 @@ use Rattle.pmb_note.specs.Note.{note}
 use Rattle.pmb_transaction.specs.Transaction.{TransactionData}
 use Rattle.pmb_capture.specs.Show.{noted_behind}
 
--- what is shown of a transaction behind others, without its LF
+-- what is shown of a transaction after others, without its LF
 abbrev pub said : List DeviceParts → List TransactionData → TransactionData → List ℕ
 said profile before t = line t ++ (codes " # " ++ note profile before t)
 
--- with its LF, and what is shown behind it
+-- with its LF, and what is shown after it
 pub shown_first : (profile : List DeviceParts) (before ts : List TransactionData) (t : TransactionData)
     → noted_behind profile before (t ∷ ts) ≡ said profile before t ++ 10 ∷ noted_behind profile (before ++ t ∷ []) ts
 shown_first profile before ts t =
@@ -59,7 +59,7 @@ cut_first (b ∷ text) rest none =
     cond-false {A = Cut} (eqb b line_feed) (record { ended = [] ∷ behind.ended; rest = behind.rest }) (longer b behind.ended behind.rest) (ne_eqb b line_feed none.0)
     ∙ ap (λ (c : Cut). longer b c.ended c.rest) (cut_first text rest none.1)
 
--- the line at the front of a text, and the lines behind it
+-- the line at the front of a text, and the lines after it
 pub first_line : (most : ℕ) (text rest : List ℕ) → HasNoLf text → length text ≤ most → lines_of most (text ++ 10 ∷ rest) ≡ Ended text ∷ lines_of most rest
 first_line most text rest none short =
     ap (λ (c : Cut). map (ended_line most) c.ended ++ last_lines most c.rest) (cut_first text rest none)

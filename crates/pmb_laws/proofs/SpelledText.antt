@@ -12,9 +12,9 @@ use Rattle.pmb_bus.proofs.Tokens.{digit_goes_on}
 use Rattle.pmb_bus.proofs.Words.{comment_cuts, in_comment_from_in, runs_from, runs_from-cut, runs_from-kept, word_byte}
 use Rattle.pmb_note.proofs.OneLine.{no_lf}
 
--- ---- behind events
+-- ---- after events
 
--- two digits and a space in front of a text
+-- two digits and a space at the front of a text
 digits_first : (a b high low : ℕ) (rest : List ℕ) (others : List Event) → hex_digit_value a ≡ Some high → hex_digit_value b ≡ Some low → Spells rest others
     → Spells (a ∷ b ∷ 32 ∷ rest) (Byte (high * 16 + low) ∷ others)
 digits_first a b high low rest others first second spells =
@@ -37,7 +37,7 @@ byte_first b rest others small spells =
     (digits_first (slice_index lower_digits (b / 16)) (slice_index lower_digits (b % 16)) (b / 16) (b % 16) rest others (IsDigits-lower_digits (b / 16) high)
     (IsDigits-lower_digits (b % 16) low) spells)
 
--- the text of an event in front of a text
+-- the text of an event at the front of a text
 event_first : (event : Event) (rest : List ℕ) (others : List Event) → AreBytes (event ∷ []) → Spells rest others → Spells (text_of event ++ rest) (event ∷ others)
 event_first (Byte b) rest others small spells = byte_first b rest others small.0 spells
 event_first Start rest others small spells = ap (λ (events : List (Option Event)). Some Start ∷ events) spells
@@ -45,7 +45,7 @@ event_first Ack rest others small spells = ap (λ (events : List (Option Event))
 event_first Nack rest others small spells = ap (λ (events : List (Option Event)). Some Nack ∷ events) spells
 event_first Stop rest others small spells = ap (λ (events : List (Option Event)). Some Stop ∷ events) spells
 
--- bytes of an event, and of those behind it
+-- bytes of an event, and of those after it
 first_and_rest : (event : Event) (events : List Event) → AreBytes (event ∷ events) → AreBytes (event ∷ []) × AreBytes events
 first_and_rest (Byte b) events small = ((small.0, tt), small.1)
 first_and_rest Start events small = (tt, small)
@@ -53,7 +53,7 @@ first_and_rest Ack events small = (tt, small)
 first_and_rest Nack events small = (tt, small)
 first_and_rest Stop events small = (tt, small)
 
--- The canonical text of events in front of a text spells them and what the text spells.
+-- The canonical text of events at the front of a text spells them and what the text spells.
 pub events_first : (events : List Event) (rest : List ℕ) (others : List Event) → AreBytes events → Spells rest others → Spells (canonical_text events ++ rest) (events ++ others)
 events_first [] rest others small spells = spells
 events_first (event ∷ events) rest others small spells =
@@ -61,7 +61,7 @@ events_first (event ∷ events) rest others small spells =
     subst (λ (text : List ℕ). Spells text (event ∷ events ++ others)) (sym (append_assoc (text_of event) (canonical_text events) rest))
     (event_first event (canonical_text events ++ rest) (events ++ others) parts.0 (events_first events rest others parts.1 spells))
 
--- ---- behind a comment
+-- ---- after a comment
 
 -- in a comment no words stand, up to its LF
 no_words : (comment rest : List ℕ) → no_lf comment ≡ true → filter is_word (runs_from true (comment ++ 10 ∷ rest)) ≡ filter is_word (runs_from false rest)
@@ -73,6 +73,6 @@ no_words (b ∷ comment) rest one =
     ∙ ap (λ (before : Bool). filter is_word (runs_from before (comment ++ 10 ∷ rest))) inside
     ∙ no_words comment rest here.1
 
--- A comment and its LF in front of a text spell nothing more.
+-- A comment and its LF at the front of a text spell nothing more.
 pub comment_first : (comment rest : List ℕ) (events : List Event) → no_lf comment ≡ true → Spells rest events → Spells (35 ∷ comment ++ 10 ∷ rest) events
 comment_first comment rest events one spells = ap (map event_of) (no_words comment rest one) ∙ spells

@@ -1,4 +1,4 @@
--- Bodies, by their code and the bytes behind it.
+-- Bodies, by their code and the bytes after it.
 use Rattle.std.proofs.Common.{◌≡◌, ℕ, ◌<◌, ◌⊎◌, inl, inr, Bool, true, false, ◌||◌, Option, Some, None, is_some, List, [], ◌∷◌, ◌++◌, length, refl, sym, ap, subst, ◌∙◌, arith, length-append}
 use Rattle.std.proofs.lemmas.Bool.{or_left, or_right}
 use Rattle.pmb_bus.specs.Pec.{pec}
@@ -86,7 +86,7 @@ module _ (before : List ℕ) where
 -- ---- bodies of a device
 
 module _ (device : DeviceParts) where
-  -- the bytes that the packet error code covers in front of the data
+  -- the bytes that the packet error code covers before the data
   abbrev pub in_front : ℕ → List ℕ
   in_front code = write_address device.address ∷ code ∷ []
 
@@ -108,7 +108,7 @@ module _ (device : DeviceParts) where
       → SpellsData form Off (in_front code) bytes false behind → CallBody device code form bytes (code ∷ behind)
   call_body code form behind bytes called spells = record { called = called; fits = spells.fits; spelled = ap (λ (bs : List ℕ). code ∷ bs) spells.spelled }
 
-  -- Behind the code stand the data of a write or of a call, or nothing.
+  -- After the code stand the data of a write or of a call, or nothing.
   pub data IsBehind (place : LegPlace) (code : ℕ) (behind : List ℕ) : Type 0 where
     of_write : SpellsOf (forms device code).write device.pec (in_front code) behind → IsBehind place code behind
     of_read : place ≡ First → is_some (forms device code).read ≡ true → behind ≡ [] → IsBehind place code behind
@@ -174,7 +174,7 @@ module _ (device : DeviceParts) where
 
   -- ---- bytes that begin bodies
 
-  -- what stands behind a code that is known
+  -- what stands after a code that is known
   behind_code : (place : LegPlace) (code : ℕ) (tail all : List ℕ) → all ≡ code ∷ tail → Parted place all → IsBehind place code tail
   behind_code place code tail all split w =
       let spelled : w.code ∷ w.behind ≡ code ∷ tail = sym w.split ∙ split in
@@ -261,7 +261,7 @@ module _ (device : DeviceParts) where
     first_behind false true has_write has_read is = ([], of_read refl has_read refl)
     first_behind false false has_write has_read is = let w = something (in_front code) (forms device code).call Off is in (w.0, of_call w.1)
 
-    -- what may stand behind a code with which a body begins
+    -- what may stand after a code with which a body begins
     some_behind : (place : LegPlace) → begins_with (forms device code) place ≡ true → (all : List ℕ) × IsBehind place code all
     some_behind Later is = let w = something (in_front code) (forms device code).write device.pec is in (w.0, of_write w.1)
     some_behind First is = first_behind (is_some (forms device code).write) (is_some (forms device code).read) refl refl is

@@ -1,4 +1,4 @@
--- What the code says is left, by the bytes that were taken: at the start, and behind each byte.
+-- What the code says is left, by the bytes that were taken: at the start, and after each byte.
 use Rattle.std.proofs.Common.{◌≡◌, ◌≢◌, ◌↔◌, ℕ, ◌+◌, ◌-◌, ◌<◌, ◌≤◌, ◌⊎◌, inl, inr, zero, suc, Bool, true, false, if◌then◌else◌, nat_eq, nat_lt, Option, Some, None, List, [], ◌∷◌, ◌++◌, length, refl, sym, ap, subst, ◌∙◌, append_assoc, arith, length-append, eq-eqb}
 use Rattle.std.proofs.lemmas.Bool.{ltb-true, ltb-false, eqb-true}
 use Rattle.std.proofs.lemmas.List.{append-nil}
@@ -36,7 +36,7 @@ starts_data Block mode n only some = absurd (omega (arith, (only 0).0 (omega ari
 module _ (before : List ℕ) where
   -- ---- whole data
 
-  -- behind the last byte of data
+  -- after the last byte of data
   pub data_ended : (form : Form) (mode : PecMode) (bytes whole : List ℕ) → Fits form whole → bytes ≡ wire form whole → Leaves form mode before bytes (ends_data mode)
   data_ended form Off bytes whole fits spelled =
       record { whole = whole; with_pec = false; spells = record { fits = fits; allowed = refl; spelled = spelled }; last = inr refl }
@@ -57,7 +57,7 @@ module _ (before : List ℕ) where
 
   -- ---- nothing follows
 
-  -- behind the end, and where another code stands than theirs, nothing begins
+  -- after the end, and where another code stands than theirs, nothing begins
   code_allowed : (mode : PecMode) (with_pec : Bool) → mode ≡ Off → AllowsPec mode with_pec → with_pec ≡ false
   code_allowed mode with_pec is allowed = let P : PecMode → Type 0 = λ (m : PecMode). AllowsPec m with_pec in subst P is allowed
 
@@ -154,7 +154,7 @@ module _ (before : List ℕ) where
   still_closed : (form : Form) (mode : PecMode) (bytes : List ℕ) → (BeginsData form mode before bytes → ⊥) → (byte : ℕ) → BeginsData form mode before (bytes ++ byte ∷ []) → ⊥
   still_closed form mode bytes never byte (all, rest, spells, split) = never (all, byte ∷ rest, spells, split ∙ append_assoc bytes (byte ∷ []) rest)
 
-  -- what is left behind one byte more
+  -- what is left after one byte more
   pub moved_on : (form : Form) (mode : PecMode) (bytes : List ℕ) (left : Left) → Leaves form mode before bytes left → (crc byte : ℕ) → crc ≡ pec (before ++ bytes)
       → IsByte byte → Leaves form mode before (bytes ++ byte ∷ []) (after left mode crc byte)
   moved_on form mode bytes Count (is, none) crc byte so_far small =
@@ -178,7 +178,7 @@ module _ (before : List ℕ) where
   of_data : (form : Form) (mode : PecMode) (whole : List ℕ) → Fits form whole → SpellsSomeData form mode before (checked (some_pec mode).0 before (wire form whole))
   of_data form mode whole fits = (whole, (some_pec mode).0, record { fits = fits; allowed = (some_pec mode).1; spelled = refl })
 
-  -- bytes with more behind them are a proper beginning
+  -- bytes with more after them are a proper beginning
   proper : (bytes rest all : List ℕ) → 0 < length rest → all ≡ bytes ++ rest → IsProperPrefix bytes all
   proper bytes [] all some split = absurd (omega arith)
   proper bytes (next ∷ rest) all some split = record { next = next; rest = rest; split = split }
@@ -260,7 +260,7 @@ module _ (before : List ℕ) where
   code_open true = refl
   code_open false = refl
 
-  -- a byte is taken where something is left open behind it
+  -- a byte is taken where something is left open after it
   pub takes_is : (left : Left) (mode : PecMode) (crc byte : ℕ) → is_open (after left mode crc byte) ≡ takes left crc byte
   takes_is Count mode crc byte = count_open (nat_eq byte 0) byte mode
   takes_is (Data n) mode crc byte = data_open (nat_lt 1 n) n mode
@@ -278,7 +278,7 @@ module _ (before : List ℕ) where
   begins_takes form mode bytes left is crc byte so_far small begins =
       sym (takes_is left mode crc byte) ∙ open_begun form mode (bytes ++ byte ∷ []) (after left mode crc byte) (moved_on form mode bytes left is crc byte so_far small) begins
 
-  -- ---- whole data, and whether a code stands behind them
+  -- ---- whole data, and whether a code stands after them
 
   code_there : (with_pec : Bool) → (with_pec ≡ true) ⊎ (Optional ≡ Off) → with_pec ≡ true
   code_there with_pec (inl is) = is

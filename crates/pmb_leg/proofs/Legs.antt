@@ -91,7 +91,7 @@ module _ (leg : Kept) (code : ℕ) (behind : List ℕ) (is : IsBehindCode leg co
   pub has_room : (byte : ℕ) → (takes leg.write leg.crc byte || takes leg.call leg.crc byte) ≡ true → length behind < 257
   has_room byte taken = one_room byte (either (takes leg.write leg.crc byte) (takes leg.call leg.crc byte) taken)
 
-  -- what is kept behind one byte more
+  -- what is kept after one byte more
   pub next_behind : (byte next : ℕ) → IsByte byte → ((bytes : List ℕ) → pec bytes ≡ leg.crc → next ≡ pec (bytes ++ byte ∷ []))
       → IsBehindCode (record leg { write = after leg.write the_device.pec leg.crc byte; call = after leg.call Off leg.crc byte; crc = next }) code (behind ++ byte ∷ [])
   next_behind byte next small goes_on = record {
@@ -136,7 +136,7 @@ module _ (leg : Kept) where
   next_kept [] kept some byte next small goes_on = absurd (some refl)
   next_kept (code ∷ behind) is some byte next small goes_on = next_behind leg code behind is byte next small goes_on
 
--- behind the code
+-- after the code
 pub first_kept : (device : DeviceParts) (place : LegPlace) (code crc : ℕ) → calls_fit (forms device code).call ≡ true → crc ≡ pec (in_front device code)
     → IsKeptLeg (record { device = device; place = place; shape = forms device code; write = start (forms device code).write device.pec; call = start (call_form place (forms device code)) Off; crc = crc }) (code ∷ [])
 first_kept device place code crc called is = record {
@@ -155,7 +155,7 @@ pub is_empty : (bytes : List ℕ) → (length bytes == 0) ≡ true → bytes ≡
 is_empty [] none = refl
 is_empty (b ∷ bytes) none = absurd (omega (arith, eqb-true (length (b ∷ bytes)) 0 none))
 
--- a code, behind nothing
+-- a code, after nothing
 pub tells_code : (device : DeviceParts) (place : LegPlace) (bytes : List ℕ) → bytes ≡ [] → (parts : List PartData) → place_of parts ≡ place
     → (code : ℕ) → IsTrue (begins_with (forms device code) place) ↔ BeginsBody device parts (bytes ++ code ∷ [])
 tells_code device place bytes none parts here code =

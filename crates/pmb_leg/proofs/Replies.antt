@@ -80,7 +80,7 @@ module _ (a : Inside) (is : IsAnswered a) where
     λ reply. spells_whole is.before a.form a.mode a.bytes.items a.left is.left (replied a.form a.mode a.code is.before is.alike is.code a.bytes.items reply),
   )
 
-  -- what is kept behind one byte more
+  -- what is kept after one byte more
   pub code_on : (byte next : ℕ) (bytes : List ℕ) → bytes ≡ a.bytes.items ++ byte ∷ [] → ((covered : List ℕ) → pec covered ≡ a.crc → next ≡ pec (covered ++ byte ∷ []))
       → pec (is.before ++ bytes) ≡ next
   code_on byte next bytes taken goes_on =

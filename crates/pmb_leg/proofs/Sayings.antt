@@ -47,7 +47,7 @@ whole_of before o form mode bytes left leaves has done =
     let P : Option Form → Type 0 = λ (x : Option Form). LeavesOf x mode before bytes left in
     whole_spells before form mode bytes left (subst P has leaves) done
 
--- ---- what is kept behind a code
+-- ---- what is kept after a code
 
 module _ (leg : Kept) (code : ℕ) (behind : List ℕ) (is : IsBehindCode leg code behind) where
   write_shape : SpellsOf (forms leg.device code).write leg.device.pec (in_front leg.device code) behind → SpellsOf leg.shape.write leg.device.pec (in_front leg.device code) behind

@@ -1,4 +1,4 @@
--- The wire of a form in front of other bytes: where it ends.
+-- The wire of a form before other bytes: where it ends.
 use Rattle.std.proofs.Common.{◌≡◌, ℕ, ◌+◌, ◌<◌, zero, suc, Bool, true, false, List, [], ◌∷◌, ◌++◌, length, replicate, refl, sym, ap, ◌∙◌, arith, length-append}
 use Rattle.std.proofs.lemmas.List.{append-nil, length-replicate}
 use Rattle.pmb_bus.specs.Pec.{pec}
@@ -89,7 +89,7 @@ pub length_zeros : (n : ℕ) → length (zeros n) ≡ n
 unfolding zeros
 length_zeros n = length-replicate {A = ℕ} n 0
 
--- the packet error code that may stand behind bytes
+-- the packet error code that may stand after bytes
 abbrev pub code_behind : Bool → List ℕ → List ℕ → List ℕ
 code_behind false before bytes = []
 code_behind true before bytes = pec (before ++ bytes) ∷ []

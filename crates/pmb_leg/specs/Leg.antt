@@ -11,13 +11,13 @@ use Rattle.pmb_leg.specs.declared.said.Asked.{Asked}
 use Rattle.pmb_leg.specs.declared.said.Asked.TheVariants.{Read, Call}
 
 -- A leg in which bytes are written to a device: which leg of the packet it is, and the bytes that
--- were taken behind the address.
+-- were taken after the address.
 pub record Written : Type 0 where
   pub device : DeviceParts
   pub place : LegPlace
   pub bytes : List ℕ
 
--- the place of a leg behind complete parts
+-- the place of a leg after complete parts
 abbrev pub place_of : List PartData → LegPlace
 place_of [] = First
 place_of (part ∷ parts) = Later
@@ -46,7 +46,7 @@ abbrev pub call_form : LegPlace → Shape → Option Form
 call_form First shape = shape.call
 call_form Later shape = None
 
--- A command of these forms is read by its code alone, and nothing stands behind that.
+-- A command of these forms is read by its code alone, and nothing stands after that.
 abbrev pub is_read : Shape → List ℕ → Bool
 is_read shape [] = is_some shape.read
 is_read shape (byte ∷ behind) = false

@@ -10,7 +10,7 @@ use Rattle.pmb_command.specs.Wire.{IsByte, Fits, wire}
 use Rattle.pmb_transaction.specs.Body.{checked, ReadBody, CallBody}
 
 -- What an answer has to be: data in a form, and a packet error code where the mode allows one. That
--- covers bytes in front of the answer too, whose own code is this number.
+-- covers bytes before the answer too, whose own code is this number.
 pub record Expected : Type 0 where
   pub form : Form
   pub mode : PecMode

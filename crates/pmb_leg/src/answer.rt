@@ -16,14 +16,15 @@ use pmb_bus::{ALERT_ADDRESS, pec_next, read_address};
 use pmb_command::{Form, PecMode};
 use std::marker::Model;
 
-/// An answer under way: what a device replies to a read or a call, or at the Alert Response Address.
+/// An answer under way: what a device replies to a read or a call, or at the Alert Response
+/// Address.
 #[derive(Clone, Debug, Drop)]
 pub struct Answer {
     /// The form of the reply.
     form: Form,
     /// Whether a packet error code follows it.
     mode: PecMode,
-    /// The packet error code of the bytes in front of the answer.
+    /// The packet error code of the bytes before the answer.
     code: u8,
     /// What is left of the answer.
     left: Left,
@@ -81,7 +82,7 @@ impl Answer {
         );
     }
 
-    /// Begins an answer in a form in place of this one, where the bytes in front of it have the code.
+    /// Begins an answer in a form in place of this one, where the bytes before it have the code.
     pub(crate) fn restart(&mut self, form: Form, mode: PecMode, code: u8)
         requires { (before : List ℕ) × (pec before ≡ code) }
         ensures { self.new ≡ record { expected = record { form = form; mode = mode; code = code }; bytes = [] } }

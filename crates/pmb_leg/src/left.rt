@@ -1,7 +1,8 @@
 //! What is left of data in a form.
 //!
-//! One small state for the body of a write, for the body of a call, and for an answer. `Data` counts
-//! down; the form is not needed again behind the first byte, nor are the bytes that were taken.
+//! One small state for the body of a write, for the body of a call, and for an answer. `Data`
+//! counts down; the form is not needed again after the first byte, nor are the bytes that were
+//! taken.
 
 ghost use Rattle.std.specs.Prelude.{◌≡◌, ◌||◌, ℕ, List};
 ghost use Rattle.pmb_command.specs.Wire.{wire};
@@ -25,7 +26,7 @@ pub(crate) enum Left {
     Closed,
 }
 
-/// What is left behind the last byte of data.
+/// What is left after the last byte of data.
 fn behind_data(mode: PecMode) -> Left
     ensures { result ≡ ends_data mode }
 {
@@ -63,7 +64,7 @@ impl Left {
         }
     }
 
-    /// What is left behind one byte more.
+    /// What is left after one byte more.
     #[inline(always)]
     pub fn after(self, mode: PecMode, crc: u8, byte: u8) -> Left
         ensures { result ≡ after self mode crc byte }

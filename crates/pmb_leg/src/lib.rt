@@ -1,9 +1,9 @@
 //! The bytes of one leg of a packet, one at a time.
 //!
-//! A [`WrittenLeg`] is asked behind the address of a device which bytes may come and which may be
+//! A [`WrittenLeg`] is asked after the address of a device which bytes may come and which may be
 //! taken, and says at each place whether those taken are the body of a write, a read or a call, and
-//! what it says. An [`Answer`] is asked the same of what a device replies to a read or a call, or at
-//! the Alert Response Address.
+//! what it says. An [`Answer`] is asked the same of what a device replies to a read or a call, or
+//! at the Alert Response Address.
 //!
 //! ```rust
 //! let mut leg = WrittenLeg::new(device, LegPlace::First);

@@ -4,6 +4,6 @@
 pub enum LegPlace {
     /// The first leg.
     First,
-    /// A leg behind complete parts.
+    /// A leg after complete parts.
     Later,
 }

@@ -1,11 +1,11 @@
 //! What the bytes of a leg say, borrowed from it.
 
-/// What a write body says, behind the address.
+/// What a write body says, after the address.
 #[derive(Clone, Copy, Debug)]
 pub struct Said<'a> {
     /// The command code.
     pub code: u8,
-    /// The data behind the code, without the count of a block and without a packet error code.
+    /// The data after the code, without the count of a block and without a packet error code.
     pub bytes: &'a [u8],
     /// Whether a packet error code follows them.
     pub pec: bool,
@@ -16,7 +16,7 @@ pub struct Said<'a> {
 pub enum Asked<'a> {
     /// To be read by a command code.
     Read { code: u8 },
-    /// To answer a command code and the data behind it, without the count of a block.
+    /// To answer a command code and the data after it, without the count of a block.
     Call { code: u8, bytes: &'a [u8] },
 }
 

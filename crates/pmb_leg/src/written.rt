@@ -1,9 +1,9 @@
-//! The bytes that are written to a device behind its address.
+//! The bytes that are written to a device after its address.
 //!
 //! The code byte opens what the device's entry allows: the body of a write, and in a first leg that
-//! of a read or a call. Of a write and of a call it is kept what is left, and each byte behind the
-//! code moves both on; where one of them no longer fits the bytes, it stays closed. A read body ends
-//! with the code.
+//! of a read or a call. Of a write and of a call it is kept what is left, and each byte after the
+//! code moves both on; where one of them no longer fits the bytes, it stays closed. A read body
+//! ends with the code.
 
 ghost use Rattle.std.specs.Prelude.{◌≡◌, ◌≢◌, ◌<◌, ◌≤◌, ◌↔◌, Bool, [], ◌∷◌, ◌++◌, IsTrue, IsSome, IfSome, length, List, ℕ, false, true};
 ghost use Rattle.pmb_command.specs.Fitting.{calls_fit};
@@ -62,7 +62,7 @@ fn begins_with(forms: Shape, place: LegPlace) -> bool
     }
 }
 
-/// Whether a command of these forms is read by its code alone, and nothing stands behind that.
+/// Whether a command of these forms is read by its code alone, and nothing stands after that.
 fn is_read(forms: Shape, behind: &[u8]) -> bool
     ensures { result ≡ is_read forms behind.now }
 {
@@ -92,8 +92,8 @@ pub struct WrittenLeg<'p> {
     call: Left,
     /// The packet error code of the address byte and the bytes that were taken.
     crc: u8,
-    /// The bytes that were taken behind the address: a code, the count of a block, data, and a packet
-    /// error code.
+    /// The bytes that were taken after the address: a code, the count of a block, data, and a
+    /// packet error code.
     bytes: ArrayVec<u8, 258>,
 }
 
@@ -110,7 +110,7 @@ impl<'p> Model for WrittenLeg<'p> {
 }
 
 impl<'p> WrittenLeg<'p> {
-    /// The leg of a device of which nothing was taken behind the address.
+    /// The leg of a device of which nothing was taken after the address.
     pub fn new(device: &'p DeviceProfile, place: LegPlace) -> Self
         ensures { result ≡ record { device = device.now; place = place; bytes = [] } }
     {
@@ -149,8 +149,8 @@ impl<'p> WrittenLeg<'p> {
         self.bytes.as_slice()
     }
 
-    /// Whether a byte more may come, be it taken or refused: whether nothing was taken yet, or a body
-    /// that is allowed here begins with what was taken and goes on.
+    /// Whether a byte more may come, be it taken or refused: whether nothing was taken yet, or a
+    /// body that is allowed here begins with what was taken and goes on.
     #[inline(always)]
     pub fn goes_on(&self) -> bool
         ensures inside { (parts : List PartData) → place_of parts ≡ self.now.place
@@ -177,8 +177,8 @@ impl<'p> WrittenLeg<'p> {
         }
     }
 
-    /// Takes a byte more where a body that is allowed here begins so, and tells whether it did. Else
-    /// nothing changes.
+    /// Takes a byte more where a body that is allowed here begins so, and tells whether it did.
+    /// Else nothing changes.
     #[inline(always)]
     pub fn take(&mut self, byte: u8) -> bool
         ensures begins { (parts : List PartData) → place_of parts ≡ self.old.place
@@ -215,7 +215,7 @@ impl<'p> WrittenLeg<'p> {
         true
     }
 
-    /// Takes a byte behind the code.
+    /// Takes a byte after the code.
     #[inline(always)]
     fn take_data(&mut self, byte: u8) -> bool
         requires { self.old.bytes ≢ [] }

@@ -71,7 +71,7 @@ is_faulted lexer = record { place = faulted_place (lexer.place == 0) (lexer.plac
 
 -- ---- a piece
 
--- behind the bytes that were used
+-- after the bytes that were used
 pub passed_to : (after : PmbLexer) (n : ℕ) (text piece : List ℕ) (used : ℕ) → used ≤ length piece
     → IsEnd after (n + length (take used piece)) (text ++ take used piece) → IsEnd after (n + used) (text ++ take used piece)
 passed_to after n text piece used within ends =

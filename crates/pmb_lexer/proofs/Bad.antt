@@ -9,11 +9,11 @@ use Rattle.pmb_lexer.proofs.Spelled.{spells}
 use Rattle.pmb_lexer.proofs.Tails.{between_tail, ended_are_all, tail_ended, tail_inside, tail_open}
 
 module _ (text tail : List ℕ) (is : IsTail text tail) (events : List Event) (ended : EndedWordsSpell text events) (back : List ℕ) where
-  -- it lies as far behind the text as behind its tail
+  -- it lies as far after the text as after its tail
   abbrev pub LiesThere : ℕ → Type 0
   LiesThere place = (there : ℕ) × (there + length tail ≡ place + length text) × FirstBadWord (text ++ back) events there
 
-  -- behind a text that ends between words, the word under way behind it
+  -- after a text that ends between words, the word under way after it
   behind_front : (front : List ℕ) → text ≡ front ++ tail → (open_word front ≡ []) × (ends_in_comment front ≡ false) → (place : ℕ)
       → FirstBadWord (tail ++ back) [] place → LiesThere place
   behind_front front split between place bad =
@@ -80,7 +80,7 @@ module _ (text tail : List ℕ) (is : IsTail text tail) (events : List Event) (e
   lies_there (hash is_hash) place bad =
       behind_hash bad.front bad.rest is_hash (sym (ap (λ (all : List ℕ). all ++ back) is_hash) ∙ bad.split) place bad refl refl
 
-  -- the word under way behind the part that was used
+  -- the word under way after the part that was used
   pub open_bad : IsBehind text tail → (used : List ℕ) → OpenWordIsBad (tail ++ used) (tail ++ back) [] → OpenWordIsBad (text ++ used) (text ++ back) events
   open_bad from used bad =
       let there = lies_there from bad.0 bad.2 in (

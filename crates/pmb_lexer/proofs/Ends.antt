@@ -244,7 +244,7 @@ next_ends lexer n text piece i within ends =
     subst (λ (m : ℕ). IsEnd (behind lexer b) m (text ++ take (i + 1) piece)) count
     (subst (λ (whole : List ℕ). IsEnd (behind lexer b) ((n + i) + 1) whole) all (behind_ends lexer (n + i) (text ++ take i piece) b ends))
 
--- ---- bytes behind which no word and no comment is under way
+-- ---- bytes after which no word and no comment is under way
 
 counts_on : (used n more : ℕ) → used ≡ capped n → min (used + more) (2 ^ 64 - 1) ≡ capped (n + more)
 counts_on used n more same = omega arith

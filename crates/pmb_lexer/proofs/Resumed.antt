@@ -1,4 +1,4 @@
--- The lexer that goes on behind the tail of a text.
+-- The lexer that goes on after the tail of a text.
 use Rattle.std.proofs.Common.{◌≡◌, ℕ, ◌+◌, Option, Some, None, List, [], ◌∷◌, ◌++◌, length, take, drop, refl, sym, ap, subst, ◌∙◌, arith}
 use Rattle.std.proofs.lemmas.List.{append-nil, take-append-drop}
 use Rattle.pmb_bus.specs.declared.event.Event.{Event}

@@ -6,7 +6,7 @@ use Rattle.pmb_bus.specs.Text.{all_but_last, blanked_from, ended_words, ends_in_
 
 -- ---- runs of any list
 
--- a list in front of the first run
+-- a list before the first run
 abbrev pub glue : List ℕ → List (List ℕ) → List (List ℕ)
 glue word [] = []
 glue word (run ∷ more) = (word ++ run) ∷ more
@@ -81,7 +81,8 @@ comment_append : (before : Bool) (front back : List ℕ)
 comment_append before [] back = refl
 comment_append before (b ∷ front) back = comment_append (in_comment before b) front back
 
--- the runs of what follows a text, given the word under way at its end and whether it ends in a comment
+-- the runs of what follows a text, given the word under way at its end and whether it ends in a
+-- comment
 abbrev pub following : List ℕ → Bool → List ℕ → List (List ℕ)
 following word inside more = glue word (slice_split is_separator (blanked_from inside more))
 

@@ -39,7 +39,7 @@ module _ (text tail : List ℕ) (is : IsTail text tail) (more : List ℕ) where
   tail_inside =
       inside_append text more ∙ ap (λ (inside : Bool). ends_in_comment_from inside more) is.comment ∙ sym (inside_append tail more)
 
--- behind a text that ends between words its tail is empty
+-- after a text that ends between words its tail is empty
 pub between_tail : (text : List ℕ) → EndsBetween text → IsTail text []
 between_tail text between = record { word = between.0; comment = between.1; none_ended = refl }
 

@@ -1,10 +1,10 @@
 //! The lexer.
 //!
-//! Behind a text only its end counts: the bytes of the word that is under way, of which a token has
-//! two at most, or that a comment is open. So a `PmbLexer` keeps these, and each call makes a `Lexer`
-//! of `pmb_bus` that was given them, as a text of their own. What that one answers of a piece is what
-//! it would answer behind the whole text: `proofs/Tails` says so. Then `go_over` finds the end of the
-//! bytes that were used.
+//! After a text only its end counts: the bytes of the word that is under way, of which a token has
+//! two at most, or that a comment is open. So a `PmbLexer` keeps these, and each call makes a
+//! `Lexer` of `pmb_bus` that was given them, as a text of their own. What that one answers of a
+//! piece is what it would answer after the whole text: `proofs/Tails` says so. Then `go_over` finds
+//! the end of the bytes that were used.
 
 ghost use Rattle.std.specs.Prelude.{◌≡◌, ◌+◌, ◌<◌, ◌≤◌, ◌++◌, ◌∷◌, ℕ, List, [], length, Err, None};
 ghost use Rattle.pmb_bus.specs.declared.event.Event.{Event as BusEvent};
@@ -20,9 +20,9 @@ use pmb_bus::{Event, LexFault, Lexed, Lexer, Step};
 const BETWEEN: u8 = 0;
 /// In a comment.
 const COMMENT: u8 = 1;
-/// Behind the first byte of a word.
+/// After the first byte of a word.
 const ONE: u8 = 2;
-/// Behind two bytes of a word.
+/// After two bytes of a word.
 const TWO: u8 = 3;
 /// A word is no token.
 const BAD: u8 = 4;
@@ -35,8 +35,8 @@ pub struct PmbLexer {
     pub used: u64,
     /// The offset of the first byte of the word that is under way, or is no token.
     pub at: u64,
-    /// 0 between words, 1 in a comment, 2 and 3 behind one and two bytes of a word, 4 and more where a
-    /// word is no token.
+    /// 0 between words, 1 in a comment, 2 and 3 after one and two bytes of a word, 4 and more where
+    /// a word is no token.
     pub place: u8,
     /// The first byte of the word under way.
     pub first: u8,
@@ -60,7 +60,7 @@ impl PmbLexer {
 
     /// Takes the next piece of the text.
     ///
-    /// A piece is used up to the end of its first word, or whole: the bytes behind `used` are to be
+    /// A piece is used up to the end of its first word, or whole: the bytes after `used` are to be
     /// given again. After a fault every such call answers that fault and uses nothing.
     pub fn feed(&mut self, bytes: &[u8]) -> Lexed
         ensures stands { (n : ℕ) (text : List ℕ) (events : List BusEvent) → StandsAt self.old n text events
@@ -108,7 +108,8 @@ impl PmbLexer {
         }
     }
 
-    /// The lexer of `pmb_bus` that goes on as this one does: it was given the end of the text alone.
+    /// The lexer of `pmb_bus` that goes on as this one does: it was given the end of the text
+    /// alone.
     /// `None` after a fault, and where the numbers are none that a call left.
     fn resumed(&self) -> Option<Lexer>
         ensures stands { (n : ℕ) (text : List ℕ) (events : List BusEvent) → StandsAt self.now n text events
@@ -124,7 +125,8 @@ impl PmbLexer {
         }
     }
 
-    /// Goes over bytes that were used, behind which the other lexer is. Most events end between words.
+    /// Goes over bytes that were used, after which the other lexer is. Most events end between
+    /// words.
     fn go_over(&mut self, lexer: &Lexer, bytes: &[u8])
         ensures stands { (n m : ℕ) (text tail : List ℕ) (events : List BusEvent) → IsEnd self.old n text → IsTail text tail
             → LexerStandsAt lexer.now m (tail ++ bytes.now) events → IsEnd self.new (n + length bytes.now) (text ++ bytes.now) }

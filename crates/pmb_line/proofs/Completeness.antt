@@ -11,7 +11,7 @@ use Rattle.pmb_line.specs.machine.Reading.{Partial, nothing, write_next, write_d
 use Rattle.pmb_line.proofs.Partials.{append-nil, parts_before, parts-push}
 use Rattle.pmb_line.proofs.Steps.{room_before}
 
--- Where a reader stands behind the whole line of a transaction.
+-- Where a reader stands after the whole line of a transaction.
 pub record Reached (t : TransactionData) : Type 0 where
   pub at : Partial
   pub ran : run (Some nothing) (map Some (tokens t)) ≡ Some at
@@ -26,7 +26,7 @@ run_bytes s takes bs (x ∷ xs) rest =
     ap (λ o. run o (map Some (bytes xs) ++ rest)) (takes bs x) ∙ run_bytes s takes (bs ++ x ∷ []) xs rest
     ∙ ap (λ ys. run (Some (s ys)) rest) (append_assoc bs (x ∷ []) xs)
 
--- parts, each with a `+` behind it
+-- parts, each with a `+` after it
 run_parts : (s : List PartData → Partial)
     (takes : (ps : List PartData) (p : PartData) (rest : List (Option Token)) → run (Some (s ps)) (map Some (part_before p) ++ rest) ≡ run (Some (s (ps ++ p ∷ []))) rest)
     (ps qs : List PartData) (rest : List (Option Token)) → run (Some (s ps)) (map Some (parts_before qs) ++ rest) ≡ run (Some (s (ps ++ qs))) rest
@@ -109,7 +109,7 @@ reached_parts (p ∷ ps) some =
     let last = split.last in
     subst (λ qs. Reached (says.Write qs)) (sym split.split) (reached_write split.front last.addr last.code last.bytes last.pec)
 
--- bytes with `pec` or not behind them, to the end
+-- bytes with `pec` or not after them, to the end
 reply_words : (bs : List ℕ) (pec : Bool) → map Some (bytes bs ++ mark Pec pec) ≡ map Some (bytes bs) ++ map Some (mark Pec pec)
 reply_words bs pec = map-append Some (bytes bs) (mark Pec pec)
 

@@ -13,7 +13,7 @@ use Rattle.pmb_line.specs.machine.Reading.{Partial, nothing, write_next, write_c
 use Rattle.pmb_line.proofs.Partials.{spelled, append-nil, parts_before, parts-push}
 use Rattle.pmb_line.proofs.Steps.{ends_part}
 
--- room for what is to come: behind a `+` there is a part more
+-- room for what is to come: after a `+` there is a part more
 abbrev pub RoomMore : Partial → Type 0
 RoomMore (write_next ps) = ArePartsWithin 15 ps
 RoomMore (refused_pec ps a c bs) = HasRoomForPart 15 ps bs

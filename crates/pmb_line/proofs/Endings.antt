@@ -32,7 +32,7 @@ tail all end token s marked t left after false result stands takes room finished
 
 -- ---- a part of a write
 
--- behind the `pec` of a part, or where it is left out
+-- after the `pec` of a part, or where it is left out
 plus_after : (all : List Located) (end : ℕ) (s : Partial) (ps : List PartData) (before after : List Located) (result : Result Bool WordFault) → LineStandsAt all s before
     → finish s ≡ Some (says.Write ps) → step s (Some Plus) ≡ Some (write_next ps) → Room (write_next ps)
     → ((word : Located) (rest : List Located) → before ≡ word ∷ rest → (word.token ≡ Some Plus → ⊥) → step s word.token ≡ None)

@@ -77,7 +77,7 @@ passed_cases (Some mid) words rest at is goes = record { mid = mid; ran = is; th
 pub passed : (words rest : List (Option Token)) (at : Partial) → run (Some nothing) (words ++ rest) ≡ Some at → Passed words rest at
 passed words rest at is = passed_cases (run (Some nothing) words) words rest at refl (sym (run-append (Some nothing) words rest) ∙ is)
 
--- Where a reader stands behind words with which the line of a transaction begins.
+-- Where a reader stands after words with which the line of a transaction begins.
 pub record Fits (front : List (List ℕ)) (t : TransactionData) : Type 0 where
   pub mid : Partial
   pub ran : run (Some nothing) (map token_of front) ≡ Some mid
@@ -116,7 +116,7 @@ begins front s is =
 
 -- ---- room
 
--- Behind the `+` of a write there is room for a part more, or there are 16 parts.
+-- After the `+` of a write there is room for a part more, or there are 16 parts.
 pub data More (s : Partial) : Type 0 where
   for_more : RoomMore s → More s
   sixteen : (ps : List PartData) → s ≡ write_next ps → ps ≢ [] → ArePartsWithin 16 ps → More s
@@ -132,7 +132,7 @@ more_room : (s : Partial) → Room s → More s
 more_room (write_next ps) within = write_more ps within (few_or_full (length ps))
 more_room s within = for_more within
 
--- a line of 16 parts, and the `+` behind it
+-- a line of 16 parts, and the `+` after it
 at_plus : (front : List (List ℕ)) (p : PartData) (ps : List PartData) → map token_of front ≡ map Some (Write ∷ parts_before (p ∷ ps)) → ArePartsWithin 16 (p ∷ ps) → HasRoom front
 at_plus front p ps says_so within =
     let split = last_of p ps in
@@ -180,7 +180,7 @@ no_line front word s is unfit begun =
     let next = one_more front word s reaches.mid is reaches.ran in
     cc (unfit, next)
 
--- what a `+` behind a write says
+-- what a `+` after a write says
 plus_behind : (s : Partial) (ps : List PartData) → finish s ≡ Some (says.Write ps) → step s (Some Plus) ≡ Some (write_next ps)
 plus_behind (write_data qs a c bs) ps is = cc is
 plus_behind (write_pec qs a c bs) ps is = cc is

@@ -19,7 +19,7 @@ front at b w rest token go ends says =
     ap (map located) (word_then at b w rest go ends)
     ∙ ap (λ (t : Option Token). record { at = at; token = t } ∷ map located (words_from (at + length (b ∷ w)) rest)) says
 
--- and one behind a space
+-- and one after a space
 behind_space : (at : ℕ) (b : ℕ) (w rest : List ℕ) (token : Token) → AllGo (b ∷ w) → EndsWord rest → token_of (b ∷ w) ≡ Some token
     → map located (words_from at (32 ∷ b ∷ w ++ rest)) ≡ record { at = at + 1; token = Some token } ∷ map located (words_from (at + 1 + length (b ∷ w)) rest)
 behind_space at b w rest token go ends says = ap (map located) (pass_blank at 32 (b ∷ w ++ rest) refl) ∙ front (at + 1) b w rest token go ends says
@@ -50,13 +50,13 @@ byte_in_front (space ∷ high ∷ low ∷ rest) behind b long is_space is same e
           ∙ ap (λ n. record { at = at + 1; token = Some (Byte b) } ∷ map located (words_from n rest)) (omega arith));
     }
 
--- what two bytes behind a space spell
+-- what two bytes after a space spell
 pub byte_or_none : (text behind : List ℕ) (spelled : Option ℕ) → 3 ≤ length text → slice_index text 0 ≡ 32 → SpellsByte (slice_index text 1 ∷ slice_index text 2 ∷ []) spelled
     → behind ≡ drop 3 text → EndsWord behind → IfSome spelled (λ b. IsFront text (common_byte b))
 byte_or_none text behind None long is_space spells same ends = tt
 byte_or_none text behind (Some b) long is_space spells same ends = byte_in_front text behind b long is_space spells same ends
 
--- a keyword at the front, with a space behind it
+-- a keyword at the front, with a space after it
 at_front : (text rest : List ℕ) (b : ℕ) (w : List ℕ) (token : Token) (end : ℕ) → text ≡ b ∷ w ++ 32 ∷ rest → AllGo (b ∷ w) → token_of (b ∷ w) ≡ Some token → end ≡ length (b ∷ w)
     → IsFront text (record { start = 0; end = end; token = token })
 at_front text rest b w token end is go says long = record {

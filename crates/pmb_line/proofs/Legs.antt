@@ -1,4 +1,4 @@
--- How a reader goes on behind what was sent to an address of a refused packet.
+-- How a reader goes on after what was sent to an address of a refused packet.
 use Rattle.std.proofs.Common.{◌≡◌, ℕ, ◌≤◌, ◌+◌, Bool, true, false, Option, Some, None, Ok, List, [], ◌∷◌, ◌++◌, length, refl, sym, ap, subst, arith}
 use Rattle.pmb_transaction.specs.Transaction.{PartData, TransactionData}
 use Rattle.pmb_transaction.specs.Transaction as says
@@ -67,7 +67,7 @@ pushed_plus all ps a sent after word before left stands same is pushed =
     (parts_push 15 ps p (pushed_room all ps a sent false after before stands pushed)) in
     subst (λ qs. LineStandsAt all (refused_next qs) left) (sym pushed.pushed) on
 
--- the `+` behind its `pec`
+-- the `+` after its `pec`
 pub pushed_both : (all : List Located) (ps : List PartData) (a : ℕ) (sent : List ℕ) (after : List PartData) (word : Located) (before mid left : List Located)
     → LineStandsAt all (refused_sent ps a sent) before → before ≡ word ∷ mid → word.token ≡ Some Pec → Pushed ps a sent true after
     → (at : ℕ) × (mid ≡ record { at = at; token = Some Plus } ∷ left) → LineStandsAt all (refused_next after) left

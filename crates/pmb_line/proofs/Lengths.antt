@@ -26,7 +26,7 @@ no_lf-append (x ∷ a) b first second =
     let here = and_parts (not (x == 10)) (no_lf a) first in
     and_from (not (x == 10)) (no_lf (a ++ b)) here.0 (no_lf-append a b here.1 second)
 
--- at each place of a text, and behind it
+-- at each place of a text, and after it
 no_lf-at : (text : List ℕ) (i : ℕ) → no_lf text ≡ true → not (get_or text i 0 == 10) ≡ true
 no_lf-at [] i none = refl
 no_lf-at (b ∷ text) zero none = (and_parts (not (b == 10)) (no_lf text) none).0
@@ -61,7 +61,7 @@ line_has_no_lf t = no_lf-all (line t) (spaced_no_lf (tokens t))
 
 -- ---- lengths
 
--- how long some tokens are, each behind a space
+-- how long some tokens are, each after a space
 abbrev size : List Token → ℕ
 size ts = length (behind ts)
 
@@ -103,7 +103,7 @@ size-before [] within = omega arith
 size-before (p ∷ ps) within =
     omega (arith, size-part p within.0, size-append (part_before p) (flat_map part_before ps), size-append (part p) (Plus ∷ []), size-cons Plus [], size-before ps within.1)
 
--- the first word, and the others behind it
+-- the first word, and the others after it
 line_length : (first : Token) (others : List Token) → length (spaced (map token_text (first ∷ others))) ≡ length (token_text first) + size others
 line_length first others = length-append (token_text first) (behind others)
 

@@ -252,7 +252,7 @@ line_spells t has_line has_bytes =
 
 -- ---- comments
 
--- a CR at the end of a longer text is at the end of what is behind
+-- a CR at the end of a longer text is at the end of what is after
 cr_behind : (front : List ℕ) (b : ℕ) (back : List ℕ) → without_cr (front ++ b ∷ back) ≡ front ++ without_cr (b ∷ back)
 cr_behind [] b back = refl
 cr_behind (x ∷ []) b back = refl
@@ -262,7 +262,7 @@ cr_behind (x ∷ y ∷ front) b back = ap (λ xs. x ∷ xs) (cr_behind (y ∷ fr
 comment_wordless : (comment : List ℕ) → IsWordless (codes " #" ++ comment)
 comment_wordless comment = record { ends = λ some. refl; none = λ at. refl }
 
--- with a comment behind it, the line spells the transaction too
+-- with a comment after it, the line spells the transaction too
 pub noted_line_spells : (t : TransactionData) (comment : List ℕ) → HasLine t → HasBytes t → SpellsTransaction (texts (line_words (line t ++ (codes " # " ++ comment)))) t
 noted_line_spells t comment has_line has_bytes =
     let small = small_tokens t has_bytes in

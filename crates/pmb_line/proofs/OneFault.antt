@@ -25,7 +25,7 @@ use Rattle.pmb_writer.proofs.Rules.{not_both, one_broken}
 
 -- ---- room
 
--- Where a reader stands behind words for which there is room.
+-- Where a reader stands after words for which there is room.
 record Roomy (front : List (List ℕ)) : Type 0 where
   mid : Partial
   ran_front : run (Some nothing) (map token_of front) ≡ Some mid

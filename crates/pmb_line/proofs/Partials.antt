@@ -8,7 +8,7 @@ use Rattle.pmb_line.specs.declared.token.Token.TheVariants.{Byte, Write, Read, C
 use Rattle.pmb_line.specs.Spelling.{bytes, part, parts, part_before}
 use Rattle.pmb_line.specs.machine.Reading.{Partial, nothing, write_next, write_code, write_data, write_pec, read_next, read_code, read_colon, read_reply, read_pec, call_next, call_code, call_data, call_reply, call_pec, refused_next, refused_sent, refused_pec, refused_read, alert_next, alert_byte, alert_pec, alert_none, part_with}
 
--- parts, each with a `+` behind it
+-- parts, each with a `+` after it
 abbrev pub parts_before : List PartData → List Token
 parts_before ps = flat_map part_before ps
 

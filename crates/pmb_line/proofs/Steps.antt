@@ -47,7 +47,7 @@ led {s} {token} next {after} leads is =
     let same : next ≡ after = cc is in
     record { token = token; is = refl; leads = subst (λ x. Leads s token x) same leads }
 
--- one byte more, behind some tokens
+-- one byte more, after some tokens
 more_bytes : (front mid : List Token) (bs : List ℕ) (b : ℕ) → front ++ (mid ++ bytes (bs ++ b ∷ [])) ≡ (front ++ (mid ++ bytes bs)) ++ Byte b ∷ []
 more_bytes front mid bs b =
     ap (λ xs. front ++ (mid ++ xs)) (bytes-push bs b) ∙ simp append_assoc

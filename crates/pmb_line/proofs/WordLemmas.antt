@@ -18,7 +18,7 @@ pass_blank at b rest blank =
       | inr tab ↦ subst P (sym (eqb-true b 9 tab)) refl
     ]
 
--- behind a comment's first byte there is no word
+-- after a comment's first byte there is no word
 pub stop_comment : (at b : ℕ) (rest : List ℕ) → is_comment b ≡ true → words_from at (b ∷ rest) ≡ []
 stop_comment at b rest comment = ap (λ v. if v then [] else (if is_blank b then words_from (at + 1) rest else lengthened at b (words_from (at + 1) rest))) comment
 
@@ -29,7 +29,7 @@ word_byte at b rest goes =
     ap (λ v. if v then [] else (if is_blank b then words_from (at + 1) rest else lengthened at b (words_from (at + 1) rest))) parts.1
     ∙ ap (λ v. if v then words_from (at + 1) rest else lengthened at b (words_from (at + 1) rest)) parts.0
 
--- words begin at an offset or behind it
+-- words begin at an offset or after it
 abbrev BeginFrom : ℕ → List Word → Type 0
 BeginFrom at [] = Unit {0}
 BeginFrom at (word ∷ ws) = at ≤ word.at
@@ -57,7 +57,7 @@ begin_from at (b ∷ rest) =
       ]
     ]
 
--- a byte is a word alone, where the next one does not begin directly behind it
+-- a byte is a word alone, where the next one does not begin directly after it
 apart : (at b : ℕ) (ws : List Word) → BeginFrom (at + 2) ws → lengthened at b ws ≡ record { at = at; text = b ∷ [] } ∷ ws
 apart at b [] begin = refl
 apart at b (word ∷ ws) begin =
@@ -121,7 +121,7 @@ no_cr (suc n) (b ∷ c ∷ rest) long last = ap (λ xs. b ∷ xs) (no_cr n (c �
 pub take_all : (n : ℕ) (text : List ℕ) → take (length text - n) (drop n text) ≡ drop n text
 take_all n text = ap (λ m. take m (drop n text)) (sym (length-drop n text)) ∙ take-length (drop n text)
 
--- the first word of a text behind some blanks, as a reader takes it
+-- the first word of a text after some blanks, as a reader takes it
 pub first_word : (at start len : ℕ) (rest text : List ℕ) → words_from at rest ≡ words_from (at + start) (drop start rest) → text ≡ drop start rest
     → 0 < len → len ≤ length text → AreOfWord len text → EndsAt len text
     → words_from at rest ≡ record { at = at + start; text = take len text } ∷ words_from (at + start + len) (take (length text - len) (drop len text))
@@ -134,7 +134,7 @@ pub no_line : (line : List ℕ) → length line ≡ 0 → line ≡ without_cr li
 no_line [] none = refl
 no_line (b ∷ rest) none = absurd (omega (arith, none))
 
--- the first word behind an offset
+-- the first word after an offset
 pub next_at : (at b len : ℕ) (text R T : List ℕ) → R ≡ drop at text → T ≡ drop (at + b) text → words_from at R ≡ words_from (at + b) (drop b R) → 0 < len → len ≤ length T
     → AreOfWord len T → EndsAt len T
     → words_from at (drop at text) ≡ record { at = at + b; text = take len T } ∷ words_from (at + b + len) (drop (at + b + len) text)
@@ -144,7 +144,7 @@ next_at at b (suc n) text R T rest_is text_is passed some within each ends =
     ap (words_from at) (sym rest_is) ∙ passed ∙ ap (words_from (at + b)) same ∙ front_word n (at + b) T within each ends
     ∙ ap (λ xs. record { at = at + b; text = take (suc n) T } ∷ words_from (at + b + suc n) xs) (ap (drop (suc n)) text_is ∙ drop-drop (suc n) (at + b) text)
 
--- and whether it begins behind another one
+-- and whether it begins after another one
 pub here : (from start len : ℕ) (text : List ℕ) (ws : List Word) → from ≤ start → length text ≡ len
     → Some (start, start + len) ≡ option_map bounds (word_behind from (record { at = start; text = text } ∷ ws))
 here from start len text ws behind long =

@@ -29,7 +29,7 @@ behind-append xs ys =
 pub first : (old keyword out : List ℕ) → out ≡ old ++ keyword → out ≡ old ++ (keyword ++ behind [])
 first old keyword out is = is ∙ ap (λ xs. old ++ xs) (sym (append-nil keyword))
 
--- and words behind it
+-- and words after it
 pub more : (old keyword : List ℕ) (xs ys : List Token) (mid new : List ℕ) → mid ≡ old ++ (keyword ++ behind xs) → new ≡ mid ++ behind ys → new ≡ old ++ (keyword ++ behind (xs ++ ys))
 more old keyword xs ys mid new so_far is =
     is ∙ ap (λ zs. zs ++ behind ys) so_far ∙ append_assoc old (keyword ++ behind xs) (behind ys) ∙ ap (λ zs. old ++ zs) (append_assoc keyword (behind xs) (behind ys))

@@ -47,7 +47,7 @@ pub record BeginsLine (front : List (List ℕ)) : Type 0 where
   pub spells : SpellsTransaction (front ++ more) t
 
 -- There is room for what the words say so far: a transaction that is not too large goes on with
--- them. The `+` behind the 16th part of a write needs no room yet; the address behind it does.
+-- them. The `+` after the 16th part of a write needs no room yet; the address after it does.
 pub data HasRoom (front : List (List ℕ)) : Type 0 where
   goes_on : (more : List (List ℕ)) (t : TransactionData) → SpellsTransaction (front ++ more) t → IsWithin t → HasRoom front
   plus : (before : List (List ℕ)) (word : List ℕ) (ps : List PartData) → front ≡ before ++ word ∷ [] → token_of word ≡ Some Plus

@@ -12,6 +12,6 @@ text_word word = record { at = word.at; text = word.text.now }
 abbrev pub words_left : Words → List Word
 words_left w = words_from w.at w.rest.now
 
--- where the line ends: behind its last byte, that of a comment too
+-- where the line ends: after its last byte, that of a comment too
 abbrev pub end : Words → ℕ
 end w = w.at + length w.rest.now

@@ -22,7 +22,7 @@ pub record Word : Type 0 where
   pub text : List ℕ
 
 -- Words with one byte more in front, at the offset `at`: it lengthens a word that begins directly
--- behind it, or is a word alone.
+-- after it, or is a word alone.
 abbrev pub lengthened : ℕ → ℕ → List Word → List Word
 lengthened at b [] = record { at = at; text = b ∷ [] } ∷ []
 lengthened at b (word ∷ words) =
@@ -44,11 +44,11 @@ line_words line = words_from 0 (without_cr line)
 abbrev pub texts : List Word → List (List ℕ)
 texts ws = map (λ w. w.text) ws
 
--- the first word that begins at an offset or behind it
+-- the first word that begins at an offset or after it
 abbrev pub word_behind : ℕ → List Word → Option Word
 word_behind from [] = None
 word_behind from (word ∷ words) = if nat_lt word.at from then word_behind from words else Some word
 
--- where a word begins and ends: the offset of its first byte, and that behind its last
+-- where a word begins and ends: the offset of its first byte, and that after its last
 abbrev pub bounds : Word → ℕ × ℕ
 bounds word = (word.at, word.at + length word.text)

@@ -1,5 +1,5 @@
-//! Words that stand as they do in most lines, told at a look: a byte behind a space, with a space or
-//! the line's end behind it; `write` and `read` at the front, `:` between spaces, `pec` at the end.
+//! Words that stand as they do in most lines, told at a look: a byte after a space, with a space or
+//! the line's end after it; `write` and `read` at the front, `:` between spaces, `pec` at the end.
 
 ghost use Rattle.std.specs.Prelude.{◌≡◌, IfSome, true};
 ghost use Rattle.pmb_line.specs.machine.Front.{EndsWord, IsFront, common_byte};
@@ -15,7 +15,7 @@ pub(crate) struct FrontWord {
 }
 
 impl FrontWord {
-    /// A byte behind a space.
+    /// A byte after a space.
     #[inline(always)]
     pub(crate) fn common_byte(byte: u8) -> FrontWord
         ensures { result ≡ common_byte byte }
@@ -72,7 +72,8 @@ pub(crate) fn common_keyword(text: &[u8]) -> Option<FrontWord>
     }
 }
 
-/// Whether a word in front of a text ends there, since the text is empty or begins with a space.
+/// Whether a word at the front of a text ends there, since the text is empty or begins with a
+/// space.
 #[inline]
 fn is_word_before(text: &[u8]) -> bool
     ensures { result ≡ true → EndsWord text.now }

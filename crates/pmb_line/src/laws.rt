@@ -35,7 +35,7 @@ pub fn packet_has_line()
         → SpellsTransaction (texts (line_words (line t))) u → t ≡ u }
 {}
 
-/// With a comment behind it, the line of such a transaction spells it too.
+/// With a comment after it, the line of such a transaction spells it too.
 pub fn comments_say_nothing()
     ensures { (profile : List DeviceParts) (t : TransactionData) (events : List Event) (comment : List ℕ) → IsBus profile → Packet profile t events
         → SpellsTransaction (texts (line_words (line t ++ (codes " # " ++ comment)))) t }

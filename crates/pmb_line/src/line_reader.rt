@@ -23,8 +23,8 @@ use pmb_table::Profile;
 use pmb_transaction::Transaction;
 use pmb_writer::check;
 
-/// Reads what a line spells into a transaction that the caller keeps. Where that is of the same kind
-/// already, only what it holds is written over.
+/// Reads what a line spells into a transaction that the caller keeps. Where that is of the same
+/// kind already, only what it holds is written over.
 ///
 /// # Errors
 ///
@@ -190,7 +190,7 @@ fn refused_into(words: &mut Words, into: &mut Transaction) -> Result<(), WordFau
     done
 }
 
-/// Reads what stands behind `alert`.
+/// Reads what stands after `alert`.
 fn alert_into(words: &mut Words, into: &mut Transaction) -> Result<(), WordFault>
     ensures { (all : List Place) → LineStandsAt all alert_next (left words.old)
         → ReadsLine all (end words.old) (transaction_data into.new) result }

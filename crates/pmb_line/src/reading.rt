@@ -1,7 +1,7 @@
 //! Reading a line into a transaction, one kind each.
 //!
-//! A contract says what is answered where all words of a line are given, and those so far stand where
-//! this kind begins: `LineStandsAt` of `specs/machine/Reading` lists the places.
+//! A contract says what is answered where all words of a line are given, and those so far stand
+//! where this kind begins: `LineStandsAt` of `specs/machine/Reading` lists the places.
 
 ghost use Rattle.std.specs.Prelude.{◌≡◌, ◌+◌, ◌<◌, ◌≤◌, ◌++◌, ◌∷◌, List, [], length, map, take, true, IfOk, Ok};
 ghost use Rattle.pmb_transaction.specs.Transaction.{Write as says_write, Read as says_read, Call as says_call, Refused as says_refused, Alert as says_alert, PartData, part_data};
@@ -16,7 +16,7 @@ use crate::words::Words;
 use arrayvec::ArrayVec;
 use pmb_transaction::Part;
 
-/// Reads what stands behind `write`, over the parts that are there: those are large to write anew.
+/// Reads what stands after `write`, over the parts that are there: those are large to write anew.
 pub(crate) fn read_write(words: &mut Words, parts: &mut ArrayVec<Part, 16>) -> Result<(), WordFault>
     ensures { (all : List Place) → LineStandsAt all (write_next []) (left words.old)
         → ReadsLine all (end words.old) (says_write (map part_data parts.new.items)) result }
@@ -72,7 +72,7 @@ fn have_part(parts: &mut ArrayVec<Part, 16>, number: usize)
     }
 }
 
-/// Reads the part of a write behind its address, and tells whether a `+` follows.
+/// Reads the part of a write after its address, and tells whether a `+` follows.
 fn read_data(words: &mut Words, part: &mut Part) -> Result<bool, WordFault>
     ensures reads { (all : List Place) (ps : List PartData) → LineStandsAt all (write_code ps part.old.addr) (left words.old)
         → ReadsPart all (end words.old) (ps ++ part_data part.new ∷ []) result (left words.new) }
@@ -86,7 +86,7 @@ fn read_data(words: &mut Words, part: &mut Part) -> Result<bool, WordFault>
     take_plus(words)
 }
 
-/// Reads what stands behind `read`.
+/// Reads what stands after `read`.
 pub(crate) fn read_read(
     words: &mut Words,
     addr: &mut u8,
@@ -106,7 +106,7 @@ pub(crate) fn read_read(
     take_end(words)
 }
 
-/// Reads what stands behind `call`.
+/// Reads what stands after `call`.
 pub(crate) fn read_call(
     words: &mut Words,
     addr: &mut u8,

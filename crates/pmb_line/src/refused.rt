@@ -14,7 +14,7 @@ use crate::words::Words;
 use arrayvec::ArrayVec;
 use pmb_transaction::Part;
 
-/// Reads what stands behind `refused`.
+/// Reads what stands after `refused`.
 pub(crate) fn read_refused(
     words: &mut Words,
     parts: &mut ArrayVec<Part, 15>,
@@ -33,7 +33,7 @@ pub(crate) fn read_refused(
     Ok(())
 }
 
-/// Reads an address and the bytes behind it. Tells whether they are a part with a `+` behind it;
+/// Reads an address and the bytes after it. Tells whether they are a part with a `+` after it;
 /// else they are what was sent to the device that refused.
 fn read_leg(
     words: &mut Words,

@@ -67,7 +67,7 @@ pub(crate) fn take_colon(words: &mut Words) -> Result<(), WordFault>
     }
 }
 
-/// Takes the `+` behind the `pec` of a refused packet's part.
+/// Takes the `+` after the `pec` of a refused packet's part.
 pub(crate) fn take_wanted_plus(words: &mut Words) -> Result<(), WordFault>
     ensures takes { TakesToken Token.Plus (left words.old) (end words.old) result (left words.new) }
     ensures end { end words.new ≡ end words.old }

@@ -26,8 +26,8 @@ pub(crate) struct Located {
 
 /// The words that are left of a line.
 ///
-/// Spaces and tabs separate words, a `#` begins a comment that goes on to the line's end, and one CR
-/// at the end is no part of the line.
+/// Spaces and tabs separate words, a `#` begins a comment that goes on to the line's end, and one
+/// CR at the end is no part of the line.
 #[derive(Clone, Copy, Drop)]
 pub struct Words<'a> {
     /// The offset of the first byte that is left.
@@ -52,7 +52,7 @@ impl<'a> Words<'a> {
         Words { at: 0, rest }
     }
 
-    /// Where the line ends: behind its last byte, that of a comment too.
+    /// Where the line ends: after its last byte, that of a comment too.
     pub fn end(&self) -> usize
         ensures { result ≡ end self.now }
     {
@@ -104,7 +104,8 @@ impl<'a> Words<'a> {
         self.next_any()
     }
 
-    /// Takes the next word where it is a byte that stands as in most lines. Else it is still to come.
+    /// Takes the next word where it is a byte that stands as in most lines. Else it is still to
+    /// come.
     #[inline(always)]
     pub(crate) fn next_byte(&mut self) -> Option<ByteWord>
         ensures some { IfSome result (λ word. left self.old ≡ record { at = word.at; token = Some (Token.Byte word.byte) } ∷ left self.new) }
@@ -153,10 +154,10 @@ impl<'a> Words<'a> {
     }
 }
 
-/// Where the first word of a line that begins at the offset `from` or behind it begins, and the offset
-/// behind its last byte; `None` where no word begins there.
+/// Where the first word of a line that begins at the offset `from` or after it begins, and the
+/// offset after its last byte; `None` where no word begins there.
 ///
-/// A word in front of which `from` lies in the midst is passed over, and a comment has no words.
+/// A word before which `from` lies in the midst is passed over, and a comment has no words.
 pub fn word_at(line: &[u8], from: usize) -> Option<(usize, usize)>
     ensures { result ≡ option_map bounds (word_behind from (line_words line.now)) }
 {
@@ -205,7 +206,7 @@ fn ends_word(byte: u8) -> bool
     is_blank(byte) || byte == b'#'
 }
 
-/// How many blanks stand in front of a text.
+/// How many blanks stand at the front of a text.
 #[inline]
 pub(crate) fn blanks(text: &[u8]) -> usize
     ensures within { result ≤ length text.now }
@@ -219,7 +220,7 @@ pub(crate) fn blanks(text: &[u8]) -> usize
     n
 }
 
-/// How many bytes a word in front of a text has.
+/// How many bytes a word at the front of a text has.
 #[inline]
 fn word_len(text: &[u8]) -> usize
     ensures within { result ≤ length text.now }

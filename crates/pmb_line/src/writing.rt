@@ -13,8 +13,8 @@ use pmb_transaction::{Part, Transaction};
 /// The line of a transaction.
 pub type Line = ArrayString<12544>;
 
-/// The line that is written for a transaction: lower-case digits, a space between each two words, no
-/// comment, no LF.
+/// The line that is written for a transaction: lower-case digits, a space between each two words,
+/// no comment, no LF.
 pub fn line_of(transaction: &Transaction) -> Line
     ensures { result.bytes ≡ line (transaction_data transaction.now) }
 {
@@ -26,8 +26,8 @@ pub fn line_of(transaction: &Transaction) -> Line
     line
 }
 
-/// Appends the line of a transaction, as [`line_of`] writes it. There must be room for 12,544 bytes,
-/// the most that one has.
+/// Appends the line of a transaction, as [`line_of`] writes it. There must be room for 12,544
+/// bytes, the most that one has.
 pub fn append_line<const N: usize>(transaction: &Transaction, out: &mut ArrayVec<u8, N>)
     requires { length out.old.items + 12544 ≤ N }
     ensures line { out.new.items ≡ out.old.items ++ line (transaction_data transaction.now) }
@@ -85,7 +85,8 @@ pub fn append_line<const N: usize>(transaction: &Transaction, out: &mut ArrayVec
     }
 }
 
-// Appends a short text. Each caller names it, so that the compiler makes a move or two of the pushes.
+// Appends a short text. Each caller names it, so that the compiler makes a move or two of the
+// pushes.
 #[inline]
 fn append<const N: usize>(out: &mut ArrayVec<u8, N>, text: &[u8])
     requires { length out.old.items + length text.now ≤ N }
@@ -146,7 +147,7 @@ fn append_parts<const N: usize>(out: &mut ArrayVec<u8, N>, parts: &[Part])
     }
 }
 
-// Appends parts with ` +` behind each.
+// Appends parts with ` +` after each.
 fn append_parts_before<const N: usize>(out: &mut ArrayVec<u8, N>, parts: &[Part])
     requires { length out.old.items + 777 * length parts.now ≤ N }
     ensures text { out.new.items ≡ out.old.items ++ behind (flat_map part_before (map part_data parts.now)) }

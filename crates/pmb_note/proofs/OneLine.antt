@@ -14,7 +14,7 @@ no_lf-append (x ∷ a) b first second =
     let here = and_parts (not (x == 10)) (no_lf a) first in
     and_from (not (x == 10)) (no_lf (a ++ b)) here.0 (no_lf-append a b here.1 second)
 
--- at each place of a text, and behind it
+-- at each place of a text, and after it
 pub no_lf-at : (text : List ℕ) (i : ℕ) → no_lf text ≡ true → not (get_or text i 0 == 10) ≡ true
 no_lf-at [] i none = refl
 no_lf-at (b ∷ text) zero none = (and_parts (not (b == 10)) (no_lf text) none).0

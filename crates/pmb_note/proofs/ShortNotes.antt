@@ -44,7 +44,7 @@ plain text one = record { one = one; few = omega arith }
 none : (most : ℕ) → IsShort most []
 none most = record { one = refl; few = omega arith }
 
--- one text, and another behind it
+-- one text, and another after it
 both : (m n : ℕ) (a b : List ℕ) → IsShort m a → IsShort n b → IsShort (m + n) (a ++ b)
 both m n a b first second = record { one = no_lf-append a b first.one second.one; few = omega (arith, first.few, second.few, length-append a b) }
 

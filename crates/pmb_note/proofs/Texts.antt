@@ -14,7 +14,7 @@ use Rattle.pmb_transaction.specs.Transaction.{PartData, part_data}
 use Rattle.pmb_note.specs.Note.{joined}
 use Rattle.pmb_note.specs.machine.Written.{Appends}
 
--- one text, and another behind it
+-- one text, and another after it
 pub then : {x y : List ℕ} {m n : ℕ} {a b c : List ℕ} → Appends x m a b → Appends y n b c → Appends (x ++ y) (m + n) a c
 then {x} {y} {m} {n} {a} {b} {c} first second = record {
   items = second.items ∙ ap (λ (zs : List ℕ). zs ++ y) first.items ∙ append_assoc a x y;
@@ -51,7 +51,7 @@ digits_are_ascii = ascii_from_test lower_digits refl
 
 -- ---- parts
 
--- a part behind another
+-- a part after another
 abbrev pub part_behind : (PartData → List ℕ) → PartData → List ℕ
 part_behind text part = codes " + " ++ text part
 

@@ -10,7 +10,7 @@ ghost use Rattle.pmb_transaction.specs.Packet.{Packet};
 ghost use Rattle.pmb_transaction.specs.Transaction.{TransactionData};
 ghost use Rattle.pmb_note.specs.Note.{note};
 
-/// The note of a transaction that has a packet, under a profile that is accepted and behind any
+/// The note of a transaction that has a packet, under a profile that is accepted and after any
 /// transactions, is one line of 8,192 bytes at most.
 pub fn notes_are_short()
     ensures one { (profile : List DeviceParts) (before : List TransactionData) (t : TransactionData) (events : List Event) → IsBus profile

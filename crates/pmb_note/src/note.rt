@@ -23,10 +23,11 @@ pub type Note = ArrayString<8192>;
 impl<'p> Context<'p> {
     /// What a transaction says, by the context before it.
     ///
-    /// A complete part or a read is said by the command's name and what its kind tells of the data: a
-    /// quantity exactly, `raw` for an output voltage under a VOUT_MODE that is unknown or no format;
-    /// the set bits of a status register, or `none`. Parts are joined by ` + `. Of a call the name is
-    /// said, of a refused packet its parts and what was refused, and of an alert the device.
+    /// A complete part or a read is said by the command's name and what its kind tells of the data:
+    /// a quantity exactly, `raw` for an output voltage under a VOUT_MODE that is unknown or no
+    /// format; the set bits of a status register, or `none`. Parts are joined by ` + `. Of a call
+    /// the name is said, of a refused packet its parts and what was refused, and of an alert the
+    /// device.
     pub fn note(&self, transaction: &Transaction) -> Note
         ensures { (profile : List DeviceParts) (ts : List TransactionData) → HasSeen self.now profile ts
             → result.bytes ≡ note profile ts (transaction_data transaction.now) }
@@ -149,7 +150,7 @@ impl<'p> Context<'p> {
         }
     }
 
-    // Appends parts with ` + ` behind each.
+    // Appends parts with ` + ` after each.
     fn append_parts_before<const N: usize>(&self, parts: &[Part], out: &mut ArrayVec<u8, N>)
         requires few { length parts.now ≤ 15 }
         requires room { length out.old.items + 323 * length parts.now ≤ N }

@@ -116,7 +116,7 @@ members_no_colon (member key one more) rest none = refl
 mutual
   unfolding punctuate
 
-  -- at the begin of a list, and behind a comma
+  -- at the begin of a list, and after a comma
   first_value : (one : Json) (rest : List Lexeme) → begins_colon rest ≡ false → punctuate fresh (value_lexemes one ++ rest) ≡ json_tokens (read_value one) ++ punctuate after_value rest
   first_value null rest none = refl
   first_value (boolean b) rest none = refl

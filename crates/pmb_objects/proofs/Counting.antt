@@ -45,7 +45,7 @@ refusal_if false = refl
 pub one_refusal : (d : DeviceData) (addr other : ℕ) → sum_of d (one_at addr Refusal other) ≡ sum_of d (record { writes = 0; reads = 0; calls = 0; refused = 0; refusals = one_if (nat_eq addr other) })
 one_refusal d addr other = ap (sum_of d) (refusal_if (nat_eq addr other))
 
--- a refused leg behind parts
+-- a refused leg after parts
 refused_if : (d : DeviceData) (n : ℕ) (b : Bool)
     → sum_of (sum_of d (writes_alone n)) (if b then one_of Refused else none_counted) ≡ sum_of d (record { writes = n; reads = 0; calls = 0; refused = one_if b; refusals = 0 })
 refused_if d n true = same_numbers _ _ (omega arith) (omega arith) (omega arith) (omega arith) (omega arith)

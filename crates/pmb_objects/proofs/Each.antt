@@ -89,7 +89,7 @@ keys_in_row a b c d e ka kb kc kd ke first second third fourth fifth =
     followed (((a ++ b) ++ c) ++ d) e (((ka ++ kb) ++ kc) ++ kd) ke
     (followed ((a ++ b) ++ c) d ((ka ++ kb) ++ kc) kd (followed (a ++ b) c (ka ++ kb) kc (followed a b ka kb first second) third) fourth) fifth
 
--- ---- the keys between the part and the command, and behind the command
+-- ---- the keys between the part and the command, and after the command
 
 abbrev device_keys : List (List ℕ)
 device_keys = codes "reason" ∷ codes "expected" ∷ codes "got" ∷ codes "device" ∷ codes "writes" ∷ codes "reads" ∷ codes "calls" ∷ codes "packets" ∷ []
@@ -107,7 +107,7 @@ in_order : (head part device command last : List Member) → HaveKeys head head_
     → HaveKeys last last_keys → HaveKeys ((((head ++ part) ++ device) ++ command) ++ last) object_keys
 in_order head part device command last = keys_in_row head part device command last head_keys part_keys device_keys (refused_keys ++ command_keys) last_keys
 
--- a command behind what was refused, or nothing
+-- a command after what was refused, or nothing
 behind_refused : (refused command : List Member) → HaveKeys refused refused_keys → HaveKeys command command_keys → HaveKeys (refused ++ command) (refused_keys ++ command_keys)
 behind_refused refused command = followed refused command refused_keys command_keys
 

@@ -16,7 +16,7 @@ pub same_keys : (members : List Member) → keys_of (members_of members) ≡ key
 same_keys [] = refl
 same_keys (m ∷ members) = ap (λ (ks : List (List ℕ)). m.key ∷ ks) (same_keys members)
 
--- some members, and others behind them
+-- some members, and others after them
 pub followed : (front back : List Member) (all more : List (List ℕ)) → HaveKeys front all → HaveKeys back more → HaveKeys (front ++ back) (all ++ more)
 followed front back all more first second = record {
   part = subst (λ (ks : List (List ℕ)). IsPart ks (all ++ more)) (sym (map-append (λ (m : Member). m.key) front back)) (parts_in_a_row (keys front) all (keys back) more first.part second.part);

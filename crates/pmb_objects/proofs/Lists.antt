@@ -27,20 +27,20 @@ joined old a b {middle} {new} first second =
     second ∙ ap (λ (t : List ℕ). t ++ members_text Later b) first ∙ append_assoc old (members_text Later a) (members_text Later b)
     ∙ ap (λ (t : List ℕ). old ++ t) (sym (later a b))
 
--- .. behind the first members of an object
+-- .. after the first members of an object
 pub joined_to_first : (old : List ℕ) (m : Member) (a b : List Member) {middle new : List ℕ} → middle ≡ old ++ members_text First (m ∷ a) → new ≡ middle ++ members_text Later b
     → new ≡ old ++ members_text First (m ∷ a ++ b)
 joined_to_first old m a b {middle} {new} first second =
     second ∙ ap (λ (t : List ℕ). t ++ members_text Later b) first ∙ append_assoc old (members_text First (m ∷ a)) (members_text Later b)
     ∙ ap (λ (t : List ℕ). old ++ t) (sym (members_in_parts First (m ∷ a) b))
 
--- .. behind its brace
+-- .. after its brace
 pub begun : (old : List ℕ) (members : List Member) {brace new : List ℕ} → brace ≡ old ++ codes "{" → new ≡ brace ++ members_text First members
     → new ≡ old ++ (codes "{" ++ members_text First members)
 begun old members {brace} {new} first second =
     second ∙ ap (λ (t : List ℕ). t ++ members_text First members) first ∙ append_assoc old (codes "{") (members_text First members)
 
--- .. and others behind those
+-- .. and others after those
 pub joined_to_begun : (old : List ℕ) (m : Member) (a b : List Member) {middle new : List ℕ} → middle ≡ old ++ (codes "{" ++ members_text First (m ∷ a))
     → new ≡ middle ++ members_text Later b → new ≡ old ++ (codes "{" ++ members_text First (m ∷ a ++ b))
 joined_to_begun old m a b {middle} {new} first second =

@@ -33,7 +33,7 @@ parts_to addr parts = count_by (λ part. nat_eq part.addr addr) parts
 abbrev pub writes_alone : ℕ → DeviceData
 writes_alone n = record { writes = n; reads = 0; calls = 0; refused = 0; refusals = 0 }
 
--- A transaction counts for each device that it names: each part as a write, those in front of a
+-- A transaction counts for each device that it names: each part as a write, those before a
 -- refused leg too. Alerts count for none.
 abbrev pub counted : ℕ → TransactionData → DeviceData
 counted addr (Write parts) = writes_alone (parts_to addr parts)

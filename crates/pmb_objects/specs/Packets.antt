@@ -56,7 +56,7 @@ may_check Off = false
 may_check On = true
 may_check Optional = true
 
--- whether the bytes behind the code are all the data of the form in which the command is written
+-- whether the bytes after the code are all the data of the form in which the command is written
 abbrev pub is_whole_in : Option Form → List ℕ → Bool
 is_whole_in None bytes = false
 is_whole_in (Some form) bytes = nat_eq (wire_length form bytes) (length bytes)
@@ -135,7 +135,7 @@ module _ (seen : SeenData) where
     write_objects part parts [] (p ∷ more) = []
     write_objects part parts (at ∷ ats) (p ∷ more) = write_object (capped at) (place at) part parts p ∷ write_objects (part + 1) parts ats more
 
-    -- the parts in front of a refused leg, and that leg as the last one
+    -- the parts before a refused leg, and that leg as the last one
     abbrev pub refused_objects : List ℕ → RefusedData → List Object
     refused_objects ats t =
         write_objects 1 (length t.parts + 1) ats t.parts

@@ -7,7 +7,7 @@ use Rattle.pmb_late.specs.declared.start.Start.{Start}
 use Rattle.pmb_late.specs.Known.{mode, page}
 use Rattle.pmb_transaction.specs.Transaction.{TransactionData}
 
--- The digits behind a point, what is known of PAGE and VOUT_MODE at first, the devices, and the
+-- The digits after a point, what is known of PAGE and VOUT_MODE at first, the devices, and the
 -- transactions before the packet.
 pub record SeenData : Type 0 where
   pub digits : ℕ

@@ -12,7 +12,7 @@ AreInRange places = AllByRecursion IsInRange places
 first_in_range : IsInRange first_place
 first_in_range = record { some_line = omega arith; line = omega arith; some_column = omega arith; column = omega arith }
 
--- ---- behind a text
+-- ---- after a text
 
 of_either : (b : Bool) (x y : Place) → IsInRange x → IsInRange y → IsInRange (cond b x y)
 of_either true x y one other = one

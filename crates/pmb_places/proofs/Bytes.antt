@@ -1,4 +1,4 @@
--- Where a `Places` stands behind one byte more.
+-- Where a `Places` stands after one byte more.
 use Rattle.std.proofs.Common.{◌≡◌, ℕ, ◌&&◌, not, Bool, true, false, inl, inr, cond, List, [], ◌∷◌, ◌++◌, fold, refl, sym, ap, ◌∙◌}
 use Rattle.std.proofs.lemmas.List.{append_assoc, append-nil}
 use Rattle.std.proofs.lemmas.List.Sums.{fold-append}
@@ -65,7 +65,7 @@ opens : (text : List ℕ) (b : ℕ) (inside : Bool) → in_comment (ends_in_comm
 opens text b true is = ap is_word (cut_by text b (comment_cuts (ends_in_comment text) b is)).opened
 opens text b false is = opens_outside text b (is_separator b) refl is
 
--- a byte behind a text is one of a word that it leaves under way
+-- a byte after a text is one of a word that it leaves under way
 pub opens_by : (text : List ℕ) (b : ℕ) → is_word (open_word (text ++ b ∷ [])) ≡ is_in_word text b
 opens_by text b = opens text b (in_comment (ends_in_comment text) b) refl
 

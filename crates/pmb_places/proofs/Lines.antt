@@ -1,4 +1,5 @@
--- The rest of a line: the canonical text of events up to STOP, behind a text that ends between words.
+-- The rest of a line: the canonical text of events up to STOP, after a text that ends between
+-- words.
 use Rattle.std.proofs.Common.{◌≡◌, ℕ, suc, ◌+◌, ◌-◌, ◌<◌, ◌/◌, ◌%◌, Bool, false, List, [], ◌∷◌, ◌++◌, fold, length, slice_index, append_assoc, length-append, refl, subst, sym, ap, ◌∙◌, arith}
 use Rattle.std.specs.List.{Contains}
 use Rattle.std.proofs.lemmas.Bool.{ne_eqb}
@@ -107,7 +108,7 @@ in_line (Stop ∷ events) small none = absurd (none (0, omega arith, refl))
 
 -- ---- the last word and LF
 
--- what stands between words behind a text
+-- what stands between words after a text
 abbrev between_words : List ℕ → Places
 between_words text = record { here = place_behind text; word = place_of_last_word text; end = end_of_last_word text; inside = Between }
 

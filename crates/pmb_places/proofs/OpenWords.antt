@@ -1,5 +1,5 @@
--- The word under way: what one byte more makes of it, where it stands, and what it is to the text that
--- begins with it.
+-- The word under way: what one byte more makes of it, where it stands, and what it is to the text
+-- that begins with it.
 use Rattle.std.proofs.Common.{◌≡◌, ℕ, ◌&&◌, not, Bool, true, false, cond, inl, inr, List, [], ◌∷◌, ◌++◌, refl, sym, ap, ◌∙◌}
 use Rattle.std.specs.List.{onto_first}
 use Rattle.std.proofs.lemmas.List.{append_assoc, append_cancel_right, append-nil}
@@ -33,7 +33,7 @@ record InWord (text : List ℕ) (b : ℕ) : Type 0 where
   pub outside : in_comment (ends_in_comment text) b ≡ false
   pub keeps : is_separator b ≡ false
 
--- a byte behind which a word is under way is one of that word
+-- a byte after which a word is under way is one of that word
 in_word : (text : List ℕ) (b : ℕ) → is_word (open_word (text ++ b ∷ [])) ≡ true → InWord text b
 in_word text b word =
     elim (cases_Bool (in_comment (ends_in_comment text) b)) [
@@ -78,7 +78,7 @@ stands_more front word b before some opened =
     append_cancel_right (open_word (front ++ word)) word (b ∷ []) (sym (longer (front ++ word) b byte.outside byte.keeps) ∙ opened_by) in
     ap place_of_last_word same ∙ stands_by front word b before shorter byte
 
--- the word under way stands behind what comes before it
+-- the word under way stands after what comes before it
 pub open_stands : (front word : List ℕ) → Stands front word
 open_stands front = from_the_front (Stands front) (λ none. absurd (false≢true none)) (stands_more front)
 
@@ -109,7 +109,7 @@ one_run (b ∷ rest) whole =
           ]
     ]
 
--- behind a text that ends between words they are under way
+-- after a text that ends between words they are under way
 pub opened_behind : (front word : List ℕ) → EndsBetween front → front_word word ≡ word → open_word (front ++ word) ≡ word
 opened_behind front word between whole =
     open_word-append front word

@@ -1,4 +1,4 @@
--- A short word and a space behind a text that is in no comment.
+-- A short word and a space after a text that is in no comment.
 use Rattle.std.proofs.Common.{◌≡◌, ℕ, ◌<◌, true, false, List, [], ◌∷◌, ◌++◌, refl, subst, sym, ap, ◌∙◌, arith}
 use Rattle.std.proofs.lemmas.List.{append_assoc}
 use Rattle.std.proofs.lemmas.Bool.{ltb-true, ne_eqb}
@@ -62,7 +62,7 @@ closed_two text piece (a, b, first, second, is) out = record {
 
 -- ---- places
 
--- behind a plain byte that begins a word, and one that goes on with it
+-- after a plain byte that begins a word, and one that goes on with it
 abbrev begun : Places → Places
 begun p = record { here = place_beside p.here; word = p.here; end = place_beside p.here; inside = Word }
 

@@ -28,7 +28,7 @@ comment_by text done b inside is =
     ∙ sym (ends_in_comment_by (text ++ done) b)
     ∙ ap ends_in_comment (append_assoc text done (b ∷ []))
 
--- behind a byte that stands in no word
+-- after a byte that stands in no word
 nothing_before : (n : ℕ) (word : List ℕ) → before_piece (n + 1) word ≡ []
 nothing_before n word = ap (λ (v : Bool). cond v word []) (ne_eqb (n + 1) 0 (λ none. omega arith))
 
@@ -44,7 +44,7 @@ tail_cut text done b inside is cut = record {
   word = ap open_word (sym (append_assoc text done (b ∷ []))) ∙ cut ∙ sym (nothing_behind (open_word text) done b);
 }
 
--- behind one in a comment, and behind a separator
+-- after one in a comment, and after a separator
 pub tail_in_comment : (text done : List ℕ) (b : ℕ) (inside : Bool) (from : ℕ) → IsTail text done inside from → in_comment inside b ≡ true
     → IsTail text (done ++ b ∷ []) (in_comment inside b) (length done + 1)
 tail_in_comment text done b inside from tail now =
@@ -56,7 +56,7 @@ pub tail_separated : (text done : List ℕ) (b : ℕ) (inside : Bool) (from : �
 tail_separated text done b inside from tail separates =
     tail_cut text done b inside tail.comment (ended_by_separator (text ++ done) b separates)
 
--- behind a byte of a word
+-- after a byte of a word
 pub tail_longer : (text done : List ℕ) (b : ℕ) (inside : Bool) (from : ℕ) → IsTail text done inside from → from ≤ length done
     → in_comment inside b ≡ false → is_separator b ≡ false → IsTail text (done ++ b ∷ []) (in_comment inside b) from
 tail_longer text done b inside from tail within now keeps =
@@ -71,7 +71,7 @@ tail_longer text done b inside from tail within now keeps =
 
 -- ---- room
 
--- as many bytes as there is room for, behind those that were there
+-- as many bytes as there is room for, after those that were there
 pub kept : (old more : List ℕ) (room : ℕ) → room + length old ≡ 32 → old ++ take (min room (length more)) more ≡ take 32 (old ++ more)
 kept old more room fits =
     let all : length old + room ≡ 32 = omega arith in
@@ -89,12 +89,12 @@ kept_more : (goes_on : Bool) (word more : List ℕ) → take 32 (cond goes_on (t
 kept_more true word more = take_front 32 word more
 kept_more false word more = refl
 
--- what is kept of the word under way, behind a piece
+-- what is kept of the word under way, after a piece
 pub kept_behind : (word : List ℕ) (from : ℕ) (piece : List ℕ)
     → take 32 (cond (from == 0) (take 32 word) [] ++ drop from piece) ≡ take 32 (cond (from == 0) word [] ++ drop from piece)
 kept_behind word from piece = kept_more (from == 0) word (drop from piece)
 
--- behind all bytes for which there is room
+-- after all bytes for which there is room
 pub all_kept : (old more : List ℕ) (room count index : ℕ) (items : List ℕ) → room + length old ≡ 32 → count ≡ min room (length more)
     → count ≤ index → items ≡ old ++ take index (take count more) → items ≡ take 32 (old ++ more)
 all_kept old more room count index items fits is enough so_far =

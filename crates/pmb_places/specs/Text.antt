@@ -11,19 +11,19 @@ use Rattle.pmb_places.specs.declared.places.Place.{Place}
 abbrev pub first_place : Place
 first_place = record { line = 1; column = 1 }
 
--- the place of the byte behind one that stands there: LF ends a line; both stay at the greatest u64
+-- the place of the byte after one that stands there: LF ends a line; both stay at the greatest u64
 abbrev pub place_after : Place → ℕ → Place
 place_after place b =
     if b == character "\n" then record { line = capped (place.line + 1); column = 1 }
     else record { line = place.line; column = capped (place.column + 1) }
 
--- the place of what comes behind a text
+-- the place of what comes after a text
 abbrev pub place_behind : List ℕ → Place
 place_behind text = fold place_after first_place text
 
 -- ---- words
 
--- a byte behind some text is one of a word: it stands in no comment, and separates no words
+-- a byte after some text is one of a word: it stands in no comment, and separates no words
 abbrev pub is_in_word : List ℕ → ℕ → Bool
 is_in_word front b = not (in_comment (ends_in_comment front) b) && not (is_separator b)
 
@@ -35,7 +35,7 @@ abbrev pub place_if : Bool → Place → List Place
 place_if true place = place ∷ []
 place_if false place = []
 
--- behind some text, the place of the first byte of each word
+-- after some text, the place of the first byte of each word
 abbrev pub places_from : List ℕ → List ℕ → List Place
 places_from front [] = []
 places_from front (b ∷ rest) = place_if (begins_word front b) (place_behind front) ++ places_from (front ++ b ∷ []) rest
@@ -44,7 +44,7 @@ places_from front (b ∷ rest) = place_if (begins_word front b) (place_behind fr
 abbrev pub word_places : List ℕ → List Place
 word_places text = places_from [] text
 
--- behind some text, the place behind each byte of a word
+-- after some text, the place after each byte of a word
 abbrev pub ends_from : List ℕ → List ℕ → List Place
 ends_from front [] = []
 ends_from front (b ∷ rest) = place_if (is_in_word front b) (place_behind (front ++ b ∷ [])) ++ ends_from (front ++ b ∷ []) rest

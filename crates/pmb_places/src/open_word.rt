@@ -1,8 +1,8 @@
 //! The word under way.
 //!
-//! Of a piece of text only its tail counts: the bytes behind the last one that stands in no word. So
-//! one loop finds where the tail begins, which keeps nothing, and then the tail is copied. A short word
-//! and the space behind it, as most bytes come, leave no word under way.
+//! Of a piece of text only its tail counts: the bytes after the last one that stands in no word. So
+//! one loop finds where the tail begins, which keeps nothing, and then the tail is copied. A short
+//! word and the space after it, as most bytes come, leave no word under way.
 
 ghost use Rattle.std.specs.Prelude.{◌≡◌, ◌++◌, [], ℕ, ◌≤◌, List, length, take};
 ghost use Rattle.pmb_bus.specs.Text.{ends_in_comment, in_comment, is_separator, open_word};
@@ -90,8 +90,8 @@ impl OpenWord {
         }
     }
 
-    /// The first 32 bytes of the word under way, or all where it has fewer; none between words and in
-    /// a comment.
+    /// The first 32 bytes of the word under way, or all where it has fewer; none between words and
+    /// in a comment.
     #[inline]
     pub fn bytes(&self) -> &[u8]
         ensures word { (text : List ℕ) → OpenWordStandsAt self.now text → result.now ≡ take 32 (open_word text) }

@@ -1,7 +1,7 @@
 //! Where words stand.
 //!
 //! `Places` keeps the places of three bytes and whether the last byte was one of a word or of a
-//! comment, and nothing else of the text. Most bytes come as a short word and the space behind it,
+//! comment, and nothing else of the text. Most bytes come as a short word and the space after it,
 //! which `take` takes at once; all others come one after the other. Of a line of canonical text the
 //! length alone says where its last word stands, so `take_line` needs no bytes.
 
@@ -48,7 +48,7 @@ impl Place {
         }
     }
 
-    // The place of the byte behind a byte that stands here.
+    // The place of the byte after a byte that stands here.
     #[inline]
     fn after(self, byte: u8) -> Place
         ensures { result ≡ place_after self byte }
@@ -74,7 +74,7 @@ enum Inside {
 }
 
 impl Inside {
-    // What a byte stands in, behind one that stands in this.
+    // What a byte stands in, after one that stands in this.
     #[inline]
     fn behind(self, byte: u8) -> Inside
         ensures { result ≡ inside_behind self byte }
@@ -93,7 +93,7 @@ impl Inside {
 pub struct Places {
     /// Of the next byte.
     here: Place,
-    /// Of the first byte of the last word, and of the byte behind its last one.
+    /// Of the first byte of the last word, and of the byte after its last one.
     word: Place,
     end: Place,
     inside: Inside,
@@ -127,7 +127,7 @@ impl Places {
         self.word
     }
 
-    /// The place behind the last word; line 1, column 1 before all words.
+    /// The place after the last word; line 1, column 1 before all words.
     pub fn end(&self) -> Place
         ensures { (text : List ℕ) → PlacesStandAt self.now text → result ≡ end_of_last_word text }
     {
@@ -146,8 +146,9 @@ impl Places {
         }
     }
 
-    /// Takes the rest of a line, given only its length in bytes. It follows a text that ends between
-    /// words, and is the canonical text of events of which the last one, and no other, is STOP.
+    /// Takes the rest of a line, given only its length in bytes. It follows a text that ends
+    /// between words, and is the canonical text of events of which the last one, and no other, is
+    /// STOP.
     #[inline]
     pub fn take_line(&mut self, bytes: usize)
         ensures { (text : List ℕ) (events : List BusEvent) → PlacesStandAt self.old text → EndsBetween text

@@ -71,7 +71,7 @@ pub few_digits : (most : ℕ) (ds : List ℕ) → AllDigits 10 ds → length ds 
 few_digits most ds digits few =
     omega (arith, digits_value-lt 10 ds digits, ten_at_most (length ds) most few)
 
--- two runs of digits, one behind the other
+-- two runs of digits, one after the other
 pub after_both : (front back : List ℕ) → digits_value_after 10 (digits_value 10 front) back ≡ digits_value 10 (front ++ back)
 after_both front back = sym (after-append 0 front back)
 

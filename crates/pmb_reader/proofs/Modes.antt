@@ -38,7 +38,7 @@ still_open modes.Open n m events more is = tt
 still_open (modes.Held held) n m events more is = absurd is
 still_open modes.Passing n m events more is = absurd is
 
--- behind a STOP that is passed over it reads a packet
+-- after a STOP that is passed over it reads a packet
 pub behind_passed_stop : (profile : List DeviceParts) (after : Reader) (n : ℕ) (event : Event) → event ≡ Stop → ReaderStandsAt profile after (Open (n + 1) [])
     → ReaderStandsAt profile after (behind_passed n event)
 behind_passed_stop profile after n event is stands = subst (λ e. ReaderStandsAt profile after (behind_passed n e)) (sym is) stands

@@ -13,8 +13,8 @@ use Rattle.pmb_reader.specs.declared.reader.Reader.{Reader}
 use Rattle.pmb_reader.specs.Refusal.{refusal_data}
 use Rattle.pmb_reader.specs.Reader.{Standing, Open, Held, Passing, ReaderStandsAt}
 
--- Where events lead that are all used and end no packet: they go on with the packet under way; while
--- events are passed over, those behind the first STOP begin a packet.
+-- Where events lead that are all used and end no packet: they go on with the packet under way;
+-- while events are passed over, those after the first STOP begin a packet.
 abbrev pub Leads : Standing → List Event → Standing → Type 0
 Leads (Open n events) piece behind = behind ≡ Open n (events ++ piece)
 Leads (Held n refusal) piece behind = (piece ≡ []) × (behind ≡ Held n refusal)

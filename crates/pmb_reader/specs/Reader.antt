@@ -27,7 +27,7 @@ IsBetween (Open n events) = events ≡ []
 IsBetween (Held n refusal) = ⊥
 IsBetween (Passing n) = ⊥
 
--- where it stands behind an event that is passed over
+-- where it stands after an event that is passed over
 abbrev pub behind_passed : ℕ → Event → Standing
 behind_passed n Start = Passing (n + 1)
 behind_passed n (Byte b) = Passing (n + 1)
@@ -35,7 +35,7 @@ behind_passed n Ack = Passing (n + 1)
 behind_passed n Nack = Passing (n + 1)
 behind_passed n Stop = Open (n + 1) []
 
--- and once reading is to go on behind a refusal
+-- and once reading is to go on after a refusal
 abbrev pub behind_resync : Standing → Standing
 behind_resync (Open n events) = Open n events
 behind_resync (Held n refusal) = Passing n

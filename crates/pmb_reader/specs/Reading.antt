@@ -13,7 +13,7 @@ pub data Due : Type 0 where
   HeldEvent : Event → Due
   PassedEvent : Event → Due
 
--- what is due once reading is to go on behind a refusal
+-- what is due once reading is to go on after a refusal
 abbrev pub due_behind_resync : Due → Due
 due_behind_resync AnyEvent = AnyEvent
 due_behind_resync (HeldEvent event) = PassedEvent event

@@ -33,7 +33,7 @@ pub struct Feed {
 
 impl<'p> Reader<'p> {
     /// Takes the next piece of a capture, up to and with the STOP that ends a packet, or up to and
-    /// without an event that no packet goes on with: the events behind `used` are to be given again.
+    /// without an event that no packet goes on with: the events after `used` are to be given again.
     ///
     /// While a refusal is held, every call answers it and uses nothing. The transaction is handed
     /// over by value; [`take`](Reader::take) and [`packet`](Reader::packet) lend it.

@@ -1,8 +1,8 @@
 //! Reads packets.
 //!
-//! A [`Reader`] is between packets or inside one, or it holds a refusal, or it passes events over up
-//! to the next STOP. The packet under way is an [`UnderWay`], which alone knows what a packet is; here
-//! events are counted and refusals are kept.
+//! A [`Reader`] is between packets or inside one, or it holds a refusal, or it passes events over
+//! up to the next STOP. The packet under way is an [`UnderWay`], which alone knows what a packet
+//! is; here events are counted and refusals are kept.
 
 ghost use Rattle.std.specs.Prelude.{◌≡◌, ◌<◌, ◌≤◌, ◌↔◌, ◌+◌, ℕ, IfSome, None, List, [], length, true};
 ghost use Rattle.pmb_bus.specs.declared.event.Event.{Event as BusEvent};
@@ -92,8 +92,9 @@ impl<'p> Reader<'p> {
         }
     }
 
-    /// The transaction of the packet that the last event taken ended: to be asked for directly behind
-    /// [`Took::Packet`]. While a packet is under way, and where none ended yet, it means nothing.
+    /// The transaction of the packet that the last event taken ended: to be asked for directly
+    /// after [`Took::Packet`]. While a packet is under way, and where none ended yet, it means
+    /// nothing.
     #[inline]
     pub fn packet(&self) -> &Transaction
         ensures { transaction_data result.now ≡ last_read self.now }
@@ -134,8 +135,8 @@ impl<'p> Reader<'p> {
         }
     }
 
-    /// Whether it stands between two packets: no packet is under way, no refusal is held, and no event
-    /// is passed over.
+    /// Whether it stands between two packets: no packet is under way, no refusal is held, and no
+    /// event is passed over.
     #[inline(always)]
     pub fn is_between(&self) -> bool
         ensures { (profile : List DeviceParts) (standing : Standing) → ReaderStandsAt profile self.now standing
@@ -147,8 +148,8 @@ impl<'p> Reader<'p> {
         }
     }
 
-    /// Passes over the events of whole packets that were read elsewhere, between two packets. It takes
-    /// how many events they are.
+    /// Passes over the events of whole packets that were read elsewhere, between two packets. It
+    /// takes how many events they are.
     #[inline(always)]
     pub fn skip(&mut self, events: usize)
         ensures { (profile : List DeviceParts) (n : ℕ) → ReaderStandsAt profile self.old (Open n [])
@@ -157,8 +158,8 @@ impl<'p> Reader<'p> {
         self.used = self.used.saturating_add(events as u64);
     }
 
-    /// Takes the common packet in front of a text whole, between two packets. It returns `None` where
-    /// none lies there, and stands where it stood.
+    /// Takes the common packet at the front of a text whole, between two packets. It returns `None`
+    /// where none lies there, and stands where it stood.
     #[inline(always)]
     pub fn take_common(&mut self, common: &mut Common, text: &[u8]) -> Option<Taken>
         ensures takes { (profile : List DeviceParts) (n : ℕ) → ReaderStandsAt profile self.old (Open n [])
@@ -201,7 +202,7 @@ impl<'p> Reader<'p> {
         }
     }
 
-    /// Goes on behind a refusal: the events up to and with the next STOP, the refused one among
+    /// Goes on after a refusal: the events up to and with the next STOP, the refused one among
     /// them, are passed over. Where no refusal is held nothing changes.
     pub fn resync(&mut self)
         ensures resumes { (profile : List DeviceParts) (standing : Standing) → ReaderStandsAt profile self.old standing

@@ -1,8 +1,8 @@
 -- What a simulated device answers to the body of a read or of a call, in its state: the bytes of a
 -- reply, or the bit of STATUS_CML for which it refuses to be read.
 --
--- The bits are those of PMBus Part II 1.3 chapter 17; when a device sets which is this project's own
--- rule, and so is the order of the reasons. COEFFICIENTS is of section 14.1 there.
+-- The bits are those of PMBus Part II 1.3 chapter 17; when a device sets which is this project's
+-- own rule, and so is the order of the reasons. COEFFICIENTS is of section 14.1 there.
 use Rattle.std.specs.Prelude.{ℕ, Bool, false, ◌&&◌, if◌then◌else◌, Option, Some, None, Result, Ok, Err, List, [], ◌∷◌, ◌++◌, is_some, nat_eq, option_and_then}
 use Rattle.std.specs.Int.{w8, w16, cast_unsigned, to_le_bytes}
 use Rattle.std.specs.Option.{unwrap_or}
@@ -27,7 +27,8 @@ abbrev pub is_paged : Option CommandParts → Bool
 is_paged None = false
 is_paged (Some command) = has_pages command
 
--- The coefficients of a command's numbers, where they are in DIRECT or an output voltage that may be.
+-- The coefficients of a command's numbers, where they are in DIRECT or an output voltage that may
+-- be.
 abbrev pub coefficients_of_kind : Option Coefficients → Kind → Option Coefficients
 coefficients_of_kind vout Raw = None
 coefficients_of_kind vout Linear11 = None
@@ -51,7 +52,7 @@ abbrev pub coefficients_reply : Option Coefficients → Result (List ℕ) CmlBit
 coefficients_reply None = Err BadValue
 coefficients_reply (Some coefficients) = Ok (coefficient_bytes coefficients)
 
--- what is behind the code of a call of COEFFICIENTS: a count, and the block
+-- what is after the code of a call of COEFFICIENTS: a count, and the block
 abbrev pub answer_coefficients : DeviceParts → List ℕ → Result (List ℕ) CmlBit
 answer_coefficients device [] = Err BadValue
 answer_coefficients device (count ∷ []) = Err BadValue
@@ -59,8 +60,8 @@ answer_coefficients device (count ∷ code ∷ []) = Err BadValue
 answer_coefficients device (count ∷ code ∷ direction ∷ []) = coefficients_reply (coefficients_of device code)
 answer_coefficients device (count ∷ code ∷ direction ∷ more ∷ rest) = Err BadValue
 
--- To a read, by the code alone, the answer is what the register holds on the selected page; of calls
--- COEFFICIENTS alone is answered.
+-- To a read, by the code alone, the answer is what the register holds on the selected page; of
+-- calls COEFFICIENTS alone is answered.
 abbrev pub answer_of_page : DeviceParts → DeviceState → ℕ → List ℕ → Result (List ℕ) CmlBit
 answer_of_page device state code [] = Ok (unwrap_or (held state.page code state.registers) [])
 answer_of_page device state code (byte ∷ behind) =

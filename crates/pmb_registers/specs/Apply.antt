@@ -1,8 +1,8 @@
 -- What a transaction does to the state of a simulated device.
 --
--- PAGE is of PMBus Part II 1.3 section 11.10, CLEAR_FAULTS of section 15.1, how the bits of a status
--- register are cleared of section 10.2, STATUS_CML of chapter 17. That a device keeps what it is told,
--- and acts in no other way, is this project's own rule.
+-- PAGE is of PMBus Part II 1.3 section 11.10, CLEAR_FAULTS of section 15.1, how the bits of a
+-- status register are cleared of section 10.2, STATUS_CML of chapter 17. That a device keeps what
+-- it is told, and acts in no other way, is this project's own rule.
 use Rattle.std.specs.Prelude.{ℕ, ◌-◌, Bool, true, false, ◌&&◌, ◌||◌, if◌then◌else◌, Option, Some, None, Result, Ok, Err, List, [], ◌∷◌, is_some, map, nat_eq}
 use Rattle.std.specs.Int.Bits.{bit_and, bit_or}
 use Rattle.pmb_command.specs.declared.form.Form.TheVariants.{Zero}
@@ -93,7 +93,7 @@ abbrev pub with_noted : DeviceParts → Option CmlBit → DeviceState → Device
 with_noted device None state = state
 with_noted device (Some bit) state = with_bit device bit state
 
--- The bit of bytes behind an address of which the last was refused: the code, the value of PAGE, or
+-- The bit of bytes after an address of which the last was refused: the code, the value of PAGE, or
 -- what stands where the packet error code has to.
 abbrev pub bit_of_sent : List ℕ → Option CmlBit
 bit_of_sent [] = None
@@ -127,8 +127,8 @@ module _ (device : DeviceParts) where
   after_refusal t state =
       if nat_eq t.addr device.address then with_noted device (bit_of_refused device state t.sent t.at_read) state else state
 
-  -- What a transaction makes of a device's state: each complete part acts, a refused leg is noted, and
-  -- what is read or called, or answered to an alert, changes nothing.
+  -- What a transaction makes of a device's state: each complete part acts, a refused leg is noted,
+  -- and what is read or called, or answered to an alert, changes nothing.
   abbrev pub apply : TransactionData → DeviceState → DeviceState
   apply (Write parts) state = after_parts parts state
   apply (Read t) state = state

@@ -30,7 +30,7 @@ fn coefficient_bytes(direct: Direct) -> [u8; 5]
     [m[0], m[1], b[0], b[1], direct.r().cast_unsigned()]
 }
 
-/// The answer to what is behind the code of COEFFICIENTS: a count, a command's code and a byte.
+/// The answer to what is after the code of COEFFICIENTS: a count, a command's code and a byte.
 pub(crate) fn answer_coefficients(device: &DeviceProfile, behind: &[u8]) -> Result<[u8; 5], CmlBit>
     ensures { result ≡ answer_coefficients device.now behind.now }
 {

@@ -130,7 +130,7 @@ fn add_registers(
     Ok(())
 }
 
-/// Adds the registers of the command at an index, behind those of the commands before it.
+/// Adds the registers of the command at an index, after those of the commands before it.
 pub(crate) fn add_command(
     registers: &mut Vec<Register>,
     places: &mut [Place; 256],

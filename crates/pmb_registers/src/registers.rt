@@ -1,7 +1,8 @@
 //! The registers of a device.
 //!
-//! The registers of a command lie side by side, page by page, and `places` says where: so a command is
-//! found by its code in one step, and what a write costs does not grow with the registers of others.
+//! The registers of a command lie side by side, page by page, and `places` says where: so a command
+//! is found by its code in one step, and what a write costs does not grow with the registers of
+//! others.
 //! `status_codes` lists the commands with status bits, so that CLEAR_FAULTS goes to their registers
 //! alone.
 
@@ -68,8 +69,8 @@ impl<'p> Model for Registers<'p> {
 }
 
 impl<'p> Registers<'p> {
-    /// The registers of a device as they are at first, on page 0. All memory is taken here, at once;
-    /// an `Err` says that it was refused.
+    /// The registers of a device as they are at first, on page 0. All memory is taken here, at
+    /// once; an `Err` says that it was refused.
     pub fn new(alloc: Global, device: &'p DeviceProfile) -> Result<Self, AllocError>
         ensures { IfOk result (λ r. r ≡ record { device = device.now; state = first_state device.now }) }
     {
@@ -234,8 +235,8 @@ impl<'p> Registers<'p> {
         }
     }
 
-    /// What a transaction makes of the state: each part that is the device's acts, in their order, and
-    /// a leg that it refused is noted.
+    /// What a transaction makes of the state: each part that is the device's acts, in their order,
+    /// and a leg that it refused is noted.
     pub fn apply(&mut self, transaction: &Transaction)
         ensures { self.new ≡ record self.old { state = apply self.old.device (transaction_data transaction.now) self.old.state } }
     {
@@ -291,7 +292,7 @@ impl<'p> Registers<'p> {
         }
     }
 
-    /// The bit for which a leg was refused, with the bytes that were sent behind the address.
+    /// The bit for which a leg was refused, with the bytes that were sent after the address.
     fn bit_of_refused(&self, sent: &[u8], at_read: bool) -> Option<CmlBit>
         ensures { result ≡ bit_of_refused self.now.device self.now.state sent.now at_read }
     {
@@ -305,7 +306,7 @@ impl<'p> Registers<'p> {
     }
 }
 
-/// The bit for which the last of these bytes behind an address was refused: the code, the value of
+/// The bit for which the last of these bytes after an address was refused: the code, the value of
 /// PAGE, or what stands where the packet error code has to.
 fn bit_of_sent(sent: &[u8]) -> Option<CmlBit>
     ensures { result ≡ bit_of_sent sent.now }

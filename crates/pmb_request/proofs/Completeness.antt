@@ -13,7 +13,7 @@ use Rattle.pmb_request.specs.machine.Reading.{Partial, nothing, writing, at_addr
 use Rattle.pmb_request.proofs.Runs.{run-writing}
 use Rattle.pmb_request.proofs.Steps.{append-nil}
 
--- where a reader stands behind the last word
+-- where a reader stands after the last word
 abbrev pub place : Bool → ℕ → ℕ → Task → Partial
 place true a c task = ended a c task
 place false a c task = behind a c task
@@ -60,7 +60,7 @@ takes_bytes a c bytes (x ∷ xs) pec (word ∷ words) are =
     ap (λ t. run (on_more a c (to_call bytes) t) words) are.0 ∙ takes_bytes a c (bytes ++ x ∷ []) xs pec words are.1
     ∙ ap (λ ys. Some (place pec a c (to_call ys))) (append_assoc bytes (x ∷ []) xs)
 
--- what stands behind the code
+-- what stands after the code
 takes_operands : (a c : ℕ) (task : Task) (pec : Bool) (words : List (List ℕ)) → AreWanted (operands task ++ mark pec) words
     → run (Some (behind_code (verb task) a c)) words ≡ Some (place pec a c task)
 takes_operands a c to_read pec words are = takes_mark a c to_read pec words are

@@ -75,7 +75,7 @@ parts-push q (r ∷ ps) p = ap (λ xs. part q ++ Plus ∷ xs) (parts-push r ps p
 abbrev zero_part : PartData
 zero_part = record { addr = 0; code = 0; bytes = []; pec = false }
 
--- behind the `+` of a write some line goes on
+-- after the `+` of a write some line goes on
 plus_begun : (before : List (List ℕ)) (word : List ℕ) (ps : List PartData) → token_of word ≡ Some Plus → SpellsTransaction before (says.Write ps)
     → BeginsRequest (before ++ word ∷ [])
 plus_begun before word [] is spells = absurd (spells.has_line refl)
@@ -97,7 +97,7 @@ not_empty : {A : Type 0} (xs : List A) (x : A) (back : List A) → xs ++ x ∷ b
 not_empty [] x back is = cc is
 not_empty (y ∷ xs) x back is = cc is
 
--- Words in front of others.
+-- Words before others.
 record Front (front before : List (List ℕ)) : Type 0 where
   rest : List (List ℕ)
   split : before ≡ front ++ rest

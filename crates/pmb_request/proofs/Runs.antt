@@ -19,16 +19,16 @@ pub cases : {A : Type 0} (o : Option A) → (o ≡ None) ⊎ ((x : A) × (o ≡ 
 cases None = inl refl
 cases (Some x) = inr (x, refl)
 
--- behind `write` all words are taken
+-- after `write` all words are taken
 pub run-writing : (words : List (List ℕ)) → run (Some writing) words ≡ Some writing
 run-writing [] = refl
 run-writing (word ∷ words) = run-writing words
 
--- words more, behind words that are taken
+-- words more, after words that are taken
 pub run-behind : (front more : List (List ℕ)) (s at : Partial) → run (Some nothing) front ≡ Some s → run (Some nothing) (front ++ more) ≡ Some at → run (Some s) more ≡ Some at
 run-behind front more s at is whole = ap (λ o. run o more) (sym is) ∙ sym (run-append (Some nothing) front more) ∙ whole
 
--- one word more, and what comes behind it
+-- one word more, and what comes after it
 pub run-one : (front : List (List ℕ)) (word : List ℕ) (more : List (List ℕ)) (s at : Partial) → run (Some nothing) front ≡ Some s
     → run (Some nothing) ((front ++ word ∷ []) ++ more) ≡ Some at → run (step s word) more ≡ Some at
 run-one front word more s at is whole =
@@ -38,7 +38,7 @@ run-one front word more s at is whole =
 pub run-next : (front : List (List ℕ)) (word : List ℕ) (s after : Partial) → run (Some nothing) front ≡ Some s → step s word ≡ Some after → run (Some nothing) (front ++ word ∷ []) ≡ Some after
 run-next front word s after is fits = run-append (Some nothing) front (word ∷ []) ∙ ap (λ o. run o (word ∷ [])) is ∙ ap (λ o. run o []) fits
 
--- ---- room: where there is room behind a word, there was room before it
+-- ---- room: where there is room after a word, there was room before it
 
 byte_room : (token : Option Token) (next : ℕ → Partial) (s after : Partial) → ((b : ℕ) → Room (next b) → Room s) → on_byte token next ≡ Some after → Room after → Room s
 byte_room (Some (said.Byte b)) next s after had is room =

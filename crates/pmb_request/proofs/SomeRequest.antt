@@ -29,7 +29,7 @@ use Rattle.pmb_request.proofs.Standing.{begin, full_word, next, unfit_word}
 use Rattle.pmb_request.proofs.WholeLines.{at_verb, first_word, of_line}
 use Rattle.pmb_request.proofs.Writes.{fault_of_write, line_begins, spells_write, write_spelled}
 
--- ---- places behind the first word of a request that is no write
+-- ---- places after the first word of a request that is no write
 
 abbrev IsLater : Partial → Type 0
 IsLater nothing = ⊥

@@ -32,7 +32,7 @@ pub record BeginsRequest (front : List (List ℕ)) : Type 0 where
   pub spells : Spells (front ++ more) wording
 
 -- There is room for what the words say so far: a request that is not too large goes on with them.
--- The `+` behind the 16th part of a write needs no room yet; the address behind it does.
+-- The `+` after the 16th part of a write needs no room yet; the address after it does.
 pub data HasRoom (front : List (List ℕ)) : Type 0 where
   goes_on : (more : List (List ℕ)) (wording : Wording) → Spells (front ++ more) wording → IsWithin wording → HasRoom front
   plus : (before : List (List ℕ)) (word : List ℕ) (parts : List PartData) → front ≡ before ++ word ∷ [] → token_of word ≡ Some Plus

@@ -14,8 +14,8 @@ use Rattle.pmb_line.specs.Token.{token_of}
 use Rattle.pmb_line.specs.Spelling.{SpellsTransaction}
 use Rattle.pmb_request.specs.Request.{Command}
 
--- What is asked of a command code: to read it, to call it with bytes, to set it to the quantity of a
--- text, or to get its quantity. Any text will do here: whether it is a quantity's is asked later.
+-- What is asked of a command code: to read it, to call it with bytes, to set it to the quantity of
+-- a text, or to get its quantity. Any text will do here: whether it is a quantity's is asked later.
 pub data Task : Type 0 where
   to_read : Task
   to_call : List ℕ → Task
@@ -50,7 +50,7 @@ keyword (to_call bytes) = token Call
 keyword (to_set quantity) = text (codes "set")
 keyword to_get = text (codes "get")
 
--- what stands behind the code
+-- what stands after the code
 abbrev pub operands : Task → List Wanted
 operands to_read = []
 operands (to_call bytes) = map (λ b. token (Byte b)) bytes

@@ -71,7 +71,7 @@ fn parse_write(line: &[u8]) -> Result<Request, RequestFault>
     Ok(Request::Write { parts })
 }
 
-/// Reads what stands behind `read`.
+/// Reads what stands after `read`.
 fn parse_read(words: &mut Words) -> Result<Request, RequestFault>
     ensures ok { (all : List Word) (mode : ℕ → Option ℕ) → StandsAt all (at_address Verb.Read) (words_left words.old)
         → IfOk result (AsksForRequest mode all) }
@@ -83,7 +83,7 @@ fn parse_read(words: &mut Words) -> Result<Request, RequestFault>
     Ok(Request::Read { addr, code, pec })
 }
 
-/// Reads what stands behind `call`.
+/// Reads what stands after `call`.
 fn parse_call(words: &mut Words) -> Result<Request, RequestFault>
     ensures ok { (all : List Word) (mode : ℕ → Option ℕ) → StandsAt all (at_address Verb.Call) (words_left words.old)
         → IfOk result (AsksForRequest mode all) }
@@ -102,7 +102,7 @@ fn parse_call(words: &mut Words) -> Result<Request, RequestFault>
     })
 }
 
-/// Reads what stands behind `set`: first all words, then the quantity.
+/// Reads what stands after `set`: first all words, then the quantity.
 fn parse_set(context: &Context<'_>, words: &mut Words) -> Result<Request, RequestFault>
     ensures ok { (all : List Word) (profile : List DeviceParts) (ts : List TransactionData) → HasSeen context.now profile ts
         → StandsAt all (at_address Verb.Set) (words_left words.old) → IfOk result (AsksForRequest (mode profile ts) all) }
@@ -124,7 +124,7 @@ fn parse_set(context: &Context<'_>, words: &mut Words) -> Result<Request, Reques
     }
 }
 
-/// Reads what stands behind `get`.
+/// Reads what stands after `get`.
 fn parse_get(context: &Context<'_>, words: &mut Words) -> Result<Request, RequestFault>
     ensures ok { (all : List Word) (profile : List DeviceParts) (ts : List TransactionData) → HasSeen context.now profile ts
         → StandsAt all (at_address Verb.Get) (words_left words.old) → IfOk result (AsksForRequest (mode profile ts) all) }

@@ -16,7 +16,7 @@ laid_first (byte ∷ piece) (other ∷ room) fits is =
     subst (λ n. take n (byte ∷ piece) ++ drop n (other ∷ room) ≡ laid (byte ∷ piece) (other ∷ room)) (sym one_more)
     (ap (λ (l : List ℕ). byte ∷ l) (laid_first piece room (min (length piece) (length room)) refl))
 
--- A piece more goes behind those before it.
+-- A piece more goes after those before it.
 pub laid_more : (text piece room : List ℕ) (kept fits : ℕ) → kept ≡ min (length text) (length room) → fits ≡ min (length piece) (length room - kept)
     → take kept (laid text room) ++ (take fits piece ++ drop fits (drop kept (laid text room))) ≡ laid (text ++ piece) room
 laid_more text piece [] kept fits is_kept is_fits =

@@ -102,7 +102,7 @@ first_good (device ∷ profile) accepted kept fits = (
   first_good profile accepted.1 kept.1 fits.1,
 )
 
--- Behind a transaction, where it makes a good state of each.
+-- After a transaction, where it makes a good state of each.
 pub all_good_after : (t : TransactionData) (members : List InState) → ((m : InState) → Contains members m → IsMember m → IsGood m.device (apply m.device t m.state))
     → AllByRecursion IsMember members → AllByRecursion IsMember (all_applied t members)
 all_good_after t [] each all = tt

@@ -1,4 +1,4 @@
--- The bytes of legs, behind one event more.
+-- The bytes of legs, after one event more.
 use Rattle.std.proofs.Common.{◌≡◌, ℕ, ◌%◌, ◌==◌, not, Bool, true, false, Option, Some, None, inl, inr, cond, List, [], ◌∷◌, ◌++◌, length, reverse, refl, sym, ap, subst, ◌∙◌, arith}
 use Rattle.std.specs.List.{find}
 use Rattle.std.specs.Option.{option_and_then}
@@ -79,7 +79,7 @@ legs_at_byte (Ack ∷ events) b = legs_at_byte events b
 legs_at_byte (Nack ∷ events) b = legs_at_byte events b
 legs_at_byte (Stop ∷ events) b = legs_at_byte events b
 
--- the last leg, which stands first, with a byte behind it
+-- the last leg, which stands first, with a byte after it
 abbrev pub next_legs : ℕ → List (List ℕ) → List (List ℕ)
 next_legs b [] = []
 next_legs b (leg ∷ before) = (leg ++ b ∷ []) ∷ before
@@ -106,7 +106,7 @@ one_byte_more events b = ap (λ (all : List (List ℕ)). reverse all) (legs_at_b
 
 -- ---- what is kept of the legs
 
--- what has room behind what had room has it behind all
+-- what has room after what had room has it after all
 pub kept_again : (bytes : List ℕ) (b : ℕ) → kept (kept bytes ++ b ∷ []) ≡ kept (bytes ++ b ∷ [])
 kept_again bytes b =
     elim (cases_lt (length bytes) 258) [

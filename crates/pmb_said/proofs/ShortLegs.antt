@@ -65,7 +65,7 @@ front_short device group front (inr w) =
     let few : length w.0 ≤ 258 = body_short device group w.0 w.1 in
     omega (arith, all, few, length-append front (inside.next ∷ inside.rest))
 
--- ---- events of one leg, and what comes behind it
+-- ---- events of one leg, and what comes after it
 
 bytes_of_acked : (bytes : List ℕ) (rest : List Event) → bytes_of_leg (acked bytes ++ rest) ≡ bytes ++ bytes_of_leg rest
 bytes_of_acked [] rest = refl
@@ -205,7 +205,7 @@ module _ (profile : List DeviceParts) where
 
 -- ---- what begins them
 
--- a leg has no more bytes behind which events are left out
+-- a leg has no more bytes after which events are left out
 leg_of_front : (events more : List Event) → length (bytes_of_leg events) ≤ length (bytes_of_leg (events ++ more))
 leg_of_front [] more = omega arith
 leg_of_front (Start ∷ events) more = omega arith

@@ -1,4 +1,4 @@
--- What a `Said` stands at behind one event more.
+-- What a `Said` stands at after one event more.
 use Rattle.std.proofs.Common.{◌≡◌, ◌≢◌, ℕ, ◌%◌, ◌==◌, Bool, true, false, cond, List, [], ◌∷◌, ◌++◌, reverse, refl, sym, ap, subst, ◌∙◌}
 use Rattle.std.specs.List.{find}
 use Rattle.std.proofs.lemmas.List.{append-nil}
@@ -39,7 +39,7 @@ first_of all = leg_or_none (find (λ leg. true) all)
 pub stands_at_nothing : (k : LegsData) → KeepsLegs k [] → SaidStandsAt (record { legs = k; all = 0; leg = 0; before = 0 }) []
 stands_at_nothing k keeps = record { legs = keeps; all = pec_of_nothing; leg = pec_of_nothing; before = pec_of_nothing }
 
--- ---- behind START
+-- ---- after START
 
 pub stands_at_start : (said : Said) (k : LegsData) (events : List Event) → k ≡ after_start said.legs → SaidStandsAt said events
     → SaidStandsAt (record { legs = k; all = said.all; leg = 0; before = 0 }) (events ++ Start ∷ [])
@@ -53,7 +53,7 @@ stands_at_start said k events is stands =
       before = ap (λ (all : List (List ℕ)). pec (but_last (first_of all))) more ∙ pec_of_nothing;
     }
 
--- ---- behind a byte
+-- ---- after a byte
 
 -- a packet error code goes on so
 abbrev pub GoesOn : ℕ → ℕ → ℕ → Type 0
@@ -108,7 +108,7 @@ stands_at_lone_byte said all b events absent all_on stands =
       before = ap (λ (ls : List (List ℕ)). pec (but_last (first_of ls))) same ∙ stands.before;
     }
 
--- ---- behind another event
+-- ---- after another event
 
 abbrev IsQuiet : Event → Type 0
 IsQuiet event = (bytes_of_leg (event ∷ []) ≡ []) × (legs (event ∷ []) ≡ []) × (all_bytes (event ∷ []) ≡ [])

@@ -75,7 +75,7 @@ behind_address (address ∷ bytes) = bytes
 abbrev pub said_device : List Event → Option ℕ
 said_device events = option_and_then leg_device (last_with has_address (legs events))
 
--- the last leg that is written: to which address, and what was sent behind it
+-- the last leg that is written: to which address, and what was sent after it
 abbrev pub written_leg : List Event → Option (List ℕ)
 written_leg events = last_with is_written (legs events)
 
@@ -115,8 +115,8 @@ but_last (b ∷ c ∷ bytes) = b ∷ but_last (c ∷ bytes)
 
 -- The packet error code that was due, where another one came. Where a reply is read, the wrong code
 -- is the refused event itself, and the right one covers all bytes of the packet. Where a leg is
--- written, the wrong code was sent and its ACK is refused, and the right one covers the bytes of that
--- leg before it.
+-- written, the wrong code was sent and its ACK is refused, and the right one covers the bytes of
+-- that leg before it.
 abbrev pub due_pec : List Event → Event → Option ℕ
 due_pec events (Byte b) = Some (pec (all_bytes events))
 due_pec events Ack = Some (pec (but_last (leg_or_none (last_leg events))))
@@ -138,7 +138,7 @@ right_pec Truncated events event = None
 
 -- ---- how much is said
 
--- Behind its address a leg has no more bytes than a code, a count, 255 data and a packet error code.
+-- After its address a leg has no more bytes than a code, a count, 255 data and a packet error code.
 abbrev pub IsShort : List ℕ → Type 0
 IsShort leg = length (behind_address leg) ≤ 258
 

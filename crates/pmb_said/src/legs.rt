@@ -1,7 +1,7 @@
 //! The bytes of the legs that are told.
 //!
 //! Two legs are kept: the last one that is written, and the last one of all where it is read. A leg
-//! of a packet has at most 258 bytes behind its address, and there is room for no more.
+//! of a packet has at most 258 bytes after its address, and there is room for no more.
 
 ghost use Rattle.std.specs.Prelude.{◌≡◌, ◌≤◌, ◌++◌, ◌∷◌, [], None, length, take};
 ghost use Rattle.pmb_said.specs.machine.Legs.{after_address, after_byte, after_start};
@@ -30,9 +30,9 @@ pub(crate) struct Legs {
     address: Option<u8>,
     /// The address byte of the last written leg.
     written_address: Option<u8>,
-    /// The bytes behind it.
+    /// The bytes after it.
     written: ArrayVec<u8, 258>,
-    /// The bytes behind the address of the last leg, where that is read.
+    /// The bytes after the address of the last leg, where that is read.
     reply: ArrayVec<u8, 258>,
 }
 

@@ -82,8 +82,8 @@ impl Said {
         self.legs.take(byte);
     }
 
-    /// The device of the last leg that has an address byte, by its address of seven bits. An alert is
-    /// that of no device.
+    /// The device of the last leg that has an address byte, by its address of seven bits. An alert
+    /// is that of no device.
     pub fn device(&self) -> Option<u8>
         ensures { (events : List BusEvent) → SaidStandsAt self.now events → result ≡ said_device events }
     {
@@ -103,8 +103,8 @@ impl Said {
         }
     }
 
-    /// All bytes behind the address in the last written leg, where there is one. This holds of events
-    /// that some packet begins with.
+    /// All bytes after the address in the last written leg, where there is one. This holds of
+    /// events that some packet begins with.
     pub fn sent(&self) -> Option<&[u8]>
         ensures bytes { (profile : List DeviceParts) (events : List BusEvent) → Viable profile events → SaidStandsAt self.now events
             → option_map (λ bytes. bytes.now) result ≡ sent events }
@@ -116,7 +116,7 @@ impl Said {
         }
     }
 
-    /// All bytes behind the address in the last leg, where that is read. This holds of events that
+    /// All bytes after the address in the last leg, where that is read. This holds of events that
     /// some packet begins with.
     pub fn reply(&self) -> Option<&[u8]>
         ensures bytes { (profile : List DeviceParts) (events : List BusEvent) → Viable profile events → SaidStandsAt self.now events
@@ -129,8 +129,8 @@ impl Said {
         }
     }
 
-    /// The packet error code that was due where this event was refused for this reason; `None` where
-    /// the reason is not [`Reason::BadPec`].
+    /// The packet error code that was due where this event was refused for this reason; `None`
+    /// where the reason is not [`Reason::BadPec`].
     pub fn right_pec(&self, reason: Reason, event: Event) -> Option<u8>
         ensures { (events : List BusEvent) → SaidStandsAt self.now events → result ≡ right_pec reason events event }
     {

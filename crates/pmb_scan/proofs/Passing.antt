@@ -10,7 +10,7 @@ pub no_stop_none : HasNoStop []
 no_stop_none [] after same = cc
 no_stop_none (event ∷ before) after same = cc
 
--- nor behind an event that is none, where none follows
+-- nor after an event that is none, where none follows
 pub no_stop_behind : (event : Event) (events : List Event) → event ≢ Stop → HasNoStop events → HasNoStop (event ∷ events)
 no_stop_behind event events other no_stop [] after same = other cc
 no_stop_behind event events other no_stop (x ∷ before) after same = no_stop before after cc

@@ -39,7 +39,7 @@ passed_reading n Ack = tt
 passed_reading n Nack = tt
 passed_reading n Stop = tt
 
--- A reader that passes over stands behind the event.
+-- A reader that passes over stands after the event.
 pub passed : (profile : List DeviceParts) (n : ℕ) (event : Event) (took : Took) (after : Reader) → ReaderTakes profile (Passing n) event took after → ReaderStandsAt profile after (behind_passed n event)
 passed profile n event answers.More after takes = takes
 passed profile n event answers.Packet after takes = absurd takes
@@ -51,7 +51,7 @@ passed profile n event (answers.Refused refusal) after takes = absurd takes
 whole_more : (spans : List Span) (span : Span) → filter is_whole spans ≡ spans → filter is_whole (span ∷ []) ≡ span ∷ [] → filter is_whole (spans ++ span ∷ []) ≡ spans ++ span ∷ []
 whole_more spans span whole one = filter-append is_whole spans (span ∷ []) ∙ (ap (λ l. l ++ filter is_whole (span ∷ [])) whole ∙ ap (λ l. spans ++ l) one)
 
--- an event in front of what follows, and a span in front of those of what follows it
+-- an event before what follows, and a span before those of what follows it
 spans_then : (profile : List DeviceParts) (events rest : List Event) (event : Event) (spans others : List Span) (span : Span)
     → Spans profile (events ++ event ∷ rest) (spans ++ span ∷ others) → Spans profile ((events ++ event ∷ []) ++ rest) ((spans ++ span ∷ []) ++ others)
 spans_then profile events rest event spans others span reads =

@@ -191,7 +191,7 @@ module _ {V : Type 0} (Stands : V → V → Reached → List ℕ → Type 0) whe
       subst (λ (es : List Event). EndsWord (length b) b es piece used lexer event) same
       (subst (λ (t : List ℕ). EndsWord (length t) t events piece used lexer event) e (subst (λ (k : ℕ). EndsWord k a events piece used lexer event) counted word))
 
-  -- a byte of it and the ACK behind it are taken
+  -- a byte of it and the ACK after it are taken
   pub up_to_acked : (start v0 v1 v2 v3 v4 : V) (reached : Reached) (piece rest left bytes others : List ℕ) (byte : ℕ) (h0 h1 h2 h3 : Option (List ℕ)) (w0 w1 w2 w3 text : List ℕ) (scan middle after : Scan) (lexer : Lexer)
       → (so_far : UpTo start v0 reached piece rest h0 w0 h1 w1 text scan)
       → FeedsAcked (length so_far.there.text) so_far.there.text so_far.there.events rest byte lexer

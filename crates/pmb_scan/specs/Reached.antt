@@ -11,9 +11,9 @@ use Rattle.pmb_transaction.specs.Reading.{BehindStop, RefusalData}
 use Rattle.pmb_transaction.specs.Transaction.{TransactionData}
 
 -- Under a profile these bytes were used, the words that have ended in them are the tokens of these
--- events, and these are the packets that ended and the refusals that came. It stands inside a packet
--- or between two (`Open`), or behind a refusal, and passes over what comes up to the next STOP
--- (`Passing`).
+-- events, and these are the packets that ended and the refusals that came. It stands inside a
+-- packet or between two (`Open`), or after a refusal, and passes over what comes up to the next
+-- STOP (`Passing`).
 pub record Reached : Type 0 where
   pub profile : List DeviceParts
   pub text : List ℕ
@@ -31,7 +31,7 @@ at_start profile = record { profile = profile; text = []; events = []; spans = [
 abbrev pub behind_bytes : Reached → List ℕ → Reached
 behind_bytes reached bytes = record reached { text = reached.text ++ bytes }
 
--- where it stands behind an event that ends no packet and is not refused
+-- where it stands after an event that ends no packet and is not refused
 abbrev pub stands_behind : Standing → Event → Standing
 stands_behind (Open n events) event = Open n (events ++ event ∷ [])
 stands_behind (Held n refusal) event = Held n refusal
@@ -41,7 +41,7 @@ stands_behind (Passing n) event = behind_passed n event
 abbrev pub behind_event : Reached → Event → Reached
 behind_event reached event = record reached { events = reached.events ++ event ∷ []; standing = stands_behind reached.standing event }
 
--- An event that ends a packet, which began behind n events, with these.
+-- An event that ends a packet, which began after n events, with these.
 abbrev pub behind_packet : Reached → ℕ → List Event → Event → TransactionData → Reached
 behind_packet reached n front event t = record reached {
   events = reached.events ++ event ∷ [];
@@ -49,7 +49,7 @@ behind_packet reached n front event t = record reached {
   standing = Open (n + length front + 1) [];
 }
 
--- A whole packet at once, which began behind n events: its bytes, its events and its transaction.
+-- A whole packet at once, which began after n events: its bytes, its events and its transaction.
 abbrev pub behind_whole : Reached → ℕ → List ℕ → List Event → TransactionData → Reached
 behind_whole reached n bytes events t = record reached {
   text = reached.text ++ bytes;
@@ -58,7 +58,7 @@ behind_whole reached n bytes events t = record reached {
   standing = Open (n + length events) [];
 }
 
--- An event that is refused, behind those of a packet that began behind n events.
+-- An event that is refused, after those of a packet that began after n events.
 abbrev pub behind_refusal : Reached → ℕ → List Event → Event → RefusalData → Reached
 behind_refusal reached n front event refusal = record reached {
   events = reached.events ++ event ∷ [];
@@ -82,7 +82,7 @@ IsReading (Passing n) = Unit {0}
 
 module _ (profile : List DeviceParts) where
   -- The spans of the events that follow from there: the packet under way is read with them, from
-  -- where it began; what is passed over is read from behind the first STOP.
+  -- where it began; what is passed over is read from after the first STOP.
   abbrev pub SpansBehind : Standing → List Event → List Span → Type 0
   SpansBehind (Open n events) rest spans = SpansFrom profile n (events ++ rest) spans
   SpansBehind (Held n refusal) rest spans = ⊥

@@ -1,8 +1,8 @@
 //! From the text of a capture to what comes of it.
 //!
 //! Most events complete nothing, so what a packet or a refusal wants is done in functions of their
-//! own, which are not inlined: an event pays for none of it. `take_words` takes a whole common packet
-//! in a turn, where one lies in front, or a byte and its ACK, or one word.
+//! own, which are not inlined: an event pays for none of it. `take_words` takes a whole common
+//! packet in a turn, where one lies in front, or a byte and its ACK, or one word.
 
 ghost use Rattle.std.specs.Prelude.{◌≡◌, ◌++◌, ◌∷◌, [], ◌≤◌, ◌<◌, ℕ, List, None, OnOk, IfOk, IfSome, length, drop};
 ghost use Rattle.pmb_bus.specs.declared.event.Event.{Event as BusEvent};
@@ -47,7 +47,7 @@ pub struct Scan<'p> {
 }
 
 impl<'p> Scan<'p> {
-    /// A scan at the start of a text. To begin anew behind a word that is no token is to make a new
+    /// A scan at the start of a text. To begin anew after a word that is no token is to make a new
     /// one: it counts bytes and events from 0.
     pub fn new(profile: &'p Profile) -> Scan<'p>
         ensures { ScanStandsAt result (at_start profile.now) }
@@ -59,8 +59,8 @@ impl<'p> Scan<'p> {
         }
     }
 
-    /// Takes the words of the next piece of the text, and tells a visitor what comes of them, up to a
-    /// word that is no token.
+    /// Takes the words of the next piece of the text, and tells a visitor what comes of them, up to
+    /// a word that is no token.
     ///
     /// After a fault the scan takes nothing more. A packet that is under way there is not reported.
     ///
@@ -121,8 +121,9 @@ impl<'p> Scan<'p> {
         }
     }
 
-    /// Takes the common packet in front of a piece at once, between two packets and two words. It
-    /// returns `None` where no such packet lies whole in front, and then all stands where it stood.
+    /// Takes the common packet at the front of a piece at once, between two packets and two words.
+    /// It returns `None` where no such packet lies whole in front, and then all stands where it
+    /// stood.
     #[inline(always)]
     fn take_whole(&mut self, piece: &[u8]) -> Option<Whole>
         ensures takes { (reached : Reached) → ScanStandsAt self.old reached

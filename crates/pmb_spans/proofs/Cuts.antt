@@ -1,4 +1,4 @@
--- The spans of a capture that is cut behind a STOP are those of its pieces.
+-- The spans of a capture that is cut after a STOP are those of its pieces.
 use Rattle.std.proofs.Common.{◌≡◌, ℕ, ◌+◌, ◌⊎◌, ◌↔◌, inl, inr, true, List, [], ◌∷◌, ◌++◌, length, refl, sym, ap, ◌∙◌, subst, append_assoc, arith}
 use Rattle.std.specs.List.{All}
 use Rattle.std.proofs.lemmas.List.{length-append}
@@ -46,7 +46,7 @@ rest_ends_on : (front rest events : List Event) → EndsOn events → events ≡
 rest_ends_on front rest events ends split before last other none =
     ends (front ++ before) last (split ∙ ap (λ (es : List Event). front ++ es) other ∙ sym (append_assoc front before last)) none
 
--- also behind the STOP up to which events are passed over
+-- also after the STOP up to which events are passed over
 passed_ends_on : (front passed rest events behind : List Event) → EndsOn events → events ≡ front ++ behind → behind ≡ passed ++ Stop ∷ rest
     → EndsOn rest
 passed_ends_on front passed rest events behind ends split other =
@@ -97,7 +97,7 @@ module _ (profile : List DeviceParts) where
         subst (λ (k : ℕ). SpansFrom profile k w.1 (moved_spans n more)) counted (later (m + length w.0 + 1) w.1 w.4),
       )
 
-  -- behind n more events the spans are the same, moved
+  -- after n more events the spans are the same, moved
   pub spans_move : (n : ℕ) (spans : List Span) (m : ℕ) (events : List Event) → SpansFrom profile m events spans
       → SpansFrom profile (n + m) events (moved_spans n spans)
   spans_move n [] m events w = w

@@ -6,7 +6,7 @@ use Rattle.pmb_command.specs.Parts.{DeviceParts}
 use Rattle.pmb_transaction.specs.Reading.{Accepted, BehindStop, Outcome, ReadsFrom, Refusal, TruncatedAt}
 use Rattle.pmb_spans.specs.Spans.{ReadSpan, RefusedSpan, Span, SpansFrom, TruncatedSpan, outcome}
 
--- what is passed over stays so, where something else holds behind it
+-- what is passed over stays so, where something else holds after it
 pub with_behind : (Holds Then : ℕ → List Event → Type 0) (AtEnd ThenAtEnd : Type 0) (n : ℕ) (events : List Event)
     → ((k : ℕ) (rest : List Event) → Holds k rest → Then k rest) → (AtEnd → ThenAtEnd) → BehindStop Holds AtEnd n events
     → BehindStop Then ThenAtEnd n events

@@ -110,7 +110,7 @@ pub none_at_end : (choice : ChoiceData) (profile : List DeviceParts) (b : Before
 none_at_end choice profile b reached =
     ap (λ (l : List Span). end_objects (after_spans b.counts l)) (sym (append-nil reached.spans)) ∙ ap (last_objects choice profile b reached) (sym (no_end reached.standing))
 
--- what is counted behind them
+-- what is counted after them
 pub counts_at_end : (b : Before) (reached : Reached) (n : ℕ) (front : List Event) (refusal : Refusal) → reached.standing ≡ Open n front
     → after_refusal (after_spans b.counts reached.spans) (said_device front) ≡ after_spans b.counts (reached.spans ++ end_spans reached.standing (Some refusal))
 counts_at_end b reached n front refusal standing =

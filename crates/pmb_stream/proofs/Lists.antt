@@ -26,7 +26,7 @@ take_drop_take (suc i) k zero xs few = absurd (omega (arith, few))
 take_drop_take (suc i) k (suc n) [] few = refl
 take_drop_take (suc i) k (suc n) (x ∷ xs) few = take_drop_take i k n xs (omega (arith, few))
 
--- what is behind a front of n doesn't matter to the front of a longer list
+-- what is after a front of n doesn't matter to the front of a longer list
 pub take_behind : {A : Type 0} (n : ℕ) (xs ys : List A) → take n (take n xs ++ ys) ≡ take n (xs ++ ys)
 take_behind zero xs ys = refl
 take_behind (suc n) [] ys = refl

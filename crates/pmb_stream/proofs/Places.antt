@@ -8,7 +8,8 @@ use Rattle.pmb_places.specs.declared.places.Place.{Place}
 use Rattle.pmb_places.specs.Text.{end_of_last_word, place_of_last_word, places_from}
 use Rattle.pmb_stream.specs.Spans.{event_place}
 
--- laws of `pmb_places`: where the last of so many words of a text stands, and that each word has a place
+-- laws of `pmb_places`: where the last of so many words of a text stands, and that each word has a
+-- place
 abbrev pub LastWordStands : Type 0
 LastWordStands =
     (front text more : List ℕ) (n : ℕ) (other : Place) → EndsBetween front → length (words text) ≡ n + 1
@@ -32,7 +33,7 @@ stands_last law read text more n events event between spells =
     ap (λ (k : ℕ). slice_index_or (places_from read (text ++ more)) k (end_of_last_word (read ++ (text ++ more)))) (behind n (length events))
     ∙ law read text more (length events) (end_of_last_word (read ++ (text ++ more))) between counted
 
--- behind all events is the end of the last word
+-- after all events is the end of the last word
 pub stands_behind_all : EachWordHasPlace → (read text : List ℕ) (n : ℕ) (events : List Event) → EndsBetween read → Spells text events
     → event_place read n text (n + length events) ≡ end_of_last_word (read ++ text)
 stands_behind_all law read text n events between spells =

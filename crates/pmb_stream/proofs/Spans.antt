@@ -46,7 +46,7 @@ module _ (choice : ChoiceData) (profile : List DeviceParts) (place : ℕ → Pla
   objects_append before (TruncatedSpan n front refusal ∷ a) b =
       ap (λ (os : List Object). refused_span choice profile place before (n + length front) front None refusal ∷ os) (objects_append before a b)
 
-  -- of spans that are moved, and others behind them
+  -- of spans that are moved, and others after them
   pub objects_moved : (before : List TransactionData) (n : ℕ) (a b : List Span)
       → span_objects choice profile place before (moved_spans n (a ++ b))
       ≡ span_objects choice profile place before (moved_spans n a) ++ span_objects choice profile place (before ++ transactions_in a) (moved_spans n b)

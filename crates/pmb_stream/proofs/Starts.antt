@@ -32,7 +32,7 @@ starts_append n (Ack ∷ a) b = starts_append (n + 1) a b ∙ ap (λ (k : ℕ). 
 starts_append n (Nack ∷ a) b = starts_append (n + 1) a b ∙ ap (λ (k : ℕ). starts (n + 1) a ++ starts k b) (behind_one n a)
 starts_append n (Stop ∷ a) b = starts_append (n + 1) a b ∙ ap (λ (k : ℕ). starts (n + 1) a ++ starts k b) (behind_one n a)
 
--- none is the STOP behind events
+-- none is the STOP after events
 stop_starts_none : (n : ℕ) (front : List Event) (event : Event) → event ≡ Stop → starts n (front ++ event ∷ []) ≡ starts n front
 stop_starts_none n front event is =
     ap (λ (e : Event). starts n (front ++ e ∷ [])) is ∙ starts_append n front (Stop ∷ []) ∙ append-nil (starts n front)
@@ -84,7 +84,7 @@ module _ (seen : SeenData) where
   all_writes part count (suc n) (first ∷ begun) (p ∷ ps) few =
       ap (λ (os : List Object). write_object seen first.at first.place part count p ∷ os) (all_writes (part + 1) count n begun ps (omega (arith, few)))
 
--- what is put out of a refused leg behind parts
+-- what is put out of a refused leg after parts
 pub refused_kept : (seen : SeenData) (begun : List Begun) (parts slice : List Part) (sent told : List ℕ) (n m addr : ℕ) (at_read : Bool) → slice ≡ parts → n ≡ length parts → m ≡ length parts → told ≡ sent
     → kept_writes seen 1 (n + 1) begun (map part_data slice) ++ map (λ (leg : Begun). refused_object seen leg.at leg.place (m + 1) addr told at_read) (take 1 (drop m begun))
     ≡ kept_objects seen begun (Refused (record { parts = map part_data parts; addr = addr; sent = sent; at_read = at_read }))
@@ -104,7 +104,7 @@ module _ (seen : SeenData) (place : ℕ → Place) where
   writes_are (suc most) part parts (at ∷ ats) (p ∷ ps) few =
       ap (λ (os : List Object). write_object seen (capped at) (place at) part parts p ∷ os) (writes_are most (part + 1) parts ats ps (omega (arith, few)))
 
-  -- the leg behind some parts
+  -- the leg after some parts
   leg_is : (index : ℕ) (ats : List ℕ) (object : ℕ → Place → Object) → index + 1 ≤ 17
       → map (λ (leg : Begun). object leg.at leg.place) (take 1 (drop index (take 17 (map (begun_at place) ats)))) ≡ map (λ (at : ℕ). object (capped at) (place at)) (take 1 (drop index ats))
   leg_is index ats object few =

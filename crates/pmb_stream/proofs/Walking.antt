@@ -143,7 +143,7 @@ pub stop_next : (back : List Event) (text : List ℕ) (result : Option Event) �
 stop_next [] text result finds none inside same = refl
 stop_next (e ∷ back) text result finds none inside same = absurd (none e (finds e (canonical_text (back ++ Stop ∷ [])) inside.0 same))
 
--- its word, and what stands behind it
+-- its word, and what stands after it
 pub front_word : (text word rest : List ℕ) (n : ℕ) → text ≡ word ++ rest → n ≡ length word → take n text ≡ word
 front_word text word rest n same long = ap (take n) same ∙ ap (λ (k : ℕ). take k (word ++ rest)) long ∙ take-append_seam word rest
 

@@ -40,7 +40,7 @@ pub record IsLine (events : List Event) : Type 0 where
   pub no_stop : Contains rest Stop → ⊥
   pub small : AreBytes rest
 
--- a STOP among events has some before it and some behind it
+-- a STOP among events has some before it and some after it
 parted : (events : List Event) (k : ℕ) → k < length events → slice_index_or events k Stop ≡ Stop
     → (before : List Event) × (after : List Event) × (events ≡ before ++ Stop ∷ after)
 parted [] k within is = absurd (omega (arith, within))
@@ -105,7 +105,7 @@ objects_whole seen place n rest t (device_called call) one = refl
 
 -- ---- its text
 
--- the text of such events behind START's
+-- the text of such events after START's
 abbrev pub rest_text : List Event → List ℕ
 rest_text rest = canonical_text (rest ++ Stop ∷ [])
 
@@ -157,7 +157,7 @@ whole_adds choice profile b reached begun n rest t common one kept more =
 
 -- ---- the visit
 
--- behind the START of it
+-- after the START of it
 abbrev pub begun_whole : Reached → Reached
 begun_whole reached = behind_event (behind_bytes reached (codes "S ")) Start
 

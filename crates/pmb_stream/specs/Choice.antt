@@ -3,7 +3,7 @@ use Rattle.std.specs.Prelude.{ℕ, List}
 use Rattle.pmb_late.specs.declared.start.Start.{Start}
 use Rattle.pmb_stream.specs.declared.choice.Choice.{Choice}
 
--- The digits behind a point, what is known of PAGE and VOUT_MODE at first, and the devices whose
+-- The digits after a point, what is known of PAGE and VOUT_MODE at first, and the devices whose
 -- objects are wanted, all where none is named.
 pub record ChoiceData : Type 0 where
   pub digits : ℕ

@@ -1,4 +1,4 @@
--- The objects of what a capture reads as, and what was counted behind it.
+-- The objects of what a capture reads as, and what was counted after it.
 use Rattle.std.specs.Prelude.{ℕ, ◌+◌, ◌-◌, Option, Some, None, List, [], ◌∷◌, ◌++◌, fold, length, slice_index_or}
 use Rattle.pmb_bus.specs.declared.event.Event.{Event}
 use Rattle.pmb_command.specs.Parts.{DeviceParts}
@@ -18,8 +18,9 @@ use Rattle.pmb_stream.specs.Choice.{ChoiceData}
 
 -- ---- places
 
--- Of events that a text spells, which stands behind the bytes `read` and before which n events came,
--- the place of the one with a number: that of its word; and of the end the place behind the last word.
+-- Of events that a text spells, which stands after the bytes `read` and before which n events came,
+-- the place of the one with a number: that of its word; and of the end the place after the last
+-- word.
 abbrev pub event_place : List ℕ → ℕ → List ℕ → ℕ → Place
 event_place read n text at = slice_index_or (places_from read text) (at - n) (end_of_last_word (read ++ text))
 
@@ -45,11 +46,11 @@ module _ (choice : ChoiceData) (profile : List DeviceParts) where
   abbrev pub seen_behind : List TransactionData → SeenData
   seen_behind before = record { digits = choice.digits; start = choice.start; profile = profile; before = before }
 
-  -- behind some transactions that of an event that was refused, or of the end
+  -- after some transactions that of an event that was refused, or of the end
   abbrev pub refused_span : (ℕ → Place) → List TransactionData → ℕ → List Event → Option Event → RefusalData → Object
   refused_span place before at front event refusal = refusal_object (seen_behind before) (capped at) (place at) front event refusal.reason refusal.expected
 
-  -- those of spans, behind some transactions
+  -- those of spans, after some transactions
   abbrev pub span_objects : (ℕ → Place) → List TransactionData → List Span → List Object
   span_objects place before [] = []
   span_objects place before (ReadSpan n events t ∷ spans) = packet_objects (seen_behind before) place n events t ++ span_objects place (before ++ t ∷ []) spans

@@ -1,9 +1,9 @@
 -- What a `Stream` stands at, and what it puts out.
 --
--- `StreamKnows b stream` says that a stream was given what `b` says; `StreamBegins b stream` that it
--- stands between words, and no packet is under way; `StreamAt b stream reached` that it began there,
--- and a scan that began with it has reached so much since. What they say of a stream's own fields is
--- in `machine`, and nothing here needs it to be understood.
+-- `StreamKnows b stream` says that a stream was given what `b` says; `StreamBegins b stream` that
+-- it stands between words, and no packet is under way; `StreamAt b stream reached` that it began
+-- there, and a scan that began with it has reached so much since. What they say of a stream's own
+-- fields is in `machine`, and nothing here needs it to be understood.
 use Rattle.std.specs.Prelude.{◌≡◌, ℕ, List, ◌++◌}
 use Rattle.pmb_command.specs.Parts.{DeviceParts}
 use Rattle.pmb_objects.specs.Object.{object_lines}
@@ -20,13 +20,14 @@ pub record IsSame (start now : Stream) : Type 0 where
   pub choice : stream_choice now ≡ stream_choice start
   pub profile : stream_profile now ≡ stream_profile start
 
--- The lines of what a scan has reached that began behind `b`, whatever text follows: each place is
+-- The lines of what a scan has reached that began after `b`, whatever text follows: each place is
 -- known by then.
 abbrev pub AreLinesOf : ChoiceData → List DeviceParts → Before → Reached → List ℕ → Type 0
 AreLinesOf choice profile b reached text =
     (more : List ℕ) → text ≡ object_lines choice.devices (span_objects choice profile (event_place b.read b.n (reached.text ++ more)) b.ts (moved_spans b.n reached.spans))
 
--- Where the stream began behind `b`, it stands at what was reached, and has put out the lines of that.
+-- Where the stream began after `b`, it stands at what was reached, and has put out the lines of
+-- that.
 pub record HasToldOf (b : Before) (start now : Stream) (reached : Reached) (text : List ℕ) : Type 0 where
   pub same : IsSame start now
   pub at : StreamAt b now reached

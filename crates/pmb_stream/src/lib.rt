@@ -1,8 +1,9 @@
 //! The objects of a capture, put out as they come.
 //!
-//! A [`Stream`] is a visitor of a [`Scan`](pmb_scan::Scan): it puts out the line of each object of a
-//! packet or a refusal as soon as its last event has come, and counts them. It knows where each word
-//! stands, also behind a word that is no token, and [`Choice`] says which objects are wanted, and how.
+//! A [`Stream`] is a visitor of a [`Scan`](pmb_scan::Scan): it puts out the line of each object of
+//! a packet or a refusal as soon as its last event has come, and counts them. It knows where each
+//! word stands, also after a word that is no token, and [`Choice`] says which objects are wanted,
+//! and how.
 //!
 //! ```rust
 //! let choice = Choice { digits: Digits::default(), start: Start::AllKnown, devices: &[] };

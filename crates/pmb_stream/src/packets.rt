@@ -211,7 +211,7 @@ impl<'p> Stream<'p> {
         Ok(())
     }
 
-    /// Puts out the object of the leg that was refused behind so many parts, if it is wanted.
+    /// Puts out the object of the leg that was refused after so many parts, if it is wanted.
     fn put_refused<W: Sink>(
         &self,
         parts: usize,

@@ -110,8 +110,8 @@ impl<'p> Stream<'p> {
         self.clear();
     }
 
-    /// Takes the rest of a packet's line, given only its length in bytes and how many events it spells
-    /// before STOP, of which nothing is kept. STOP is left for `take_packet` to count.
+    /// Takes the rest of a packet's line, given only its length in bytes and how many events it
+    /// spells before STOP, of which nothing is kept. STOP is left for `take_packet` to count.
     #[inline]
     fn take_line(&mut self, bytes: usize, count: usize)
         ensures knows { (b : Before) (front : List BusEvent) → StreamKnows b self.old → EndsBetween b.read → AreBytes front → (Contains front Stop → ⊥)
@@ -140,7 +140,7 @@ impl<'p> Stream<'p> {
     }
 }
 
-/// Whether events are passed over behind one that is: up to the next STOP.
+/// Whether events are passed over after one that is: up to the next STOP.
 #[inline]
 fn passes_on(event: Event) -> bool
     ensures { result ≡ passes_on_of event }

@@ -72,7 +72,7 @@ found_instead c cs places i found here =
 
 -- ---- what the code does with them
 
--- a command that is put behind the others
+-- a command that is put after the others
 pub found_push : (c : Command) (cs after : List Command) (places : List ℕ) (n : ℕ) → IsFoundByCode (map command_parts cs) places → IsNew c.entry.code (codes_of (map command_parts cs)) → c.entry.code < 256
     → c.entry.code < length places → after ≡ cs ++ c ∷ [] → n ≡ length cs → IsFoundByCode (map command_parts after) (set places c.entry.code n)
 found_push c cs after places n found new small within is many =

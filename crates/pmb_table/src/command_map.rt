@@ -98,7 +98,7 @@ impl CommandMap {
         }
     }
 
-    /// Puts a command behind all others, none of which has its code.
+    /// Puts a command after all others, none of which has its code.
     fn append(&mut self, command: Command) -> Result<(), AllocError>
         requires { IsNew command.entry.code (codes_of self.old) }
         ensures ok { OnOk result (self.new ≡ put (command_parts command) self.old) }

@@ -73,7 +73,7 @@ module _ (pec_is_byte : (bytes : List ℕ) → pec bytes < 256) (profile : List 
     first_follows_at byte,
   )
 
-  -- ---- behind the address byte of a written leg
+  -- ---- after the address byte of a written leg
 
   module _ (parts : List PartData) (few : length parts ≤ 15) (own : IsDistinct nat_eq (addresses parts)) (legs : List Event) (each : PartsEvents profile parts legs) (addr : ℕ) (new : IsNew addr (addresses parts)) where
     abbrev addressed : List Event

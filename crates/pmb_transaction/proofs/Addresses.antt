@@ -84,7 +84,7 @@ new_with n parts part =
 
 -- ---- an address that is free
 
--- a number in front of others, or left out
+-- a number before others, or left out
 abbrev unless_same : Bool → ℕ → List ℕ → List ℕ
 unless_same true x xs = xs
 unless_same false x xs = x ∷ xs

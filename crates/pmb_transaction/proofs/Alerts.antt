@@ -26,7 +26,7 @@ alert_has_byte answer is =
     checked_has_byte is.with_pec (read_address alert_address ∷ []) (is.byte ∷ []) (record { first = is.byte; rest = []; split = refl })
     )
 
--- ---- behind the address byte
+-- ---- after the address byte
 
 -- NACK may follow
 pub nack_follows : (profile : List DeviceParts) → MayFollow profile (Start ∷ Byte (read_address alert_address) ∷ []) Nack

@@ -29,7 +29,7 @@ pub record HasByte (bytes : List ℕ) : Type 0 where
   pub rest : List ℕ
   pub split : bytes ≡ first ∷ rest
 
--- with a packet error code behind them there is one too
+-- with a packet error code after them there is one too
 pub checked_has_byte : (with_pec : Bool) (before bytes : List ℕ) → HasByte bytes → HasByte (checked with_pec before bytes)
 checked_has_byte with_pec before bytes is = record {
   first = is.first;

@@ -32,7 +32,7 @@ none_in_front : (a b : List ℕ) → [] ≡ a ++ b → a ≡ []
 none_in_front [] b none = refl
 none_in_front (x ∷ a) b none = cc none
 
--- what is in front of bytes but for the last, where those in front of it are known
+-- what is before bytes but for the last, where those before it are known
 in_front : (front more : List ℕ) (next : ℕ) (rest : List ℕ) (last : ℕ) → more ++ last ∷ [] ≡ front ++ next ∷ rest
     → (others : List ℕ) × (more ≡ front ++ others)
 in_front [] more next rest last same = (more, refl)
@@ -46,7 +46,7 @@ in_front (x ∷ front) (y ∷ more) next rest last same =
     let split : more ≡ front ++ others.0 = others.1 in
     (others.0, cc (first, split))
 
--- what begins a body and goes on, and so does what is in front of it
+-- what begins a body and goes on, and so does what is before it
 goes_on : (front others : List ℕ) (next : ℕ) (rest body : List ℕ) → body ≡ (front ++ others) ++ next ∷ rest → IsProperPrefix front body
 goes_on front [] next rest body split =
     record { next = next; rest = rest; split = split ∙ ap (λ (bs : List ℕ). bs ++ next ∷ rest) (append-nil front) }
@@ -80,7 +80,7 @@ answer_begins_at address answer events (inl w) =
 answer_begins_at address answer events (inr w) =
     answer_sent w.front w.byte w.rest w.split (ap (λ (es : List Event). Start ∷ Byte address ∷ Ack ∷ es) w.spelled)
 
--- what begins a leg that is read, behind ACK, and is not all of it
+-- what begins a leg that is read, after ACK, and is not all of it
 answer_begins : (address : ℕ) (answer : List ℕ) (events : List Event) (next : Event) (more : List Event) → events ++ next ∷ more ≡ nacked answer
     → AnswerBegins address answer (Start ∷ Byte address ∷ Ack ∷ events)
 answer_begins address answer events next more same = answer_begins_at address answer events (front_of_nacked answer events next more same)
@@ -114,7 +114,7 @@ no_alert_begins e (f ∷ g ∷ events) next more same =
     let none : events ++ next ∷ more ≡ [] = cc same in
     absurd (no_end events next more none)
 
--- what is in front of STOP
+-- what is before STOP
 pub same_before_stop : (a b : List Event) → a ++ Stop ∷ [] ≡ b ++ Stop ∷ [] → a ≡ b
 same_before_stop a b same = (same_from_push a b Stop Stop same).0
 
@@ -224,7 +224,7 @@ module _ (pec_is_byte : (bytes : List ℕ) → pec bytes < 256) (profile : List 
       append_assoc before first (w.event ∷ w.rest) ∙ ap (λ (es : List Event). before ++ es) (sym w.first) in
       subst (PartsAndLeg profile) same (later w.event w.rest (sym w.second))
 
-  -- what begins the legs of parts, behind those of others
+  -- what begins the legs of parts, after those of others
   pub parts_begin : (done parts : List PartData) (before legs : List Event) → PartsEvents profile done before → PartsEvents profile parts legs
       → length (done ++ parts) ≤ 16 → IsDistinct nat_eq (addresses (done ++ parts)) → (e : Event) (events more : List Event)
       → e ∷ events ++ more ≡ legs → PartsAndLeg profile (before ++ e ∷ events)
@@ -250,7 +250,7 @@ module _ (pec_is_byte : (bytes : List ℕ) → pec bytes < 256) (profile : List 
       written
       (record { parts = []; few = omega arith; distinct = distinct_none; legs = []; each = refl; last = e ∷ events; begins = begins; spelled = refl })
 
-  -- what begins behind the leg of the body
+  -- what begins after the leg of the body
   read_leg_begins : (addr : ℕ) (device : DeviceParts) (body : List ℕ) → device_with addr profile ≡ Some device
       → IsReadBody device body ⊎ IsCallBody device body → (tail : List Event) (e : Event) (events : List Event) (next : Event) (more : List Event)
       → ((f : Event) (others : List Event) → f ∷ others ++ next ∷ more ≡ tail

@@ -49,7 +49,7 @@ bytes_of_nacked [] small = tt
 bytes_of_nacked (b ∷ []) small = (small.0, tt)
 bytes_of_nacked (b ∷ c ∷ bytes) small = (small.0, bytes_of_nacked (c ∷ bytes) small.1)
 
--- events with a STOP behind them
+-- events with a STOP after them
 with_stop : (events front : List Event) → of_events.AreBytes front → events ≡ front ++ Stop ∷ [] → of_events.AreBytes events
 with_stop events front small spelled = subst of_events.AreBytes (sym spelled) (AreBytes-append front (Stop ∷ []) small tt)
 

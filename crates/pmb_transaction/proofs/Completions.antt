@@ -31,7 +31,7 @@ taken_then bytes byte =
     sym (append_assoc (acked bytes) (Byte byte ∷ Nack ∷ []) (Stop ∷ []))
     ∙ ap (λ (es : List Event). es ++ Stop ∷ []) (sym (nacked_append bytes byte []))
 
--- what follows a byte in front of others
+-- what follows a byte before others
 abbrev behind_byte : List ℕ → List Event
 behind_byte [] = Nack ∷ []
 behind_byte (b ∷ bytes) = Ack ∷ nacked (b ∷ bytes)
@@ -40,7 +40,7 @@ byte_then : (byte : ℕ) (rest : List ℕ) → nacked (byte ∷ rest) ≡ Byte b
 byte_then byte [] = refl
 byte_then byte (b ∷ rest) = refl
 
--- bytes in front of others
+-- bytes before others
 small_front : (a b : List ℕ) → AreByteValues (a ++ b) → AreByteValues a
 small_front [] b small = tt
 small_front (x ∷ a) b small = (small.0, small_front a b small.1)
@@ -129,7 +129,7 @@ module _ (pec_is_byte : (bytes : List ℕ) → pec bytes < 256) (profile : List 
   read_refused addr [] last refused = refused
   read_refused addr (b ∷ sent) last refused = refused
 
-  -- behind the leg of a read body or a call body the device may refuse to be read
+  -- after the leg of a read body or a call body the device may refuse to be read
   pub read_follows : (addr : ℕ) (device : DeviceParts) (body : List ℕ) → device_with addr profile ≡ Some device
       → IsReadBody device body ⊎ IsCallBody device body → (events begun more : List Event) → events ≡ leg (write_address addr ∷ body) ++ begun
       → begun ++ more ≡ Start ∷ Byte (read_address addr) ∷ Nack ∷ Stop ∷ [] → Viable profile events
@@ -169,7 +169,7 @@ module _ (pec_is_byte : (bytes : List ℕ) → pec bytes < 256) (profile : List 
         let here : PartEvents profile part first = record { device = device; body = body; known = known; allowed = is.3; spelled = refl } in
         (part, refl, parts_push pec_is_byte profile bus parts part legs first each here)
 
-    -- so STOP behind it makes a write
+    -- so STOP after it makes a write
     pub write_packet : (addr : ℕ) (device : DeviceParts) (body : List ℕ) → IsNew addr (addresses parts) → device_with addr profile ≡ Some device
         → IsWriteBody device body → IsPacket profile ((legs ++ leg (write_address addr ∷ body)) ++ Stop ∷ [])
     write_packet addr device body new known is =

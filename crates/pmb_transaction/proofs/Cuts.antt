@@ -1,4 +1,4 @@
--- A capture that is cut behind a STOP reads as its pieces do.
+-- A capture that is cut after a STOP reads as its pieces do.
 use Rattle.std.proofs.Common.{◌≡◌, ℕ, ◌+◌, ◌<◌, ◌⊎◌, inl, inr, List, [], ◌∷◌, ◌++◌, length, refl, sym, ap, ◌∙◌, subst, append_assoc, arith}
 use Rattle.std.specs.List.{All}
 use Rattle.std.proofs.lemmas.List.{append-nil, length-append}
@@ -50,7 +50,7 @@ rest_at : (before front rest : List Event) → Within before (Stop ∷ []) front
 rest_at before front rest (inl w) = stop_in_two w.rest rest w.second
 rest_at before front rest (inr w) = inr (record { front = w.event ∷ w.rest; split = w.second })
 
--- what is left behind a front of them ends so too
+-- what is left after a front of them ends so too
 rest_ends : (front rest events : List Event) → EndsOn events → events ≡ front ++ rest → EndsOn rest
 rest_ends front rest events (inl none) split = inl (none_behind front rest (sym split ∙ none))
 rest_ends front rest events (inr ends) split =
@@ -140,7 +140,7 @@ module _ (profile : List DeviceParts) where
         subst (λ (k : ℕ). ReadsFrom profile k w.1 (moved n more)) counted (later (m + length w.0 + 1) w.1 w.4),
       )
 
-  -- events behind n more read as the same, moved
+  -- events after n more read as the same, moved
   reads_moved : (n : ℕ) (outcomes : List Outcome) (m : ℕ) (events : List Event) → ReadsFrom profile m events outcomes
       → ReadsFrom profile (n + m) events (moved n outcomes)
   reads_moved n [] m events reads = reads

@@ -39,7 +39,7 @@ data_at_end n bytes more long =
     let back : drop n (bytes ++ more) ≡ more = drop_at bytes more n long in
     cc (front, back)
 
--- what is behind the data tells whether a code follows them
+-- what is after the data tells whether a code follows them
 data_before : (form : Form) (bytes more : List ℕ) → Fits form bytes → data_of (Some form) (wire form bytes ++ more) ≡ record { bytes = bytes; pec = has_some more }
 data_before Zero bytes more fits = data_at_end 0 bytes more fits.taken
 data_before One bytes more fits = data_at_end 1 bytes more fits.taken

@@ -99,7 +99,7 @@ same_code false before code other bytes more same = cc same
 same_code true before code other bytes more same = cc same
 
 module _ (device : DeviceParts) where
-  -- a write body with a code that goes on behind some bytes, by its parts
+  -- a write body with a code that goes on after some bytes, by its parts
   abbrev WritesOn : List ℕ → ℕ → Type 0
   WritesOn front code =
       (form : Form) × ((forms device code).write ≡ Some form)
@@ -144,7 +144,7 @@ module _ (device : DeviceParts) where
       (λ bytes w. few_that_fit form bytes w.0)
       (λ bytes. both (Fits form bytes) (IsProperPrefix front (code ∷ wire form bytes)) (fits form bytes) (is_proper front (code ∷ wire form bytes))))
 
-  -- some body of a sort goes on behind some bytes
+  -- some body of a sort goes on after some bytes
   abbrev GoesOn : (List ℕ → Type 0) → List ℕ → Type 0
   GoesOn Bodies front = (body : List ℕ) × Bodies body × IsProperPrefix front body
 
@@ -205,7 +205,7 @@ module _ (device : DeviceParts) where
   later_leg part parts code rest (inl none) = absurd (cc none)
   later_leg part parts code rest (inr w) = write_parts code rest w.0 w.1 w.2
 
-  -- whether a body that is allowed behind some parts goes on behind some bytes
+  -- whether a body that is allowed after some parts goes on after some bytes
   pub goes : (parts : List PartData) (front : List ℕ) → Decided (Goes parts front)
   goes parts [] = inl (inl refl)
   goes [] (code ∷ rest) =

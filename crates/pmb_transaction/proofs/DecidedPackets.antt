@@ -25,7 +25,7 @@ are_distinct (x ∷ xs) =
     both (AllByRecursion (λ y. nat_eq x y ≡ false) xs) (IsDistinct nat_eq xs) (of_each ℕ (λ y. nat_eq x y ≡ false) (λ y. same_bool (nat_eq x y) false) xs)
     (are_distinct xs)
 
--- the last byte, and those in front of it
+-- the last byte, and those before it
 last_of : (b : ℕ) (bytes : List ℕ) → (front : List ℕ) × (last : ℕ) × (b ∷ bytes ≡ front ++ last ∷ [])
 last_of b [] = ([], b, refl)
 last_of b (c ∷ bytes) = let w = last_of c bytes in (b ∷ w.0, w.1, ap (λ bs. b ∷ bs) w.2)

@@ -11,7 +11,7 @@ use Rattle.pmb_transaction.proofs.Fronts.{no_end, no_front}
 use Rattle.pmb_transaction.proofs.Stops.{packet_ends_with_stop}
 use Rattle.pmb_transaction.proofs.Turns.{events_take_turns}
 
--- what stands behind STOP, where the only one is at the end, is nothing
+-- what stands after STOP, where the only one is at the end, is nothing
 last_stop : (front before after : List Event) → HasNoStop front → front ++ Stop ∷ [] ≡ before ++ Stop ∷ after → after ≡ []
 last_stop [] [] after none same = sym (cc same)
 last_stop [] (e ∷ before) after none same =
@@ -24,7 +24,7 @@ last_stop (e ∷ front) (f ∷ before) after none same =
     let rest : front ++ Stop ∷ [] ≡ before ++ Stop ∷ after = cc same in
     last_stop front before after (λ x y split. none (e ∷ x) y (ap (λ (es : List Event). e ∷ es) split)) rest
 
--- the event behind NACK, where it is STOP and nothing else
+-- the event after NACK, where it is STOP and nothing else
 only_stop : (event : Event) → stands_behind Nack event ≡ true → event ≡ Stop
 only_stop Start turns = cc turns
 only_stop (Byte b) turns = cc turns
@@ -37,7 +37,7 @@ module _ (profile : List DeviceParts) where
   pub packet_is_viable : (events : List Event) → IsPacket profile events → Viable profile events
   packet_is_viable events packet = inr ([], subst (IsPacket profile) (sym (append-nil events)) packet)
 
-  -- what stands behind a STOP in a packet is nothing
+  -- what stands after a STOP in a packet is nothing
   nothing_behind : (before after : List Event) → IsPacket profile (before ++ Stop ∷ after) → after ≡ []
   nothing_behind before after packet =
       let stop = packet_ends_with_stop profile packet.0 (before ++ Stop ∷ after) packet.1 in
@@ -58,7 +58,7 @@ module _ (profile : List DeviceParts) where
       × (IsPacket profile (events ++ Stop ∷ []) → MayFollow profile events Stop)
   stop_makes_a_packet events = (packet_with_stop events, packet_is_viable (events ++ Stop ∷ []))
 
-  -- ---- behind NACK
+  -- ---- after NACK
 
   -- what some packet begins with is a packet, or one event more begins it too
   one_more : (events more : List Event) → IsPacket profile (events ++ more) → (more ≡ [] → ⊥)
@@ -75,7 +75,7 @@ module _ (profile : List DeviceParts) where
       let is : event ≡ Stop = last.1 in
       cc (other, ap is_stop is)
 
-  -- nor with STOP behind an event that STOP does not stand behind
+  -- nor with STOP after an event that STOP does not stand after
   pub ends_behind : (events : List Event) (event : Event) → stands_behind event Stop ≡ false
       → IsPacket profile ((events ++ event ∷ []) ++ Stop ∷ []) → ⊥
   ends_behind events event other packet =
@@ -137,7 +137,7 @@ module _ (profile : List DeviceParts) where
     λ none. under_way events viable none,
   )
 
-  -- no STOP stands in front of an event that may follow
+  -- no STOP stands before an event that may follow
   no_stop_before : (events before after : List Event) (event : Event) → MayFollow profile events event
       → events ≡ before ++ Stop ∷ after → ⊥
   no_stop_before events before after event (inl none) split = no_end events event [] none

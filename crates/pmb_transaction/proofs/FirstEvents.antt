@@ -20,7 +20,7 @@ pub record BeginsAtStart (events : List Event) : Type 0 where
   pub rest : List Event
   pub split : events ≡ Start ∷ rest
 
--- events in front of which such events stand
+-- events before which such events stand
 in_front_of : (events front rest : List Event) → BeginsAtStart front → events ≡ front ++ rest → BeginsAtStart events
 in_front_of events front rest first split =
     record { rest = first.rest ++ rest; split = split ∙ ap (λ (es : List Event). es ++ rest) first.split }

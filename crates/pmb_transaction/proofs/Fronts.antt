@@ -47,7 +47,7 @@ pub no_end : (a : List Event) (e : Event) (b : List Event) → a ++ e ∷ b ≡ 
 no_end [] e b none = cc none
 no_end (f ∷ a) e b none = cc none
 
--- events that begin others with a STOP behind them: all of them, or all but STOP, or fewer
+-- events that begin others with a STOP after them: all of them, or all but STOP, or fewer
 pub record Fewer (events all : List Event) : Type 0 where
   pub event : Event
   pub rest : List Event

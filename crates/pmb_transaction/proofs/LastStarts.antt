@@ -1,4 +1,4 @@
--- What stands in front of the last START of events that a packet begins with, and behind it.
+-- What stands before the last START of events that a packet begins with, and after it.
 use Rattle.std.proofs.Common.{◌≡◌, ℕ, ◌≤◌, ◌⊎◌, inl, inr, Bool, true, false, Some, List, [], ◌∷◌, ◌++◌, length, map, nat_eq, refl, sym, ap, ◌∙◌, subst, append_assoc}
 use Rattle.std.specs.List.{IsDistinct}
 use Rattle.std.proofs.lemmas.List.{append-nil}
@@ -44,7 +44,7 @@ is_answer_leg address answer events begins =
 
 -- ---- addresses for writing and for reading
 
--- an answer stands behind no address byte for writing
+-- an answer stands after no address byte for writing
 pub not_written : (addr other : ℕ) (answer : List ℕ) (rest : List Event) → AnswerBegins (read_address other) answer (Start ∷ Byte (write_address addr) ∷ rest) → ⊥
 not_written addr other answer rest (answer_taken bytes fewer is) = not_both addr other (cc is)
 not_written addr other answer rest (answer_sent bytes byte more split is) = not_both addr other (cc is)
@@ -141,7 +141,7 @@ module _ (profile : List DeviceParts) where
 
   -- ---- what ends inside a leg
 
-  -- What ends inside a leg, by the events in front of its START and those behind it.
+  -- What ends inside a leg, by the events before its START and those after it.
   pub data InLastLeg (front own : List Event) : Type 0 where
     in_written : (parts : List PartData) → length parts ≤ 15 → IsDistinct nat_eq (addresses parts) → PartsEvents profile parts front
         → LegBegins profile parts (Start ∷ own) → InLastLeg front own
@@ -201,7 +201,7 @@ module _ (profile : List DeviceParts) where
       let cut = cut_leg front own [] events none (is_alert_leg events begins) (sym spelled) in
       inr (in_alert (sym cut.0) (subst AlertBegins cut.1 begins))
 
-  -- behind an event that neither ends a packet nor has STOP behind it, the latter
+  -- after an event that neither ends a packet nor has STOP after it, the latter
   by_open_leg_at : (events : List Event) (event : Event) (front own : List Event) → is_stop event ≡ false → stands_behind event Stop ≡ false
       → (IsPacket profile (events ++ event ∷ []) ⊎ IsPacket profile ((events ++ event ∷ []) ++ Stop ∷ [])) ⊎ InLastLeg front own
       → InLastLeg front own
@@ -216,7 +216,7 @@ module _ (profile : List DeviceParts) where
 
   -- ---- packets
 
-  -- A packet without its STOP, by the events in front of its last START and those behind it.
+  -- A packet without its STOP, by the events before its last START and those after it.
   pub data EndsInLeg (front own : List Event) : Type 0 where
     ends_write : (parts : List PartData) → (part : PartData) → PartsEvents profile parts front → PartEvents profile part (Start ∷ own)
         → EndsInLeg front own

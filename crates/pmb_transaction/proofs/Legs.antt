@@ -10,7 +10,7 @@ pub record Leg : Type 0 where
   pub bytes : List ℕ
   pub taken : Bool
 
--- the events of a leg behind its START
+-- the events of a leg after its START
 abbrev pub behind_start : Bool → List ℕ → List Event
 behind_start true bytes = acked bytes
 behind_start false [] = Nack ∷ []
@@ -36,7 +36,7 @@ legs_then-append (leg ∷ legs) more rest =
 abbrev empty_leg : Leg
 empty_leg = record { bytes = []; taken = true }
 
--- a byte in front of those of the first leg
+-- a byte before those of the first leg
 abbrev onto_leg : ℕ → List Leg → List Leg
 onto_leg b [] = []
 onto_leg b (leg ∷ legs) = record { bytes = b ∷ leg.bytes; taken = leg.taken } ∷ legs

@@ -23,7 +23,7 @@ use Rattle.pmb_transaction.proofs.LastStarts.{EndsInLeg, InLastLeg, at_read_addr
 use Rattle.pmb_transaction.proofs.OnePacket.{same_found}
 use Rattle.pmb_transaction.proofs.Starts.{no_start-acked, none_refused, not_both, one_row_of_bytes, same_half, same_last_start}
 
--- a byte that an answer's leg begins with is not alone behind START
+-- a byte that an answer's leg begins with is not alone after START
 pub no_answer_yet : (address : ℕ) (answer : List ℕ) (byte : ℕ) → AnswerBegins address answer (Start ∷ Byte byte ∷ []) → ⊥
 no_answer_yet address answer byte (answer_taken bytes fewer is) = cc is
 no_answer_yet address answer byte (answer_sent bytes last rest split is) = cc is
@@ -145,7 +145,7 @@ module _ (pec_is_byte : (bytes : List ℕ) → pec bytes < 256) (profile : List 
     leg_follows (in_reply other d body answer found answers front begins) = absurd (no_answer_at_start (read_address other) answer begins)
     leg_follows (in_alert front begins) = absurd (no_end legs Start bytes_taken front)
 
-    -- one more leg begins behind the parts with this one
+    -- one more leg begins after the parts with this one
     group_goes_on : IsWriteBody device bytes → length parts < 15 → (events last : List Event) → events ≡ all_legs ++ last
         → ((part : PartData) → part.addr ≡ addr → LegBegins profile (parts ++ part ∷ []) last) → Viable profile events
     group_goes_on is fewer events last spelled begins =

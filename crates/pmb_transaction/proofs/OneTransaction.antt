@@ -72,7 +72,7 @@ module _ (profile : List DeviceParts) where
       let legs = tell_parts parts packet.legs packet.each in
       record { legs = legs.legs; spelled = packet.spelled ∙ legs.spelled (Stop ∷ []); told_is = told_write profile legs.legs parts legs.taken legs.told_is }
 
-  -- a read or a call is told by the body that was sent and the bytes behind the read address
+  -- a read or a call is told by the body that was sent and the bytes after the read address
   tell_answered : (t : TransactionData) (events : List Event) (addr : ℕ) (body reply : List ℕ) (with_pec : Bool) (b : ℕ) (more : List ℕ)
       → events ≡ answered addr body reply with_pec
       → checked with_pec (write_address addr ∷ body ++ read_address addr ∷ []) reply ≡ b ∷ more

@@ -34,7 +34,7 @@ module _ (profile : List DeviceParts) where
       here t front event more capture.0 capture.1 going capture.3
       (cut front (event ∷ more) capture.0 capture.1 (sym split ∙ capture.2))
 
-  -- behind some of the transactions, and the events of a packet under way
+  -- after some of the transactions, and the events of a packet under way
   pub captures_go_on : (done ts : List TransactionData) (whole front : List Event) (event : Event) (more events : List Event)
       → Capture profile ts events → events ≡ whole ++ (front ++ event ∷ more) → Capture profile done whole → IsUnderWay profile front
       → MayFollow profile front event

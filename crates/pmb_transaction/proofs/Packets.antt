@@ -24,7 +24,7 @@ use Rattle.pmb_transaction.proofs.Known.{device_is}
 
 -- ---- the bytes of an answer, of which the last was refused
 
--- in front of STOP
+-- before STOP
 refused_last : (front : List Event) (address : ℕ) (bytes : List ℕ) (byte : ℕ)
     → front ++ leg (address ∷ bytes) ++ Byte byte ∷ [] ++ Nack ∷ [] ≡ front ++ (leg (address ∷ []) ++ nacked (bytes ++ byte ∷ []))
 refused_last front address bytes byte =
@@ -54,7 +54,7 @@ Asks device form body =
     ((code : ℕ) × ReadBody device code form body) ⊎ ((code : ℕ) × (sent : List ℕ) × CallBody device code form sent body)
 
 module _ (profile : List DeviceParts) (bus : IsBus profile) (addr : ℕ) (device : DeviceParts) (known : device_with addr profile ≡ Some device) (body : List ℕ) where
-  -- a call body has data behind its code, and so is no read body
+  -- a call body has data after its code, and so is no read body
   no_call : (code : ℕ) (a b : Form) (asked : ℕ) (sent : List ℕ) → ReadBody device code a body → CallBody device asked b sent body → ⊥
   no_call code a b asked sent read call =
       let is = device_is profile addr device bus known in
@@ -146,7 +146,7 @@ module _ (pec_is_byte : (bytes : List ℕ) → pec bytes < 256) (profile : List 
         let here : PartEvents profile part first = record { device = device; body = bytes; known = known; allowed = allowed; spelled = refl } in
         (parts_push pec_is_byte profile bus parts part legs first each here, distinct_with parts part own new)
 
-    -- with STOP behind it
+    -- with STOP after it
     pub write_packet : (code : ℕ) (content : List ℕ) (with_pec : Bool) (bytes : List ℕ) → WriteBody device code content with_pec bytes
         → Packet profile (Write (parts ++ record { addr = addr; code = code; bytes = content; pec = with_pec } ∷ []))
         (legs ++ leg (write_address addr ∷ bytes) ++ Stop ∷ [])

@@ -1,4 +1,4 @@
--- The places behind events of a packet, by what stands behind their last START.
+-- The places after events of a packet, by what stands after their last START.
 use Rattle.std.proofs.Common.{◌≡◌, ◌≢◌, ℕ, ◌%◌, ◌==◌, Bool, true, false, not, if◌then◌else◌, List, [], ◌∷◌, ◌++◌, refl, ap, ◌∙◌, append_assoc}
 use Rattle.pmb_bus.specs.declared.event.Event.{Event}
 use Rattle.pmb_bus.specs.declared.event.Event.TheVariants.{Start, Byte, Ack, Nack, Stop}
@@ -11,7 +11,7 @@ use Rattle.pmb_transaction.proofs.Telling.{is_write-read, is_write-write}
 
 -- ---- the last leg
 
--- what stands behind the last START
+-- what stands after the last START
 behind_last : (front own : List Event) → has_start own ≡ false → last_leg (front ++ Start ∷ own) ≡ own
 behind_last [] own none = ap (λ (b : Bool). if b then last_leg own else own) none
 behind_last (e ∷ front) own none =
@@ -23,7 +23,7 @@ not_first : (a b c : List Event) → is_first_leg ((a ++ Start ∷ b) ++ Start �
 not_first [] b c = ap not (starts b c)
 not_first (e ∷ a) b c = ap not (starts (a ++ Start ∷ b) c)
 
--- a place that is told by what stands behind the last START
+-- a place that is told by what stands after the last START
 place_is : (front own events : List Event) (place : Place) → has_start own ≡ false → events ≡ front ++ Start ∷ own
     → ((first : Bool) → place_in first own ≡ place) → place_behind events ≡ place
 place_is front own events place none spelled told =
@@ -93,7 +93,7 @@ reason_written [] = refl
 reason_written (e ∷ []) = refl
 reason_written (e ∷ f ∷ events) = refl
 
--- behind an event of a leg
+-- after an event of a leg
 reason_in : (first : Bool) (e : Event) (events : List Event) → byte_reason (place_in first (e ∷ events)) ≡ BadPec
 reason_in true (Byte b) [] = refl
 reason_in false (Byte b) [] = refl

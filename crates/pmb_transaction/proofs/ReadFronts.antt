@@ -86,7 +86,7 @@ module _ (pec_is_byte : (bytes : List ℕ) → pec bytes < 256) (profile : List 
       reads_whole t ts n events (subst (Packet profile t) (split ∙ append-nil events) packet)
   reads_within t ts n events first (next ∷ rest) split packet = reads_part t ts n events next rest (subst (Packet profile t) split packet)
 
-  -- a whole packet, and what is read behind it
+  -- a whole packet, and what is read after it
   end_behind : (t : TransactionData) (n : ℕ) (first whole begun : List Event) (done : List TransactionData) (outcomes : List Outcome)
       → ((begun ≡ []) × (outcomes ≡ map Accepted done))
       ⊎ ((refusal : RefusalData) × TruncatedAt profile ((n + length first) + length whole) begun refusal

@@ -22,7 +22,7 @@ use Rattle.pmb_transaction.proofs.Starts.{acked_push, no_start-acked, no_start-n
 
 -- ---- legs with certain answers
 
--- An answer of a leg, of which the events behind the address byte and its ACK are some.
+-- An answer of a leg, of which the events after the address byte and its ACK are some.
 pub record Answering (addr : ℕ) (Answers : List ℕ → Type 0) (own : List Event) : Type 0 where
   pub answer : List ℕ
   pub answers : Answers answer
@@ -36,7 +36,7 @@ pub record Answered (Answers : List ℕ → Type 0) (own : List Event) : Type 0 
   pub some : HasByte answer
   pub all : own ≡ nacked answer
 
--- Behind some events a leg to an address is one in which an answer is read.
+-- After some events a leg to an address is one in which an answer is read.
 pub record IsReadLeg (profile : List DeviceParts) (front : List Event) (addr : ℕ) (Answers : List ℕ → Type 0) : Type 0 where
   pub inside : (own : List Event) → InLastLeg profile front (Byte (read_address addr) ∷ Ack ∷ own) → Answering addr Answers own
   pub at_end : (own : List Event) → EndsInLeg profile front (Byte (read_address addr) ∷ Ack ∷ own) → Answered Answers own
@@ -80,7 +80,7 @@ module _ (pec_is_byte : (bytes : List ℕ) → pec bytes < 256) (profile : List 
       × (BeginsAnswer Answers (bytes ++ byte ∷ []) → MayFollow profile so_far (Byte byte))
   byte_follows = (answer_goes_on, byte_goes_on)
 
-  -- ---- ACK behind it
+  -- ---- ACK after it
 
   abbrev bytes_taken : List Event
   bytes_taken = acked (read_address addr ∷ (bytes ++ byte ∷ []))
@@ -121,7 +121,7 @@ module _ (pec_is_byte : (bytes : List ℕ) → pec bytes < 256) (profile : List 
     ack_goes_on,
   )
 
-  -- ---- NACK behind it
+  -- ---- NACK after it
 
   abbrev all_bytes : List Event
   all_bytes = leg (read_address addr ∷ []) ++ nacked (bytes ++ byte ∷ [])

@@ -92,7 +92,7 @@ module _ (profile : List DeviceParts) where
   front_is_viable a b (inl none) = inl (no_front a b none)
   front_is_viable a b (inr w) = inr (b ++ w.0, subst (IsPacket profile) (append_assoc a b w.0) w.1)
 
-  -- so the event behind a front of viable events may follow it
+  -- so the event after a front of viable events may follow it
   pub may_follow : (front : List Event) (event : Event) (rest events : List Event) → events ≡ front ++ event ∷ rest → Viable profile events
       → MayFollow profile front event
   may_follow front event rest events split viable =

@@ -21,7 +21,7 @@ module _ (pec_is_byte : (bytes : List ℕ) → pec bytes < 256) (profile : List 
   abbrev written_leg : List Event
   written_leg = leg (write_address addr ∷ body)
 
-  -- ---- behind the address byte
+  -- ---- after the address byte
 
   abbrev addressed : List Event
   addressed = written_leg ++ Start ∷ Byte (read_address addr) ∷ []
@@ -49,7 +49,7 @@ module _ (pec_is_byte : (bytes : List ℕ) → pec bytes < 256) (profile : List 
 
   -- ---- the answers
 
-  -- an answer behind a leg that is this one
+  -- an answer after a leg that is this one
   is_answer : (other : ℕ) (d : DeviceParts) (sent answer : List ℕ) → device_with other profile ≡ Some d → IsAnswer d other sent answer
       → written_leg ≡ leg (write_address other ∷ sent) → IsAnswer device addr body answer
   is_answer other d sent answer found answers same =

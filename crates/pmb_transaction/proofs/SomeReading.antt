@@ -63,7 +63,7 @@ module _ (pec_is_byte : (bytes : List ℕ) → pec bytes < 256) (profile : List 
 
   -- ---- readings
 
-  -- behind the events of a packet under way, and while events are passed over
+  -- after the events of a packet under way, and while events are passed over
   abbrev ReadsOn : List Event → Type 0
   ReadsOn rest =
       (n : ℕ) (front : List Event) → IsUnderWay profile front → (outcomes : List Outcome) × ReadsFrom profile n (front ++ rest) outcomes

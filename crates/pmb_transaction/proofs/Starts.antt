@@ -1,4 +1,4 @@
--- The last START of events, behind which their last leg stands, and bytes that were taken or
+-- The last START of events, after which their last leg stands, and bytes that were taken or
 -- refused in it.
 use Rattle.std.proofs.Common.{◌≡◌, ℕ, ◌+◌, ◌*◌, true, false, List, [], ◌∷◌, ◌++◌, refl, sym, ap, arith}
 use Rattle.pmb_bus.specs.declared.event.Event.{Event}

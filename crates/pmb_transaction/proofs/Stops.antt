@@ -39,7 +39,7 @@ HasNoStop-from (e ∷ events) none [] after same =
 HasNoStop-from (e ∷ events) none (x ∷ before) after same =
     HasNoStop-from events (and_parts (is_other e) (has_no_stop events) none).1 before after (cc same)
 
--- Events with a STOP and something in front of it and behind it can be cut at the first STOP in one
+-- Events with a STOP and something before it and after it can be cut at the first STOP in one
 -- way.
 pub same_cut : (a b x y : List Event) → HasNoStop a → HasNoStop b → a ++ Stop ∷ x ≡ b ++ Stop ∷ y → (a ≡ b) × (x ≡ y)
 same_cut [] [] x y none_a none_b same = (refl, cc same)

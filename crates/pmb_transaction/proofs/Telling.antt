@@ -104,7 +104,7 @@ module _ (profile : List DeviceParts) where
       (data_of (forms_at (device_with addr profile) code).call (b ∷ bytes))
       (data_of (forms_at (device_with addr profile) code).call reply)
 
-  -- what is told of a leg behind a read address, after the body that was sent
+  -- what is told of a leg after a read address, after the body that was sent
   abbrev pub read_told : ℕ → List ℕ → List ℕ → TransactionData
   read_told addr body [] = Refused (record { parts = []; addr = addr; sent = body; at_read = true })
   read_told addr body (b ∷ reply) = answer_told addr body (b ∷ reply)

@@ -14,7 +14,7 @@ use Rattle.pmb_transaction.specs.Turns.{stands_behind}
 use Rattle.pmb_transaction.proofs.Fronts.{no_end}
 use Rattle.pmb_transaction.proofs.Stops.{no_packet_begins_another}
 
--- whether events take turns behind one
+-- whether events take turns after one
 abbrev pub take_turns : Event → List Event → Bool
 take_turns before [] = true
 take_turns before (event ∷ events) = stands_behind before event && take_turns event events
@@ -32,7 +32,7 @@ side_by_side before (f ∷ front) d e rest turns =
 first_stands : (before event : Event) (events : List Event) → take_turns before (event ∷ events) ≡ true → stands_behind before event ≡ true
 first_stands before event events turns = (and_parts (stands_behind before event) (take_turns event events) turns).0
 
--- ---- the parts of packets, each behind an ACK or at the front
+-- ---- the parts of packets, each after an ACK or at the front
 
 turns-acked : (bytes : List ℕ) (tail : List Event) → take_turns Ack tail ≡ true → take_turns Ack (acked bytes ++ tail) ≡ true
 turns-acked [] tail turns = turns

@@ -245,7 +245,7 @@ answers_alone Ack turns = inl refl
 answers_alone Nack turns = inr refl
 answers_alone Stop turns = absurd (cc turns)
 
--- Behind a byte NACK follows alone where ACK doesn't follow,
+-- After a byte NACK follows alone where ACK doesn't follow,
 nack_alone : (events : List Event) (byte : ℕ) → MayFollow worked_bus (events ++ Byte byte ∷ []) Nack → ¬ (MayFollow worked_bus (events ++ Byte byte ∷ []) Ack)
     → FollowsAlone worked_bus (events ++ Byte byte ∷ []) Nack
 nack_alone events byte follows not = record {
@@ -423,7 +423,7 @@ module _ (pec_is_byte : (bytes : List ℕ) → pec bytes < 256) where
       (0xb0, (first_follows pec_is_byte worked_bus bus 0xb0).1 (written_first 0x58 (omega arith) refl)) in
       record { other = other; refused = λ follows. not_first ((first_follows pec_is_byte worked_bus bus 0xb1).0 follows); told = inl (other, refl) }
 
-  -- which address byte may follow the START behind the first leg
+  -- which address byte may follow the START after the first leg
   address_follows : (bytes : List ℕ) (byte : ℕ)
       → (MayFollow worked_bus (leg (0xb0 ∷ bytes) ++ Start ∷ []) (Byte byte) → IsNextAddress device_58h [] 0x58 bytes byte)
       × (IsNextAddress device_58h [] 0x58 bytes byte → MayFollow worked_bus (leg (0xb0 ∷ bytes) ++ Start ∷ []) (Byte byte))
@@ -529,7 +529,7 @@ module _ (pec_is_byte : (bytes : List ℕ) → pec bytes < 256) where
       let alone = nobody (clear_part ∷ []) clear_leg (omega arith) clear_own clear_leg_is refl in
       record { alone = alone; told = inl (alone, refl) }
 
-  -- a byte behind others in the first leg, that is refused and not taken
+  -- a byte after others in the first leg, that is refused and not taken
   wrong_byte : (bytes : List ℕ) (byte : ℕ) → IsInsideBody device_58h [] bytes → byte < 256 → ¬ (BeginsBody device_58h [] (bytes ++ byte ∷ []))
       → FollowsAlone worked_bus (leg (0xb0 ∷ bytes) ++ Byte byte ∷ []) Nack
   wrong_byte bytes byte inside small not =

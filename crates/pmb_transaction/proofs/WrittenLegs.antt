@@ -1,4 +1,4 @@
--- A written leg of a device behind some parts: which byte follows in it, and what follows that
+-- A written leg of a device after some parts: which byte follows in it, and what follows that
 -- byte.
 use Rattle.std.proofs.Common.{◌≡◌, ℕ, ◌<◌, ◌≤◌, ◌⊎◌, inl, inr, Some, List, [], ◌∷◌, ◌++◌, length, nat_eq, refl, sym, ap, ◌∙◌, subst, append_assoc}
 use Rattle.std.specs.List.{IsDistinct}
@@ -99,7 +99,7 @@ module _ (pec_is_byte : (bytes : List ℕ) → pec bytes < 256) (profile : List 
               ),
         )
 
-    -- ---- NACK behind it
+    -- ---- NACK after it
 
     -- any device may refuse it
     pub refusal_follows : (bytes : List ℕ) (byte : ℕ)
@@ -118,7 +118,7 @@ module _ (pec_is_byte : (bytes : List ℕ) → pec bytes < 256) (profile : List 
               ) (append_assoc (written_leg bytes) (Byte byte ∷ Nack ∷ []) (Stop ∷ [])),
         )
 
-    -- ---- ACK behind it
+    -- ---- ACK after it
 
     module _ (bytes : List ℕ) where
       abbrev bytes_taken : List Event

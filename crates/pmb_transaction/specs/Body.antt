@@ -1,4 +1,4 @@
--- Bodies: the bytes behind the address in a written leg.
+-- Bodies: the bytes after the address in a written leg.
 use Rattle.std.specs.Prelude.{◌≡◌, ℕ, ◌⊎◌, Bool, true, false, Option, Some, None, List, [], ◌∷◌, ◌++◌}
 use Rattle.pmb_bus.specs.Pec.{pec}
 use Rattle.pmb_bus.specs.Address.{write_address}
@@ -18,7 +18,7 @@ shape_of (Some command) = command.entry.shape
 abbrev pub forms : DeviceParts → ℕ → Shape
 forms device code = shape_of (command_with code device.commands)
 
--- Bytes, and behind them, where one is asked for, the packet error code (SMBus 3.0 section 6.4) over
+-- Bytes, and after them, where one is asked for, the packet error code (SMBus 3.0 section 6.4) over
 -- all bytes so far: those `before` and these.
 abbrev pub checked : Bool → List ℕ → List ℕ → List ℕ
 checked false before bytes = bytes
@@ -61,7 +61,7 @@ module _ (device : DeviceParts) where
   abbrev pub IsCallBody : List ℕ → Type 0
   IsCallBody body = (code : ℕ) × (form : Form) × (bytes : List ℕ) × CallBody code form bytes body
 
-  -- A body that is allowed in a leg behind some parts: in the first leg one of any sort, in a later
+  -- A body that is allowed in a leg after some parts: in the first leg one of any sort, in a later
   -- one a write body.
   abbrev pub Allowed : List PartData → List ℕ → Type 0
   Allowed [] body = IsWriteBody body ⊎ (IsReadBody body ⊎ IsCallBody body)

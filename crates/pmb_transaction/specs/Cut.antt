@@ -1,4 +1,4 @@
--- A capture that is cut behind a STOP, and what its pieces read as.
+-- A capture that is cut after a STOP, and what its pieces read as.
 use Rattle.std.specs.Prelude.{◌≡◌, ◌≢◌, ℕ, ◌+◌, List, [], ◌∷◌, ◌++◌, map}
 use Rattle.pmb_bus.specs.Count.{capped}
 use Rattle.pmb_bus.specs.declared.event.Event.{Event}
@@ -6,7 +6,7 @@ use Rattle.pmb_bus.specs.declared.event.Event.TheVariants.{Stop}
 use Rattle.pmb_transaction.specs.declared.reason.Reason.TheVariants.{Truncated}
 use Rattle.pmb_transaction.specs.Reading.{Outcome, Accepted, Refusal, RefusalData}
 
--- The last of the events is STOP; others may stand in front of it.
+-- The last of the events is STOP; others may stand before it.
 pub record EndsWithStop (events : List Event) : Type 0 where
   pub front : List Event
   pub split : events ≡ front ++ Stop ∷ []

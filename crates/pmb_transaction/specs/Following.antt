@@ -1,4 +1,4 @@
--- What may follow at some places of a packet: the address behind a START, a leg behind a written
+-- What may follow at some places of a packet: the address after a START, a leg after a written
 -- one, and the bytes of an answer.
 use Rattle.std.specs.Prelude.{◌≡◌, ℕ, ◌<◌, ◌⊎◌, Bool, List, [], ◌∷◌, ◌++◌, length}
 use Rattle.pmb_bus.specs.Address.{write_address, read_address, alert_address}
@@ -17,7 +17,7 @@ pub data IsFirstAddress (byte : ℕ) : Type 0 where
   -- S 19
   alert_first : byte ≡ read_address alert_address → IsFirstAddress byte
 
--- The byte that may follow the START behind some complete parts and a leg in which bytes were
+-- The byte that may follow the START after some complete parts and a leg in which bytes were
 -- written to a device.
 pub data IsNextAddress (device : DeviceParts) (parts : List PartData) (addr : ℕ) (bytes : List ℕ) (byte : ℕ) : Type 0 where
   -- The leg was one more part, and a leg to another address begins.

@@ -108,7 +108,7 @@ module _ (profile : List DeviceParts) where
     pub seven : addr < 128
     pub spelled : events ≡ Start ∷ Byte (write_address addr) ∷ Nack ∷ []
 
-  -- Bytes sent to a known device behind some parts, of which it refused the last, whatever its
+  -- Bytes sent to a known device after some parts, of which it refused the last, whatever its
   -- value: it is the only one, or a body that is allowed there begins with those before it and goes
   -- on.
   --

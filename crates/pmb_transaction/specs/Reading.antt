@@ -38,7 +38,7 @@ module _ (profile : List DeviceParts) where
     pub viable : Viable profile events
     pub no_packet : (front rest : List Event) → events ≡ front ++ rest → ¬ (IsPacket profile front)
 
-  -- The refusal of an event behind those of a packet under way, before which n events came.
+  -- The refusal of an event after those of a packet under way, before which n events came.
   pub record RefusedAt (n : ℕ) (front : List Event) (event : Event) (refusal : RefusalData) : Type 0 where
     pub under_way : IsUnderWay front
     pub refused : ¬ (MayFollow profile front event)
@@ -56,7 +56,7 @@ module _ (profile : List DeviceParts) where
 
   -- The outcomes that events read as, where n events came before them. A packet at their front is
   -- read, then the rest. Else, with the first event that no packet goes on with, they are refused;
-  -- that event and those behind it are passed over up to and with the first STOP, and what follows
+  -- that event and those after it are passed over up to and with the first STOP, and what follows
   -- is read. Else, where some are left, they are truncated.
   abbrev pub ReadsFrom : ℕ → List Event → List Outcome → Type 0
   ReadsFrom n events [] = events ≡ []
@@ -72,7 +72,7 @@ module _ (profile : List DeviceParts) where
   Reading events outcomes = ReadsFrom 0 events outcomes
 
   -- The reading of events, before which n came, as the first of some transactions: the capture of
-  -- these, and behind it nothing, or events that end inside one more packet, and are truncated.
+  -- these, and after it nothing, or events that end inside one more packet, and are truncated.
   pub record ReadsAsFront (n : ℕ) (ts : List TransactionData) (events : List Event) (outcomes : List Outcome) : Type 0 where
     pub done : List TransactionData
     pub others : List TransactionData

@@ -9,17 +9,17 @@ use Rattle.pmb_transaction.specs.Capture.{MayFollow}
 
 -- ---- where a list of events ends
 
--- a place behind some events of a packet
+-- a place after some events of a packet
 pub data Place : Type 0 where
-  -- behind the packet's first START, and behind a later one
+  -- after the packet's first START, and after a later one
   BehindStart : Place
   BehindRestart : Place
-  -- behind the byte that addresses a device
+  -- after the byte that addresses a device
   BehindAddress : Place
-  -- in a written leg: behind its code byte, and further on
+  -- in a written leg: after its code byte, and further on
   BehindCode : Place
   FurtherOn : Place
-  -- in a leg that is read, behind its address
+  -- in a leg that is read, after its address
   InReply : Place
   -- where no packet has an event
   Nowhere : Place
@@ -33,7 +33,7 @@ has_start (Ack ∷ events) = has_start events
 has_start (Nack ∷ events) = has_start events
 has_start (Stop ∷ events) = has_start events
 
--- the events behind the last START
+-- the events after the last START
 abbrev pub last_leg : List Event → List Event
 last_leg [] = []
 last_leg (event ∷ events) = if has_start events then last_leg events else events
@@ -43,13 +43,13 @@ abbrev pub is_first_leg : List Event → Bool
 is_first_leg [] = true
 is_first_leg (event ∷ events) = not (has_start events)
 
--- the place in a written leg behind its address and ACK
+-- the place in a written leg after its address and ACK
 abbrev pub place_written : List Event → Place
 place_written [] = Nowhere
 place_written (event ∷ []) = BehindCode
 place_written (event ∷ next ∷ events) = FurtherOn
 
--- the place behind the events of the last leg, which is the first or a later one
+-- the place after the events of the last leg, which is the first or a later one
 abbrev pub place_in : Bool → List Event → Place
 place_in true [] = BehindStart
 place_in false [] = BehindRestart

@@ -4,7 +4,7 @@ use Rattle.pmb_transaction.specs.declared.part.Part.{Part}
 use Rattle.pmb_transaction.specs.declared.transaction.Transaction.{Transaction}
 use Rattle.pmb_transaction.specs.declared.transaction.Transaction.TheVariants as declared
 
--- What is written to one device: its address, a command code, the data behind the code, and whether
+-- What is written to one device: its address, a command code, the data after the code, and whether
 -- a packet error code follows them.
 pub record PartData : Type 0 where
   pub addr : ℕ
@@ -19,7 +19,7 @@ pub record ReadData : Type 0 where
   pub reply : List ℕ
   pub pec : Bool
 
--- What is written to a device behind a command code, and what it replies.
+-- What is written to a device after a command code, and what it replies.
 pub record CallData : Type 0 where
   pub addr : ℕ
   pub code : ℕ
@@ -27,7 +27,7 @@ pub record CallData : Type 0 where
   pub reply : List ℕ
   pub pec : Bool
 
--- What was refused behind complete parts of a group: where nothing was sent the address, else the
+-- What was refused after complete parts of a group: where nothing was sent the address, else the
 -- last one of the bytes sent, or, with `at_read`, to be read after them.
 pub record RefusedData : Type 0 where
   pub parts : List PartData
@@ -35,8 +35,8 @@ pub record RefusedData : Type 0 where
   pub sent : List ℕ
   pub at_read : Bool
 
--- The answer of a device at the Alert Response Address: a byte, which has the device's own address in
--- bits 7 to 1.
+-- The answer of a device at the Alert Response Address: a byte, which has the device's own address
+-- in bits 7 to 1.
 pub record AlertData : Type 0 where
   pub byte : ℕ
   pub pec : Bool

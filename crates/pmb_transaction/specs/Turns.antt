@@ -33,8 +33,8 @@ is_stop Ack = false
 is_stop Nack = false
 is_stop Stop = true
 
--- Whether an event ever stands directly behind another one in a packet: behind START a byte, behind
--- a byte its answer, behind ACK what is no answer, behind NACK STOP, and behind STOP nothing.
+-- Whether an event ever stands directly after another one in a packet: after START a byte, after
+-- a byte its answer, after ACK what is no answer, after NACK STOP, and after STOP nothing.
 abbrev pub stands_behind : Event → Event → Bool
 stands_behind Start event = is_byte event
 stands_behind (Byte b) event = is_answer event

@@ -16,7 +16,7 @@ use Rattle.pmb_transaction.specs.Capture.{IsPacket}
 
 -- ---- bytes
 
--- bytes that begin a body allowed behind some parts: none of them, or some, or all
+-- bytes that begin a body allowed after some parts: none of them, or some, or all
 abbrev pub BeginsBody : DeviceParts → List PartData → List ℕ → Type 0
 BeginsBody device parts bytes = (bytes ≡ []) ⊎ ((body : List ℕ) × (rest : List ℕ) × Allowed device parts body × (body ≡ bytes ++ rest))
 
@@ -38,7 +38,7 @@ pub record IsAnswer (device : DeviceParts) (addr : ℕ) (body : List ℕ) (bytes
 -- ---- legs that are read
 
 -- The beginning of a leg in which an answer is read, once its address byte was taken. The last byte
--- of the answer is still to come, or NACK behind it.
+-- of the answer is still to come, or NACK after it.
 pub data AnswerBegins (address : ℕ) (answer : List ℕ) (events : List Event) : Type 0 where
   -- S addr+R A bytes A ..
   answer_taken : (bytes : List ℕ) → IsProperPrefix bytes answer → events ≡ leg (address ∷ bytes) → AnswerBegins address answer events
@@ -55,7 +55,7 @@ pub data AlertBegins (events : List Event) : Type 0 where
       → AnswerBegins (read_address alert_address) (checked with_pec (read_address alert_address ∷ []) (byte ∷ [])) events → AlertBegins events
 
 module _ (profile : List DeviceParts) where
-  -- What begins behind the leg of a read body or a call body.
+  -- What begins after the leg of a read body or a call body.
   pub data ReadBegins (events : List Event) : Type 0 where
     -- S addr+W A body A .. S
     read_start : (addr : ℕ) → (device : DeviceParts) → (body : List ℕ) → device_with addr profile ≡ Some device
@@ -71,7 +71,7 @@ module _ (profile : List DeviceParts) where
 
   -- ---- legs that are written
 
-  -- The beginning of a written leg behind some parts.
+  -- The beginning of a written leg after some parts.
   pub data LegBegins (parts : List PartData) (events : List Event) : Type 0 where
     -- S
     leg_start : events ≡ Start ∷ [] → LegBegins parts events
@@ -96,7 +96,7 @@ module _ (profile : List DeviceParts) where
     pub spelled : events ≡ legs ++ last
 
   -- The beginnings of packets: a packet with or without its STOP, or what ends inside a leg or
-  -- behind one that is written.
+  -- after one that is written.
   pub data IsBeginning (events : List Event) : Type 0 where
     whole : IsPacket profile events → IsBeginning events
     before_stop : IsPacket profile (events ++ Stop ∷ []) → IsBeginning events

@@ -1,4 +1,4 @@
-//! Laws on the packets that events make with their last one, and on the places behind events: each
+//! Laws on the packets that events make with their last one, and on the places after events: each
 //! function is its contract, and does nothing.
 
 ghost use Rattle.std.specs.Prelude.{◌≡◌, ◌≢◌, ℕ, ◌<◌, ◌≤◌, Bool, true, false, Some, List, [], ◌∷◌, ◌++◌, ◌⊎◌, length, nat_eq};
@@ -24,7 +24,7 @@ use pmb_bus::laws::pec_is_a_byte;
 
 // ---- writes
 
-/// A written leg with a write body behind some parts makes one part more.
+/// A written leg with a write body after some parts makes one part more.
 pub fn one_part_more()
     ensures { (profile : List DeviceParts) (parts : List PartData) (legs : List Event) (addr : ℕ) (device : DeviceParts)
         (code : ℕ) (content : List ℕ) (with_pec : Bool) (bytes : List ℕ) → IsBus profile → length parts ≤ 15
@@ -37,7 +37,7 @@ pub fn one_part_more()
     pec_is_a_byte();
 }
 
-/// Such a leg behind some parts, and STOP, are a write.
+/// Such a leg after some parts, and STOP, are a write.
 pub fn writes_are_packets()
     ensures { (profile : List DeviceParts) (parts : List PartData) (legs : List Event) (addr : ℕ) (device : DeviceParts)
         (code : ℕ) (content : List ℕ) (with_pec : Bool) (bytes : List ℕ) → IsBus profile → length parts ≤ 15
@@ -51,7 +51,7 @@ pub fn writes_are_packets()
 
 // ---- refused packets
 
-/// An address behind some parts that is refused.
+/// An address after some parts that is refused.
 pub fn refused_addresses_are_packets()
     ensures { (profile : List DeviceParts) (parts : List PartData) (legs : List Event) (addr : ℕ) → IsBus profile
         → length parts ≤ 15 → IsDistinct nat_eq (addresses parts) → PartsEvents profile parts legs
@@ -118,9 +118,9 @@ pub fn alerts_are_packets()
         (leg (read_address alert_address ∷ bytes) ++ Byte byte ∷ [] ++ Nack ∷ [] ++ Stop ∷ []) }
 {}
 
-// ---- behind events
+// ---- after events
 
-/// The places behind events that end inside a leg or behind a START.
+/// The places after events that end inside a leg or after a START.
 pub fn places_of_events()
     ensures address { (front : List Event) (byte : ℕ) → place_behind (front ++ Start ∷ Byte byte ∷ []) ≡ BehindAddress }
     ensures code { (front : List Event) (addr byte : ℕ)
@@ -131,8 +131,8 @@ pub fn places_of_events()
         → place_behind (front ++ leg (read_address addr ∷ bytes) ++ Byte byte ∷ []) ≡ InReply }
     ensures restart { (front : List Event) (bytes : List ℕ) → place_behind (front ++ leg bytes ++ Start ∷ []) ≡ BehindRestart }
 
-    // Where another event than START ends two or more, the reason of a byte is that of a wrong packet
-    // error code.
+    // Where another event than START ends two or more, the reason of a byte is that of a wrong
+    // packet error code.
     ensures wrong_code { (front : List Event) (event : Event) → front ≢ [] → event ≢ Start
         → byte_reason (place_behind (front ++ event ∷ [])) ≡ BadPec }
 {}

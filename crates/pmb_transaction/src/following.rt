@@ -1,6 +1,6 @@
 //! Laws on which events may follow at each place of a packet: each function is its contract, and
 //! does nothing. With those of [`crate::laws`] on turns and on the bytes of a written leg they
-//! tell, behind any events that begin a packet, each event that may come next.
+//! tell, after any events that begin a packet, each event that may come next.
 
 ghost use Rattle.std.specs.Prelude.{◌≡◌, ◌≢◌, ℕ, ◌<◌, ◌≤◌, true, Some, List, [], ◌∷◌, ◌++◌, ◌⊎◌, ◌↔◌, length, nat_eq};
 ghost use Rattle.std.specs.List.{IsDistinct};
@@ -22,7 +22,7 @@ use pmb_bus::laws::pec_is_a_byte;
 
 // ---- addresses
 
-/// Behind the first START may follow the address byte of a write, to any address of seven bits, or
+/// After the first START may follow the address byte of a write, to any address of seven bits, or
 /// the Alert Response Address, read.
 pub fn first_addresses()
     ensures { (profile : List DeviceParts) (byte : ℕ) → IsBus profile
@@ -31,7 +31,7 @@ pub fn first_addresses()
     pec_is_a_byte();
 }
 
-/// Behind a later START may follow the address byte of a write to an address that had no leg, where
+/// After a later START may follow the address byte of a write to an address that had no leg, where
 /// the leg before was one more part, or the one that reads the device, where that was asked.
 pub fn later_addresses()
     ensures { (profile : List DeviceParts) (parts : List PartData) (legs : List Event) (addr : ℕ) (device : DeviceParts)
@@ -64,9 +64,9 @@ pub fn addresses_taken_are_known()
     pec_is_a_byte();
 }
 
-// ---- behind a written leg
+// ---- after a written leg
 
-/// Behind a written leg STOP may follow where its bytes are a write body.
+/// After a written leg STOP may follow where its bytes are a write body.
 pub fn writes_end_with_stop()
     ensures { (profile : List DeviceParts) (parts : List PartData) (legs : List Event) (addr : ℕ) (device : DeviceParts)
         (bytes : List ℕ) → IsBus profile → length parts ≤ 15 → IsDistinct nat_eq (addresses parts)
@@ -76,7 +76,7 @@ pub fn writes_end_with_stop()
     pec_is_a_byte();
 }
 
-/// Behind a written leg START may follow where its bytes are a write body and fewer than 15 parts
+/// After a written leg START may follow where its bytes are a write body and fewer than 15 parts
 /// stand before it, or where it is the packet's first and asks the device.
 pub fn legs_follow_whole_bodies()
     ensures { (profile : List DeviceParts) (parts : List PartData) (legs : List Event) (addr : ℕ) (device : DeviceParts)
@@ -95,7 +95,7 @@ pub fn stop_makes_a_packet()
         → (MayFollow profile events Stop ↔ IsPacket profile (events ++ Stop ∷ [])) }
 {}
 
-/// Behind NACK, where some packet begins so, STOP may follow and nothing else.
+/// After NACK, where some packet begins so, STOP may follow and nothing else.
 pub fn stop_follows_nack()
     ensures { (profile : List DeviceParts) (events : List Event) (event : Event) → Viable profile (events ++ Nack ∷ [])
         → (MayFollow profile (events ++ Nack ∷ []) event ↔ (event ≡ Stop)) }
@@ -115,7 +115,7 @@ pub fn packets_go_on()
 
 // ---- legs that are read
 
-/// Behind the address byte that reads a device that was asked ACK may follow.
+/// After the address byte that reads a device that was asked ACK may follow.
 pub fn reads_may_be_taken()
     ensures { (profile : List DeviceParts) (addr : ℕ) (device : DeviceParts) (body : List ℕ) → IsBus profile
         → device_with addr profile ≡ Some device → IsReadBody device body ⊎ IsCallBody device body
@@ -124,7 +124,7 @@ pub fn reads_may_be_taken()
     pec_is_a_byte();
 }
 
-/// Behind the address byte that reads a device that was asked NACK may follow.
+/// After the address byte that reads a device that was asked NACK may follow.
 pub fn reads_may_be_refused()
     ensures { (profile : List DeviceParts) (addr : ℕ) (device : DeviceParts) (body : List ℕ) → IsBus profile
         → device_with addr profile ≡ Some device → IsReadBody device body ⊎ IsCallBody device body
@@ -151,7 +151,7 @@ pub fn bytes_follow_in_a_reply()
     pec_is_a_byte();
 }
 
-/// Behind a byte of a reply ACK may follow where such an answer goes on.
+/// After a byte of a reply ACK may follow where such an answer goes on.
 pub fn replies_go_on()
     ensures { (profile : List DeviceParts) (addr : ℕ) (device : DeviceParts) (body bytes : List ℕ) (byte : ℕ) → IsBus profile
         → device_with addr profile ≡ Some device
@@ -161,7 +161,7 @@ pub fn replies_go_on()
     pec_is_a_byte();
 }
 
-/// Behind a byte of a reply NACK may follow where an answer ends with it.
+/// After a byte of a reply NACK may follow where an answer ends with it.
 pub fn replies_end()
     ensures { (profile : List DeviceParts) (addr : ℕ) (device : DeviceParts) (body bytes : List ℕ) (byte : ℕ) → IsBus profile
         → device_with addr profile ≡ Some device
@@ -196,7 +196,7 @@ pub fn bytes_follow_in_an_alert()
     pec_is_a_byte();
 }
 
-/// Behind such a byte ACK may follow where the answer at the Alert Response Address goes on.
+/// After such a byte ACK may follow where the answer at the Alert Response Address goes on.
 pub fn alerts_go_on()
     ensures { (profile : List DeviceParts) (bytes : List ℕ) (byte : ℕ) → IsBus profile
         → (MayFollow profile (leg (read_address alert_address ∷ bytes) ++ Byte byte ∷ []) Ack
@@ -205,7 +205,7 @@ pub fn alerts_go_on()
     pec_is_a_byte();
 }
 
-/// Behind such a byte NACK may follow where the answer at the Alert Response Address ends.
+/// After such a byte NACK may follow where the answer at the Alert Response Address ends.
 pub fn alerts_end()
     ensures { (profile : List DeviceParts) (bytes : List ℕ) (byte : ℕ) → IsBus profile
         → (MayFollow profile (leg (read_address alert_address ∷ bytes) ++ Byte byte ∷ []) Nack

@@ -49,7 +49,7 @@ pub fn fronts_read_as_fronts()
     pec_is_a_byte();
 }
 
-/// In the capture of transactions, behind the packets of some of them and the events of a packet
+/// In the capture of transactions, after the packets of some of them and the events of a packet
 /// under way, the next event may follow: no event is refused.
 pub fn captures_go_on()
     ensures { (profile : List DeviceParts) (ts done : List TransactionData) (whole front : List Event) (event : Event)
@@ -57,10 +57,10 @@ pub fn captures_go_on()
         → IsUnderWay profile front → MayFollow profile front event }
 {}
 
-/// A capture may be cut behind any STOP: where the first of two lists of events ends with STOP, both,
-/// one behind the other, read as the first does and then as the second, with its places moved by the
-/// number of events of the first; and as nothing else, under a profile that is accepted. No packet is
-/// truncated at the cut.
+/// A capture may be cut after any STOP: where the first of two lists of events ends with STOP,
+/// both, one after the other, read as the first does and then as the second, with its places moved
+/// by the number of events of the first; and as nothing else, under a profile that is accepted. No
+/// packet is truncated at the cut.
 pub fn captures_may_be_cut_behind_stop()
     ensures joined { (profile : List DeviceParts) (first second : List Event) (outcomes others : List Outcome)
         → EndsWithStop first → Reading profile first outcomes → Reading profile second others

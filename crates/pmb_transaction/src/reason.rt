@@ -3,7 +3,7 @@
 pub enum Reason {
     /// The first byte of a packet addresses a device for reading, where nothing was written to it.
     ReadFirst,
-    /// The first byte behind a repeated START addresses no device that may come there.
+    /// The first byte after a repeated START addresses no device that may come there.
     BadRestart,
     /// The packet error code is wrong.
     BadPec,
@@ -11,7 +11,7 @@ pub enum Reason {
     UnknownDevice,
     /// A command code was acknowledged that begins nothing there.
     UnknownCommand,
-    /// A reply goes on behind its last byte.
+    /// A reply goes on after its last byte.
     TooLong,
     /// A reply ends before its last byte.
     TooShort,

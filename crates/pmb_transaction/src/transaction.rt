@@ -27,8 +27,8 @@ pub enum Transaction {
         reply: ArrayVec<u8, 255>,
         pec: bool,
     },
-    /// A packet in which NACK was answered behind complete parts of a group, in a leg to the
-    /// address `addr`. Where `at_read` is false, `sent` are the bytes behind the address, the last
+    /// A packet in which NACK was answered after complete parts of a group, in a leg to the
+    /// address `addr`. Where `at_read` is false, `sent` are the bytes after the address, the last
     /// of which was refused; where nothing was sent it was the address itself, which no device need
     /// have. Where `at_read` is true all of `sent` was taken, and to be read was refused.
     Refused {

@@ -25,8 +25,8 @@ pub fn viable_lists()
     pec_is_a_byte();
 }
 
-/// Under a profile that is accepted some packet begins with events, or none does: which of the two is
-/// decided.
+/// Under a profile that is accepted some packet begins with events, or none does: which of the two
+/// is decided.
 pub fn viability_is_decided()
     ensures { (profile : List DeviceParts) (events : List Event) → IsBus profile
         → Viable profile events ⊎ (Viable profile events → ⊥) }
@@ -45,14 +45,14 @@ pub fn packets_go_no_further()
         → IsPacket profile events → MayFollow profile events event → ⊥ }
 {}
 
-/// Events take turns: behind START may follow a byte, behind a byte ACK or NACK, behind ACK a byte,
-/// START or STOP, behind NACK STOP, and nothing else.
+/// Events take turns: after START may follow a byte, after a byte ACK or NACK, after ACK a byte,
+/// START or STOP, after NACK STOP, and nothing else.
 pub fn events_take_turns()
     ensures { (profile : List DeviceParts) (events : List Event) (before event : Event)
         → MayFollow profile (events ++ before ∷ []) event → stands_behind before event ≡ true }
 {}
 
-/// Behind complete parts and a leg of which some bytes were taken, any byte may follow where some
+/// After complete parts and a leg of which some bytes were taken, any byte may follow where some
 /// body that is allowed there begins with these and goes on, and else none.
 pub fn bytes_follow_inside_a_body()
     ensures { (profile : List DeviceParts) (parts : List PartData) (legs : List Event) (addr : ℕ) (device : DeviceParts)
@@ -64,7 +64,7 @@ pub fn bytes_follow_inside_a_body()
     pec_is_a_byte();
 }
 
-/// Behind such a byte NACK may follow where the byte may, whatever it is.
+/// After such a byte NACK may follow where the byte may, whatever it is.
 pub fn bytes_may_be_refused()
     ensures { (profile : List DeviceParts) (parts : List PartData) (legs : List Event) (addr : ℕ) (device : DeviceParts)
         (bytes : List ℕ) (byte : ℕ) → IsBus profile → length parts ≤ 15 → IsDistinct nat_eq (addresses parts)
@@ -82,7 +82,7 @@ pub fn packets_begin_with_start()
     pec_is_a_byte();
 }
 
-/// ACK may follow behind it where some body that is allowed there begins with the bytes and it.
+/// ACK may follow after it where some body that is allowed there begins with the bytes and it.
 pub fn bytes_taken_begin_a_body()
     ensures { (profile : List DeviceParts) (parts : List PartData) (legs : List Event) (addr : ℕ) (device : DeviceParts)
         (bytes : List ℕ) (byte : ℕ) → IsBus profile → length parts ≤ 15 → IsDistinct nat_eq (addresses parts)

@@ -1,4 +1,4 @@
--- Behind which events there is no place between packets.
+-- After which events there is no place between packets.
 use Rattle.std.proofs.Common.{◌≡◌, List, [], ◌∷◌, ◌++◌, refl, sym, ◌∙◌}
 use Rattle.pmb_bus.specs.declared.event.Event.{Event}
 use Rattle.pmb_command.specs.Parts.{DeviceParts}

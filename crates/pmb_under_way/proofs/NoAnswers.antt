@@ -1,4 +1,4 @@
--- The kinds that may follow behind a byte that was taken.
+-- The kinds that may follow after a byte that was taken.
 use Rattle.std.proofs.Common.{◌≡◌, ℕ, ◌<◌, ◌↔◌, Bool, true, false, List, refl, sym, ◌∙◌}
 use Rattle.pmb_bus.specs.declared.event.Event.{Event}
 use Rattle.pmb_bus.specs.declared.event.Event.TheVariants.{Start, Byte, Ack, Nack, Stop}

@@ -1,4 +1,4 @@
--- The place of a leg behind parts.
+-- The place of a leg after parts.
 use Rattle.std.proofs.Common.{◌≡◌, ◌≢◌, List, [], ◌∷◌, length, refl, arith}
 use Rattle.pmb_leg.specs.declared.place.LegPlace.TheVariants.{First, Later}
 use Rattle.pmb_leg.specs.Leg.{place_of}

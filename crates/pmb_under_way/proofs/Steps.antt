@@ -55,7 +55,7 @@ restarts profile u some known between = record {
 pub byte_is_no_stop : (event : Event) (byte : ℕ) → event ≡ Byte byte → event ≢ Stop
 byte_is_no_stop event byte is stop = cc (is, stop)
 
--- Behind one event another may follow in its turn alone.
+-- After one event another may follow in its turn alone.
 abbrev pub TakeTurns : Type 0
 TakeTurns =
     (profile : List DeviceParts) (events : List Event) (before event : Event) → MayFollow profile (events ++ before ∷ []) event

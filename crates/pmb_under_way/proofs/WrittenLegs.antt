@@ -26,7 +26,7 @@ distinct_none : IsDistinct nat_eq []
 unfolding IsDistinct
 distinct_none = tt
 
--- ---- behind the first START
+-- ---- after the first START
 
 -- an even byte is an address byte
 pub even_address : (byte : ℕ) → byte < 256 → byte % 2 ≡ 0 → IsFirstAddress byte
@@ -108,7 +108,7 @@ leg_goes_on profile kept written after parts byte front events at is sent =
 
 -- ---- what may follow a leg
 
--- What may follow a leg behind complete parts, and some events more.
+-- What may follow a leg after complete parts, and some events more.
 abbrev pub LegLaw : List DeviceParts → List Event → Event → (DeviceParts → List PartData → ℕ → List ℕ → Type 0) → Type 0
 LegLaw profile more event Follows =
     (parts : List PartData) (legs : List Event) (addr : ℕ) (device : DeviceParts) (bytes : List ℕ) → IsBus profile → length parts ≤ 15
@@ -145,7 +145,7 @@ pub kept_leg : (profile : List DeviceParts) (u : UnderWay) (written : Written) (
 kept_leg profile u written events is at =
     (at.parts, subst (λ (w : Written). IsLeg profile u.kept w at.parts events) (same_leg u at.written written at.is is) at.leg)
 
--- behind a byte
+-- after a byte
 pub kept_byte : (profile : List DeviceParts) (u : UnderWay) (written : Written) (byte : ℕ) (events : List Event) → u.leg ≡ Some written
     → (at : BehindByte profile u byte events)
     → (parts : List PartData) × (front : List Event) × IsLeg profile u.kept written parts front × IsInsideBody written.device parts written.bytes
@@ -163,7 +163,7 @@ kept_byte profile u written byte events is at =
 pub byte_ends : (profile : List DeviceParts) (u : UnderWay) (byte : ℕ) (events : List Event) → BehindByte profile u byte events → EndsWith events (Byte byte)
 byte_ends profile u byte events at = record { front = at.front; split = at.spelled }
 
--- behind START
+-- after START
 pub kept_start : (profile : List DeviceParts) (u : UnderWay) (written : Written) (events : List Event) → u.leg ≡ Some written
     → (at : BehindStart profile u events)
     → (parts : List PartData) × (front : List Event) × IsLeg profile u.kept written parts front × (events ≡ front ++ Start ∷ [])
@@ -244,7 +244,7 @@ pub address_refused_follows : (profile : List DeviceParts) (bus : IsBus profile)
 address_refused_follows profile bus u addr events at law =
     subst (λ (es : List Event). MayFollow profile es Nack) (sym at.spelled) (law at.parts at.legs addr bus at.has.few at.has.distinct at.has.each at.another at.seven)
 
--- ---- behind a later START
+-- ---- after a later START
 
 abbrev part_of : ℕ → ℕ → List ℕ → Bool → PartData
 part_of addr code bytes pec = record { addr = addr; code = code; bytes = bytes; pec = pec }

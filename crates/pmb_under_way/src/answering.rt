@@ -1,4 +1,4 @@
-//! An event more, at the places of a leg that is read, and behind NACK.
+//! An event more, at the places of a leg that is read, and after NACK.
 
 ghost use Rattle.std.specs.Prelude.{◌≡◌, List};
 ghost use Rattle.pmb_bus.specs.declared.event.Event.{Event as BusEvent};
@@ -19,7 +19,7 @@ use pmb_transaction::laws::{
 };
 
 impl<'p> UnderWay<'p> {
-    /// Behind the address byte of a leg that is read.
+    /// After the address byte of a leg that is read.
     pub(crate) fn behind_read_address(&mut self, source: Source, event: Event) -> Move
         ensures { (profile : List DeviceParts) (events : List BusEvent) → self.old.place ≡ Place.ReadAddress source
             → StandsIn profile self.old events → Moves profile self.old events event result self.new }
@@ -109,7 +109,7 @@ impl<'p> UnderWay<'p> {
         Move::On
     }
 
-    /// In a leg that is read, behind ACK.
+    /// In a leg that is read, after ACK.
     #[inline(always)]
     pub(crate) fn in_answer(&mut self, source: Source, event: Event) -> Move
         ensures { (profile : List DeviceParts) (events : List BusEvent) → self.old.place ≡ Place.Answer source
@@ -131,7 +131,7 @@ impl<'p> UnderWay<'p> {
         Move::On
     }
 
-    /// In a leg that is read, behind a byte.
+    /// In a leg that is read, after a byte.
     #[inline]
     pub(crate) fn behind_answer_byte(&mut self, source: Source, event: Event) -> Move
         ensures { (profile : List DeviceParts) (events : List BusEvent) → self.old.place ≡ Place.AnswerByte source
@@ -224,7 +224,7 @@ impl<'p> UnderWay<'p> {
         Move::On
     }
 
-    /// Behind NACK.
+    /// After NACK.
     #[inline]
     pub(crate) fn at_end(&mut self, event: Event) -> Move
         ensures { (profile : List DeviceParts) (events : List BusEvent) → self.old.place ≡ Place.End

@@ -96,7 +96,7 @@ impl<'p> UnderWay<'p> {
         Kinds::START
     }
 
-    // Behind the first START.
+    // After the first START.
     fn expected_at_start(&self) -> Kinds
         ensures { (profile : List DeviceParts) (events : List BusEvent) → self.now.place ≡ Place.Start
             → StandsIn profile self.now events → AreKindsOf (MayFollow profile events) result }
@@ -106,7 +106,7 @@ impl<'p> UnderWay<'p> {
         Kinds::BYTE
     }
 
-    // Behind a later START.
+    // After a later START.
     fn expected_at_restart(&self) -> Kinds
         ensures { (profile : List DeviceParts) (events : List BusEvent) → self.now.place ≡ Place.Restart
             → StandsIn profile self.now events → AreKindsOf (MayFollow profile events) result }
@@ -116,7 +116,7 @@ impl<'p> UnderWay<'p> {
         Kinds::BYTE
     }
 
-    // In a leg that is read, behind ACK.
+    // In a leg that is read, after ACK.
     fn expected_in_answer(&self, source: Source) -> Kinds
         ensures { (profile : List DeviceParts) (events : List BusEvent) → self.now.place ≡ Place.Answer source
             → StandsIn profile self.now events → AreKindsOf (MayFollow profile events) result }
@@ -127,7 +127,7 @@ impl<'p> UnderWay<'p> {
         Kinds::BYTE
     }
 
-    // Behind the address byte of a leg that is read.
+    // After the address byte of a leg that is read.
     fn expected_at_read_address(&self, source: Source) -> Kinds
         ensures { (profile : List DeviceParts) (events : List BusEvent) → self.now.place ≡ Place.ReadAddress source
             → StandsIn profile self.now events → AreKindsOf (MayFollow profile events) result }
@@ -141,7 +141,7 @@ impl<'p> UnderWay<'p> {
         answers(true, true)
     }
 
-    // In a leg that is read, behind a byte.
+    // In a leg that is read, after a byte.
     fn expected_behind_answer_byte(&self, source: Source) -> Kinds
         ensures { (profile : List DeviceParts) (events : List BusEvent) → self.now.place ≡ Place.AnswerByte source
             → StandsIn profile self.now events → AreKindsOf (MayFollow profile events) result }
@@ -155,7 +155,7 @@ impl<'p> UnderWay<'p> {
         answers(self.answer.goes_on(), self.answer.is_whole())
     }
 
-    // Behind NACK.
+    // After NACK.
     fn expected_at_end(&self) -> Kinds
         ensures { (profile : List DeviceParts) (events : List BusEvent) → self.now.place ≡ Place.End
             → StandsIn profile self.now events → AreKindsOf (MayFollow profile events) result }
@@ -165,7 +165,7 @@ impl<'p> UnderWay<'p> {
         Kinds::STOP
     }
 
-    // Behind the address byte of a write.
+    // After the address byte of a write.
     fn expected_at_address(&self, addr: u8) -> Kinds
         ensures { (profile : List DeviceParts) (events : List BusEvent) → self.now.place ≡ Place.Address addr
             → StandsIn profile self.now events → AreKindsOf (MayFollow profile events) result }
@@ -177,7 +177,7 @@ impl<'p> UnderWay<'p> {
         answers(self.profile.device(addr).is_some(), true)
     }
 
-    // In a written leg, behind ACK.
+    // In a written leg, after ACK.
     fn expected_in_leg(&self) -> Kinds
         ensures { (profile : List DeviceParts) (events : List BusEvent) → self.now.place ≡ Place.Leg
             → StandsIn profile self.now events → AreKindsOf (MayFollow profile events) result }
@@ -197,7 +197,7 @@ impl<'p> UnderWay<'p> {
         )
     }
 
-    // In a written leg, behind a byte.
+    // In a written leg, after a byte.
     fn expected_behind_byte(&self, byte: u8) -> Kinds
         ensures { (profile : List DeviceParts) (events : List BusEvent) → self.now.place ≡ Place.LegByte byte
             → StandsIn profile self.now events → AreKindsOf (MayFollow profile events) result }

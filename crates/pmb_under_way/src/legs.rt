@@ -8,7 +8,7 @@ ghost use Rattle.pmb_transaction.specs.Following.{LegMayFollow};
 
 use pmb_leg::{LegPlace, WrittenLeg};
 
-/// The greatest count of parts in front of one more.
+/// The greatest count of parts before one more.
 pub(crate) const MOST_BEFORE: usize = 15;
 
 /// Whether a leg, the first of its packet, asks its device for an answer.
@@ -31,7 +31,7 @@ pub(crate) fn is_part(leg: &WrittenLeg) -> bool
     }
 }
 
-/// Whether a leg may follow this one, behind so many parts.
+/// Whether a leg may follow this one, after so many parts.
 pub(crate) fn leg_may_follow(leg: &WrittenLeg, part_count: usize) -> bool
     ensures { (parts : List PartData) → length parts ≡ part_count → place_of parts ≡ leg.now.place
         → (IsTrue result ↔ LegMayFollow leg.now.device parts leg.now.bytes) }
@@ -45,7 +45,7 @@ pub(crate) fn leg_may_follow(leg: &WrittenLeg, part_count: usize) -> bool
     is_part(leg)
 }
 
-/// The place of a leg behind so many parts.
+/// The place of a leg after so many parts.
 #[tactic(auto, using(crate::proofs::Places::first_behind_none, crate::proofs::Places::later_behind_some))]
 pub(crate) fn place_behind(part_count: usize) -> LegPlace
     ensures { (parts : List PartData) → length parts ≡ part_count → result ≡ place_of parts }

@@ -1,8 +1,8 @@
 //! The packet under way.
 //!
-//! [`Place`] says where its events end. What each place says of the events, of the leg under way and
-//! of the answer under way stands in `specs/machine/UnderWay`; a new place needs its line there, its
-//! arm in `step_by_place`, in `expected`, and in the three functions that tell reasons.
+//! [`Place`] says where its events end. What each place says of the events, of the leg under way
+//! and of the answer under way stands in `specs/machine/UnderWay`; a new place needs its line
+//! there, its arm in `step_by_place`, in `expected`, and in the three functions that tell reasons.
 
 ghost use Rattle.std.specs.Prelude.{◌≡◌, ◌<◌, ◌≤◌, ◌↔◌, IfSome, true, List, [], length};
 ghost use Rattle.pmb_bus.specs.declared.event.Event.{Event as BusEvent};
@@ -44,23 +44,23 @@ pub(crate) enum Source {
 pub(crate) enum Place {
     /// There are none.
     Between,
-    /// Behind the first START.
+    /// After the first START.
     Start,
-    /// Behind the byte that addresses a device for writing, with its address.
+    /// After the byte that addresses a device for writing, with its address.
     Address(u8),
-    /// In a written leg, behind an address or a byte that was taken.
+    /// In a written leg, after an address or a byte that was taken.
     Leg,
-    /// In a written leg, behind this byte.
+    /// In a written leg, after this byte.
     LegByte(u8),
-    /// Behind a later START.
+    /// After a later START.
     Restart,
-    /// Behind the byte that addresses a device for reading.
+    /// After the byte that addresses a device for reading.
     ReadAddress(Source),
-    /// In a leg that is read, behind an address or a byte that was taken.
+    /// In a leg that is read, after an address or a byte that was taken.
     Answer(Source),
-    /// In a leg that is read, behind a byte, which is the last of the answer so far.
+    /// In a leg that is read, after a byte, which is the last of the answer so far.
     AnswerByte(Source),
-    /// Behind NACK.
+    /// After NACK.
     End,
 }
 
@@ -138,8 +138,8 @@ impl<'p> UnderWay<'p> {
         self.kept.take_last()
     }
 
-    /// Takes the common packet in front of a text whole, between packets. It returns `None` where none
-    /// lies there.
+    /// Takes the common packet at the front of a text whole, between packets. It returns `None`
+    /// where none lies there.
     #[inline(always)]
     pub fn take_common(&mut self, common: &mut Common, text: &[u8]) -> Option<Taken>
         ensures takes { (profile : List DeviceParts) → StandsIn profile self.old []

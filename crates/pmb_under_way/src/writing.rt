@@ -41,7 +41,7 @@ impl<'p> UnderWay<'p> {
         Move::On
     }
 
-    /// Behind the first START.
+    /// After the first START.
     #[inline]
     pub(crate) fn at_start(&mut self, event: Event) -> Move
         ensures { (profile : List DeviceParts) (events : List BusEvent) → self.old.place ≡ Place.Start
@@ -65,7 +65,7 @@ impl<'p> UnderWay<'p> {
         }
     }
 
-    /// Behind the address byte of a write.
+    /// After the address byte of a write.
     #[inline]
     pub(crate) fn behind_address(&mut self, addr: u8, event: Event) -> Move
         ensures { (profile : List DeviceParts) (events : List BusEvent) → self.old.place ≡ Place.Address addr
@@ -98,7 +98,7 @@ impl<'p> UnderWay<'p> {
         Move::On
     }
 
-    // Begins the leg of a device behind the parts.
+    // Begins the leg of a device after the parts.
     fn start_leg(&mut self, device: &'p DeviceProfile)
         ensures { StartsLeg device.now self.old self.new }
     {
@@ -128,7 +128,7 @@ impl<'p> UnderWay<'p> {
         Move::On
     }
 
-    /// In a written leg, behind ACK.
+    /// In a written leg, after ACK.
     #[inline]
     pub(crate) fn in_leg(&mut self, event: Event) -> Move
         ensures { (profile : List DeviceParts) (events : List BusEvent) → self.old.place ≡ Place.Leg
@@ -164,7 +164,7 @@ impl<'p> UnderWay<'p> {
         Move::On
     }
 
-    // START behind a leg.
+    // START after a leg.
     #[inline(never)]
     fn end_leg(&mut self) -> Move
         ensures { (profile : List DeviceParts) (events : List BusEvent) → self.old.place ≡ Place.Leg
@@ -183,7 +183,7 @@ impl<'p> UnderWay<'p> {
         Move::On
     }
 
-    // STOP behind a leg.
+    // STOP after a leg.
     #[inline(never)]
     fn end_write(&mut self) -> Move
         ensures { (profile : List DeviceParts) (events : List BusEvent) → self.old.place ≡ Place.Leg
@@ -222,7 +222,7 @@ impl<'p> UnderWay<'p> {
         true
     }
 
-    /// In a written leg, behind a byte.
+    /// In a written leg, after a byte.
     #[inline]
     pub(crate) fn behind_leg_byte(&mut self, byte: u8, event: Event) -> Move
         ensures { (profile : List DeviceParts) (events : List BusEvent) → self.old.place ≡ Place.LegByte byte
@@ -282,7 +282,7 @@ impl<'p> UnderWay<'p> {
         Move::On
     }
 
-    /// Behind a later START.
+    /// After a later START.
     pub(crate) fn at_restart(&mut self, event: Event) -> Move
         ensures { (profile : List DeviceParts) (events : List BusEvent) → self.old.place ≡ Place.Restart
             → StandsIn profile self.old events → Moves profile self.old events event result self.new }

@@ -19,14 +19,14 @@ use pmb_stream::Choice;
 use std::alloc::Global;
 use std::marker::Brand;
 
-/// Puts what the work's subcommand writes of an input under a profile at the start of a room, as far
-/// as it fits; what stands behind it stays. Nothing but the profile, and the devices of `run`, takes
-/// memory.
+/// Puts what the work's subcommand writes of an input under a profile at the start of a room, as
+/// far as it fits; what stands after it stays. Nothing but the profile, and the devices of `run`,
+/// takes memory.
 ///
 /// # Errors
 ///
-/// `Profile` where the profile's text has a fault. `Memory` where there was none. The room stays as it
-/// was then.
+/// `Profile` where the profile's text has a fault. `Memory` where there was none. The room stays as
+/// it was then.
 pub fn put_whole(
     work: Work,
     alloc: Global,
@@ -40,13 +40,13 @@ pub fn put_whole(
     put_of(ended.length, ended.outcome)
 }
 
-/// Puts the objects of a capture under a profile, each as a line of JSON, at the start of a room, as
-/// far as they fit; what stands behind them stays. Nothing but the profile takes memory.
+/// Puts the objects of a capture under a profile, each as a line of JSON, at the start of a room,
+/// as far as they fit; what stands after them stays. Nothing but the profile takes memory.
 ///
 /// # Errors
 ///
-/// `Profile` where the profile's text has a fault. `Memory` where there was none. The room stays as it
-/// was then.
+/// `Profile` where the profile's text has a fault. `Memory` where there was none. The room stays as
+/// it was then.
 pub fn put_json<'c>(
     choice: Choice<'c>,
     bad_words: BadWords,

@@ -156,7 +156,7 @@ module _ (device : DeviceParts) where
         proper (code ∷ bytes) done.rest (code ∷ wire form done.whole) (ap (λ w. code ∷ w) done.spelled) (omega (arith, done.long)),
       )
 
-  -- a body of each sort that goes on behind a code and some bytes leaves room for a byte
+  -- a body of each sort that goes on after a code and some bytes leaves room for a byte
   write_leaves_room : (mode : PecMode) → device.pec ≡ mode → (code : ℕ) (bytes rest : List ℕ) (next : ℕ) (body : List ℕ)
       → IsWriteBody device body → body ≡ (code ∷ bytes) ++ next ∷ rest → leaves_room (forms device code).write (pec_length mode) bytes ≡ true
   write_leaves_room mode is code bytes rest next body (c, whole, false, write) split =

@@ -10,7 +10,7 @@ pub code_on-next : (crc b next : ℕ) (bytes : List ℕ) → next ≡ pec (bit_x
 unfolding code_on
 code_on-next crc b next bytes is = ap (λ c. code_on c bytes) (sym is)
 
--- one byte, and what is left behind it
+-- one byte, and what is left after it
 pub with_code-next : (with_pec : Bool) (crc b next : ℕ) (bytes : List ℕ) → next ≡ pec (bit_xor crc b ∷ []) → with_code with_pec crc (b ∷ bytes) ≡ b ∷ with_code with_pec next bytes
 with_code-next false crc b next bytes is = refl
 with_code-next true crc b next bytes is = ap (λ c. b ∷ bytes ++ c ∷ []) (code_on-next crc b next bytes is)
@@ -30,7 +30,7 @@ pub code_on-none : (crc : ℕ) (bytes : List ℕ) → bytes ≡ [] → code_on c
 unfolding code_on
 code_on-none crc bytes none = rw none refl
 
--- behind a leg the next one begins
+-- after a leg the next one begins
 pub begin_leg : (stop : Bool) (crc : ℕ) (l : LegData) (legs : List LegData)
     → legs_events stop crc (l ∷ legs) ≡ Start ∷ (leg_events (code_before l.goes_on crc) l ++ legs_events stop (code_on (code_before l.goes_on crc) l.bytes) legs)
 unfolding legs_events
@@ -42,7 +42,7 @@ pub next_leg : (stop : Bool) (last : Event) (left : List ℕ) (code crc : ℕ) (
     → answered_by last left ++ legs_events stop code legs ≡ Start ∷ (leg_events (code_before l.goes_on crc) l ++ legs_events stop (code_on (code_before l.goes_on crc) l.bytes) others)
 next_leg stop last left code crc l legs others none same is = rw (none, same, is) (begin_leg stop crc l others)
 
--- behind the last leg comes STOP, and then nothing
+-- after the last leg comes STOP, and then nothing
 pub at_stop : (stop : Bool) (last : Event) (left : List ℕ) (code : ℕ) (legs : List LegData) → left ≡ [] → legs ≡ [] → stop ≡ true
     → answered_by last left ++ legs_events stop code legs ≡ Stop ∷ []
 unfolding legs_events

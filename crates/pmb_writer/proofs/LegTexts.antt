@@ -9,14 +9,14 @@ use Rattle.pmb_bus.specs.declared.event.Event.TheVariants.{Start, Byte, Ack}
 use Rattle.pmb_writer.specs.machine.Legs.{LegData, answered_by, behind_acks, code_before, code_behind, code_on, leg_events, legs_events, with_code}
 use Rattle.pmb_writer.proofs.LegBytes.{begin_leg, code_on-next}
 
--- the text of events and of others behind them
+-- the text of events and of others after them
 pub text-append : (a b : List Event) → canonical_text (a ++ b) ≡ canonical_text a ++ canonical_text b
 text-append a b = flat_map-append text_of a b
 
 pub acks-append : (a b : List ℕ) → behind_acks (a ++ b) ≡ behind_acks a ++ behind_acks b
 acks-append a b = flat_map-append (λ byte. Ack ∷ Byte byte ∷ []) a b
 
--- the code of bytes and of others behind them
+-- the code of bytes and of others after them
 pub code_on-append : (crc : ℕ) (a b : List ℕ) → code_on crc (a ++ b) ≡ code_on (code_on crc a) b
 unfolding code_on
 code_on-append crc [] b = refl
@@ -31,18 +31,18 @@ pub code_of_one : (crc byte next : ℕ) → next ≡ pec (bit_xor crc byte ∷ [
 unfolding code_on
 code_of_one crc byte next is = is
 
--- a byte, those behind it, and the last answer
+-- a byte, those after it, and the last answer
 pub answered_is : (last : Event) (byte : ℕ) (bytes : List ℕ) → Byte byte ∷ (behind_acks bytes ++ last ∷ []) ≡ answered_by last (byte ∷ bytes)
 answered_is last byte [] = refl
 answered_is last byte (next ∷ bytes) = ap (λ (e : List Event). Byte byte ∷ Ack ∷ e) (answered_is last next bytes)
 
--- bytes of a leg, and others behind them
+-- bytes of a leg, and others after them
 pub acks_behind : (front a b : List ℕ) → (front ++ canonical_text (behind_acks a)) ++ canonical_text (behind_acks b) ≡ front ++ canonical_text (behind_acks (a ++ b))
 acks_behind front a b =
     append_assoc front (canonical_text (behind_acks a)) (canonical_text (behind_acks b))
     ∙ ap (λ (t : List ℕ). front ++ t) (sym (ap canonical_text (acks-append a b) ∙ text-append (behind_acks a) (behind_acks b)))
 
--- START, an address, the bytes behind it and the last answer
+-- START, an address, the bytes after it and the last answer
 pub leg_text : (old : List ℕ) (address : ℕ) (body : List ℕ) (last : Event)
     → (((old ++ text_of Start) ++ text_of (Byte address)) ++ canonical_text (behind_acks body)) ++ text_of last ≡ old ++ canonical_text (Start ∷ answered_by last (address ∷ body))
 leg_text old address body last =
@@ -91,7 +91,7 @@ pub with_code_is : (follows : Bool) (crc : ℕ) (bytes : List ℕ) → with_code
 with_code_is false crc bytes = sym (append-nil bytes)
 with_code_is true crc bytes = refl
 
--- a leg, and what is left behind it
+-- a leg, and what is left after it
 pub leg_behind : (crc : ℕ) (l : LegData) (legs : List LegData)
     → canonical_text (legs_events true crc (l ∷ legs))
     ≡ canonical_text (Start ∷ leg_events (code_before l.goes_on crc) l) ++ canonical_text (legs_events true (code_on (code_before l.goes_on crc) l.bytes) legs)

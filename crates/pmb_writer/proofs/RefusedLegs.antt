@@ -40,7 +40,7 @@ module _ (profile : List DeviceParts) (parts : List PartData) (addr code : ℕ) 
       let same : other ≡ device = cc (known, found.known) in
       none (subst P same holds)
 
-  -- the tests of the code, of the bytes that were taken behind the code
+  -- the tests of the code, of the bytes that were taken after the code
   abbrev Begins : Bool → Bool → Type 0
   Begins first answer = (first ≡ is_first parts) × (may_begin first shape ≡ answer)
 

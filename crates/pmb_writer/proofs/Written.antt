@@ -35,7 +35,7 @@ nacked_is [] = refl
 nacked_is (b ∷ []) = refl
 nacked_is (b ∷ c ∷ bytes) = ap (λ events. Byte b ∷ Ack ∷ events) (nacked_is (c ∷ bytes))
 
--- a byte with others behind it
+-- a byte with others after it
 nacked_behind : (b : ℕ) (bytes : List ℕ) → 0 < length bytes → answered_by Nack (b ∷ bytes) ≡ Byte b ∷ Ack ∷ nacked bytes
 nacked_behind b [] some = absurd (omega arith)
 nacked_behind b (c ∷ bytes) some = ap (λ events. Byte b ∷ Ack ∷ events) (nacked_is (c ∷ bytes))

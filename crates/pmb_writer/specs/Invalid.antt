@@ -51,7 +51,7 @@ allows_form form = rule_unless NotAllowed (IsSome form)
 abbrev pub fits_form : Option Form → (Form → Type 0) → Rule
 fits_form form are_fit = rule_unless WrongLength (IfSome form are_fit)
 
--- some body that is allowed behind some parts begins with the code
+-- some body that is allowed after some parts begins with the code
 abbrev pub MayBegin : List PartData → ℕ → DeviceParts → Type 0
 MayBegin parts code device = (rest : List ℕ) × Allowed device parts (code ∷ rest)
 
@@ -90,7 +90,7 @@ module _ (profile : List DeviceParts) where
   abbrev pub keeps_mode : ℕ → Bool → Rule
   keeps_mode addr with_pec = rule_unless PecMode (IfSome (device_with addr profile) (λ device. AllowsPec device.pec with_pec))
 
-  -- the rules of a part behind parts with some addresses
+  -- the rules of a part after parts with some addresses
   abbrev pub part_rules : List ℕ → PartData → List Rule
   part_rules earlier part =
       has_device part.addr
@@ -128,7 +128,7 @@ module _ (profile : List DeviceParts) where
       ∷ []
 
   -- The rules of the leg that is refused, by what was sent and whether reading was refused: an
-  -- address alone and one byte behind it may be any.
+  -- address alone and one byte after it may be any.
   abbrev pub refused_leg_rules : List PartData → ℕ → List ℕ → Bool → List Rule
   refused_leg_rules parts addr [] false = []
   refused_leg_rules parts addr (b ∷ []) false = has_device addr ∷ []

@@ -18,7 +18,7 @@ use std::marker::Model;
 /// The events of a packet that are left; see [`events_of`].
 ///
 /// It refers to the profile and the transaction, and counts on from part to part and byte to byte;
-/// of the bytes behind it, it keeps the packet error code alone.
+/// of the bytes after it, it keeps the packet error code alone.
 #[derive(Debug, Drop)]
 pub struct Events<'a> {
     course: Course<'a>,

@@ -9,7 +9,7 @@ use crate::text::{append_code, append_each, append_event, append_some};
 use arrayvec::ArrayVec;
 use pmb_bus::{Event, pec_next};
 
-/// What is left of a leg behind its START: an address, a command code, the count of a block, data
+/// What is left of a leg after its START: an address, a command code, the count of a block, data
 /// and a packet error code, each of which may be written already, or be no part of the leg.
 #[derive(Clone, Copy, Debug)]
 pub(crate) struct Leg<'a> {
@@ -42,14 +42,14 @@ impl<'a> Leg<'a> {
         }
     }
 
-    /// The code with which the leg begins, behind bytes with the code `crc`.
+    /// The code with which the leg begins, after bytes with the code `crc`.
     pub fn code_before(&self, crc: u8) -> u8
         ensures { result ≡ code_before self.now.goes_on crc }
     {
         if self.goes_on { crc } else { 0 }
     }
 
-    /// Takes the next byte in front of the packet error code.
+    /// Takes the next byte before the packet error code.
     fn next_plain(&mut self) -> Option<u8>
         ensures { MatchOption result (((leg_data self.old).bytes ≡ []) × (leg_data self.new ≡ leg_data self.old)) (λ byte. leg_data self.old ≡ with_byte byte (leg_data self.new)) }
     {
@@ -104,7 +104,7 @@ impl<'a> Leg<'a> {
         if is_last { self.last } else { Event::Ack }
     }
 
-    /// Appends the canonical text of a whole leg with its START, behind bytes with the code `crc`.
+    /// Appends the canonical text of a whole leg with its START, after bytes with the code `crc`.
     /// Returns the code of the bytes so far.
     #[inline(never)]
     pub fn append<const N: usize>(&self, crc: u8, text: &mut ArrayVec<u8, N>) -> u8

@@ -32,7 +32,7 @@ fn forms_at(profile: &Profile, address: u8, code: u8) -> Shape
     })
 }
 
-/// The count that data in the form have in front of them, where there is a form.
+/// The count that data in the form have before them, where there is a form.
 fn count_of(form: Option<Form>, bytes: &[u8]) -> Option<u8>
     requires { length bytes.now ≤ 255 }
     ensures { option_to_list result ++ bytes.now ≡ wire_of form bytes.now }
@@ -103,8 +103,8 @@ impl<'a> Legs<'a> {
     }
 }
 
-/// Appends the canonical text of a leg, where there is one, behind bytes with the code `crc`. Returns
-/// the code of the bytes so far.
+/// Appends the canonical text of a leg, where there is one, after bytes with the code `crc`.
+/// Returns the code of the bytes so far.
 #[inline(always)]
 fn append_leg<const N: usize>(leg: &Option<Leg>, crc: u8, text: &mut ArrayVec<u8, N>) -> u8
     requires whole { IfSome leg.now IsWhole }
@@ -119,7 +119,7 @@ fn append_leg<const N: usize>(leg: &Option<Leg>, crc: u8, text: &mut ArrayVec<u8
     }
 }
 
-/// A leg that is written, to which each answer is ACK, with a code and the data behind it.
+/// A leg that is written, to which each answer is ACK, with a code and the data after it.
 fn asked_leg<'a>(address: u8, code: u8, count: Option<u8>, bytes: &'a [u8]) -> Leg<'a>
     requires { length bytes.now ≤ 258 }
     ensures leg { leg_data result ≡ asked_leg address (code ∷ (option_to_list count ++ bytes.now)) }
@@ -151,7 +151,7 @@ fn reply_leg<'a>(address: u8, count: Option<u8>, bytes: &'a [u8], pec: bool) -> 
     }
 }
 
-/// A leg of an address and bytes behind it, the last of which NACK answers.
+/// A leg of an address and bytes after it, the last of which NACK answers.
 fn refused_leg<'a>(address: u8, bytes: &'a [u8], pec: bool) -> Leg<'a>
     requires { length bytes.now ≤ 258 }
     ensures leg { leg_data result ≡ record { bytes = address ∷ bytes.now; pec = pec; last = Event.Nack; goes_on = false } }

@@ -19,7 +19,7 @@ fn pec_length(mode: PecMode) -> usize
     if mode.may_carry() { 1 } else { 0 }
 }
 
-/// Whether the wire of a form, with so many bytes behind it, is longer than these bytes.
+/// Whether the wire of a form, with so many bytes after it, is longer than these bytes.
 fn leaves_room(form: Option<Form>, more: usize, bytes: &[u8]) -> bool
     requires { more ≤ 1 }
     ensures { result ≡ leaves_room form more bytes.now }
@@ -54,7 +54,7 @@ fn is_asked(forms: Shape) -> bool
     forms.read.is_some() || forms.call.is_some()
 }
 
-/// Whether a body may go on behind a code and these bytes.
+/// Whether a body may go on after a code and these bytes.
 fn may_go_on(first: bool, mode: PecMode, forms: Shape, bytes: &[u8]) -> bool
     ensures { result ≡ may_go_on first mode forms bytes.now }
 {
@@ -129,7 +129,7 @@ fn check_refused_reply(
     Ok(())
 }
 
-/// Checks the leg that a device refused behind some parts.
+/// Checks the leg that a device refused after some parts.
 pub(crate) fn check_refused_leg(
     profile: &Profile,
     parts: &[Part],

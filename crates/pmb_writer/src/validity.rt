@@ -28,7 +28,7 @@ pub(crate) fn has_address(parts: &[Part], address: u8) -> bool
     false
 }
 
-/// Checks a part behind others.
+/// Checks a part after others.
 fn check_part(profile: &Profile, earlier: &[Part], part: &Part) -> Result<(), Invalid>
     ensures { AnswersRules (part_rules profile.now (addresses (map part_data earlier.now)) (part_data part.now)) result }
 {
@@ -53,7 +53,7 @@ fn check_part(profile: &Profile, earlier: &[Part], part: &Part) -> Result<(), In
     Ok(())
 }
 
-/// Checks parts, each behind those before it.
+/// Checks parts, each after those before it.
 fn check_parts(profile: &Profile, parts: &[Part]) -> Result<(), Invalid>
     ensures { AnswersRules (parts_rules profile.now [] (map part_data parts.now)) result }
 {
@@ -124,7 +124,7 @@ fn check_call(
     Ok(())
 }
 
-/// Checks the address of a refused packet, and what was sent to it behind some parts.
+/// Checks the address of a refused packet, and what was sent to it after some parts.
 fn check_refused_address(
     profile: &Profile,
     parts: &[Part],
@@ -214,10 +214,10 @@ fn check_rules(profile: &Profile, transaction: &Transaction) -> Result<(), Inval
 /// Whether a transaction has a packet under a profile; else the first of its faults.
 ///
 /// Each part of a write or of a refused packet is checked in order: its device, that no part before
-/// it has the address, the command, that it is written, the length of the data, and the packet error
-/// code. A read or a call is checked in the same order. Of what was refused behind its parts the
-/// address is checked first; an address alone may be any of seven bits, and one byte sent to a known
-/// device may be any. The Alert Response Address may always answer, or not.
+/// it has the address, the command, that it is written, the length of the data, and the packet
+/// error code. A read or a call is checked in the same order. Of what was refused after its parts
+/// the address is checked first; an address alone may be any of seven bits, and one byte sent to a
+/// known device may be any. The Alert Response Address may always answer, or not.
 pub fn check(profile: &Profile, transaction: &Transaction) -> Result<(), Invalid>
     ensures packet { IsOk result ↔ HasPacket profile.now (transaction_data transaction.now) }
     ensures first { IfErr result (IsFirstFault profile.now (transaction_data transaction.now)) }

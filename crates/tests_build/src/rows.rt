@@ -48,7 +48,7 @@ static SAMPLE_ROWS: [Row; 46] = [
     ("nobody's address", "write 20 03\n", "# line 1: UnknownDevice\n"),
     ("a device twice", "write 58 03 + 58 03\n", "# line 1: AddressTwice\n"),
     ("a word of no line", "wrote 58 03\n", "# line 1: BadWord at 0\n"),
-    // Lines are counted, blank ones too, and those behind a bad one are built.
+    // Lines are counted, blank ones too, and those after a bad one are built.
     ("blank lines", "\n \t\n# nothing\n\n", ""),
     ("a bad line behind a blank one", "\nwrite", "# line 2: BadWord at 5\n"),
     ("a good line behind a bad one", "write\nwrite 58 03\n", "# line 1: BadWord at 5\nS b0 A 03 A P\n"),

@@ -70,7 +70,7 @@ fn in_two(alloc: Global, front: &[u8], back: &[u8]) -> Result<Reading, AllocErro
     Ok(reading)
 }
 
-/// A text spells the events, or those in front of the bad word that begins at `fault`, however it
+/// A text spells the events, or those before the bad word that begins at `fault`, however it
 /// is cut.
 pub(crate) fn spells<R: Abort>(
     rt: &R,

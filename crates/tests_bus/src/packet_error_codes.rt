@@ -2,7 +2,7 @@
 
 use pmb_bus::{pec_next, pec_of};
 
-/// Bytes and their code. Behind the check value of CRC-8 stand bytes of packets.
+/// Bytes and their code. After the check value of CRC-8 stand bytes of packets.
 fn vectors() -> &'static [(&'static [u8], u8)] {
     &[
         (b"", 0x00),

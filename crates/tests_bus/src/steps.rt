@@ -68,7 +68,7 @@ fn each_piece_is_used_up_to_the_end_of_its_first_word(rt: HostRuntime) {
     }
 }
 
-/// A name, the text in front, a piece, and the byte that it begins with, its ACK behind it.
+/// A name, the text in front, a piece, and the byte that it begins with, its ACK after it.
 fn acked_bytes() -> &'static [(&'static str, &'static [u8], &'static [u8], Option<u8>)] {
     &[
         ("a byte and ACK", b"", b"b0 A ", Some(0xb0)),

@@ -20,7 +20,7 @@ static ROWS: [Row; 13] = [
     ("vout_mode = 0x21", "vout_mode   21, VID codes: voltages are raw\nvout_direct none\n"),
     ("vout_mode = 0x40", "vout_mode   40, DIRECT, but without vout_direct: voltages are raw\nvout_direct none\n"),
     ("vout_mode = 0x60", "vout_mode   60, IEEE half precision: voltages are raw\nvout_direct none\n"),
-    // Bit 7 is 1 for relative values, whatever stands behind it.
+    // Bit 7 is 1 for relative values, whatever stands after it.
     ("vout_mode = 0x97", "vout_mode   97, relative to VOUT_COMMAND: voltages are raw\nvout_direct none\n"),
     ("vout_mode = 0xff", "vout_mode   ff, relative to VOUT_COMMAND: voltages are raw\nvout_direct none\n"),
     ("vout_mode = 0x40\nvout_direct = { m = 1, b = 0, r = 3 }", "vout_mode   40, DIRECT, with the coefficients of vout_direct\nvout_direct direct:1,0,3\n"),
@@ -28,7 +28,7 @@ static ROWS: [Row; 13] = [
     ("vout_direct = { m = 4587, b = -2400, r = -2 }", "vout_mode   17, linear, in steps of 2^-9\nvout_direct direct:4587,-2400,-2\n"),
 ];
 
-/// Whether the text of a device with such keys has these lines behind those of its pages.
+/// Whether the text of a device with such keys has these lines after those of its pages.
 fn check(rt: &impl Abort, alloc: Global, keys: &str, lines: &str) {
     let mut profile = Vec::new(alloc);
     let front = "[[device]]\naddress = 0x08\npec = \"on\"\nstandard = false\n";

@@ -1,5 +1,5 @@
-//! Captures of every sort, as canonical text: where a packet is taken at once, the reader comes to the
-//! same one event by event, and where a common one stands, it is taken.
+//! Captures of every sort, as canonical text: where a packet is taken at once, the reader comes to
+//! the same one event by event, and where a common one stands, it is taken.
 
 use plain_packets::{CapturedRow, LONG, LONG_FORMS, PACKETS, REFUSALS, events};
 use pmb_bus::{Event, Lexer, Step, event_text};
@@ -49,7 +49,7 @@ fn is_common(transaction: &Transaction) -> bool {
     }
 }
 
-/// Whether both ways agree in front of a text.
+/// Whether both ways agree at the front of a text.
 fn agree<R: Abort>(
     rt: &R,
     profile: &Profile,

@@ -1,8 +1,8 @@
-//! Packets by hand, and texts in front of which none is taken.
+//! Packets by hand, and texts before which none is taken.
 //!
 //! On the sample's bus stand a device at 58h whose address bytes are b0 and b1, with packet error
-//! codes allowed, one at 59h without, and one at 5ah that wants them. The codes are those of CRC-8 over
-//! the bytes in front of them (SMBus 3.0 section 6.4), in a group over those of their own part.
+//! codes allowed, one at 59h without, and one at 5ah that wants them. The codes are those of CRC-8
+//! over the bytes before them (SMBus 3.0 section 6.4), in a group over those of their own part.
 
 use pmb_common::{Common, Taken};
 use pmb_kept::Kept;
@@ -101,9 +101,9 @@ const NOT_TAKEN: [&str; 40] = [
     "S b0 A 03 A S b2 A 03 A P",
     "S b0 A 03 A S b2 A 03 A ",
     "S b0 A 03 A S b2 A 03 N P\n",
-    // a read behind a part
+    // a read after a part
     "S b0 A 03 A S b2 A 88 A S b3 A 00 A 08 N P\n",
-    // a part behind what looks like a read
+    // a part after what looks like a read
     "S b0 A 88 A S b1 A 00 A 08 N S b2 A 03 A P\n",
     // data too many, and too few
     "S b0 A 21 A 00 A 10 A 00 A 00 A P\n",
@@ -115,7 +115,7 @@ const NOT_TAKEN: [&str; 40] = [
     // fewer bytes are sent than the count says, and more
     "S b0 A 1b A 02 A 7a A S b1 A 01 A 10 N P\n",
     "S b0 A 1b A 00 A 7a A S b1 A 01 A 10 N P\n",
-    // a packet error code, a2, behind the written leg
+    // a packet error code, a2, after the written leg
     "S b0 A 1b A 01 A 7a A a2 A S b1 A 01 A 10 N P\n",
     // the packet error code of the call is 7a
     "S b0 A 1b A 01 A 7a A S b1 A 01 A 10 A 7b N P\n",
@@ -198,8 +198,8 @@ fn takes_sixteen_parts(rt: HostRuntime) -> Result<(), Fail> {
     Ok(())
 }
 
-/// The packet error code of a call that sends 255 bytes 11 with COEFFICIENTS, and of its reply of 255
-/// bytes 22.
+/// The packet error code of a call that sends 255 bytes 11 with COEFFICIENTS, and of its reply of
+/// 255 bytes 22.
 const FULL_BLOCKS_PEC: &str = "ad";
 
 #[test]

@@ -11,7 +11,7 @@ pub(crate) struct Row {
     pub(crate) name: &'static str,
     pub(crate) task: Task,
     pub(crate) format: &'static str,
-    /// How many zeros stand in front of the text.
+    /// How many zeros stand at the front of the text.
     pub(crate) zeros: usize,
     pub(crate) text: &'static str,
     pub(crate) written: &'static str,

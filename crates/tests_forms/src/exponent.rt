@@ -41,8 +41,8 @@ static EXPONENTS: [Row; 53] = [
     ("name = 'VIN_ON', kind = 'raw', exponent = -3", Some(UnknownKey)),
     ("name = 'VOUT_COMMAND', kind = 'linear11', exponent = -9", None),
     ("name = 'STATUS_WORD', kind = 'linear11', exponent = 0", None),
-    // Where the key stands among the others: behind `r`, before `paged`. Its type is looked at first,
-    // then the kind, then its range.
+    // Where the key stands among the others: after `r`, before `paged`. Its type is looked at
+    // first, then the kind, then its range.
     ("name = 'VIN_ON', exponents = 0", Some(UnknownKey)),
     ("name = 'VIN_ON', exponent = 16, x = 1, code = 'a'", Some(UnknownKey)),
     ("name = 'VIN_ON', exponent = 'a', read = 'word'", Some(BadForm)),

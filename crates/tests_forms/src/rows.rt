@@ -7,7 +7,7 @@ use std::process::Abort;
 pub(crate) type Row = (&'static str, Option<FaultKind>);
 
 /// The texts around the keys of a command, and the numbers of its device and its own: it stands
-/// alone, or both of them stand behind another one.
+/// alone, or both of them stand after another one.
 static PLACES: [(&str, &str, u8, u16); 2] = [
     (
         "device = [{ address = 0x10, pec = 'off', command = [{ ",

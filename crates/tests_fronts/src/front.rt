@@ -10,7 +10,7 @@ use std::io::Read;
 use std::process::Abort;
 use std::test::Fail;
 
-/// A name, a text, its profile, and what is behind the line `%%`, if there is such a line.
+/// A name, a text, its profile, and what is after the line `%%`, if there is such a line.
 type Row<'a> = (&'a str, &'a str, &'a str, Option<&'a str>);
 
 #[rattlefmt::skip]
@@ -59,7 +59,7 @@ fn followed<R: Source>(alloc: Global, bytes: &[u8], reader: &mut R) -> Result<Ve
     Ok(all)
 }
 
-/// Whether a reader of the row's text gives its front, and how many bytes behind the line were
+/// Whether a reader of the row's text gives its front, and how many bytes after the line were
 /// read.
 fn check_front<R: Source>(
     rt: &impl Abort,
@@ -82,7 +82,7 @@ fn check_front<R: Source>(
 }
 
 /// Whether each read that fails is told. Byte by byte, the line has ended with the read of its LF,
-/// and without it the read behind the last byte tells the end.
+/// and without it the read after the last byte tells the end.
 fn check_failures(rt: &impl Abort, alloc: Global, row: &Row) {
     let (name, text, _, rest) = *row;
     let calls = match rest {
@@ -126,13 +126,13 @@ fn finds_the_line_in_each_row(rt: HostRuntime) {
 
 const LIMIT: usize = 1_048_576;
 
-/// The lengths of a profile and of what was read behind the line, if there is one; or the fault.
+/// The lengths of a profile and of what was read after the line, if there is one; or the fault.
 type Lengths = Result<(usize, Option<usize>), ToolFault>;
 
 const TOO_LONG: Lengths = Err(ToolFault::ProfileTooLong);
 
 /// A name, a text of so many spaces and then these bytes, what its front comes to, and with which
-/// read that is known, where the spaces come in pieces of 8,192 bytes and the bytes behind them one
+/// read that is known, where the spaces come in pieces of 8,192 bytes and the bytes after them one
 /// by one.
 #[rattlefmt::skip]
 static LIMIT_ROWS: [(&str, usize, &str, Lengths, u64); 20] = [
@@ -143,7 +143,7 @@ static LIMIT_ROWS: [(&str, usize, &str, Lengths, u64); 20] = [
     // A line `%%` that starts at the limit.
     ("a line at the limit", LIMIT - 1, "\n%%\nS", Ok((LIMIT, Some(1))), 132),
     ("a line at the limit, CR LF", LIMIT - 1, "\n%%\r\nS P", Ok((LIMIT, Some(3))), 133),
-    // And one that starts before it, or behind.
+    // And one that starts before it, or after.
     ("a line before the limit", LIMIT - 2, "\n%%\nS", Ok((LIMIT - 1, Some(1))), 132),
     ("a line over the limit", LIMIT - 4, "\n%%\r\nS", Ok((LIMIT - 3, Some(1))), 133),
     ("a line behind the limit", LIMIT, "\n%%\nS", TOO_LONG, 129),
@@ -179,7 +179,7 @@ fn byte_at(bytes: &[u8], place: usize) -> &[u8] {
     }
 }
 
-/// The lengths of a front, where a text is read in pieces up to a place and byte by byte behind it,
+/// The lengths of a front, where a text is read in pieces up to a place and byte by byte after it,
 /// with so many reads before one fails.
 fn read_slowly(alloc: Global, text: &[u8], place: usize, reads: u64) -> Lengths
     requires { place ≤ length text.now }
@@ -206,7 +206,7 @@ fn lengths(front: &Result<Front, ToolFault>) -> Lengths {
     }
 }
 
-/// The same, where nothing was read behind the line.
+/// The same, where nothing was read after the line.
 fn without_rest(lengths: Lengths) -> Lengths {
     match lengths {
         Ok((profile, Some(_))) => Ok((profile, Some(0))),

@@ -16,7 +16,7 @@ pub(crate) struct Heard {
 enum Manner {
     /// ACK to each byte, and a reply with the right packet error code.
     Well,
-    /// The same, but the signal behind so many others is answered by anything.
+    /// The same, but the signal after so many others is answered by anything.
     WellBut(usize),
     /// The same, but a packet error code differs in these bits.
     WrongPec(u8),
@@ -74,7 +74,7 @@ impl Answering {
         }
     }
 
-    /// The next byte of the reply, and behind them all the packet error code of all bytes.
+    /// The next byte of the reply, and after them all the packet error code of all bytes.
     fn next_byte(&self) -> u8 {
         match self.reply.get(self.given) {
             Some(byte) => *byte,

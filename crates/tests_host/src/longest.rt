@@ -59,8 +59,8 @@ fn it_has_4161_signals(rt: HostRuntime) -> Result<(), Fail> {
     Ok(())
 }
 
-/// How many signals a host sends where the one behind so many others gets NACK and each other one ACK, and how
-/// it ends.
+/// How many signals a host sends where the one after so many others gets NACK and each other one
+/// ACK, and how it ends.
 fn refused_at(host: &mut Host<'_>, place: u16) -> (u16, Option<HostStep>) {
     let mut answer = DeviceSignal::Ack;
     for sent in 0..4162 {
@@ -73,7 +73,8 @@ fn refused_at(host: &mut Host<'_>, place: u16) -> (u16, Option<HostStep>) {
     (4162, None)
 }
 
-/// The signals of a leg: START, the address, the code, the count, the data and the packet error code.
+/// The signals of a leg: START, the address, the code, the count, the data and the packet error
+/// code.
 const LEG: u16 = 260;
 
 /// How many signals there have to be, and the end. The answer to a START counts for nothing.

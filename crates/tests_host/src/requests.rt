@@ -5,8 +5,8 @@ use pmb_host::Request;
 use pmb_transaction::Part;
 use pmb_value::Quantity;
 
-/// A command that is written without data and read as a number, one that is called with two bytes, and one
-/// in LINEAR11 with one exponent.
+/// A command that is written without data and read as a number, one that is called with two bytes,
+/// and one in LINEAR11 with one exponent.
 pub(crate) const OTHER_FORMS: &str = "[[device]]\naddress = 0x10\npec = \"off\"\n\
                                       [[device.command]]\ncode = 0xe0\nwrite = \"zero\"\nread = \"two\"\nkind = \"linear11\"\n\
                                       [[device.command]]\ncode = 0xe1\ncall = \"two\"\n\
@@ -15,7 +15,7 @@ pub(crate) const OTHER_FORMS: &str = "[[device]]\naddress = 0x10\npec = \"off\"\
 /// A request of a row.
 #[derive(Clone, Copy, Debug)]
 pub(crate) enum Asked {
-    /// One byte or more behind a code, to each of some addresses.
+    /// One byte or more after a code, to each of some addresses.
     Write(&'static [(u8, u8, &'static [u8], bool)]),
     Read(u8, u8, bool),
     Call(u8, u8, &'static [u8], bool),

@@ -1,4 +1,4 @@
-//! Text that waits for a writer, and is sent where there is no room behind it.
+//! Text that waits for a writer, and is sent where there is no room after it.
 
 use pmb_io::{Failing, Io, ROOM, RunFault, Waiting, make_room, put, send};
 use std::io;

@@ -7,7 +7,7 @@ use pmb_table::{Profile, SAMPLE};
 use std::alloc::{AllocError, Global};
 use std::test::Fail;
 
-/// What a device is sent behind its address, the bytes with which it answers, how many of them begin
+/// What a device is sent after its address, the bytes with which it answers, how many of them begin
 /// an answer, and what is told of these: whether more come, and the reply.
 #[derive(Clone, Copy)]
 struct Row {

@@ -2,7 +2,7 @@
 
 use std::alloc::{AllocError, Global};
 
-/// Bytes in digits, a space in front of each.
+/// Bytes in digits, a space before each.
 pub(crate) fn digits(alloc: Global, bytes: &[u8]) -> Result<String, AllocError> {
     let mut text = String::new(alloc);
     for byte in bytes {

@@ -8,8 +8,8 @@ use std::alloc::{AllocError, Global};
 use std::process::Abort;
 use std::test::Fail;
 
-/// Bytes to a device behind its address, how many of them are taken before the first that is not, and
-/// what is told of these: whether more may come, what they say as a write, and what they ask.
+/// Bytes to a device after its address, how many of them are taken before the first that is not,
+/// and what is told of these: whether more may come, what they say as a write, and what they ask.
 #[derive(Clone, Copy)]
 struct Row {
     profile: &'static str,
@@ -74,7 +74,7 @@ fn writes() -> [Row; 18] {
     ]
 }
 
-/// Calls, legs behind parts, and forms of four and eight bytes.
+/// Calls, legs after parts, and forms of four and eight bytes.
 fn others() -> [Row; 11] {
     [
         first(
@@ -170,7 +170,7 @@ fn writes_reads_calls_later_legs_and_long_forms(rt: HostRuntime) -> Result<(), F
     Ok(())
 }
 
-// The largest block, with its packet error code: 258 bytes behind the address.
+// The largest block, with its packet error code: 258 bytes after the address.
 #[test]
 fn a_block_of_255(rt: HostRuntime) -> Result<(), Fail> {
     let profile = Profile::from_toml(rt.alloc(), SAMPLE.as_bytes()).map_err(|_| "profile")?;

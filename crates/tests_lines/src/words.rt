@@ -6,7 +6,7 @@ use pmb_table::{Profile, SAMPLE};
 use pmb_transaction::Transaction;
 use std::test::Fail;
 
-/// A line, an offset, and the word that begins there or behind it.
+/// A line, an offset, and the word that begins there or after it.
 type Row = (&'static str, usize, Option<(usize, usize)>);
 
 /// The rows of the table. A call keeps the proof of a loop over them from carrying the table.

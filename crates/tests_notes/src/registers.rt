@@ -29,7 +29,8 @@ static REGISTERS: [Register; 11] = [
     ("82", "STATUS_FANS_3_4", &["bit7", "bit6", "bit5", "bit4", "bit3", "bit2", "bit1", "bit0"]),
 ];
 
-/// The bits of a byte and of a word, each alone, from the highest down, in digits, the low byte first.
+/// The bits of a byte and of a word, each alone, from the highest down, in digits, the low byte
+/// first.
 static BYTES: [&str; 8] = ["80", "40", "20", "10", "08", "04", "02", "01"];
 
 static WORDS: [&str; 16] = [
@@ -62,7 +63,7 @@ fn line(row: &Register, bytes: &str) -> Text {
     line
 }
 
-/// The name of the register, and these words behind it.
+/// The name of the register, and these words after it.
 fn note(row: &Register, words: &[&str]) -> Text {
     let mut note = Text::new();
     push(&mut note, row.1);

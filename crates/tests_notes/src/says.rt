@@ -1,4 +1,4 @@
-//! What is said of a line behind others.
+//! What is said of a line after others.
 
 use arrayvec::ArrayVec;
 use pmb_line::parse_line;
@@ -24,7 +24,7 @@ pub(crate) fn observe(profile: &Profile, context: &mut Context<'_>, lines: &[&st
     true
 }
 
-/// The note of a line behind others; `?` where a line spells no transaction.
+/// The note of a line after others; `?` where a line spells no transaction.
 pub(crate) fn said(profile: &Profile, before: &[&str], line: &[u8]) -> ArrayVec<u8, 4096> {
     let mut text = ArrayVec::new();
     let mut context = Context::new(profile);

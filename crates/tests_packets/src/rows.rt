@@ -8,7 +8,7 @@ use pmb_table::{Profile, SAMPLE};
 use std::alloc::{AllocError, Global};
 use std::test::Fail;
 
-/// A line, the capture text of its packet, and its note behind nothing else.
+/// A line, the capture text of its packet, and its note after nothing else.
 type Row = (&'static str, &'static str, &'static str);
 
 /// The rows of the table. A call keeps the proof of a loop over them from carrying the table.

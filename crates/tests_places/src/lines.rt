@@ -2,8 +2,8 @@
 
 use pmb_places::{Place, Places};
 
-/// A text that ends between words, the rest of its line, and line and column of the next byte, of the
-/// last word, and behind that.
+/// A text that ends between words, the rest of its line, and line and column of the next byte, of
+/// the last word, and after that.
 struct Row {
     text: &'static [u8],
     rest: &'static [u8],

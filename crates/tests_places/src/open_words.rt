@@ -23,7 +23,7 @@ static ROWS: [Row; 23] = [
     Row { text: b"S\n\tb0", word: b"b0" },
     // other bytes below the space do not, nor do those above 127
     Row { text: b"S \x00b\x0b0\xff\x1f", word: b"\x00b\x0b0\xff\x1f" },
-    // a comment has no words, and ends the one in front of it
+    // a comment has no words, and ends the one before it
     Row { text: b"S#", word: b"" },
     Row { text: b"S#b0", word: b"" },
     Row { text: b"# S b0 A", word: b"" },

@@ -2,7 +2,7 @@
 
 use pmb_places::{Place, Places};
 
-/// A text, and line and column of its next byte, of its last word, and behind that.
+/// A text, and line and column of its next byte, of its last word, and after that.
 struct Row {
     text: &'static [u8],
     here: (u64, u64),
@@ -22,7 +22,7 @@ static ROWS: [Row; 14] = [
     Row { text: b"S\r\n\tb0", here: (2, 4), word: (2, 2), end: (2, 4) },
     // a CR separates words, and ends no line
     Row { text: b"S\rb0", here: (1, 5), word: (1, 3), end: (1, 5) },
-    // a comment has no words, and ends the one in front of it
+    // a comment has no words, and ends the one before it
     Row { text: b"# S b0 A", here: (1, 9), word: (1, 1), end: (1, 1) },
     Row { text: b"S#b0\nA", here: (2, 2), word: (2, 1), end: (2, 2) },
     Row { text: b"b0#1 2\n#3\n\n", here: (4, 1), word: (1, 1), end: (1, 3) },

@@ -35,7 +35,7 @@ impl<'p> Compared<'p> {
         }
     }
 
-    /// Has both go on behind a refusal that the reader holds, the refused event first.
+    /// Has both go on after a refusal that the reader holds, the refused event first.
     fn go_on(&mut self, event: Event) -> Result<bool, AllocError> {
         self.reader.resync();
         self.plain.resync();
@@ -68,7 +68,7 @@ impl<'p> Compared<'p> {
 }
 
 /// The place of the first event to which the readers answer differently, or, among the first few,
-/// behind which they end differently.
+/// after which they end differently.
 pub(crate) fn first_difference(
     alloc: Global,
     profile: &Profile,

@@ -58,7 +58,7 @@ fn damaged_once(
     }
 }
 
-/// Two rows, one behind the other, damaged in one place to three.
+/// Two rows, one after the other, damaged in one place to three.
 fn damaged(
     alloc: Global,
     random: &mut Random,
@@ -72,7 +72,7 @@ fn damaged(
     Ok(events)
 }
 
-/// Whether both readers answer alike to damaged forms of a row, behind which comes its neighbour.
+/// Whether both readers answer alike to damaged forms of a row, after which comes its neighbour.
 fn compares<R: Abort>(
     rt: &R,
     alloc: Global,

@@ -58,7 +58,7 @@ static TRIED: [Event; 17] = [
     Event::Byte(0x83),
 ];
 
-/// Whether both readers answer alike to the last of some events, and end alike behind it.
+/// Whether both readers answer alike to the last of some events, and end alike after it.
 fn reads_alike(
     alloc: Global,
     profile: &Profile,
@@ -91,7 +91,7 @@ fn longer(
     Ok(lists)
 }
 
-/// The first of some lists with an event behind it that the readers answer differently.
+/// The first of some lists with an event after it that the readers answer differently.
 fn first_difference(
     alloc: Global,
     profile: &Profile,

@@ -69,7 +69,7 @@ fn order(rt: HostRuntime) {
     check_commands(&rt, rt.alloc(), &ORDER);
 }
 
-/// Keys of a command behind one with the code eeh, and the fault that they have.
+/// Keys of a command after one with the code eeh, and the fault that they have.
 static TWICE: [(&str, FaultKind); 9] = [
     ("code = 0xee, read = 'one'", CodeTwice),
     ("code = 0xee", CodeTwice),
@@ -82,7 +82,7 @@ static TWICE: [(&str, FaultKind); 9] = [
     ("code = 0xee, initial = 1", WrongType),
 ];
 
-/// Whether the keys of a command behind one with the code eeh have their fault, in a device behind
+/// Whether the keys of a command after one with the code eeh have their fault, in a device after
 /// another one with that code.
 fn check_second(rt: &impl Abort, alloc: Global, keys: &str, fault: FaultKind) {
     let text = format!(in alloc;

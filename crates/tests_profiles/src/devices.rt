@@ -10,7 +10,7 @@ use pmb_table::FaultKind::{
 use std::alloc::{AllocError, Global};
 use std::test::Fail;
 
-/// The name of a row, the commands of a first device, the devices behind it, and what the text is
+/// The name of a row, the commands of a first device, the devices after it, and what the text is
 /// answered with.
 #[rattlefmt::skip]
 static DEVICES: [(&str, &str, &str, Answer); 15] = [

@@ -38,7 +38,7 @@ fn most_commands(alloc: Global) -> Result<String, AllocError> {
 }
 
 /// The place of a command in such a device, its code and its name. The standard commands keep their
-/// places, and the others come behind them.
+/// places, and the others come after them.
 static PLACES: [(usize, u8, &str); 4] = [
     (0, 0x00, "CMD_00"),
     (155, 0xc2, "CMD_c2"),

@@ -6,14 +6,14 @@ use std::process::Abort;
 /// Keys, which name the row, and the fault that they have, or none.
 pub(crate) type Row = (&'static str, Option<FaultKind>);
 
-/// The texts around the keys of a device, and its number: it stands alone, or behind another one.
+/// The texts around the keys of a device, and its number: it stands alone, or after another one.
 static DEVICES: [(&str, &str, u8); 2] = [
     ("device = [{ ", " }]", 0),
     ("device = [{ address = 0x77, pec = 'on' }, { ", " }]", 1),
 ];
 
 /// The texts around the keys of a command, and the numbers of its device and its own: it stands
-/// alone, or both of them stand behind another one.
+/// alone, or both of them stand after another one.
 static COMMANDS: [(&str, &str, u8, u16); 2] = [
     (
         "device = [{ address = 0x10, pec = 'off', command = [{ ",

@@ -28,7 +28,7 @@ static VALUES: [(Type, &str); 11] = [
     (Type::Table, "{}"),
 ];
 
-/// The text up to the value of a key of a device, the text behind it, and the type that it has to
+/// The text up to the value of a key of a device, the text after it, and the type that it has to
 /// have.
 #[rattlefmt::skip]
 static DEVICE_KEYS: [(&str, &str, Type); 10] = [
@@ -91,7 +91,7 @@ fn command_keys(rt: HostRuntime) {
     }
 }
 
-/// The name of a place, the text up to a value there, the text behind it, the type that it has to
+/// The name of a place, the text up to a value there, the text after it, the type that it has to
 /// have, and the answer to another.
 #[rattlefmt::skip]
 static PLACES: [(&str, &str, &str, Type, Answer); 5] = [

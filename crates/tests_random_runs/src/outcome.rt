@@ -1,5 +1,6 @@
-//! What a request comes to, by the rules in words: what is recorded is found from the request and the
-//! registers of the devices alone, with no signals, and each transaction then changes the registers.
+//! What a request comes to, by the rules in words: what is recorded is found from the request and
+//! the registers of the devices alone, with no signals, and each transaction then changes the
+//! registers.
 
 use crate::numbers::NoNumber;
 use crate::plain_bus::PlainBus;
@@ -92,7 +93,7 @@ impl<'p> PlainBus<'p> {
         })
     }
 
-    /// A read or a call that was refused behind its body.
+    /// A read or a call that was refused after its body.
     fn refused(&mut self, addr: u8, body: &[u8], bit: u8) -> Result<Came, AllocError> {
         self.note(addr, bit);
         let mut sent = ArrayVec::new();

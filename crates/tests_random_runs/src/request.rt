@@ -41,7 +41,7 @@ pub(crate) fn hex_digits(byte: u8) -> [u8; 2] {
     ]
 }
 
-/// Appends words, each behind a space.
+/// Appends words, each after a space.
 fn push_words(line: &mut Vec<u8>, bytes: &[u8]) -> Result<(), AllocError> {
     for byte in bytes {
         line.push(b' ')?;

@@ -49,7 +49,7 @@ fn random_script(
         if let Asked::Write(parts) = &asked
             && parts.is_empty()
         {
-            // Words are missing behind `write`.
+            // Words are missing after `write`.
             script.lines.extend_from_slice(b"\n")?;
             continue;
         }
@@ -66,7 +66,8 @@ fn random_script(
 /// A profile's text, a seed, and how many lists of requests are run: 20,000 in all.
 type Row<'t> = (&'t [u8], u32, usize);
 
-// What is written of each list is what the rules in words give. Most requests are done, and some are not.
+// What is written of each list is what the rules in words give. Most requests are done, and some
+// are not.
 fn come_to_the_same(rt: &impl Abort, alloc: Global, row: Row<'_>) -> Result<(), Fail> {
     let (text, seed, lists) = row;
     let profile = Profile::from_toml(alloc, text)?;

@@ -40,7 +40,7 @@ fn tell_refusal(text: &mut String, alloc: Global, refusal: Refusal) -> Result<()
     text.push_str("\n")
 }
 
-/// Hands on a piece of a capture. Behind a refusal, which is asked for three times, the reader
+/// Hands on a piece of a capture. After a refusal, which is asked for three times, the reader
 /// passes over.
 pub(crate) fn tell_piece(
     text: &mut String,

@@ -8,8 +8,8 @@ use pmb_table::{Profile, SAMPLE};
 use pmb_transaction::Transaction;
 use std::test::Fail;
 
-/// The selected page, the bytes behind the address 58h of a leg that was refused, whether that was at
-/// the read, and what STATUS_CML of page 0 then holds.
+/// The selected page, the bytes after the address 58h of a leg that was refused, whether that was
+/// at the read, and what STATUS_CML of page 0 then holds.
 type Row = (u8, &'static [u8], bool, &'static [u8]);
 
 /// The rows of the table. A call keeps the proof of a loop over them from carrying the table.

@@ -103,7 +103,7 @@ static SAMPLES: [Row; 91] = [
     ("get 58 +", "BadWord at 7"),
     ("get 58 21 12", "BadWord at 10"),
     ("get 58 21 pec 00", "BadWord at 14"),
-    // Of a bad quantity and a bad word behind it, the word is told.
+    // Of a bad quantity and a bad word after it, the word is told.
     ("set 58 21 x y", "BadWord at 12"),
     ("set 58 21 x pec y", "BadWord at 16"),
     ("set 58 21 1/0 00", "BadWord at 14"),

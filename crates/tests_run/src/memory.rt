@@ -1,5 +1,5 @@
-//! Want of memory. This passes whichever one allocation is refused: `rt try --test --fail-alloc N -- memory`
-//! refuses the Nth.
+//! Want of memory. This passes whichever one allocation is refused: `rt try --test --fail-alloc N
+//! -- memory` refuses the Nth.
 
 use arrayvec::ArrayVec;
 use pmb_io::{Io, Tally, ToolFault};
@@ -21,8 +21,8 @@ fn sample(alloc: Global) -> Result<Profile, Fail> {
     }
 }
 
-/// Runs the requests, into a writer that takes no memory: all of them are answered, or none is read and nothing
-/// is written. Returns the answer.
+/// Runs the requests, into a writer that takes no memory: all of them are answered, or none is read
+/// and nothing is written. Returns the answer.
 fn all_or_nothing(rt: &impl Abort, alloc: Global, profile: &Profile) -> Result<Tally, ToolFault> {
     let mut reader = Io::new(REQUESTS);
     let mut writer = Io::new(ArrayVec::<u8, 128>::new());
@@ -48,7 +48,7 @@ fn memory_is_refused_before_all_else(rt: HostRuntime) -> Result<(), Fail> {
         first == done || first == Err(ToolFault::Memory),
         "{first:?}"
     );
-    // One allocation alone is refused, so the run behind it is as any other, or that one is.
+    // One allocation alone is refused, so the run after it is as any other, or that one is.
     let second = all_or_nothing(&rt, rt.alloc(), &profile);
     assert!(rt; second == done || first == done, "{second:?}");
     Ok(())

@@ -87,7 +87,7 @@ fn refusal(profile: &Profile, events: &[Event]) -> Option<(Reason, Option<Event>
     }
 }
 
-/// What was said before that, behind an earlier packet.
+/// What was said before that, after an earlier packet.
 fn said_before(
     alloc: Global,
     said: &mut Said,

@@ -9,7 +9,7 @@ use pmb_table::SAMPLE;
 use pmb_whole::{Put, put_json};
 use std::test::Fail;
 
-/// The capture ends at its bad word, or goes on behind the line.
+/// The capture ends at its bad word, or goes on after the line.
 type Row = (BadWords, &'static str, u64, u64);
 
 const CAPTURE: &str = "S b0 A 03 A P\nxyz\nS b0 A 03 A P\n";

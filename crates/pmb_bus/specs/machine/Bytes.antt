@@ -1,4 +1,4 @@
--- What a byte is to the word under way, and a token in front of a text.
+-- What a byte is to the word under way, and a token at the front of a text.
 use Rattle.std.specs.Prelude.{◌≡◌, ℕ, ◌+◌, ◌==◌, ◌||◌, Bool, true, Option, Some, None, is_some, List, ◌∷◌, ◌++◌, length}
 use Rattle.hex.specs.Hex.{is_hex_digit}
 use Rattle.pmb_bus.specs.declared.event.Event.{Event}

@@ -16,7 +16,7 @@ use Rattle.pmb_bus.specs.machine.Standing.{IsPlace, LexerStandsAt, IsFaulted}
 abbrev pub BeginsToken : List ℕ → Type 0
 BeginsToken word = (event : Event) × ((event_of word ≡ Some event) ⊎ (event_of (word ++ codes "0") ≡ Some event))
 
--- the place behind a byte that ends a word
+-- the place after a byte that ends a word
 abbrev pub place_behind_word : ℕ → Place
 place_behind_word byte = if byte == character "#" then places.Comment else places.Between
 
@@ -27,7 +27,7 @@ OpenWordComesTo n text (Ok None) = open_word text ≡ []
 OpenWordComesTo n text (Ok (Some event)) = event_of (open_word text) ≡ Some event
 OpenWordComesTo n text (Err fault) = (is_word (open_word text) ≡ true) × (event_of (open_word text) ≡ None) × IsFaultOf n text fault
 
--- what one more byte of a word comes to: a place behind it, where some token begins so, or a fault,
+-- what one more byte of a word comes to: a place after it, where some token begins so, or a fault,
 -- since no token does
 abbrev pub Lengthens : ℕ → List ℕ → ℕ → Result Place LexFault → Type 0
 Lengthens n text byte (Ok place) = IsPlace place (n + 1) (text ++ byte ∷ []) × BeginsToken (open_word text ++ byte ∷ [])

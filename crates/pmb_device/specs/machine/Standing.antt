@@ -36,7 +36,7 @@ abbrev pub head_is_to : ℕ → List Leg → Bool
 head_is_to address [] = false
 head_is_to address (leg ∷ legs) = is_to address leg
 
--- the packet's first leg is the device's own, and one leg stands behind it
+-- the packet's first leg is the device's own, and one leg stands after it
 abbrev pub is_behind_own : DeviceParts → List Leg → Bool
 is_behind_own device [] = false
 is_behind_own device (first ∷ []) = is_to (write_address device.address) first
@@ -54,13 +54,13 @@ pub record IsAskable (x : Exchange) : Type 0 where
   pub first : x.leg.place ≡ First
   pub request : IsRequest x.leg.device x.leg.bytes
 
--- The device has to answer: it is asked in the packet's first leg, and is read directly behind that.
+-- The device has to answer: it is asked in the packet's first leg, and is read directly after that.
 pub record HasToAnswer (device : DeviceParts) (before : List Leg) (bytes : List ℕ) (behind : List Leg) : Type 0 where
   pub first : before ≡ []
   pub request : IsRequest device bytes
   pub read : head_is_to (read_address device.address) behind ≡ true
 
--- What is noted behind an own leg in which all bytes were taken: why it does not answer.
+-- What is noted after an own leg in which all bytes were taken: why it does not answer.
 pub data Notes (device : DeviceParts) (state : DeviceState) (noted : Option CmlBit) (before : List Leg) (bytes : List ℕ) (behind : List Leg) : Type 0 where
   answers : HasToAnswer device before bytes behind → noted ≡ bit_of_answer (answer device state bytes) → Notes device state noted before bytes behind
   no_answer : (HasToAnswer device before bytes behind → ⊥) → noted ≡ None → Notes device state noted before bytes behind
@@ -75,7 +75,7 @@ abbrev pub BytesAre : Bool → DeviceParts → DeviceState → Kept → List Leg
 BytesAre false device state k before bytes behind = AllTaken device state k before bytes behind
 BytesAre true device state k before bytes behind = Refuses device (leg_place before) bytes state (with_noted device k.noted state)
 
--- This is the own leg, with the legs before and behind it.
+-- This is the own leg, with the legs before and after it.
 pub record IsOwn (device : DeviceParts) (state : DeviceState) (k : Kept) (before : List Leg) (own : Leg) (bytes : List ℕ) (behind : List Leg) : Type 0 where
   pub kept_own : k.own ≡ true
   pub first : some_is_to (write_address device.address) before ≡ false
@@ -130,7 +130,7 @@ pub data IsMute (device : DeviceParts) (state : DeviceState) (earlier : List Leg
 
 -- ---- phases
 
--- Behind START.
+-- After START.
 pub record AtStart (device : DeviceParts) (state : DeviceState) (k : Kept) (behind_first : Bool) (earlier : List Leg) (leg : Leg) : Type 0 where
   pub nothing : sent leg ≡ []
   pub behind_own : behind_first ≡ is_behind_own device earlier
@@ -165,7 +165,7 @@ abbrev pub IsBehind : Exchange → DeviceParts → DeviceState → Legs → Type
 IsBehind x device state Outside = x.phase ≡ phases.Outside
 IsBehind x device state (Inside earlier leg) = (x.place ≡ leg_place earlier) × InLeg x.phase x device state earlier leg
 
--- The exchange of this device stands behind these legs, where the device's state since the last STOP
+-- The exchange of this device stands after these legs, where the device's state since the last STOP
 -- is this one.
 pub record StandsIn (x : Exchange) (device : DeviceParts) (state : DeviceState) (legs : Legs) : Type 0 where
   pub known : x.device.now ≡ device
@@ -174,7 +174,7 @@ pub record StandsIn (x : Exchange) (device : DeviceParts) (state : DeviceState) 
 
 -- ---- what it is asked
 
--- Behind these legs came this byte, and its registers have to answer this body.
+-- After these legs came this byte, and its registers have to answer this body.
 pub record IsAskedIn (x : Exchange) (device : DeviceParts) (state : DeviceState) (legs : Legs) (byte : ℕ) (body : List ℕ) : Type 0 where
   pub known : x.device.now ≡ device
   pub accepted : IsDevice device

@@ -9,14 +9,14 @@ use Rattle.pmb_devices.specs.declared.bus.Bus.{Bus}
 use Rattle.pmb_devices.specs.Bus.{AreAnswered, AnsweredSignal, legs_after}
 use Rattle.pmb_devices.specs.Runs.{Runs, first_members}
 
--- What a bus went through since it was made: the stretches that STOP ended, each device with its state at
--- the last STOP, or its first one, and each signal since then, with the answer to it.
+-- What a bus went through since it was made: the stretches that STOP ended, each device with its
+-- state at the last STOP, or its first one, and each signal since then, with the answer to it.
 pub record BusStanding : Type 0 where
   pub past : List (List AnsweredSignal)
   pub members : List InState
   pub history : List AnsweredSignal
 
--- Each device stands behind these legs, in its own state.
+-- Each device stands after these legs, in its own state.
 abbrev pub AllStand : Legs → List Device → List InState → Type 0
 AllStand legs [] [] = Unit {0}
 AllStand legs [] (member ∷ members) = ⊥

@@ -1,7 +1,7 @@
 -- What a host and its bus say of where their exchange stands.
 --
--- Up to STOP what the host heard, with the answer to its last signal, is what the bus has since the last
--- STOP before. Behind STOP the bus stands between packets, and the host tells its end.
+-- Up to STOP what the host heard, with the answer to its last signal, is what the bus has since the
+-- last STOP before. After STOP the bus stands between packets, and the host tells its end.
 use Rattle.std.specs.Prelude.{◌≡◌, ℕ, Option, Some, None, List, [], ◌∷◌, ◌++◌, length, map}
 use Rattle.pmb_bus.specs.declared.event.Event.{Event}
 use Rattle.pmb_bus.specs.declared.event.Event.TheVariants as events
@@ -22,8 +22,8 @@ use Rattle.pmb_exchange.specs.declared.exchange.Exchange.{Exchange}
 use Rattle.pmb_exchange.specs.Exchange.{Exchanges, EndsWith}
 use Rattle.pmb_exchange.specs.Run.{AreMembers, AreSentInTurn, IsRequested, stopped}
 
--- An exchange on a bus: what the host is to do, what the bus went through before, each device with its
--- state then, the events that were recorded so far, and how many signals were sent.
+-- An exchange on a bus: what the host is to do, what the bus went through before, each device with
+-- its state then, the events that were recorded so far, and how many signals were sent.
 pub record ExchangeStanding : Type 0 where
   pub job : Job
   pub past : List (List AnsweredSignal)
@@ -31,8 +31,8 @@ pub record ExchangeStanding : Type 0 where
   pub events : List Event
   pub sent : ℕ
 
--- The exchange is over: a transaction was exchanged, its packet recorded, its end told, and each device
--- became what the transaction makes of it.
+-- The exchange is over: a transaction was exchanged, its packet recorded, its end told, and each
+-- device became what the transaction makes of it.
 pub record IsOver (standing : ExchangeStanding) (step : HostStep) (bus : Bus) : Type 0 where
   pub done : TransactionData
   pub exchanges : Exchanges standing.members standing.job.task done
@@ -55,7 +55,7 @@ pub record IsRunning (standing : ExchangeStanding) (history : List AnsweredSigna
   pub events_are : standing.events ≡ recorded_events history
   pub sent_is : standing.sent ≡ length history
 
--- STOP was sent behind them.
+-- STOP was sent after them.
 pub record IsStopped (standing : ExchangeStanding) (history : List AnsweredSignal) (bus : Bus) : Type 0 where
   pub heard : HasHeard standing history
   pub in_turn : (result : DeviceSignal) → AreSentInTurn standing.job (stopped history result)

@@ -9,8 +9,8 @@ use Rattle.pmb_object.specs.Member.{Member, AreWritable, items_text, members_tex
 use Rattle.pmb_fields.specs.declared.voltage.Sign.{Sign}
 use Rattle.pmb_fields.specs.declared.voltage.Sign.TheVariants.{Signed, Unsigned}
 
--- Members are appended to those of an object that has some, which makes its text longer by that many
--- bytes at most.
+-- Members are appended to those of an object that has some, which makes its text longer by that
+-- many bytes at most.
 pub record Appends (members : List Member) (most : ℕ) (old new : List ℕ) : Type 0 where
   pub items : new ≡ old ++ members_text Later members
   pub longer : length new ≤ length old + most
@@ -22,7 +22,7 @@ pub record AppendsTexts (place : Place) (texts : List (List ℕ)) (most : ℕ) (
   pub longer : length new ≤ length old + most
   pub writable : AllByRecursion AreBytes texts
 
--- the place behind them
+-- the place after them
 abbrev pub place_behind : Place → List (List ℕ) → Place
 place_behind place texts = place_after place texts
 

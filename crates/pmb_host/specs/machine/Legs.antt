@@ -4,7 +4,7 @@ use Rattle.std.specs.Option.{option_to_list}
 use Rattle.pmb_bus.specs.Pec.{pec}
 use Rattle.pmb_host.specs.declared.leg.Leg.{Leg}
 
--- the data, behind the count of a block
+-- the data, after the count of a block
 abbrev pub wire_of : Leg → List ℕ
 wire_of leg = option_to_list leg.count ++ leg.«data».now
 

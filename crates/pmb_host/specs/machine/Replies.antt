@@ -1,4 +1,4 @@
--- How far a reply is behind a byte of it, and what is told of its data.
+-- How far a reply is after a byte of it, and what is told of its data.
 use Rattle.std.specs.Prelude.{◌≡◌, ◌≢◌, ℕ, ◌+◌, ◌*◌, ◌<◌, ◌≤◌, Bool, true, if◌then◌else◌, Option, Some, None, List, [], ◌∷◌, ◌++◌, length}
 use Rattle.pmb_command.specs.declared.form.Form.{Form}
 use Rattle.pmb_command.specs.Wire.{Fits, wire, wire_length}
@@ -13,8 +13,8 @@ use Rattle.pmb_host.specs.Steps.{ReplyData, AllBytes, OneValue}
 abbrev pub whole_length : Form → Bool → List ℕ → ℕ
 whole_length form with_pec bytes = wire_length form bytes + (if with_pec then 1 else 0)
 
--- A reply is this far: these are its bytes, the last of them is `byte`, and `crc` is the packet error
--- code of all before it.
+-- A reply is this far: these are its bytes, the last of them is `byte`, and `crc` is the packet
+-- error code of all before it.
 abbrev pub IsState : ReplyState → Form → Bool → List ℕ → ℕ → ℕ → Type 0
 IsState Short form with_pec bytes byte crc = length bytes < whole_length form with_pec bytes
 IsState Whole form with_pec bytes byte crc = (whole_length form with_pec bytes ≤ length bytes) × (with_pec ≡ true → byte ≡ crc)

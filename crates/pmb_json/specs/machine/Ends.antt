@@ -12,7 +12,7 @@ ends_word b = is_separator b || b == character "#"
 abbrev pub IsOver : List ℕ → List ℕ → Type 0
 IsOver word at_hand = ((at_hand ≢ []) × (front_word at_hand ≡ [])) ⊎ (32 ≤ length word)
 
--- So many bytes stand in front of the first LF.
+-- So many bytes stand before the first LF.
 pub record EndsLine (bytes : List ℕ) (count : ℕ) : Type 0 where
   pub in_line : HasNoLf (take count bytes)
   pub lf : drop count bytes ≡ character "\n" ∷ drop (count + 1) bytes

@@ -58,7 +58,7 @@ pub record IsMadeAs (start now : Json) : Type 0 where
 abbrev pub longer_line : BadLine → List ℕ → BadLine
 longer_line bad more = record bad { line = bad.line ++ more }
 
--- behind its bytes so far, and where its word's object was counted too
+-- after its bytes so far, and where its word's object was counted too
 abbrev pub behind_bytes : Before → BadLine → Before
 behind_bytes b bad = with_bytes (at_word b bad) bad.line
 
@@ -70,14 +70,14 @@ abbrev pub last_word_objects : Before → List Object
 last_word_objects b = bad_token_object (capped b.n) (place_of_last_word b.read) (open_word b.read) ∷ end_objects (after_bad_token b.counts)
 
 module _ (choice : ChoiceData) (profile : List DeviceParts) where
-  -- Its word is no token, whatever follows behind the bytes at hand.
+  -- Its word is no token, whatever follows after the bytes at hand.
   pub record IsBadSoFar (b : Before) (bad : BadLine) (at_hand : List ℕ) : Type 0 where
     pub word : (more : List ℕ) → FirstBadWord (bad.front ++ (bad.line ++ (at_hand ++ more))) bad.events (length bad.front)
     pub all : List Span
     pub reads : SpansFrom profile b.n bad.events all
     pub reported : bad.spans ≡ filter is_whole all
 
-  -- ---- where it is behind `b`: these bytes were used since, and this text was put out
+  -- ---- where it is after `b`: these bytes were used since, and this text was put out
 
   -- In words that may be tokens, of which the stream was told that began there as `begun`.
   pub record InWords (scan : Scan) (stream : Stream) (b : Before) (bytes text : List ℕ) : Type 0 where
@@ -123,15 +123,15 @@ module _ (choice : ChoiceData) (profile : List DeviceParts) where
         → text ≡ object_lines choice.devices (bad_line_objects choice profile b (longer_line bad line))
 
   module _ (after : BadWords) where
-    -- Behind these bad lines, which gave these objects, reading began anew at `b`: what follows there
-    -- follows from the first byte too.
+    -- After these bad lines, which gave these objects, reading began anew at `b`: what follows
+    -- there follows from the first byte too.
     pub record LeadsTo (b : Before) (bads : List BadLine) (objects : List Object) : Type 0 where
       pub whole : (rest : List ℕ) (more : List BadLine) (others : List Object) (counts : CountsData) → ObjectsFrom choice profile after b rest more others counts
           → ObjectsFrom choice profile after at_first (b.read ++ rest) (bads ++ more) (objects ++ others) counts
       pub so_far : (rest : List ℕ) (more : List BadLine) (others : List Object) → SoFarFrom choice profile after b rest more others
           → SoFarFrom choice profile after at_first (b.read ++ rest) (bads ++ more) (objects ++ others)
 
-    -- All bytes, and all text: those up to there, and those behind it, of which this holds.
+    -- All bytes, and all text: those up to there, and those after it, of which this holds.
     pub record Behind (Holds : Before → List ℕ → List ℕ → Type 0) (bytes text : List ℕ) : Type 0 where
       pub b : Before
       pub bads : List BadLine

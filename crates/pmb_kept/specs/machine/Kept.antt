@@ -26,7 +26,7 @@ in_slot Refused kept = kept.refused
 in_slot Alert kept = kept.alert
 in_slot NoAlert kept = kept.no_alert
 
--- The first parts of the write are those of the packet under way; those behind them are left over.
+-- The first parts of the write are those of the packet under way; those after them are left over.
 abbrev pub kept_data : Inside → KeptData
 kept_data kept = record { parts = take kept.count (parts_of kept.write); last = transaction_data (in_slot kept.last kept) }
 

@@ -12,7 +12,7 @@ answered_so_far a = record { expected = record { form = a.form; mode = a.mode; c
 abbrev pub CountsAlone : List ℕ → Type 0
 CountsAlone bytes = (others more : List ℕ) → pec others ≡ pec bytes → pec (others ++ more) ≡ pec (bytes ++ more)
 
--- Some bytes have the code of those in front of the answer. Behind them stands the code so far, and
+-- Some bytes have the code of those before the answer. After them stands the code so far, and
 -- what is left.
 pub record IsAnswered (a : Inside) : Type 0 where
   pub before : List ℕ

@@ -1,4 +1,4 @@
--- What is left of data in a form and of the packet error code behind them, as the code counts it.
+-- What is left of data in a form and of the packet error code after them, as the code counts it.
 use Rattle.std.specs.Prelude.{◌≡◌, ℕ, ◌+◌, ◌-◌, ◌<◌, ◌⊎◌, Bool, true, false, if◌then◌else◌, nat_eq, nat_lt, Option, Some, None, List, [], ◌∷◌, ◌++◌, length}
 use Rattle.pmb_command.specs.declared.form.Form.{Form}
 use Rattle.pmb_command.specs.declared.form.Form.TheVariants.{Zero, One, Two, Four, Eight, Block}
@@ -68,8 +68,8 @@ has_code Closed mode = false
 
 -- ---- what is left, of what was taken
 
--- Bytes spell data in a form, and behind them the packet error code, if there is one, which covers
--- bytes in front of them too.
+-- Bytes spell data in a form, and after them the packet error code, if there is one, which covers
+-- bytes before them too.
 pub record SpellsData (form : Form) (mode : PecMode) (before : List ℕ) (whole : List ℕ) (with_pec : Bool) (bytes : List ℕ) : Type 0 where
   pub fits : Fits form whole
   pub allowed : AllowsPec mode with_pec
@@ -111,7 +111,7 @@ pub record IsData (form : Form) (mode : PecMode) (bytes : List ℕ) : Type 0 whe
   pub allowed : AllowsPec mode true
   pub spelled : bytes ≡ wire form whole
 
--- Nothing may follow: behind the data stands their packet error code, or the mode allows none.
+-- Nothing may follow: after the data stands their packet error code, or the mode allows none.
 pub record IsEnded (form : Form) (mode : PecMode) (before : List ℕ) (bytes : List ℕ) : Type 0 where
   pub whole : List ℕ
   pub with_pec : Bool

@@ -29,7 +29,7 @@ pub record Kept : Type 0 where
 abbrev pub kept : Inside → Kept
 kept leg = record { device = leg.device.now; place = leg.place; shape = leg.forms; write = leg.write; call = leg.call; crc = leg.crc }
 
--- It is that of the bytes behind a code.
+-- It is that of the bytes after a code.
 pub record IsBehindCode (leg : Kept) (code : ℕ) (behind : List ℕ) : Type 0 where
   pub shape_is : leg.shape ≡ forms leg.device code
   pub called_with_data : calls_fit leg.shape.call ≡ true
@@ -37,7 +37,7 @@ pub record IsBehindCode (leg : Kept) (code : ℕ) (behind : List ℕ) : Type 0 w
   pub write : LeavesOf leg.shape.write leg.device.pec (write_address leg.device.address ∷ code ∷ []) behind leg.write
   pub call : LeavesOf (call_form leg.place leg.shape) Off (write_address leg.device.address ∷ code ∷ []) behind leg.call
 
--- In front of the code nothing of it counts.
+-- Before the code nothing of it counts.
 abbrev pub IsKeptLeg : Kept → List ℕ → Type 0
 IsKeptLeg leg [] = Unit {0}
 IsKeptLeg leg (code ∷ behind) = IsBehindCode leg code behind

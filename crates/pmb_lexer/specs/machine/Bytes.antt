@@ -6,7 +6,7 @@ use Rattle.pmb_bus.specs.Text.{ends_in_comment, is_separator, open_word, WordBeg
 use Rattle.pmb_lexer.specs.declared.lexer.PmbLexer.{PmbLexer}
 use Rattle.pmb_lexer.specs.machine.Standing.{IsPlace}
 
--- behind one more byte of a word
+-- after one more byte of a word
 abbrev pub longer : PmbLexer → ℕ → PmbLexer
 longer lexer b =
     if lexer.place == 0 then record lexer { place = 2; at = lexer.used; first = b } else (

@@ -9,12 +9,12 @@ use Rattle.pmb_line.specs.machine.Reading.{ends_line_word, located}
 abbrev pub EndsWord : List ℕ → Type 0
 EndsWord text = 0 < length text → ends_line_word (slice_index text 0) ≡ true
 
--- The words of the text are this one and those behind its end.
+-- The words of the text are this one and those after its end.
 pub record IsFront (text : List ℕ) (front : FrontWord) : Type 0 where
   pub ordered : front.start ≤ front.end
   pub within : front.end ≤ length text
   pub first : (at : ℕ) → map located (words_from at text) ≡ record { at = at + front.start; token = Some front.token } ∷ map located (words_from (at + front.end) (drop front.end text))
 
--- a byte of two digits behind a space
+-- a byte of two digits after a space
 abbrev pub common_byte : ℕ → FrontWord
 common_byte byte = record { start = 1; end = 3; token = Byte byte }

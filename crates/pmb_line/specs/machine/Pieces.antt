@@ -93,7 +93,7 @@ abbrev pub WritesOn : List Located → List PartData → Bool → List Located �
 WritesOn all ps true left = LineStandsAt all (write_next ps) left
 WritesOn all ps false left = SaysTransaction all (says.Write ps)
 
--- A part more of a refused packet, of an address and the bytes behind it.
+-- A part more of a refused packet, of an address and the bytes after it.
 pub record Pushed (ps : List PartData) (addr : ℕ) (sent : List ℕ) (pec : Bool) (after : List PartData) : Type 0 where
   pub code : ℕ
   pub bs : List ℕ
@@ -111,7 +111,7 @@ abbrev pub PushesPart : List PartData → ℕ → List ℕ → Bool → ℕ → 
 PushesPart ps addr sent pec at (Ok done) after = Pushed ps addr sent pec after
 PushesPart ps addr sent pec at (Err fault) after = NotPushed ps sent at fault
 
--- an address of a refused packet and the bytes behind it: a part, or what was refused
+-- an address of a refused packet and the bytes after it: a part, or what was refused
 abbrev pub ReadsLeg : List Located → ℕ → List PartData → ℕ → List ℕ → Bool → Result Bool WordFault → List Located → Type 0
 ReadsLeg all length ps addr sent at_read (Ok true) after = LineStandsAt all (refused_next ps) after
 ReadsLeg all length ps addr sent at_read (Ok false) after = SaysTransaction all (says.Refused (record { parts = ps; addr = addr; sent = sent; at_read = at_read }))

@@ -16,7 +16,7 @@ use Rattle.pmb_line.specs.Fault.{ArePartsWithin, IsCallWithin, IsPartWithin, IsR
 abbrev pub part_with : ℕ → ℕ → List ℕ → Bool → PartData
 part_with addr code bytes pec = record { addr = addr; code = code; bytes = bytes; pec = pec }
 
--- The words so far. `_next` is behind the keyword or a `+`, where an address comes.
+-- The words so far. `_next` is after the keyword or a `+`, where an address comes.
 pub data Partial : Type 0 where
   nothing : Partial
   write_next : List PartData → Partial
@@ -56,14 +56,14 @@ on_keyword (Some Refused) = Some (refused_next [])
 on_keyword (Some Alert) = Some alert_next
 on_keyword _ = None
 
--- behind a part, where there may be data more, `pec` and `+`
+-- after a part, where there may be data more, `pec` and `+`
 abbrev pub on_data : Option Token → (ℕ → Partial) → Partial → Partial → Option Partial
 on_data (Some (Byte b)) more pec plus = Some (more b)
 on_data (Some Pec) more pec plus = Some pec
 on_data (Some Plus) more pec plus = Some plus
 on_data _ more pec plus = None
 
--- behind `pec`, where a `+` may come
+-- after `pec`, where a `+` may come
 abbrev pub on_plus : Option Token → Partial → Option Partial
 on_plus (Some Plus) plus = Some plus
 on_plus _ plus = None
@@ -85,7 +85,7 @@ on_reply (Some (Byte b)) more pec = Some (more b)
 on_reply (Some Pec) more pec = Some pec
 on_reply _ more pec = None
 
--- behind what was sent to the address of a `refused`: the first byte is a code, if it is a part
+-- after what was sent to the address of a `refused`: the first byte is a code, if it is a part
 abbrev pub on_sent : Option Token → List PartData → ℕ → List ℕ → Option Partial
 on_sent (Some (Byte b)) ps addr sent = Some (refused_sent ps addr (sent ++ b ∷ []))
 on_sent (Some Read) ps addr sent = Some (refused_read ps addr sent)
@@ -93,7 +93,7 @@ on_sent (Some Pec) ps addr (code ∷ bytes) = Some (refused_pec ps addr code byt
 on_sent (Some Plus) ps addr (code ∷ bytes) = Some (refused_next (ps ++ part_with addr code bytes false ∷ []))
 on_sent _ ps addr sent = None
 
--- behind `alert`
+-- after `alert`
 abbrev pub on_alert : Option Token → Option Partial
 on_alert (Some (Byte b)) = Some (alert_byte b)
 on_alert (Some Nobody) = Some alert_none

@@ -28,7 +28,7 @@ inside_behind Comment b = if b == character "\n" then Between else Comment
 inside_behind Between b = inside_of b
 inside_behind Word b = inside_of b
 
--- behind one byte more
+-- after one byte more
 abbrev pub after_byte : Places → ℕ → Places
 after_byte p b =
     let inside = inside_behind p.inside b in
@@ -45,7 +45,7 @@ after_byte p b =
 abbrev pub place_beside : Place → Place
 place_beside place = record { line = place.line; column = capped (place.column + 1) }
 
--- behind a word that begins here and ends there, and a space
+-- after a word that begins here and ends there, and a space
 abbrev pub behind_word : Places → Place → Places
 behind_word p end = record { here = place_beside end; word = p.here; end = end; inside = Between }
 
@@ -55,7 +55,7 @@ behind_word p end = record { here = place_beside end; word = p.here; end = end; 
 abbrev pub further_along : Place → ℕ → Place
 further_along place n = record { line = place.line; column = capped (place.column + n) }
 
--- behind a word of one byte that stands there, and LF
+-- after a word of one byte that stands there, and LF
 abbrev pub behind_line : Place → Places
 behind_line word = record { here = place_after (place_beside word) (character "\n"); word = word; end = place_beside word; inside = Between }
 

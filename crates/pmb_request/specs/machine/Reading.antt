@@ -17,7 +17,7 @@ use Rattle.pmb_request.specs.Fault.{IsTaskWithin}
 abbrev pub command_with : ℕ → ℕ → Bool → Command
 command_with addr code pec = record { addr = addr; code = code; pec = pec }
 
--- The words so far. Behind `write` the line is read as that of a transaction.
+-- The words so far. After `write` the line is read as that of a transaction.
 pub data Partial : Type 0 where
   nothing : Partial
   writing : Partial
@@ -56,7 +56,7 @@ abbrev pub on_byte : Option Token → (ℕ → Partial) → Option Partial
 on_byte (Some (said.Byte b)) next = Some (next b)
 on_byte _ next = None
 
--- behind the code
+-- after the code
 abbrev pub behind_code : Verb → ℕ → ℕ → Partial
 behind_code Read a c = behind a c to_read
 behind_code Call a c = behind a c (to_call [])

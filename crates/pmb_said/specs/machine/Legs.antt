@@ -12,10 +12,10 @@ pub record LegsData : Type 0 where
   pub last : LastLeg
   -- the address byte of the last leg that has one
   pub address : Option ℕ
-  -- that of the last written leg, and the bytes behind it
+  -- that of the last written leg, and the bytes after it
   pub written_address : Option ℕ
   pub written : List ℕ
-  -- the bytes behind the address of the last leg, where that is read
+  -- the bytes after the address of the last leg, where that is read
   pub reply : List ℕ
 
 abbrev pub legs_data : Inside → LegsData

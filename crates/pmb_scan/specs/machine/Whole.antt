@@ -7,7 +7,8 @@ use Rattle.pmb_scan.specs.declared.scan.Scan.{Scan}
 use Rattle.pmb_scan.specs.Reached.{Reached, IsWhole, behind_whole}
 use Rattle.pmb_scan.specs.machine.Standing.{ScanStandsAt}
 
--- A scan stood between two packets, and took one in front of a piece: so many bytes and events of it.
+-- A scan stood between two packets, and took one at the front of a piece: so many bytes and events
+-- of it.
 pub record TakesWhole (reached : Reached) (piece : List ℕ) (used : ℕ) (count : ℕ) (after : Scan) : Type 0 where
   pub n : ℕ
   pub events : List Event

@@ -17,7 +17,7 @@ begun_at place at = record { at = capped at; place = place at }
 abbrev pub begun_legs : (ℕ → Place) → ℕ → List Event → List Begun
 begun_legs place n events = take 17 (map (begun_at place) (starts n events))
 
--- what is kept behind an event more, before which so many came, and whose word stands there
+-- what is kept after an event more, before which so many came, and whose word stands there
 abbrev pub begun_behind : List Begun → ℕ → Place → Event → List Begun
 begun_behind begun at place Start = take 17 (begun ++ record { at = at; place = place } ∷ [])
 begun_behind begun at place (Byte b) = begun

@@ -19,7 +19,7 @@ HasOneStart (Refused t) = ⊤
 HasOneStart (Alert t) = ⊤
 HasOneStart NoAlert = ⊤
 
--- behind these events of a packet that began behind n events, and their canonical text
+-- after these events of a packet that began after n events, and their canonical text
 abbrev pub behind_inside : Reached → ℕ → List Event → Reached
 behind_inside reached n inside =
     record reached { text = reached.text ++ canonical_text inside; events = reached.events ++ inside; standing = Open n inside }

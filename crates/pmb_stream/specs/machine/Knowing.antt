@@ -31,7 +31,7 @@ stream_profile stream = stream.profile.now
 abbrev pub stream_tally : Stream → Tally
 stream_tally stream = stream.tally
 
--- what is known where a packet begins behind what it was given
+-- what is known where a packet begins after what it was given
 abbrev pub stream_seen : Stream → Before → SeenData
 stream_seen stream b = seen_behind (stream_choice stream) (stream_profile stream) b.ts
 
@@ -50,14 +50,14 @@ pub record IsCleared (stream : Stream) : Type 0 where
   pub said : SaidStandsAt stream.said []
   pub begun : stream.begun.items ≡ []
 
--- What is kept of a packet under way, which began behind b.n + n events: what it said, and its STARTs,
--- whatever text follows. And whether events are passed over.
+-- What is kept of a packet under way, which began after b.n + n events: what it said, and its
+-- STARTs, whatever text follows. And whether events are passed over.
 pub record KeepsPacket (b : Before) (stream : Stream) (text : List ℕ) (n : ℕ) (events : List Event) : Type 0 where
   pub reading : stream.passing ≡ false
   pub said : SaidStandsAt stream.said events
   pub begun : (more : List ℕ) → stream.begun.items ≡ begun_legs (event_place b.read b.n (text ++ more)) (b.n + n) events
 
--- whether events are passed over behind one that is
+-- whether events are passed over after one that is
 abbrev pub passes_on : Event → Bool
 passes_on Start = true
 passes_on (Byte b) = true
@@ -76,7 +76,7 @@ IsCountOf (Open n events) count = n + length events ≡ count
 IsCountOf (Held n refusal) count = ⊤
 IsCountOf (Passing n) count = n ≡ count
 
--- It began behind `b`, between words, and a scan that began with it has reached so much since.
+-- It began after `b`, between words, and a scan that began with it has reached so much since.
 pub record StreamAt (b : Before) (stream : Stream) (reached : Reached) : Type 0 where
   pub between : EndsBetween b.read
   pub profile : reached.profile ≡ stream_profile stream

@@ -31,7 +31,7 @@ pub record HasParts (profile : List DeviceParts) (kept : KeptData) (parts : List
   pub distinct : IsDistinct nat_eq (addresses parts)
   pub each : PartsEvents profile parts legs
 
--- Behind them the address byte of a write was sent.
+-- After them the address byte of a write was sent.
 pub record AtAddress (profile : List DeviceParts) (u : UnderWay) (addr : ℕ) (events : List Event) : Type 0 where
   pub parts : List PartData
   pub legs : List Event
@@ -40,7 +40,7 @@ pub record AtAddress (profile : List DeviceParts) (u : UnderWay) (addr : ℕ) (e
   pub another : IsNew addr (addresses parts)
   pub spelled : events ≡ legs ++ Start ∷ Byte (write_address addr) ∷ []
 
--- Behind them stands a leg, of a known device.
+-- After them stands a leg, of a known device.
 pub record IsLeg (profile : List DeviceParts) (kept : KeptData) (written : Written) (parts : List PartData) (events : List Event) : Type 0 where
   pub legs : List Event
   pub has : HasParts profile kept parts legs
@@ -56,7 +56,7 @@ pub record InLeg (profile : List DeviceParts) (u : UnderWay) (events : List Even
   pub parts : List PartData
   pub leg : IsLeg profile u.kept written parts events
 
--- Behind that a byte was sent.
+-- After that a byte was sent.
 pub record BehindByte (profile : List DeviceParts) (u : UnderWay) (byte : ℕ) (events : List Event) : Type 0 where
   pub written : Written
   pub is : u.leg ≡ Some written
@@ -90,7 +90,7 @@ pub record HasAsked (profile : List DeviceParts) (u : UnderWay) (front : List Ev
   pub at : addr ≡ written.device.address
   pub spelled : front ≡ leg (write_address written.device.address ∷ written.bytes)
 
--- what was asked in front of the leg, and the address that is read
+-- what was asked before the leg, and the address that is read
 abbrev pub IsAskedOfSource : Source → List DeviceParts → UnderWay → List Event → ℕ → Type 0
 IsAskedOfSource sources.Device profile u front addr = HasAsked profile u front addr
 IsAskedOfSource sources.Alert profile u front addr = (front ≡ []) × (addr ≡ alert_address)

@@ -15,7 +15,7 @@ use Rattle.pmb_writer.specs.declared.course.Course.{Course}
 use Rattle.pmb_writer.specs.declared.leg.Leg.{Leg}
 use Rattle.pmb_writer.specs.declared.legs.Legs.{Legs}
 
--- The packet error code of bytes behind those that have a code.
+-- The packet error code of bytes after those that have a code.
 unfoldable pub code_on : ℕ → List ℕ → ℕ
 code_on crc [] = crc
 code_on crc (b ∷ bytes) = code_on (pec (bit_xor crc b ∷ [])) bytes
@@ -44,7 +44,7 @@ answered_by last [] = []
 answered_by last (b ∷ []) = Byte b ∷ last ∷ []
 answered_by last (b ∷ c ∷ bytes) = Byte b ∷ Ack ∷ answered_by last (c ∷ bytes)
 
--- bytes behind another one, each behind the ACK of the byte before
+-- bytes after another one, each after the ACK of the byte before
 abbrev pub behind_acks : List ℕ → List Event
 behind_acks bytes = flat_map (λ b. Ack ∷ Byte b ∷ []) bytes
 
@@ -53,11 +53,11 @@ abbrev pub code_before : Bool → ℕ → ℕ
 code_before true crc = crc
 code_before false crc = 0
 
--- the events of a leg behind its START
+-- the events of a leg after its START
 abbrev pub leg_events : ℕ → LegData → List Event
 leg_events crc l = answered_by l.last (with_code l.pec crc l.bytes)
 
--- those of legs behind bytes with a code, and STOP where it is to come
+-- those of legs after bytes with a code, and STOP where it is to come
 unfoldable pub legs_events : Bool → ℕ → List LegData → List Event
 legs_events true crc [] = Stop ∷ []
 legs_events false crc [] = []
@@ -118,12 +118,12 @@ leg_data l = record {
   goes_on = l.goes_on;
 }
 
--- a leg of which nothing is written, with the most bytes behind the address that one has
+-- a leg of which nothing is written, with the most bytes after the address that one has
 pub record IsWhole (l : Leg) : Type 0 where
   pub begins : IsSome l.address
   pub few : length l.«data».now ≤ 258
 
--- the two behind the parts, where there are any
+-- the two after the parts, where there are any
 pub record AreWhole (l : Legs) : Type 0 where
   pub first : IfSome l.first IsWhole
   pub second : IfSome l.second IsWhole

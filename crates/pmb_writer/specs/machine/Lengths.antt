@@ -12,7 +12,7 @@ pec_length Off = 0
 pec_length On = 1
 pec_length Optional = 1
 
--- There is a form, and its wire, with so many bytes behind it, is longer than the bytes.
+-- There is a form, and its wire, with so many bytes after it, is longer than the bytes.
 abbrev pub leaves_room : Option Form → ℕ → List ℕ → Bool
 leaves_room None more bytes = false
 leaves_room (Some form) more bytes = nat_lt (length bytes) (wire_length form bytes + more)
@@ -22,7 +22,7 @@ abbrev pub is_whole_wire : Option Form → List ℕ → Bool
 is_whole_wire None bytes = false
 is_whole_wire (Some form) bytes = nat_eq (length bytes) (wire_length form bytes)
 
--- A body may go on behind a code and some bytes: that of a write, or in a first leg of a call.
+-- A body may go on after a code and some bytes: that of a write, or in a first leg of a call.
 abbrev pub may_go_on : Bool → PecMode → Shape → List ℕ → Bool
 may_go_on first mode shape bytes = leaves_room shape.write (pec_length mode) bytes || (first && leaves_room shape.call 0 bytes)
 

@@ -1,4 +1,4 @@
--- Each name goes before those of the kinds behind it.
+-- Each name goes before those of the kinds after it.
 use Rattle.std.proofs.Common.{[], sym, ◌∙◌, append-nil, arith}
 use Rattle.pmb_capture.proofs.lines.append_kinds.Goals as goal
 

@@ -1,4 +1,4 @@
--- Two digits twice behind what comes before them, or a text of its own.
+-- Two digits twice after what comes before them, or a text of its own.
 use Rattle.std.proofs.Common.{◌≡◌, ◌/◌, List, ℕ, ◌++◌, decimal, ap, ◌∙◌, arith}
 use Rattle.pmb_object.proofs.Decimals.{number_appended}
 use Rattle.pmb_object.proofs.number.append_number.Goals as goal

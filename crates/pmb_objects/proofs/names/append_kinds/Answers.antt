@@ -1,4 +1,4 @@
--- Each name goes before those of the kinds behind it.
+-- Each name goes before those of the kinds after it.
 use Rattle.std.proofs.Common.{[], ◌++◌, sym, ap, ◌∙◌, append-nil}
 use Rattle.pmb_objects.proofs.Lists.{array_appended, no_items}
 use Rattle.pmb_objects.proofs.names.append_kinds.Goals as goal

@@ -5,7 +5,7 @@ use Rattle.pmb_request.specs.Spelling.{to_call}
 use Rattle.pmb_request.specs.machine.Reading.{behind, StandsAt}
 use Rattle.pmb_request.proofs.command_words.take_bytes.Given as goal
 
--- where a reader stands behind the bytes so far
+-- where a reader stands after the bytes so far
 abbrev pub invariant-loop-word : goal.invariant-loop-word
 invariant-loop-word l = record {
   stands : (all : List Word) (a c : ℕ) → StandsAt all (behind a c (to_call l.fn.bytes.items)) (words_left l.fn.words) → StandsAt all (behind a c (to_call l.bytes.items)) (words_left l.words);

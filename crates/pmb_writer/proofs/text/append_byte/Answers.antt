@@ -2,7 +2,7 @@ use Rattle.std.proofs.Common.{◌≡◌, ◌∙◌, ℕ, List, ◌++◌, ◌∷�
 use Rattle.hex.specs.Hex.{encode_with}
 use Rattle.pmb_writer.proofs.text.append_byte.Goals as goal
 
--- one more behind some
+-- one more after some
 pushed : (items before : List ℕ) (front : List ℕ) (byte : ℕ) (after : List ℕ) → before ≡ items ++ front → after ≡ before ++ byte ∷ [] → after ≡ items ++ (front ++ byte ∷ [])
 pushed items before front byte after was is = is ∙ (ap (λ (l : List ℕ). l ++ byte ∷ []) was ∙ append_assoc items front (byte ∷ []))
 

@@ -29,7 +29,7 @@ returns-in_ok-put_last_word-in-End-clause-takes g c start given text stands =
           (sym stands.made.bad_words ∙ c.in-End.is) refl (put.knows b knows).tally;
     }
 
--- or goes on behind its line
+-- or goes on after its line
 pub returns-in_ok-put_bad_word-in-GoOn-clause-takes : goal.returns-in_ok-put_bad_word-in-GoOn-clause-takes
 returns-in_ok-put_bad_word-in-GoOn-clause-takes g c start given text stands =
     let choice = json_choice start in

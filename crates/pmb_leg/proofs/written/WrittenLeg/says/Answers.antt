@@ -25,7 +25,7 @@ whole_data c =
     ap (is_whole c.self.inside.write) (sym c.pec-mode.ensures) ∙ sym c.is_whole.ensures ∙ c.if-not-is_whole.false in
     write_data (kept c.self.inside) c.in-Some.code.now c.in-Some.behind.now (is_kept k) c.in-Some-write.form c.in-Some-write.is done
 
--- they stand behind the code
+-- they stand after the code
 stand : (c : After-has_code-pec) → c.in-Some.behind.now ≡ checked c.has_code-pec.result (in_front c.self.inside.device.now c.in-Some.code.now) (wire c.in-Some-write.form (whole_data c).0)
 stand c =
     (whole_data c).1.spelled

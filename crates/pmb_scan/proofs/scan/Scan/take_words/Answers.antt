@@ -66,7 +66,7 @@ words-preserved g c = record {
       c.visit_bytes-in-None.ensures c.in_ok-take_event-in-Event.ensures.takes c.in_ok-take_event-in-Event.ensures.lexer refl (search (rules, common_steps));
 }
 
--- STOP, behind which a packet may begin
+-- STOP, after which a packet may begin
 pub packets-preserved : goal.packets-preserved
 packets-preserved g c = record {
   failures = c.in_ok-take_event-in-Event.ensures.failed ∙ c.words.invariant.failures;

@@ -8,7 +8,7 @@ use Rattle.pmb_stream.proofs.Putting.{puts_as, puts_both}
 use Rattle.pmb_stream.proofs.Starts.{refused_kept}
 use Rattle.pmb_stream.proofs.stream.Stream.put_packet.Goals as goal
 
--- parts, and the leg behind them
+-- parts, and the leg after them
 pub returns-in_ok-put_parts-in-Refused-clause-puts : goal.returns-in_ok-put_parts-in-Refused-clause-puts
 returns-in_ok-put_parts-in-Refused-clause-puts g c some known =
     let stream = c.args.self.now in

@@ -8,7 +8,7 @@ use Rattle.pmb_transaction.specs.Transaction.{part_data}
 use Rattle.pmb_writer.specs.machine.Legs.{LegData, leg_data, legs_events, part_leg}
 use Rattle.pmb_writer.proofs.legs.Legs.append.Goals as goal
 
--- STOP is left behind the last leg
+-- STOP is left after the last leg
 stop_left : (text : List ℕ) (crc : ℕ) → text ++ text_of Stop ≡ text ++ canonical_text (legs_events true crc [])
 unfolding legs_events
 stop_left text crc = ap (λ (t : List ℕ). text ++ t) (sym (append-nil (text_of Stop)))
