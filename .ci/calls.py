@@ -243,7 +243,7 @@ def compare_wholes(program, count):
             options["devices"] = r.sample([0x10, 0x40, 0x58, 0x4F], r.randrange(3))
         if r.randrange(8) == 0:
             profile = disturbed(r, profile)
-        # (a profile in front of an input ends at its first line %%)
+        # (a profile before an input ends at its first line %%)
         if b"%%" not in profile:
             compare_whole(program, command, profile, text, options)
 

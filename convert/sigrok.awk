@@ -4,7 +4,7 @@
 #       awk -f convert/sigrok.awk
 #
 # A line of the decoder is `25000-25000 i2c-1: Start`; the sample numbers are there with
-# --protocol-decoder-samplenum. Then a comment behind each packet has the sample of its START, or,
+# --protocol-decoder-samplenum. Then a comment after each packet has the sample of its START, or,
 # with -v rate=SAMPLES_PER_SECOND, its time in seconds. Addresses have seven bits, as the decoder
 # writes them at first; with its option address_format=unshifted say -v unshifted=1 here.
 #

@@ -173,15 +173,15 @@ typedef struct pmb_event {
 typedef struct pmb_lexer {
     uint64_t used;  /* how many bytes of the text were used; stays at 2^64 - 1 */
     uint64_t at;    /* the offset of the first byte of the word under way, or that is no token */
-    uint8_t place;  /* 0 between words, 1 in a comment, 2 and 3 behind one and two bytes of a word,
+    uint8_t place;  /* 0 between words, 1 in a comment, 2 and 3 after one and two bytes of a word,
                      * 4 where a word is no token */
     uint8_t first;  /* the first byte of the word under way */
     uint8_t second; /* its second byte */
 } pmb_lexer;
 
 /* Reads the next piece of a text, up to and with the byte that ends its next event, or all of it.
- * used is told how many bytes were read; those behind are to be given again, before what follows. A
- * text may be cut anywhere: its events are the same.
+ * used is told how many bytes were read; those after them are to be given again, before what follows.
+ * A text may be cut anywhere: its events are the same.
  * Returns PMB_OK, and writes the event; or PMB_NO_EVENT, where all is used; or PMB_BAD_TOKEN, where
  * a word is no token: lexer->at is the offset in the text of its first byte, and each further call
  * of this lexer returns the same and uses nothing. */
@@ -264,7 +264,7 @@ size_t pmb_run(const char *profile, size_t profile_length, const char *requests,
  * their power-up; VOUT_MODE alone, which is the profile's on each page; or nothing. */
 enum pmb_start { PMB_ALL_KNOWN = 0, PMB_LATE_FIXED_MODE = 1, PMB_LATE = 2 };
 
-/* What is done behind a word that is no token: reading ends, or goes on with the next line. */
+/* What is done after a word that is no token: reading ends, or goes on with the next line. */
 enum pmb_bad_words { PMB_END = 0, PMB_GO_ON = 1 };
 
 /* How the objects of a capture are wanted. */

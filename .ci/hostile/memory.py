@@ -82,9 +82,9 @@ def refuse_memory(program, report):
 
 
 def describe(case):
-    behind = " with a profile" if case.front else ""
+    after = " with a profile" if case.front else ""
     is_faulty = [text for text, _ in FAULTY].count(case.text) > 0
-    return name_of(case.words) + (" with a faulty profile" if is_faulty else behind)
+    return name_of(case.words) + (" with a faulty profile" if is_faulty else after)
 
 
 def faulty_profiles(program, report):

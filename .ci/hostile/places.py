@@ -37,7 +37,7 @@ def started_on(program, words, text, out, err, **faults):
 
 
 def both_outputs_on_one_file(program, report):
-    """`>file 2>&1`: the lines that were read, and behind them the fault."""
+    """`>file 2>&1`: the lines that were read, and after them the fault."""
     for words, text in runs():
         faults = {"fail_read": len(text), "move_at_most": 1}
         apart = program.run(words, text, **faults)

@@ -116,7 +116,7 @@ class Report:
 
 def tells_fault(words, line, answer):
     """Whether a faulty profile was refused by this line. `profile` may explain it in more lines, each
-    behind two spaces."""
+    after two spaces."""
     first, *others = answer.err.splitlines(True) or [b""]
     may_explain = words[:1] == ["profile"] and all(it.startswith(b"  ") for it in others)
     return (answer.status, answer.out, first) == (2, b"", line) and (not others or may_explain)

@@ -82,7 +82,7 @@ class Words:
         self.words = list(re.finditer(rb"[^ \t]+", line.split(b"#")[0]))
 
     def next(self):
-        """The next word, which is not used; empty behind the last one."""
+        """The next word, which is not used; empty after the last one."""
         return self.words[0][0] if self.words else b""
 
     def take(self):
@@ -136,7 +136,7 @@ def parse_write(words):
 
 
 def parse_reply(words):
-    """What stands behind the bytes of a read or a call."""
+    """What stands after the bytes of a read or a call."""
     words.need(b":")
     return words.bytes(255), words.take_if(b"pec")
 

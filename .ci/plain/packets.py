@@ -79,7 +79,7 @@ def fits(form, data):
 
 
 def missing(form, sent):
-    """How many bytes are missing, at least, behind those of a wire; below 0 if it was over."""
+    """How many bytes are missing, at least, after those of a wire; below 0 if it was over."""
     if form != "block":
         return SIZES[form] - len(sent)
     return 1 + sent[0] - len(sent) if sent else 1
@@ -90,7 +90,7 @@ def unwired(form, sent):
     return tuple(sent[1:] if form == "block" else sent)
 
 
-# Bodies: the bytes behind the address of a leg that is written
+# Bodies: the bytes after the address of a leg that is written
 
 def write_body(device, body):
     """The data and whether there is a packet error code, if the bytes are a write body."""
@@ -247,7 +247,7 @@ def leg(sent):
 
 
 def refused_leg(sent):
-    """The same with NACK behind the last byte, and STOP."""
+    """The same with NACK after the last byte, and STOP."""
     return leg(sent)[:-1] + [NACK, STOP]
 
 

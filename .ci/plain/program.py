@@ -33,7 +33,7 @@ def program(words, given):
 
 
 def front(given):
-    """The profile in front, and what stands behind the first line %%."""
+    """The profile at the front, and what stands after the first line %%."""
     border = re.search(rb"^%%\r?\n", given, re.MULTILINE)
     return (given[: border.start()], given[border.end():]) if border else (given, b"")
 

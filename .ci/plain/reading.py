@@ -164,7 +164,7 @@ class Packet(NamedTuple):
 
 
 class Refusal(NamedTuple):
-    """An event, or the end, that no packet goes on with, behind legs of a packet under way."""
+    """An event, or the end, that no packet goes on with, after legs of a packet under way."""
     at: int
     reason: str
     expected: list

@@ -204,7 +204,7 @@ vout:60 vout:40 vout:a0 vout:1 direct:0,0,10 direct:1,0,10 direct:1,0 direct:327
 direct:1,0,-129 float LINEAR11
 """.split()
 
-# Captures, lines and requests behind profiles that have commands of every form.
+# Captures, lines and requests after profiles that have commands of every form.
 ODD_CAPTURES = """
 S 20 A e0 A 01 A 02 A 03 A 04 A e3 A P
 S 20 A e1 A S 21 A 01 A 02 A 03 A 04 A 05 A 06 A 07 A 08 N P

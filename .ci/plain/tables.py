@@ -36,7 +36,7 @@ def value_of(table, key, kind, otherwise=None):
 
 
 def profile_of(table):
-    """The profile. A fault is told with its place behind it."""
+    """The profile. A fault is told with its place after it."""
     need(set(table) <= {"device"}, "UnknownKey")
     need("device" in table, "MissingKey")
     array = value_of(table, "device", list)
