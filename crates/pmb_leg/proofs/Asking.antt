@@ -1,5 +1,5 @@
 -- What is asked by a body, and how it is answered.
-use Rattle.std.proofs.Common.{◌≡◌, ℕ, ◌⊎◌, ◌↔◌, inl, inr, Bool, true, Option, Some, List, [], ◌∷◌, ◌++◌, length, sym, ap, subst, ◌∙◌, arith}
+use Rattle.std.proofs.Common.{◌≡◌, ℕ, ◌↔◌, inl, inr, Bool, true, Option, Some, List, [], ◌∷◌, ◌++◌, length, sym, ap, subst, ◌∙◌, arith}
 use Rattle.pmb_bus.specs.Pec.{pec}
 use Rattle.pmb_bus.specs.Address.{read_address, write_address}
 use Rattle.pmb_command.specs.declared.form.Form.{Form}
@@ -8,17 +8,13 @@ use Rattle.pmb_command.specs.declared.form.Shape.{Shape}
 use Rattle.pmb_command.specs.Fitting.{calls_fit}
 use Rattle.pmb_command.specs.Parts.{DeviceParts}
 use Rattle.pmb_command.specs.Wire.{Fits, wire}
-use Rattle.pmb_transaction.specs.Body.{checked, forms, ReadBody, CallBody}
-use Rattle.pmb_transaction.specs.Viable.{IsAnswer}
-use Rattle.pmb_leg.specs.Leg.{IsRequest, reply_form}
-use Rattle.pmb_leg.specs.Reply.{Expected, IsReply, SaysAnswer, SaysReply}
+use Rattle.pmb_transaction.specs.Body.{checked, forms, ReadBody, CallBody, IsFormOfRequest, IsRequest}
+use Rattle.pmb_transaction.specs.Viable.{IsAnswer, SaysAnswer}
+use Rattle.pmb_leg.specs.Leg.{reply_form}
+use Rattle.pmb_leg.specs.Reply.{Expected, IsReply, SaysReply}
 use Rattle.pmb_leg.specs.machine.Answers.{CountsAlone}
 use Rattle.pmb_leg.specs.machine.Legs.{IsKeptLeg, Kept}
 use Rattle.pmb_leg.proofs.Replies.{said, says}
-
--- A body asks for a reply in a form.
-abbrev pub AsksFor : DeviceParts → List ℕ → Form → Type 0
-AsksFor device body form = ((code : ℕ) × ReadBody device code form body) ⊎ ((code : ℕ) × (sent : List ℕ) × CallBody device code form sent body)
 
 -- a call has data
 call_goes_on : (form : Form) (sent : List ℕ) → calls_fit (Some form) ≡ true → Fits form sent → wire form sent ≡ [] → ⊥
@@ -50,18 +46,18 @@ module _ (device : DeviceParts) (code : ℕ) (shape : Shape) (is : shape ≡ for
       let same : code ≡ c = cc (call.spelled) in
       ap (λ (s : Shape). s.call) is ∙ ap (λ (n : ℕ). (forms device n).call) same ∙ call.called
 
-  form_of : (behind : List ℕ) (form : Form) → AsksFor device (code ∷ behind) form → reply_form shape (code ∷ behind) ≡ Some form
+  form_of : (behind : List ℕ) (form : Form) → IsFormOfRequest device form (code ∷ behind) → reply_form shape (code ∷ behind) ≡ Some form
   form_of behind form (inl (c, read)) = form_of_read behind form c read
   form_of behind form (inr (c, sent, call)) = form_of_call behind form c sent call
 
-  asked : (behind : List ℕ) → IsRequest device (code ∷ behind) → (form : Form) × AsksFor device (code ∷ behind) form
+  asked : (behind : List ℕ) → IsRequest device (code ∷ behind) → (form : Form) × IsFormOfRequest device form (code ∷ behind)
   asked behind (inl (c, form, read)) = (form, inl (c, read))
   asked behind (inr (c, form, sent, call)) = (form, inr (c, sent, call))
 
-  asks_for : (behind : List ℕ) (form : Form) → IsRequest device (code ∷ behind) → reply_form shape (code ∷ behind) ≡ Some form → AsksFor device (code ∷ behind) form
+  asks_for : (behind : List ℕ) (form : Form) → IsRequest device (code ∷ behind) → reply_form shape (code ∷ behind) ≡ Some form → IsFormOfRequest device form (code ∷ behind)
   asks_for behind form request has =
       let w = asked behind request in
-      subst (AsksFor device (code ∷ behind)) (some_form w.0 form (reply_form shape (code ∷ behind)) (form_of behind w.0 w.1) has) w.1
+      subst (λ (f : Form). IsFormOfRequest device f (code ∷ behind)) (some_form w.0 form (reply_form shape (code ∷ behind)) (form_of behind w.0 w.1) has) w.1
 
   module _ (behind : List ℕ) (form : Form) (request : IsRequest device (code ∷ behind)) (has : reply_form shape (code ∷ behind) ≡ Some form)
       (number : ℕ) (alike : CountsAlone (write_address device.address ∷ (code ∷ behind) ++ read_address device.address ∷ []))
@@ -89,17 +85,10 @@ module _ (device : DeviceParts) (code : ℕ) (shape : Shape) (is : shape ≡ for
     says_answer reply with_pec all = (answer_said reply with_pec all, said_answer reply with_pec all)
 
     answer_is : (all : List ℕ) → IsReply expected all → IsAnswer device device.address (code ∷ behind) all
-    answer_is all (reply, with_pec, reply_is) =
-        let answer = answer_said reply with_pec all reply_is in
-        record { form = answer.form; asked = answer.asked; reply = reply; fits = answer.fits; with_pec = with_pec; mode = answer.mode; spelled = answer.spelled }
+    answer_is all (reply, with_pec, says) = (reply, with_pec, answer_said reply with_pec all says)
 
     reply_is : (all : List ℕ) → IsAnswer device device.address (code ∷ behind) all → IsReply expected all
-    reply_is all answer = (
-      answer.reply,
-      answer.with_pec,
-      said_answer answer.reply answer.with_pec all
-          (record { form = answer.form; asked = answer.asked; fits = answer.fits; mode = answer.mode; spelled = answer.spelled }),
-    )
+    reply_is all (reply, with_pec, says) = (reply, with_pec, said_answer reply with_pec all says)
 
     pub is_answer : (all : List ℕ) → IsReply expected all ↔ IsAnswer device device.address (code ∷ behind) all
     is_answer all = (answer_is all, reply_is all)

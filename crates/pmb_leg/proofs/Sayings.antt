@@ -6,11 +6,11 @@ use Rattle.pmb_command.specs.declared.pec_mode.PecMode.{PecMode}
 use Rattle.pmb_command.specs.declared.pec_mode.PecMode.TheVariants.{Off}
 use Rattle.pmb_command.specs.Parts.{DeviceParts}
 use Rattle.pmb_command.specs.Wire.{wire}
-use Rattle.pmb_transaction.specs.Body.{checked, forms, WriteBody, ReadBody, IsWriteBody, IsReadBody, IsCallBody}
+use Rattle.pmb_transaction.specs.Body.{checked, forms, WriteBody, ReadBody, IsWriteBody, IsReadBody, IsCallBody, IsRequest}
 use Rattle.pmb_leg.specs.declared.left.Left.{Left}
 use Rattle.pmb_leg.specs.declared.place.LegPlace.{LegPlace}
 use Rattle.pmb_leg.specs.declared.place.LegPlace.TheVariants.{First}
-use Rattle.pmb_leg.specs.Leg.{IsRequest, call_form, is_read}
+use Rattle.pmb_leg.specs.Leg.{call_form, is_read}
 use Rattle.pmb_leg.specs.machine.Legs.{IsBehindCode, IsKeptLeg, Kept}
 use Rattle.pmb_leg.specs.machine.Left.{has_code, is_whole, LeavesOf, SpellsSomeData, SpellsData}
 use Rattle.pmb_leg.proofs.Lefts.{whole_spells}

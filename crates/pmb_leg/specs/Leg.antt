@@ -1,10 +1,11 @@
 -- What contracts see of a written leg, and what its bytes say.
-use Rattle.std.specs.Prelude.{◌≡◌, ℕ, ◌⊎◌, Bool, false, ◌||◌, Option, Some, None, is_some, List, [], ◌∷◌}
+use Rattle.std.specs.Prelude.{◌≡◌, ℕ, Bool, false, ◌||◌, Option, Some, None, is_some, List, [], ◌∷◌}
 use Rattle.pmb_command.specs.declared.form.Form.{Form}
 use Rattle.pmb_command.specs.declared.form.Shape.{Shape}
 use Rattle.pmb_command.specs.Parts.{DeviceParts}
 use Rattle.pmb_transaction.specs.Transaction.{PartData}
-use Rattle.pmb_transaction.specs.Body.{ReadBody, CallBody, IsReadBody, IsCallBody}
+use Rattle.pmb_transaction.specs.Body.{ReadBody, CallBody}
+pub use Rattle.pmb_transaction.specs.Body.{IsRequest}
 use Rattle.pmb_leg.specs.declared.place.LegPlace.{LegPlace}
 use Rattle.pmb_leg.specs.declared.place.LegPlace.TheVariants.{First, Later}
 use Rattle.pmb_leg.specs.declared.said.Asked.{Asked}
@@ -26,10 +27,6 @@ place_of (part ∷ parts) = Later
 abbrev pub Asks : DeviceParts → List ℕ → Asked → Type 0
 Asks device body (Read code) = (form : Form) × ReadBody device code form body
 Asks device body (Call code bytes) = (form : Form) × CallBody device code form bytes.now body
-
--- the device is asked something
-abbrev pub IsRequest : DeviceParts → List ℕ → Type 0
-IsRequest device body = IsReadBody device body ⊎ IsCallBody device body
 
 -- what the leg asks, which is something in the first leg alone
 abbrev pub IsAsked : Written → Option Asked → Type 0

@@ -1,13 +1,13 @@
 -- What contracts see of an answer under way.
-use Rattle.std.specs.Prelude.{◌≡◌, ℕ, ◌⊎◌, Bool, List, [], ◌∷◌, ◌++◌}
+use Rattle.std.specs.Prelude.{◌≡◌, ℕ, Bool, List, [], ◌∷◌}
 use Rattle.pmb_bus.specs.Pec.{pec}
-use Rattle.pmb_bus.specs.Address.{alert_address, write_address, read_address}
+use Rattle.pmb_bus.specs.Address.{alert_address, read_address}
 use Rattle.pmb_command.specs.declared.form.Form.{Form}
 use Rattle.pmb_command.specs.declared.pec_mode.PecMode.{PecMode}
-use Rattle.pmb_command.specs.Parts.{DeviceParts}
 use Rattle.pmb_command.specs.PecMode.{AllowsPec}
 use Rattle.pmb_command.specs.Wire.{IsByte, Fits, wire}
-use Rattle.pmb_transaction.specs.Body.{checked, ReadBody, CallBody}
+use Rattle.pmb_transaction.specs.Body.{checked}
+pub use Rattle.pmb_transaction.specs.Viable.{SaysAnswer}
 
 -- What an answer has to be: data in a form, and a packet error code where the mode allows one. That
 -- covers bytes before the answer too, whose own code is this number.
@@ -32,14 +32,6 @@ pub record SaysReply (expected : Expected) (reply : List ℕ) (with_pec : Bool) 
 -- the bytes are an answer
 abbrev pub IsReply : Expected → List ℕ → Type 0
 IsReply expected bytes = (reply : List ℕ) × (with_pec : Bool) × SaysReply expected reply with_pec bytes
-
--- The bytes with which a device answers a body say a reply.
-pub record SaysAnswer (device : DeviceParts) (addr : ℕ) (body : List ℕ) (reply : List ℕ) (with_pec : Bool) (bytes : List ℕ) : Type 0 where
-  pub form : Form
-  pub asked : ((code : ℕ) × ReadBody device code form body) ⊎ ((code : ℕ) × (sent : List ℕ) × CallBody device code form sent body)
-  pub fits : Fits form reply
-  pub mode : AllowsPec device.pec with_pec
-  pub spelled : bytes ≡ checked with_pec (write_address addr ∷ body ++ read_address addr ∷ []) (wire form reply)
 
 -- The bytes of an answer at the Alert Response Address say a byte.
 pub record SaysAlert (reply : List ℕ) (with_pec : Bool) (bytes : List ℕ) : Type 0 where

@@ -8,10 +8,10 @@
 ghost use Rattle.std.specs.Prelude.{◌≡◌, ◌≢◌, ◌<◌, ◌≤◌, ◌↔◌, Bool, [], ◌∷◌, ◌++◌, IsTrue, IsSome, IfSome, length, List, ℕ, false, true};
 ghost use Rattle.pmb_command.specs.Fitting.{calls_fit};
 ghost use Rattle.pmb_transaction.specs.Transaction.{PartData};
-ghost use Rattle.pmb_transaction.specs.Body.{IsWriteBody, WriteBody, forms};
-ghost use Rattle.pmb_transaction.specs.Viable.{BeginsBody, IsAnswer, IsInsideBody};
-ghost use Rattle.pmb_leg.specs.Leg.{IsAsked, IsRequest, begins_with, call_form, is_read, place_of, reply_form};
-ghost use Rattle.pmb_leg.specs.Reply.{IsReply, SaysAnswer, SaysReply};
+ghost use Rattle.pmb_transaction.specs.Body.{BeginsBody, IsInsideBody, IsRequest, IsWriteBody, WriteBody, forms};
+ghost use Rattle.pmb_transaction.specs.Viable.{IsAnswer, SaysAnswer};
+ghost use Rattle.pmb_leg.specs.Leg.{IsAsked, begins_with, call_form, is_read, place_of, reply_form};
+ghost use Rattle.pmb_leg.specs.Reply.{IsReply, SaysReply};
 
 use crate::answer::Answer;
 use crate::left::{Left, data_within, one_goes_on, one_takes};

@@ -1,5 +1,5 @@
 -- How long the legs of packets are.
-use Rattle.std.proofs.Common.{◌≡◌, ℕ, ◌+◌, ◌≤◌, ◌⊎◌, Bool, true, false, inl, inr, List, [], ◌∷◌, ◌++◌, length, refl, sym, ap, subst, ◌∙◌, arith, append-nil, length-append}
+use Rattle.std.proofs.Common.{◌≡◌, ℕ, ◌+◌, ◌≤◌, Bool, true, false, inl, inr, List, [], ◌∷◌, ◌++◌, length, refl, sym, ap, subst, ◌∙◌, arith, append-nil, length-append}
 use Rattle.std.specs.List.{AllByRecursion}
 use Rattle.std.proofs.lemmas.List.{append_assoc}
 use Rattle.pmb_bus.specs.declared.event.Event.{Event}
@@ -7,63 +7,13 @@ use Rattle.pmb_bus.specs.declared.event.Event.TheVariants.{Start, Byte, Ack, Nac
 use Rattle.pmb_bus.specs.Address.{write_address, read_address, alert_address}
 use Rattle.pmb_bus.specs.Pec.{pec}
 use Rattle.pmb_command.specs.declared.form.Form.{Form}
-use Rattle.pmb_command.specs.declared.form.Form.TheVariants.{Zero, One, Two, Four, Eight, Block}
 use Rattle.pmb_command.specs.Parts.{DeviceParts}
 use Rattle.pmb_command.specs.Wire.{Fits, wire}
 use Rattle.pmb_transaction.specs.Transaction.{PartData, TransactionData, Write, Read, Call, Refused, Alert, NoAlert}
-use Rattle.pmb_transaction.specs.Body.{checked, IsProperPrefix, IsWriteBody, IsReadBody, IsCallBody, Allowed}
+use Rattle.pmb_transaction.specs.Body.{checked, Allowed, IsInsideBody}
 use Rattle.pmb_transaction.specs.Packet.{acked, nacked, leg, answered, PartsEvents, ByteRefused, ReadRefused, RefusedLeg, Packet}
 use Rattle.pmb_transaction.specs.Capture.{Viable}
 use Rattle.pmb_said.specs.Said.{IsShort, LegsAreShort, behind_address, bytes_of_leg, legs}
-
--- ---- bytes
-
-wire_short : (form : Form) (bytes : List ℕ) → Fits form bytes → length (wire form bytes) ≤ 256
-wire_short Zero bytes fits = let few : length bytes ≡ 0 = fits.taken in omega (arith, few)
-wire_short One bytes fits = let few : length bytes ≡ 1 = fits.taken in omega (arith, few)
-wire_short Two bytes fits = let few : length bytes ≡ 2 = fits.taken in omega (arith, few)
-wire_short Four bytes fits = let few : length bytes ≡ 4 = fits.taken in omega (arith, few)
-wire_short Eight bytes fits = let few : length bytes ≡ 8 = fits.taken in omega (arith, few)
-wire_short Block bytes fits = let few : length bytes ≤ 255 = fits.taken in omega (arith, few)
-
-checked_short : (with_pec : Bool) (before bytes : List ℕ) → length (checked with_pec before bytes) ≤ length bytes + 1
-checked_short false before bytes = omega arith
-checked_short true before bytes = omega (arith, length-append bytes (pec (before ++ bytes) ∷ []))
-
-write_short : (device : DeviceParts) (body : List ℕ) → IsWriteBody device body → length body ≤ 258
-write_short device body w =
-    let is = w.3 in
-    let sent = w.0 ∷ wire is.form w.1 in
-    let all : length body ≤ length sent + 1 =
-    subst (λ (bs : List ℕ). length bs ≤ length sent + 1) (sym is.spelled) (checked_short w.2 _ sent) in
-    let few : length (wire is.form w.1) ≤ 256 = wire_short is.form w.1 is.fits in
-    omega (arith, all, few)
-
-read_short : (device : DeviceParts) (body : List ℕ) → IsReadBody device body → length body ≤ 258
-read_short device body w = let all : length body ≡ 1 = ap length w.2.spelled in omega (arith, all)
-
-call_short : (device : DeviceParts) (body : List ℕ) → IsCallBody device body → length body ≤ 258
-call_short device body w =
-    let is = w.3 in
-    let all : length body ≡ length (w.0 ∷ wire w.1 w.2) = ap length is.spelled in
-    let few : length (wire w.1 w.2) ≤ 256 = wire_short w.1 w.2 is.fits in
-    omega (arith, all, few)
-
-body_short : (device : DeviceParts) (group : List PartData) (body : List ℕ) → Allowed device group body → length body ≤ 258
-body_short device [] body (inl is) = write_short device body is
-body_short device [] body (inr (inl is)) = read_short device body is
-body_short device [] body (inr (inr is)) = call_short device body is
-body_short device (part ∷ group) body is = write_short device body is
-
--- bytes that begin a body, and one more
-front_short : (device : DeviceParts) (group : List PartData) (front : List ℕ)
-    → (front ≡ []) ⊎ ((body : List ℕ) × Allowed device group body × IsProperPrefix front body) → length front + 1 ≤ 258
-front_short device group front (inl none) = let all : length front ≡ 0 = ap length none in omega (arith, all)
-front_short device group front (inr w) =
-    let inside = w.2 in
-    let all : length w.0 ≡ length (front ++ inside.next ∷ inside.rest) = ap length inside.split in
-    let few : length w.0 ≤ 258 = body_short device group w.0 w.1 in
-    omega (arith, all, few, length-append front (inside.next ∷ inside.rest))
 
 -- ---- events of one leg, and what comes after it
 
@@ -124,85 +74,6 @@ address_refused : (address : ℕ) (rest : List Event) → AreShort rest → AreS
 address_refused address rest are =
     record { apart = refl; short = (subst (λ (bs : List ℕ). length bs ≤ 258) (sym are.apart) (omega arith), are.short) }
 
--- ---- packets
-
--- a leg, the leg of the reply, and STOP
-answer_short : (addr : ℕ) (body reply : List ℕ) (with_pec : Bool) → length body ≤ 258 → length reply ≤ 256 → AreShort (answered addr body reply with_pec)
-answer_short addr body reply with_pec few few_replied =
-    let before = write_address addr ∷ body ++ read_address addr ∷ [] in
-    let answer = checked with_pec before reply in
-    let all : length answer ≤ 258 = omega (arith, few_replied, checked_short with_pec before reply) in
-    let reply_leg = leg (read_address addr ∷ []) ++ nacked answer in
-    let reads : AreShort (reply_leg ++ Stop ∷ []) = ended (read_address addr) answer (Stop ∷ []) all stop in
-    subst (λ (es : List Event). AreShort es) (sym (append_assoc (leg (write_address addr ∷ body)) reply_leg (Stop ∷ [])))
-    (taken (write_address addr) body (reply_leg ++ Stop ∷ []) few reads)
-
-module _ (profile : List DeviceParts) where
-  parts_short : (parts : List PartData) (events rest : List Event) → PartsEvents profile parts events → AreShort rest → AreShort (events ++ rest)
-  parts_short [] events rest none are = subst (λ (es : List Event). AreShort (es ++ rest)) (sym none) are
-  parts_short (part ∷ parts) events rest w are =
-      let is = w.3 in
-      let body : length is.body ≤ 258 = write_short is.device is.body (part.code, part.bytes, part.pec, is.allowed) in
-      let behind : AreShort (w.1 ++ rest) = parts_short parts w.1 rest w.4 are in
-      let first = taken (write_address part.addr) is.body (w.1 ++ rest) body behind in
-      let split : w.0 ++ w.1 ++ rest ≡ leg (write_address part.addr ∷ is.body) ++ (w.1 ++ rest) =
-      append_assoc w.0 w.1 rest ∙ ap (λ (es : List Event). es ++ (w.1 ++ rest)) is.spelled in
-      subst (λ (es : List Event). AreShort (es ++ rest)) (sym w.2) (subst (λ (es : List Event). AreShort es) (sym split) first)
-
-  byte_refused : (parts : List PartData) (addr : ℕ) (sent : List ℕ) (events : List Event) → ByteRefused profile parts addr sent events
-      → AreShort (events ++ Stop ∷ [])
-  byte_refused parts addr sent events is =
-      let all : length sent ≡ length is.front + 1 = ap length is.split ∙ length-append is.front (is.last ∷ []) in
-      let few : length is.front + 1 ≤ 258 = front_short is.device parts is.front is.begins in
-      let short : AreShort (leg (write_address addr ∷ []) ++ nacked sent ++ Stop ∷ []) =
-      ended (write_address addr) sent (Stop ∷ []) (omega (arith, all, few)) stop in
-      subst (λ (es : List Event). AreShort (es ++ Stop ∷ [])) (sym is.spelled) short
-
-  asked_short : (device : DeviceParts) (body : List ℕ) → IsReadBody device body ⊎ IsCallBody device body → length body ≤ 258
-  asked_short device body (inl is) = read_short device body is
-  asked_short device body (inr is) = call_short device body is
-
-  read_refused : (parts : List PartData) (addr : ℕ) (sent : List ℕ) (events : List Event) → ReadRefused profile parts addr sent events
-      → AreShort (events ++ Stop ∷ [])
-  read_refused parts addr sent events is =
-      let rest = Start ∷ Byte (read_address addr) ∷ Nack ∷ Stop ∷ [] in
-      let short : AreShort (leg (write_address addr ∷ sent) ++ rest) =
-      taken (write_address addr) sent rest (asked_short is.device sent is.body) (address_refused (read_address addr) (Stop ∷ []) stop) in
-      let split : events ++ Stop ∷ [] ≡ leg (write_address addr ∷ sent) ++ rest =
-      ap (λ (es : List Event). es ++ Stop ∷ []) is.spelled
-      ∙ append_assoc (leg (write_address addr ∷ sent)) (Start ∷ Byte (read_address addr) ∷ Nack ∷ []) (Stop ∷ []) in
-      subst (λ (es : List Event). AreShort es) (sym split) short
-
-  refused_short : (parts : List PartData) (addr : ℕ) (sent : List ℕ) (at_read : Bool) (events : List Event) → RefusedLeg profile parts addr sent at_read events
-      → AreShort (events ++ Stop ∷ [])
-  refused_short parts addr [] false events is =
-      subst (λ (es : List Event). AreShort (es ++ Stop ∷ [])) (sym is.spelled) (address_refused (write_address addr) (Stop ∷ []) stop)
-  refused_short parts addr (b ∷ bytes) false events is = byte_refused parts addr (b ∷ bytes) events is
-  refused_short parts addr [] true events is = read_refused parts addr [] events is
-  refused_short parts addr (b ∷ bytes) true events is = read_refused parts addr (b ∷ bytes) events is
-
-  packet_short : (t : TransactionData) (events : List Event) → Packet profile t events → AreShort events
-  packet_short (Write parts) events is =
-      subst (λ (es : List Event). AreShort es) (sym is.spelled) (parts_short parts is.legs (Stop ∷ []) is.each stop)
-  packet_short (Read t) events is =
-      let reply : length (wire is.form t.reply) ≤ 256 = wire_short is.form t.reply is.fits in
-      subst (λ (es : List Event). AreShort es) (sym is.spelled) (answer_short t.addr (t.code ∷ []) (wire is.form t.reply) t.pec (omega arith) reply)
-  packet_short (Call t) events is =
-      let sent : length (wire is.form t.bytes) ≤ 256 = wire_short is.form t.bytes is.sent in
-      let reply : length (wire is.form t.reply) ≤ 256 = wire_short is.form t.reply is.replied in
-      subst (λ (es : List Event). AreShort es) (sym is.spelled)
-      (answer_short t.addr (t.code ∷ wire is.form t.bytes) (wire is.form t.reply) t.pec (omega (arith, sent)) reply)
-  packet_short (Refused t) events is =
-      subst (λ (es : List Event). AreShort es) (sym (is.spelled ∙ append_assoc is.legs is.last (Stop ∷ [])))
-      (parts_short t.parts is.legs (is.last ++ Stop ∷ []) is.each (refused_short t.parts t.addr t.sent t.at_read is.last is.refused))
-  packet_short (Alert t) events is =
-      let address = read_address alert_address in
-      let answer = checked t.pec (address ∷ []) (t.byte ∷ []) in
-      let all : length answer ≤ 258 = omega (arith, checked_short t.pec (address ∷ []) (t.byte ∷ [])) in
-      subst (λ (es : List Event). AreShort es) (sym is.spelled) (ended address answer (Stop ∷ []) all stop)
-  packet_short NoAlert events is =
-      subst (λ (es : List Event). AreShort es) (sym is) (address_refused (read_address alert_address) (Stop ∷ []) stop)
-
 -- ---- what begins them
 
 -- a leg has no more bytes after which events are left out
@@ -230,6 +101,85 @@ legs_of_front (Ack ∷ events) more short = legs_of_front events more short
 legs_of_front (Nack ∷ events) more short = legs_of_front events more short
 legs_of_front (Stop ∷ events) more short = legs_of_front events more short
 
-pub legs_are_short : (profile : List DeviceParts) (events : List Event) → Viable profile events → LegsAreShort events
-legs_are_short profile events (inl none) = subst (λ (es : List Event). LegsAreShort es) (sym none) tt
-legs_are_short profile events (inr w) = legs_of_front events w.0 (packet_short profile w.1.0 (events ++ w.0) w.1.1).short
+-- ---- packets
+
+module _ (data_short : (form : Form) (bytes : List ℕ) → Fits form bytes → length (wire form bytes) ≤ 256)
+    (checked_short : (with_pec : Bool) (before bytes : List ℕ) → length (checked with_pec before bytes) ≤ length bytes + 1)
+    (body_short : (device : DeviceParts) (parts : List PartData) (body : List ℕ) → Allowed device parts body → length body ≤ 258)
+    (front_short : (device : DeviceParts) (parts : List PartData) (front : List ℕ) → IsInsideBody device parts front → length front ≤ 257)
+    (profile : List DeviceParts) where
+  -- a leg, the leg of the reply, and STOP
+  answer_short : (addr : ℕ) (body reply : List ℕ) (with_pec : Bool) → length body ≤ 258 → length reply ≤ 256 → AreShort (answered addr body reply with_pec)
+  answer_short addr body reply with_pec few few_replied =
+      let before = write_address addr ∷ body ++ read_address addr ∷ [] in
+      let answer = checked with_pec before reply in
+      let all : length answer ≤ 258 = omega (arith, few_replied, checked_short with_pec before reply) in
+      let reply_leg = leg (read_address addr ∷ []) ++ nacked answer in
+      let reads : AreShort (reply_leg ++ Stop ∷ []) = ended (read_address addr) answer (Stop ∷ []) all stop in
+      subst (λ (es : List Event). AreShort es) (sym (append_assoc (leg (write_address addr ∷ body)) reply_leg (Stop ∷ [])))
+      (taken (write_address addr) body (reply_leg ++ Stop ∷ []) few reads)
+
+  parts_short : (parts : List PartData) (events rest : List Event) → PartsEvents profile parts events → AreShort rest → AreShort (events ++ rest)
+  parts_short [] events rest none are = subst (λ (es : List Event). AreShort (es ++ rest)) (sym none) are
+  parts_short (part ∷ parts) events rest w are =
+      let is = w.3 in
+      let body : length is.body ≤ 258 = body_short is.device [] is.body (inl (part.code, part.bytes, part.pec, is.allowed)) in
+      let behind : AreShort (w.1 ++ rest) = parts_short parts w.1 rest w.4 are in
+      let first = taken (write_address part.addr) is.body (w.1 ++ rest) body behind in
+      let split : w.0 ++ w.1 ++ rest ≡ leg (write_address part.addr ∷ is.body) ++ (w.1 ++ rest) =
+      append_assoc w.0 w.1 rest ∙ ap (λ (es : List Event). es ++ (w.1 ++ rest)) is.spelled in
+      subst (λ (es : List Event). AreShort (es ++ rest)) (sym w.2) (subst (λ (es : List Event). AreShort es) (sym split) first)
+
+  byte_refused : (parts : List PartData) (addr : ℕ) (sent : List ℕ) (events : List Event) → ByteRefused profile parts addr sent events
+      → AreShort (events ++ Stop ∷ [])
+  byte_refused parts addr sent events is =
+      let all : length sent ≡ length is.front + 1 = ap length is.split ∙ length-append is.front (is.last ∷ []) in
+      let few : length is.front ≤ 257 = front_short is.device parts is.front is.begins in
+      let short : AreShort (leg (write_address addr ∷ []) ++ nacked sent ++ Stop ∷ []) =
+      ended (write_address addr) sent (Stop ∷ []) (omega (arith, all, few)) stop in
+      subst (λ (es : List Event). AreShort (es ++ Stop ∷ [])) (sym is.spelled) short
+
+  read_refused : (parts : List PartData) (addr : ℕ) (sent : List ℕ) (events : List Event) → ReadRefused profile parts addr sent events
+      → AreShort (events ++ Stop ∷ [])
+  read_refused parts addr sent events is =
+      let rest = Start ∷ Byte (read_address addr) ∷ Nack ∷ Stop ∷ [] in
+      let short : AreShort (leg (write_address addr ∷ sent) ++ rest) =
+      taken (write_address addr) sent rest (body_short is.device [] sent (inr is.body)) (address_refused (read_address addr) (Stop ∷ []) stop) in
+      let split : events ++ Stop ∷ [] ≡ leg (write_address addr ∷ sent) ++ rest =
+      ap (λ (es : List Event). es ++ Stop ∷ []) is.spelled
+      ∙ append_assoc (leg (write_address addr ∷ sent)) (Start ∷ Byte (read_address addr) ∷ Nack ∷ []) (Stop ∷ []) in
+      subst (λ (es : List Event). AreShort es) (sym split) short
+
+  refused_short : (parts : List PartData) (addr : ℕ) (sent : List ℕ) (at_read : Bool) (events : List Event) → RefusedLeg profile parts addr sent at_read events
+      → AreShort (events ++ Stop ∷ [])
+  refused_short parts addr [] false events is =
+      subst (λ (es : List Event). AreShort (es ++ Stop ∷ [])) (sym is.spelled) (address_refused (write_address addr) (Stop ∷ []) stop)
+  refused_short parts addr (b ∷ bytes) false events is = byte_refused parts addr (b ∷ bytes) events is
+  refused_short parts addr [] true events is = read_refused parts addr [] events is
+  refused_short parts addr (b ∷ bytes) true events is = read_refused parts addr (b ∷ bytes) events is
+
+  packet_short : (t : TransactionData) (events : List Event) → Packet profile t events → AreShort events
+  packet_short (Write parts) events is =
+      subst (λ (es : List Event). AreShort es) (sym is.spelled) (parts_short parts is.legs (Stop ∷ []) is.each stop)
+  packet_short (Read t) events is =
+      let reply : length (wire is.form t.reply) ≤ 256 = data_short is.form t.reply is.fits in
+      subst (λ (es : List Event). AreShort es) (sym is.spelled) (answer_short t.addr (t.code ∷ []) (wire is.form t.reply) t.pec (omega arith) reply)
+  packet_short (Call t) events is =
+      let sent : length (wire is.form t.bytes) ≤ 256 = data_short is.form t.bytes is.sent in
+      let reply : length (wire is.form t.reply) ≤ 256 = data_short is.form t.reply is.replied in
+      subst (λ (es : List Event). AreShort es) (sym is.spelled)
+      (answer_short t.addr (t.code ∷ wire is.form t.bytes) (wire is.form t.reply) t.pec (omega (arith, sent)) reply)
+  packet_short (Refused t) events is =
+      subst (λ (es : List Event). AreShort es) (sym (is.spelled ∙ append_assoc is.legs is.last (Stop ∷ [])))
+      (parts_short t.parts is.legs (is.last ++ Stop ∷ []) is.each (refused_short t.parts t.addr t.sent t.at_read is.last is.refused))
+  packet_short (Alert t) events is =
+      let address = read_address alert_address in
+      let answer = checked t.pec (address ∷ []) (t.byte ∷ []) in
+      let all : length answer ≤ 258 = omega (arith, checked_short t.pec (address ∷ []) (t.byte ∷ [])) in
+      subst (λ (es : List Event). AreShort es) (sym is.spelled) (ended address answer (Stop ∷ []) all stop)
+  packet_short NoAlert events is =
+      subst (λ (es : List Event). AreShort es) (sym is) (address_refused (read_address alert_address) (Stop ∷ []) stop)
+
+  pub legs_are_short : (events : List Event) → Viable profile events → LegsAreShort events
+  legs_are_short events (inl none) = subst (λ (es : List Event). LegsAreShort es) (sym none) tt
+  legs_are_short events (inr w) = legs_of_front events w.0 (packet_short w.1.0 (events ++ w.0) w.1.1).short

@@ -7,6 +7,7 @@ ghost use Rattle.pmb_transaction.specs.Capture.{Viable};
 ghost use Rattle.pmb_said.specs.Said.{reply, right_pec, said_device, sent, written_to};
 ghost use Rattle.pmb_said.specs.Standing.{SaidStandsAt};
 
+use crate::laws::legs_are_short;
 use crate::legs::{LastLeg, Legs};
 use pmb_bus::{ALERT_ADDRESS, Event, pec_next, read_address};
 use pmb_transaction::Reason;
@@ -110,6 +111,7 @@ impl Said {
             → option_map (λ bytes. bytes.now) result ≡ sent events }
         ensures short { IfSome result (λ bytes. length bytes.now ≤ 258) }
     {
+        legs_are_short();
         match self.legs.written_address() {
             Some(_) => Some(self.legs.written()),
             None => None,
@@ -123,6 +125,7 @@ impl Said {
             → option_map (λ bytes. bytes.now) result ≡ reply events }
         ensures short { IfSome result (λ bytes. length bytes.now ≤ 258) }
     {
+        legs_are_short();
         match self.legs.last() {
             LastLeg::Read => Some(self.legs.reply()),
             LastLeg::Absent | LastLeg::Begun | LastLeg::Written => None,

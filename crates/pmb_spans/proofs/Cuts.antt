@@ -3,13 +3,13 @@ use Rattle.std.proofs.Common.{◌≡◌, ℕ, ◌+◌, ◌⊎◌, ◌↔◌, inl
 use Rattle.std.specs.List.{All}
 use Rattle.std.proofs.lemmas.List.{length-append}
 use Rattle.std.proofs.lemmas.List.Elements.{All-cons, All-nil}
-use Rattle.pmb_bus.specs.Count.{capped}
 use Rattle.pmb_bus.specs.declared.event.Event.{Event}
 use Rattle.pmb_bus.specs.declared.event.Event.TheVariants.{Stop}
 use Rattle.pmb_command.specs.Parts.{DeviceParts}
 use Rattle.pmb_transaction.specs.Capture.{HasNoStop, Viable}
 use Rattle.pmb_transaction.specs.Cut.{EndsWithStop}
 use Rattle.pmb_transaction.specs.Reading.{BehindStop, IsUnderWay, RefusalData, RefusedAt, TruncatedAt}
+use Rattle.pmb_transaction.proofs.AfterStop.{moved_on}
 use Rattle.pmb_transaction.proofs.Fronts.{Beyond, Within, cut}
 use Rattle.pmb_spans.specs.Spans.{ReadSpan, RefusedSpan, Span, SpansFrom, TruncatedSpan, is_whole, moved_refusal, moved_spans}
 
@@ -55,74 +55,43 @@ passed_ends_on front passed rest events behind ends split other =
 
 -- ---- further on
 
--- a place that stays at the greatest u64 stays there further on
-moved_place : (n m : ℕ) → capped (n + capped m) ≡ capped (n + m)
-moved_place n m = omega arith
-
 module _ (profile : List DeviceParts) where
-  refused_moved : (n m : ℕ) (front : List Event) (event : Event) (refusal : RefusalData) → RefusedAt profile m front event refusal
-      → RefusedAt profile (n + m) front event (moved_refusal n refusal)
-  refused_moved n m front event refusal refused =
-      let counted : n + (m + length front) ≡ (n + m) + length front = omega arith in record {
-        under_way = refused.under_way;
-        refused = refused.refused;
-        at = ap (λ (k : ℕ). capped (n + k)) refused.at ∙ moved_place n (m + length front) ∙ ap capped counted;
-        reason = refused.reason;
-        expected = refused.expected;
-      }
-
-  truncated_moved : (n m : ℕ) (events : List Event) (refusal : RefusalData) → TruncatedAt profile m events refusal
-      → TruncatedAt profile (n + m) events (moved_refusal n refusal)
-  truncated_moved n m events refusal truncated =
-      let counted : n + (m + length events) ≡ (n + m) + length events = omega arith in record {
-        some = truncated.some;
-        under_way = truncated.under_way;
-        at = ap (λ (k : ℕ). capped (n + k)) truncated.at ∙ moved_place n (m + length events) ∙ ap capped counted;
-        reason = truncated.reason;
-        expected = truncated.expected;
-      }
-
   moved_behind : (n m : ℕ) (more : List Span) (events : List Event)
       → ((k : ℕ) (rest : List Event) → SpansFrom profile k rest more → SpansFrom profile (n + k) rest (moved_spans n more))
       → BehindStop (λ k behind. SpansFrom profile k behind more) (more ≡ []) m events
       → BehindStop (λ k behind. SpansFrom profile k behind (moved_spans n more)) (moved_spans n more ≡ []) (n + m) events
-  moved_behind n m more events later (inl w) = inl (w.0, ap (moved_spans n) w.1)
-  moved_behind n m more events later (inr w) =
-      let counted : n + (m + length w.0 + 1) ≡ (n + m) + length w.0 + 1 = omega arith in
-      inr (
-        w.0,
-        w.1,
-        w.2,
-        w.3,
-        subst (λ (k : ℕ). SpansFrom profile k w.1 (moved_spans n more)) counted (later (m + length w.0 + 1) w.1 w.4),
-      )
+  moved_behind n m more events later w =
+      moved_on (λ k behind. SpansFrom profile k behind more) (λ k behind. SpansFrom profile k behind (moved_spans n more)) (more ≡ []) (moved_spans n more ≡ []) n m events later
+      (λ none. ap (moved_spans n) none) w
 
-  -- after n more events the spans are the same, moved
-  pub spans_move : (n : ℕ) (spans : List Span) (m : ℕ) (events : List Event) → SpansFrom profile m events spans
-      → SpansFrom profile (n + m) events (moved_spans n spans)
-  spans_move n [] m events w = w
-  spans_move n (ReadSpan i front t ∷ more) m events w =
-      let counted : n + (m + length front) ≡ (n + m) + length front = omega arith in
-      let later = spans_move n more (m + length front) w.1 w.4 in (
-        ap (λ (k : ℕ). n + k) w.0,
-        w.1,
-        w.2,
-        w.3,
-        subst (λ (k : ℕ). SpansFrom profile k w.1 (moved_spans n more)) counted later,
-      )
-  spans_move n (RefusedSpan i front event refusal ∷ more) m events w =
-      let counted : n + (m + length front) ≡ (n + m) + length front = omega arith in
-      let behind = moved_behind n (m + length front) more (event ∷ w.1) (λ k rest. spans_move n more k rest) w.4 in (
-        ap (λ (k : ℕ). n + k) w.0,
-        w.1,
-        w.2,
-        refused_moved n m front event refusal w.3,
-        subst
-            (λ (k : ℕ). BehindStop (λ j behind. SpansFrom profile j behind (moved_spans n more)) (moved_spans n more ≡ []) k (event ∷ w.1))
-            counted behind,
-      )
-  spans_move n (TruncatedSpan i front refusal ∷ more) m events w =
-      (ap (λ (k : ℕ). n + k) w.0, w.1, truncated_moved n m front refusal w.2, ap (moved_spans n) w.3)
+  module _ (refused_moves : (n m : ℕ) (front : List Event) (event : Event) (refusal : RefusalData) → RefusedAt profile m front event refusal → RefusedAt profile (n + m) front event (moved_refusal n refusal))
+      (truncated_moves : (n m : ℕ) (events : List Event) (refusal : RefusalData) → TruncatedAt profile m events refusal → TruncatedAt profile (n + m) events (moved_refusal n refusal)) where
+    -- after n more events the spans are the same, moved
+    pub spans_move : (n : ℕ) (spans : List Span) (m : ℕ) (events : List Event) → SpansFrom profile m events spans
+        → SpansFrom profile (n + m) events (moved_spans n spans)
+    spans_move n [] m events w = w
+    spans_move n (ReadSpan i front t ∷ more) m events w =
+        let counted : n + (m + length front) ≡ (n + m) + length front = omega arith in
+        let later = spans_move n more (m + length front) w.1 w.4 in (
+          ap (λ (k : ℕ). n + k) w.0,
+          w.1,
+          w.2,
+          w.3,
+          subst (λ (k : ℕ). SpansFrom profile k w.1 (moved_spans n more)) counted later,
+        )
+    spans_move n (RefusedSpan i front event refusal ∷ more) m events w =
+        let counted : n + (m + length front) ≡ (n + m) + length front = omega arith in
+        let behind = moved_behind n (m + length front) more (event ∷ w.1) (λ k rest. spans_move n more k rest) w.4 in (
+          ap (λ (k : ℕ). n + k) w.0,
+          w.1,
+          w.2,
+          refused_moves n m front event refusal w.3,
+          subst
+              (λ (k : ℕ). BehindStop (λ j behind. SpansFrom profile j behind (moved_spans n more)) (moved_spans n more ≡ []) k (event ∷ w.1))
+              counted behind,
+        )
+    spans_move n (TruncatedSpan i front refusal ∷ more) m events w =
+        (ap (λ (k : ℕ). n + k) w.0, w.1, truncated_moves n m front refusal w.2, ap (moved_spans n) w.3)
 
   -- ---- no truncation
 
@@ -216,23 +185,25 @@ module _ (profile : List DeviceParts) where
     joined_from (TruncatedSpan m front refusal ∷ more) others n first second ends w behind =
         absurd (not_truncated n first front refusal ends w.1 w.2)
 
-    pub joined : (first second : List Event) (spans others : List Span) → EndsWithStop first → SpansFrom profile 0 first spans
-        → SpansFrom profile 0 second others → SpansFrom profile 0 (first ++ second) (spans ++ moved_spans (length first) others)
-    joined first second spans others ends w behind =
-        let n = length first in
-        let counted : n + 0 ≡ 0 + n = omega arith in
-        joined_from spans (moved_spans n others) 0 first second (ends_on first ends) w
-        (subst (λ (k : ℕ). SpansFrom profile k second (moved_spans n others)) counted (spans_move n others 0 second behind))
+    -- the law `spans_move`
+    module _ (moves : (n m : ℕ) (events : List Event) (spans : List Span) → SpansFrom profile m events spans → SpansFrom profile (n + m) events (moved_spans n spans)) where
+      pub joined : (first second : List Event) (spans others : List Span) → EndsWithStop first → SpansFrom profile 0 first spans
+          → SpansFrom profile 0 second others → SpansFrom profile 0 (first ++ second) (spans ++ moved_spans (length first) others)
+      joined first second spans others ends w behind =
+          let n = length first in
+          let counted : n + 0 ≡ 0 + n = omega arith in
+          joined_from spans (moved_spans n others) 0 first second (ends_on first ends) w
+          (subst (λ (k : ℕ). SpansFrom profile k second (moved_spans n others)) counted (moves n 0 second others behind))
 
-    -- ---- in pieces
+      -- ---- in pieces
 
-    module _ (some_spans : (n : ℕ) (events : List Event) → (spans : List Span) × SpansFrom profile n events spans)
-        (one_list : (n : ℕ) (events : List Event) (a b : List Span) → SpansFrom profile n events a → SpansFrom profile n events b → a ≡ b) where
-      pub in_pieces : (first second : List Event) (both : List Span) → EndsWithStop first → SpansFrom profile 0 (first ++ second) both
-          → (spans : List Span) × (others : List Span) × SpansFrom profile 0 first spans × SpansFrom profile 0 second others
-          × (both ≡ spans ++ moved_spans (length first) others)
-      in_pieces first second both ends w =
-          let a = some_spans 0 first in
-          let b = some_spans 0 second in
-          let all = a.0 ++ moved_spans (length first) b.0 in
-          (a.0, b.0, a.1, b.1, one_list 0 (first ++ second) both all w (joined first second a.0 b.0 ends a.1 b.1))
+      module _ (some_spans : (n : ℕ) (events : List Event) → (spans : List Span) × SpansFrom profile n events spans)
+          (one_list : (n : ℕ) (events : List Event) (a b : List Span) → SpansFrom profile n events a → SpansFrom profile n events b → a ≡ b) where
+        pub in_pieces : (first second : List Event) (both : List Span) → EndsWithStop first → SpansFrom profile 0 (first ++ second) both
+            → (spans : List Span) × (others : List Span) × SpansFrom profile 0 first spans × SpansFrom profile 0 second others
+            × (both ≡ spans ++ moved_spans (length first) others)
+        in_pieces first second both ends w =
+            let a = some_spans 0 first in
+            let b = some_spans 0 second in
+            let all = a.0 ++ moved_spans (length first) b.0 in
+            (a.0, b.0, a.1, b.1, one_list 0 (first ++ second) both all w (joined first second a.0 b.0 ends a.1 b.1))

@@ -11,7 +11,7 @@ use Rattle.pmb_transaction.specs.Reading.{BehindStop, RefusalData, RefusedAt, Tr
 use Rattle.pmb_transaction.proofs.Captures.{same_first_packet}
 use Rattle.pmb_transaction.proofs.Fronts.{Beyond, Within, cut}
 use Rattle.pmb_transaction.proofs.Readings.{one_reading_from}
-use Rattle.pmb_transaction.proofs.Stops.{same_cut}
+use Rattle.pmb_transaction.proofs.AfterStop.{of_one_rest}
 use Rattle.pmb_spans.specs.Spans.{ReadSpan, RefusedSpan, Span, SpansFrom, TruncatedSpan, outcome}
 use Rattle.pmb_spans.proofs.Outcomes.{spans_read}
 
@@ -57,15 +57,9 @@ module _ (profile : List DeviceParts) (fronts : (a b : List Event) → Viable pr
       → ((k : ℕ) (rest : List Event) → SpansFrom profile k rest a → SpansFrom profile k rest b → a ≡ b)
       → BehindStop (λ k behind. SpansFrom profile k behind a) (a ≡ []) n events
       → BehindStop (λ k behind. SpansFrom profile k behind b) (b ≡ []) n events → a ≡ b
-  one_behind a b n events one (inl first) (inl second) = first.1 ∙ sym second.1
-  one_behind a b n events one (inl first) (inr second) = absurd (first.0 second.0 second.1 second.3)
-  one_behind a b n events one (inr first) (inl second) = absurd (second.0 first.0 first.1 first.3)
-  one_behind a b n events one (inr first) (inr second) =
-      let same = same_cut first.0 second.0 first.1 second.1 first.2 second.2 (sym first.3 ∙ second.3) in
-      let counted : SpansFrom profile (n + length second.0 + 1) first.1 a =
-      subst (λ (passed : List Event). SpansFrom profile (n + length passed + 1) first.1 a) same.0 first.4 in
-      one (n + length second.0 + 1) second.1
-      (subst (λ (rest : List Event). SpansFrom profile (n + length second.0 + 1) rest a) same.1 counted) second.4
+  one_behind a b n events one first second =
+      of_one_rest (λ k behind. SpansFrom profile k behind a) (λ k behind. SpansFrom profile k behind b) (a ≡ []) (b ≡ []) (a ≡ b) n events one
+      (λ first_none second_none. first_none ∙ sym second_none) first second
 
   -- spans of the same outcomes are the same
   one_split : (a b : List Span) (n : ℕ) (events : List Event) → map outcome a ≡ map outcome b → SpansFrom profile n events a

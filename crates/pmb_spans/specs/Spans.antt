@@ -1,11 +1,11 @@
 -- What a list of events reads as, each outcome with its events.
 use Rattle.std.specs.Prelude.{◌≡◌, ℕ, ◌+◌, Bool, true, false, List, [], ◌∷◌, ◌++◌, length, map}
-use Rattle.pmb_bus.specs.Count.{capped}
 use Rattle.pmb_bus.specs.declared.event.Event.{Event}
 use Rattle.pmb_command.specs.Parts.{DeviceParts}
 use Rattle.pmb_transaction.specs.Packet.{Packet}
 use Rattle.pmb_transaction.specs.Reading.{Outcome, Accepted, Refusal, BehindStop, RefusalData, RefusedAt, TruncatedAt}
 use Rattle.pmb_transaction.specs.Transaction.{TransactionData}
+pub use Rattle.pmb_transaction.specs.Cut.{moved_refusal}
 
 -- A packet that was read; an event that was refused, after those of a packet under way; or events
 -- that end inside a packet. Each has the number of events that came before the packet, and the
@@ -26,10 +26,6 @@ abbrev pub is_whole : Span → Bool
 is_whole (ReadSpan n events t) = true
 is_whole (RefusedSpan n front event refusal) = true
 is_whole (TruncatedSpan n front refusal) = false
-
--- A refusal n events further on: its place moves, and stays at the greatest u64.
-abbrev pub moved_refusal : ℕ → RefusalData → RefusalData
-moved_refusal n refusal = record refusal { at = capped (n + refusal.at) }
 
 -- a span n events further on
 abbrev pub moved_span : ℕ → Span → Span

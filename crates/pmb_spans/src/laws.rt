@@ -10,7 +10,9 @@ ghost use Rattle.pmb_transaction.specs.Reading.{Outcome, ReadsFrom};
 ghost use Rattle.pmb_spans.specs.Spans.{Span, Spans, SpansFrom, is_whole, moved_spans, outcome};
 
 use pmb_bus::laws::kinds_are_told_by_events;
-use pmb_transaction::laws::{each_list_has_a_reading, fronts_are_viable, packets_under_way};
+use pmb_transaction::laws::{
+    each_list_has_a_reading, fronts_are_viable, packets_under_way, refusals_move,
+};
 
 /// Events read as the outcomes of their spans, however many events came before them.
 pub fn spans_read()
@@ -47,7 +49,9 @@ pub fn one_list_of_spans()
 pub fn spans_move()
     ensures { (profile : List DeviceParts) (n m : ℕ) (events : List Event) (spans : List Span) → SpansFrom profile m events spans
         → SpansFrom profile (n + m) events (moved_spans n spans) }
-{}
+{
+    refusals_move();
+}
 
 /// A capture may be cut after any STOP: where the first of two lists of events ends with STOP,
 /// both, end to end, have the spans of the first and then those of the second, moved by the number
@@ -68,4 +72,5 @@ pub fn spans_may_be_cut()
     fronts_are_viable();
     kinds_are_told_by_events();
     packets_under_way();
+    spans_move();
 }

@@ -1,6 +1,6 @@
 -- The bytes of answers: there is one to each body that asks, and each has a byte; how far a leg
 -- that is read has come in them.
-use Rattle.std.proofs.Common.{◌≡◌, ℕ, ◌<◌, ◌⊎◌, inl, inr, Bool, true, false, Some, List, [], ◌∷◌, ◌++◌, refl, sym, ap, ◌∙◌, subst, append_assoc, arith}
+use Rattle.std.proofs.Common.{◌≡◌, ℕ, ◌<◌, inl, inr, Bool, true, false, Some, List, [], ◌∷◌, ◌++◌, refl, sym, ap, ◌∙◌, subst, append_assoc, arith}
 use Rattle.std.proofs.lemmas.List.{same_from_push}
 use Rattle.pmb_bus.specs.declared.event.Event.TheVariants.{Byte, Nack}
 use Rattle.pmb_bus.specs.Address.{write_address, read_address}
@@ -13,7 +13,7 @@ use Rattle.pmb_command.specs.Fitting.{same_form}
 use Rattle.pmb_command.specs.Parts.{DeviceParts, device_with}
 use Rattle.pmb_command.specs.PecMode.{AllowsPec}
 use Rattle.pmb_command.specs.Wire.{Fits, wire}
-use Rattle.pmb_transaction.specs.Body.{ReadBody, CallBody, IsReadBody, IsCallBody, IsProperPrefix, checked}
+use Rattle.pmb_transaction.specs.Body.{IsProperPrefix, checked, IsRequest, IsFormOfRequest}
 use Rattle.pmb_transaction.specs.Packet.{acked, leg, nacked}
 use Rattle.pmb_transaction.specs.Viable.{AnswerBegins, IsAnswer, answer_taken, answer_sent}
 use Rattle.pmb_transaction.proofs.Completions.{nacked_append}
@@ -44,7 +44,7 @@ wire_has_byte form bytes fits some =
 
 -- the form of a body that asks has data
 pub asked_has_data : (device : DeviceParts) (form : Form) (body : List ℕ) → IsDevice device
-    → ((code : ℕ) × ReadBody device code form body) ⊎ ((code : ℕ) × (sent : List ℕ) × CallBody device code form sent body)
+    → IsFormOfRequest device form body
     → same_form form Zero ≡ false
 asked_has_data device form body is (inl w) = read_has_data device w.0 form is w.1.read
 asked_has_data device form body is (inr w) = call_has_data device w.0 form is w.2.called
@@ -54,12 +54,13 @@ pub answer_has_byte : (profile : List DeviceParts) → IsBus profile → (addr :
     → device_with addr profile ≡ Some device → IsAnswer device addr body answer → HasByte answer
 answer_has_byte profile bus addr device body answer known answers =
     let is = device_is profile addr device bus known in
-    let some = asked_has_data device answers.form body is.0 answers.asked in
-    let reply = wire answers.form answers.reply in
-    subst HasByte (sym answers.spelled)
+    let reply = answers.0 in
+    let says = answers.2 in
+    let some = asked_has_data device says.form body is.0 says.asked in
+    subst HasByte (sym says.spelled)
     (
-    checked_has_byte answers.with_pec (write_address addr ∷ body ++ read_address addr ∷ []) reply
-    (wire_has_byte answers.form answers.reply answers.fits some)
+    checked_has_byte answers.1 (write_address addr ∷ body ++ read_address addr ∷ []) (wire says.form reply)
+    (wire_has_byte says.form reply says.fits some)
     )
 
 -- ---- some answer
@@ -95,28 +96,19 @@ some_pec On = (true, refl)
 some_pec Optional = (false, tt)
 
 -- the form in which a body asks
-asked_in : (device : DeviceParts) (body : List ℕ) → IsReadBody device body ⊎ IsCallBody device body
-    → (form : Form)
-    × (((code : ℕ) × ReadBody device code form body) ⊎ ((code : ℕ) × (sent : List ℕ) × CallBody device code form sent body))
+asked_in : (device : DeviceParts) (body : List ℕ) → IsRequest device body
+    → (form : Form) × IsFormOfRequest device form body
 asked_in device body (inl w) = (w.1, inl (w.0, w.2))
 asked_in device body (inr w) = (w.1, inr (w.0, w.2, w.3))
 
 -- a device has some answer to a body that asks
-pub some_answer : (device : DeviceParts) (addr : ℕ) (body : List ℕ) → IsReadBody device body ⊎ IsCallBody device body
+pub some_answer : (device : DeviceParts) (addr : ℕ) (body : List ℕ) → IsRequest device body
     → (answer : List ℕ) × IsAnswer device addr body answer
 some_answer device addr body is =
     let asked = asked_in device body is in
     let mode = some_pec device.pec in (
       checked mode.0 (write_address addr ∷ body ++ read_address addr ∷ []) (wire asked.0 (zeros asked.0)),
-      record {
-        form = asked.0;
-        asked = asked.1;
-        reply = zeros asked.0;
-        fits = zeros_fit asked.0;
-        with_pec = mode.0;
-        mode = mode.1;
-        spelled = refl;
-      },
+      (zeros asked.0, mode.0, record { form = asked.0; asked = asked.1; fits = zeros_fit asked.0; mode = mode.1; spelled = refl }),
     )
 
 -- ---- how far a leg has come

@@ -10,7 +10,7 @@ use Rattle.pmb_command.specs.Bus.{IsBus}
 use Rattle.pmb_command.specs.Parts.{DeviceParts, IsNew, device_with}
 use Rattle.pmb_command.specs.Wire.{IsByte, AreByteValues, wire}
 use Rattle.pmb_transaction.specs.Transaction.{PartData, ReadData, CallData, TransactionData, Write, Read, Call, Refused, Alert, NoAlert}
-use Rattle.pmb_transaction.specs.Body.{checked, IsProperPrefix, IsWriteBody, IsReadBody, IsCallBody, Allowed}
+use Rattle.pmb_transaction.specs.Body.{checked, IsProperPrefix, IsWriteBody, Allowed, IsRequest}
 use Rattle.pmb_transaction.specs.Packet.{Packet, PartEvents, PartsEvents, ReadPacket, CallPacket, ByteRefused, ReadRefused, RefusedLeg, acked, nacked, leg, addresses}
 use Rattle.pmb_transaction.specs.Capture.{Viable}
 use Rattle.pmb_transaction.specs.Viable.{BeginsBody, IsInsideBody, IsAnswer, AnswerBegins, AlertBegins, ReadBegins, LegBegins, PartsAndLeg, IsBeginning, answer_taken, answer_sent, at_alert, alert_answer, read_start, read_address_sent, read_answer, leg_start, leg_address, leg_taken, leg_sent, whole, before_stop, written, read, alert}
@@ -54,7 +54,7 @@ goes_on front (b ∷ others) next rest body split =
     record { next = b; rest = others ++ next ∷ rest; split = split ∙ append_assoc front (b ∷ others) (next ∷ rest) }
 
 inside_body : (device : DeviceParts) (parts : List PartData) (front shorter others : List ℕ)
-    → (front ≡ []) ⊎ ((body : List ℕ) × Allowed device parts body × IsProperPrefix front body) → front ≡ shorter ++ others
+    → IsInsideBody device parts front → front ≡ shorter ++ others
     → IsInsideBody device parts shorter
 inside_body device parts front shorter others (inl none) split = inl (none_in_front shorter others (sym none ∙ split))
 inside_body device parts front shorter others (inr w) split =
@@ -124,29 +124,33 @@ same_before_stop a b same = (same_from_push a b Stop Stop same).0
 pub read_answers : (profile : List DeviceParts) (t : ReadData) (events : List Event) → (packet : ReadPacket profile t events)
     → IsAnswer packet.device t.addr (t.code ∷ [])
     (checked t.pec (write_address t.addr ∷ (t.code ∷ []) ++ read_address t.addr ∷ []) (wire packet.form t.reply))
-read_answers profile t events packet = record {
-  form = packet.form;
-  asked = inl (t.code, record { read = packet.read; spelled = refl });
-  reply = t.reply;
-  fits = packet.fits;
-  with_pec = t.pec;
-  mode = packet.mode;
-  spelled = refl;
-}
+read_answers profile t events packet = (
+  t.reply,
+  t.pec,
+  record {
+    form = packet.form;
+    asked = inl (t.code, record { read = packet.read; spelled = refl });
+    fits = packet.fits;
+    mode = packet.mode;
+    spelled = refl;
+  },
+)
 
 -- the answer of a call
 pub call_answers : (profile : List DeviceParts) (t : CallData) (events : List Event) → (packet : CallPacket profile t events)
     → IsAnswer packet.device t.addr (t.code ∷ wire packet.form t.bytes)
     (checked t.pec (write_address t.addr ∷ (t.code ∷ wire packet.form t.bytes) ++ read_address t.addr ∷ []) (wire packet.form t.reply))
-call_answers profile t events packet = record {
-  form = packet.form;
-  asked = inr (t.code, t.bytes, record { called = packet.called; fits = packet.sent; spelled = refl });
-  reply = t.reply;
-  fits = packet.replied;
-  with_pec = t.pec;
-  mode = packet.mode;
-  spelled = refl;
-}
+call_answers profile t events packet = (
+  t.reply,
+  t.pec,
+  record {
+    form = packet.form;
+    asked = inr (t.code, t.bytes, record { called = packet.called; fits = packet.sent; spelled = refl });
+    fits = packet.replied;
+    mode = packet.mode;
+    spelled = refl;
+  },
+)
 
 module _ (pec_is_byte : (bytes : List ℕ) → pec bytes < 256) (profile : List DeviceParts) (bus : IsBus profile) where
   -- ---- legs that are written
@@ -252,7 +256,7 @@ module _ (pec_is_byte : (bytes : List ℕ) → pec bytes < 256) (profile : List 
 
   -- what begins after the leg of the body
   read_leg_begins : (addr : ℕ) (device : DeviceParts) (body : List ℕ) → device_with addr profile ≡ Some device
-      → IsReadBody device body ⊎ IsCallBody device body → (tail : List Event) (e : Event) (events : List Event) (next : Event) (more : List Event)
+      → IsRequest device body → (tail : List Event) (e : Event) (events : List Event) (next : Event) (more : List Event)
       → ((f : Event) (others : List Event) → f ∷ others ++ next ∷ more ≡ tail
       → ReadBegins profile (leg (write_address addr ∷ body) ++ Start ∷ Byte (read_address addr) ∷ f ∷ others))
       → Start ∷ Byte (read_address addr) ∷ tail ≡ e ∷ events ++ next ∷ more
@@ -273,7 +277,7 @@ module _ (pec_is_byte : (bytes : List ℕ) → pec bytes < 256) (profile : List 
       subst (λ (es : List Event). ReadBegins profile (leg (write_address addr ∷ body) ++ es)) front (later g events then)
 
   answered_begins_at : (addr : ℕ) (device : DeviceParts) (body : List ℕ) → device_with addr profile ≡ Some device
-      → IsReadBody device body ⊎ IsCallBody device body → (tail : List Event) (e : Event) (events : List Event) (next : Event) (more : List Event)
+      → IsRequest device body → (tail : List Event) (e : Event) (events : List Event) (next : Event) (more : List Event)
       → ((f : Event) (others : List Event) → f ∷ others ++ next ∷ more ≡ tail
       → ReadBegins profile (leg (write_address addr ∷ body) ++ Start ∷ Byte (read_address addr) ∷ f ∷ others))
       → Within (e ∷ events) (next ∷ more) (leg (write_address addr ∷ body)) (Start ∷ Byte (read_address addr) ∷ tail)
@@ -293,7 +297,7 @@ module _ (pec_is_byte : (bytes : List ℕ) → pec bytes < 256) (profile : List 
       )
 
   answered_begins : (addr : ℕ) (device : DeviceParts) (body : List ℕ) → device_with addr profile ≡ Some device
-      → IsReadBody device body ⊎ IsCallBody device body → (tail : List Event) (e : Event) (events : List Event) (next : Event) (more : List Event)
+      → IsRequest device body → (tail : List Event) (e : Event) (events : List Event) (next : Event) (more : List Event)
       → ((f : Event) (others : List Event) → f ∷ others ++ next ∷ more ≡ tail
       → ReadBegins profile (leg (write_address addr ∷ body) ++ Start ∷ Byte (read_address addr) ∷ f ∷ others))
       → e ∷ events ++ next ∷ more ≡ leg (write_address addr ∷ body) ++ Start ∷ Byte (read_address addr) ∷ tail
@@ -304,7 +308,7 @@ module _ (pec_is_byte : (bytes : List ℕ) → pec bytes < 256) (profile : List 
 
   -- what begins a read or a call
   answer_of : (addr : ℕ) (device : DeviceParts) (body answer : List ℕ) → device_with addr profile ≡ Some device
-      → IsReadBody device body ⊎ IsCallBody device body → IsAnswer device addr body answer
+      → IsRequest device body → IsAnswer device addr body answer
       → (e : Event) (events : List Event) (next : Event) (more : List Event)
       → e ∷ events ++ next ∷ more ≡ leg (write_address addr ∷ body) ++ (leg (read_address addr ∷ []) ++ nacked answer)
       → IsBeginning profile (e ∷ events)

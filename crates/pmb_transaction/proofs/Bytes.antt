@@ -1,5 +1,5 @@
 -- The bytes of packets are below 256.
-use Rattle.std.proofs.Common.{◌≡◌, ℕ, ◌<◌, Bool, true, false, Some, List, [], ◌∷◌, ◌++◌, ◌+◌, ◌*◌, ◌⊎◌, inl, inr, refl, sym, subst, arith}
+use Rattle.std.proofs.Common.{◌≡◌, ℕ, ◌<◌, Bool, true, false, Some, List, [], ◌∷◌, ◌++◌, ◌+◌, ◌*◌, inl, inr, refl, sym, subst, arith}
 use Rattle.pmb_bus.specs.Event as of_events
 use Rattle.pmb_bus.specs.Pec.{pec}
 use Rattle.pmb_bus.specs.declared.event.Event.{Event}
@@ -11,7 +11,7 @@ use Rattle.pmb_command.specs.declared.form.Shape.{Shape}
 use Rattle.pmb_command.specs.Bus.{IsBus}
 use Rattle.pmb_command.specs.Parts.{DeviceParts, device_with}
 use Rattle.pmb_command.specs.Wire.{AreByteValues, Fits, wire}
-use Rattle.pmb_transaction.specs.Body.{IsCallBody, IsReadBody, WriteBody, checked}
+use Rattle.pmb_transaction.specs.Body.{WriteBody, checked, IsRequest}
 use Rattle.pmb_transaction.specs.Packet.{Packet, PartsEvents, ReadRefused, RefusedLeg, acked, answered, leg, nacked}
 use Rattle.pmb_transaction.specs.Transaction.{PartData, TransactionData, Write, Read, Call, Refused, Alert, NoAlert}
 use Rattle.pmb_transaction.proofs.Known.{code_is_byte, device_is}
@@ -101,7 +101,7 @@ module _ (pec_is_byte : (bytes : List ℕ) → pec bytes < 256) where
         subst of_events.AreBytes (sym each.2) (AreBytes-append each.0 each.1 first (bytes_of_parts parts each.1 each.4))
 
     pub small_sent : (addr : ℕ) (device : DeviceParts) (sent : List ℕ) → device_with addr profile ≡ Some device
-        → IsReadBody device sent ⊎ IsCallBody device sent → AreByteValues sent
+        → IsRequest device sent → AreByteValues sent
     small_sent addr device sent known (inl read) =
         let is = device_is profile addr device bus known in
         let code_small = code_is_byte (λ (s : Shape). s.read) device read.0 read.1 refl is.0 read.2.read in

@@ -1,5 +1,5 @@
 -- Each of the stated beginnings can be completed to a packet.
-use Rattle.std.proofs.Common.{◌≡◌, ℕ, ◌+◌, ◌<◌, ◌≤◌, ◌⊎◌, inl, inr, Bool, true, false, Some, List, [], ◌∷◌, ◌++◌, length, nat_eq, refl, sym, ap, ◌∙◌, subst, append_assoc, arith}
+use Rattle.std.proofs.Common.{◌≡◌, ℕ, ◌+◌, ◌<◌, ◌≤◌, inl, inr, Bool, true, false, Some, List, [], ◌∷◌, ◌++◌, length, nat_eq, refl, sym, ap, ◌∙◌, subst, append_assoc, arith}
 use Rattle.std.specs.List.{IsDistinct}
 use Rattle.std.proofs.lemmas.List.{append-nil, length-map, length_push}
 use Rattle.pmb_bus.specs.Pec.{pec}
@@ -10,10 +10,10 @@ use Rattle.pmb_command.specs.Bus.{IsBus}
 use Rattle.pmb_command.specs.Parts.{DeviceParts, IsNew, device_with}
 use Rattle.pmb_command.specs.Wire.{IsByte, AreByteValues, wire}
 use Rattle.pmb_transaction.specs.Transaction.{PartData, ReadData, CallData, RefusedData, AlertData, TransactionData, Write, Read, Call, Refused, Alert, NoAlert}
-use Rattle.pmb_transaction.specs.Body.{checked, ReadBody, CallBody, IsWriteBody, IsReadBody, IsCallBody, Allowed}
+use Rattle.pmb_transaction.specs.Body.{checked, IsWriteBody, Allowed, IsRequest, IsFormOfRequest}
 use Rattle.pmb_transaction.specs.Packet.{Packet, PartEvents, PartsEvents, WritePacket, ReadPacket, CallPacket, ReadRefused, RefusedLeg, RefusedPacket, AlertPacket, acked, nacked, leg, addresses, answered}
 use Rattle.pmb_transaction.specs.Capture.{IsPacket, Viable}
-use Rattle.pmb_transaction.specs.Viable.{IsInsideBody, IsAnswer, AnswerBegins, AlertBegins, ReadBegins, LegBegins, IsBeginning, answer_taken, answer_sent, at_alert, alert_answer, read_start, read_address_sent, read_answer, leg_start, leg_address, leg_taken, leg_sent, whole, before_stop, written, read, alert}
+use Rattle.pmb_transaction.specs.Viable.{IsInsideBody, AnswerBegins, AlertBegins, ReadBegins, LegBegins, IsBeginning, answer_taken, answer_sent, at_alert, alert_answer, read_start, read_address_sent, read_answer, leg_start, leg_address, leg_taken, leg_sent, whole, before_stop, written, read, alert, SaysAnswer}
 use Rattle.pmb_transaction.proofs.Addresses.{distinct_none, distinct_with, free}
 use Rattle.pmb_transaction.proofs.Beginnings.{parts_push}
 use Rattle.pmb_transaction.proofs.Bytes.{small-append, small_body, small_sent}
@@ -131,7 +131,7 @@ module _ (pec_is_byte : (bytes : List ℕ) → pec bytes < 256) (profile : List 
 
   -- after the leg of a read body or a call body the device may refuse to be read
   pub read_follows : (addr : ℕ) (device : DeviceParts) (body : List ℕ) → device_with addr profile ≡ Some device
-      → IsReadBody device body ⊎ IsCallBody device body → (events begun more : List Event) → events ≡ leg (write_address addr ∷ body) ++ begun
+      → IsRequest device body → (events begun more : List Event) → events ≡ leg (write_address addr ∷ body) ++ begun
       → begun ++ more ≡ Start ∷ Byte (read_address addr) ∷ Nack ∷ Stop ∷ [] → Viable profile events
   read_follows addr device body known is events begun more spelled ends =
       let written = leg (write_address addr ∷ body) in
@@ -257,37 +257,36 @@ module _ (pec_is_byte : (bytes : List ℕ) → pec bytes < 256) (profile : List 
 
   -- ---- legs that are read
 
-  pub answered_packet : (addr : ℕ) (device : DeviceParts) (body : List ℕ) → device_with addr profile ≡ Some device
-      → (answer : List ℕ) → (answers : IsAnswer device addr body answer)
-      → ((code : ℕ) × ReadBody device code answers.form body) ⊎ ((code : ℕ) × (sent : List ℕ) × CallBody device code answers.form sent body)
-      → IsPacket profile (answered addr body (wire answers.form answers.reply) answers.with_pec)
-  answered_packet addr device body known answer answers (inl w) =
-      let reply = wire answers.form answers.reply in
-      let t : ReadData = record { addr = addr; code = w.0; reply = answers.reply; pec = answers.with_pec } in
-      let packet : ReadPacket profile t (answered addr (w.0 ∷ []) reply answers.with_pec) = record {
+  pub answered_packet : (addr : ℕ) (device : DeviceParts) (body reply : List ℕ) (with_pec : Bool) → device_with addr profile ≡ Some device
+      → (answer : List ℕ) → (says : SaysAnswer device addr body reply with_pec answer) → IsFormOfRequest device says.form body
+      → IsPacket profile (answered addr body (wire says.form reply) with_pec)
+  answered_packet addr device body reply with_pec known answer says (inl w) =
+      let bytes = wire says.form reply in
+      let t : ReadData = record { addr = addr; code = w.0; reply = reply; pec = with_pec } in
+      let packet : ReadPacket profile t (answered addr (w.0 ∷ []) bytes with_pec) = record {
         device = device;
-        form = answers.form;
+        form = says.form;
         known = known;
         read = w.1.read;
-        fits = answers.fits;
-        mode = answers.mode;
+        fits = says.fits;
+        mode = says.mode;
         spelled = refl;
       } in
-      subst (λ (bytes : List ℕ). IsPacket profile (answered addr bytes reply answers.with_pec)) (sym w.1.spelled) (Read t, packet)
-  answered_packet addr device body known answer answers (inr w) =
-      let reply = wire answers.form answers.reply in
-      let t : CallData = record { addr = addr; code = w.0; bytes = w.1; reply = answers.reply; pec = answers.with_pec } in
-      let packet : CallPacket profile t (answered addr (w.0 ∷ wire answers.form w.1) reply answers.with_pec) = record {
+      subst (λ (sent : List ℕ). IsPacket profile (answered addr sent bytes with_pec)) (sym w.1.spelled) (Read t, packet)
+  answered_packet addr device body reply with_pec known answer says (inr w) =
+      let bytes = wire says.form reply in
+      let t : CallData = record { addr = addr; code = w.0; bytes = w.1; reply = reply; pec = with_pec } in
+      let packet : CallPacket profile t (answered addr (w.0 ∷ wire says.form w.1) bytes with_pec) = record {
         device = device;
-        form = answers.form;
+        form = says.form;
         known = known;
         called = w.2.called;
         sent = w.2.fits;
-        replied = answers.fits;
-        mode = answers.mode;
+        replied = says.fits;
+        mode = says.mode;
         spelled = refl;
       } in
-      subst (λ (bytes : List ℕ). IsPacket profile (answered addr bytes reply answers.with_pec)) (sym w.2.spelled) (Call t, packet)
+      subst (λ (sent : List ℕ). IsPacket profile (answered addr sent bytes with_pec)) (sym w.2.spelled) (Call t, packet)
 
   read_goes_on : (events : List Event) → ReadBegins profile events → Viable profile events
   read_goes_on events (read_start addr device body known is spelled) =
@@ -297,14 +296,15 @@ module _ (pec_is_byte : (bytes : List ℕ) → pec bytes < 256) (profile : List 
   read_goes_on events (read_answer addr device body answer last known answers begins spelled) =
       let written = leg (write_address addr ∷ body) in
       let rest = rest_of_answer (read_address addr) answer last begins in
-      let packet = answered_packet addr device body known answer answers answers.asked in
-      let same : events ++ (rest.more ++ Stop ∷ []) ≡ answered addr body (wire answers.form answers.reply) answers.with_pec =
+      let says = answers.2 in
+      let packet = answered_packet addr device body answers.0 answers.1 known answer says says.asked in
+      let same : events ++ (rest.more ++ Stop ∷ []) ≡ answered addr body (wire says.form answers.0) answers.1 =
       ap (λ (es : List Event). es ++ (rest.more ++ Stop ∷ [])) spelled
       ∙ sym (append_assoc (written ++ last) rest.more (Stop ∷ []))
       ∙ ap (λ (es : List Event). es ++ Stop ∷ []) (append_assoc written last rest.more)
       ∙ ap (λ (es : List Event). (written ++ es) ++ Stop ∷ []) rest.all
-      ∙ ap (λ (bytes : List ℕ). (written ++ (leg (read_address addr ∷ []) ++ nacked bytes)) ++ Stop ∷ []) answers.spelled in
-      completes events (rest.more ++ Stop ∷ []) (answered addr body (wire answers.form answers.reply) answers.with_pec) packet.0 same packet.1
+      ∙ ap (λ (bytes : List ℕ). (written ++ (leg (read_address addr ∷ []) ++ nacked bytes)) ++ Stop ∷ []) says.spelled in
+      completes events (rest.more ++ Stop ∷ []) (answered addr body (wire says.form answers.0) answers.1) packet.0 same packet.1
 
   alert_goes_on : (events : List Event) → AlertBegins events → Viable profile events
   alert_goes_on events (at_alert is) =

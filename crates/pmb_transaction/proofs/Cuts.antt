@@ -1,5 +1,5 @@
 -- A capture that is cut after a STOP reads as its pieces do.
-use Rattle.std.proofs.Common.{◌≡◌, ℕ, ◌+◌, ◌<◌, ◌⊎◌, inl, inr, List, [], ◌∷◌, ◌++◌, length, refl, sym, ap, ◌∙◌, subst, append_assoc, arith}
+use Rattle.std.proofs.Common.{◌≡◌, ℕ, ◌+◌, ◌<◌, ◌⊎◌, inl, inr, List, [], ◌∷◌, ◌++◌, length, sym, ap, ◌∙◌, subst, append_assoc, arith}
 use Rattle.std.specs.List.{All}
 use Rattle.std.proofs.lemmas.List.{append-nil, length-append}
 use Rattle.std.proofs.lemmas.List.Elements.{All-cons, All-nil}
@@ -15,9 +15,10 @@ use Rattle.pmb_transaction.specs.declared.reason.Reason.TheVariants.{Truncated}
 use Rattle.pmb_transaction.specs.Capture.{Viable}
 use Rattle.pmb_transaction.specs.Reason.{BehindAddress, BehindCode, BehindRestart, BehindStart, FurtherOn, InReply, IsReason, Nowhere, Place, ack_reason, byte_reason, nack_reason, place_behind}
 use Rattle.pmb_transaction.specs.Reading.{Accepted, BehindStop, Outcome, ReadsFrom, Refusal, RefusalData, RefusedAt, TruncatedAt}
-use Rattle.pmb_transaction.specs.Cut.{EndsWithStop, IsNotTruncated, moved}
+use Rattle.pmb_transaction.specs.Cut.{EndsWithStop, IsNotTruncated, moved, moved_refusal}
 use Rattle.pmb_transaction.proofs.Ends.{packet_with_stop}
-use Rattle.pmb_transaction.proofs.Fronts.{Beyond, Within, cut, no_end}
+use Rattle.pmb_transaction.proofs.AfterStop.{moved_on}
+use Rattle.pmb_transaction.proofs.Fronts.{Beyond, Within, cut}
 use Rattle.pmb_transaction.proofs.Readings.{one_reading_from}
 use Rattle.pmb_transaction.proofs.SomeReading.{each_list_has_a_reading}
 
@@ -26,10 +27,6 @@ use Rattle.pmb_transaction.proofs.SomeReading.{each_list_has_a_reading}
 -- a place that stays at the greatest u64 stays there further on
 moved_place : (n m : ℕ) → capped (n + capped m) ≡ capped (n + m)
 moved_place n m = omega arith
-
--- the same refusal n events further on
-abbrev moved_refusal : ℕ → RefusalData → RefusalData
-moved_refusal n refusal = record refusal { at = capped (n + refusal.at) }
 
 -- ---- ends
 
@@ -103,7 +100,7 @@ module _ (profile : List DeviceParts) where
 
   -- ---- further on
 
-  refused_moved : (n m : ℕ) (front : List Event) (event : Event) (refusal : RefusalData) → RefusedAt profile m front event refusal
+  pub refused_moved : (n m : ℕ) (front : List Event) (event : Event) (refusal : RefusalData) → RefusedAt profile m front event refusal
       → RefusedAt profile (n + m) front event (moved_refusal n refusal)
   refused_moved n m front event refusal refused =
       let counted : n + (m + length front) ≡ (n + m) + length front = omega arith in record {
@@ -114,7 +111,7 @@ module _ (profile : List DeviceParts) where
         expected = refused.expected;
       }
 
-  truncated_moved : (n m : ℕ) (events : List Event) (refusal : RefusalData) → TruncatedAt profile m events refusal
+  pub truncated_moved : (n m : ℕ) (events : List Event) (refusal : RefusalData) → TruncatedAt profile m events refusal
       → TruncatedAt profile (n + m) events (moved_refusal n refusal)
   truncated_moved n m events refusal truncated =
       let counted : n + (m + length events) ≡ (n + m) + length events = omega arith in record {
@@ -129,16 +126,9 @@ module _ (profile : List DeviceParts) where
       → ((k : ℕ) (rest : List Event) → ReadsFrom profile k rest more → ReadsFrom profile (n + k) rest (moved n more))
       → BehindStop (λ k behind. ReadsFrom profile k behind more) (more ≡ []) m events
       → BehindStop (λ k behind. ReadsFrom profile k behind (moved n more)) (moved n more ≡ []) (n + m) events
-  behind_moved n m more events later (inl w) = inl (w.0, ap (moved n) w.1)
-  behind_moved n m more events later (inr w) =
-      let counted : n + (m + length w.0 + 1) ≡ (n + m) + length w.0 + 1 = omega arith in
-      inr (
-        w.0,
-        w.1,
-        w.2,
-        w.3,
-        subst (λ (k : ℕ). ReadsFrom profile k w.1 (moved n more)) counted (later (m + length w.0 + 1) w.1 w.4),
-      )
+  behind_moved n m more events later w =
+      moved_on (λ k behind. ReadsFrom profile k behind more) (λ k behind. ReadsFrom profile k behind (moved n more)) (more ≡ []) (moved n more ≡ []) n m events later
+      (λ none. ap (moved n) none) w
 
   -- events after n more read as the same, moved
   reads_moved : (n : ℕ) (outcomes : List Outcome) (m : ℕ) (events : List Event) → ReadsFrom profile m events outcomes

@@ -9,7 +9,7 @@ use Rattle.pmb_command.specs.Parts.{DeviceParts}
 use Rattle.pmb_command.specs.PecMode.{AllowsPec}
 use Rattle.pmb_command.specs.Wire.{IsByte, AreByteValues, Fits, Takes, wire}
 use Rattle.pmb_transaction.specs.Transaction.{PartData}
-use Rattle.pmb_transaction.specs.Body.{forms, checked, IsProperPrefix, ReadBody, CallBody, IsWriteBody, IsReadBody, IsCallBody, Allowed}
+use Rattle.pmb_transaction.specs.Body.{forms, checked, IsProperPrefix, ReadBody, CallBody, IsWriteBody, IsReadBody, IsCallBody, Allowed, IsRequest}
 use Rattle.pmb_transaction.proofs.Decided.{Decided, at_most, below, both, either_way, of_each, of_some, one_of, same_bool, same_number}
 use Rattle.pmb_transaction.proofs.Finite.{Few, bools, data_bytes, some_of}
 
@@ -215,10 +215,6 @@ module _ (device : DeviceParts) where
       either_way (WritesOn (code ∷ rest) code) (Goes (part ∷ parts) (code ∷ rest)) (λ w. inr (write_goes_on code rest w))
       (later_leg part parts code rest) (writes_on (code ∷ rest) code)
 
-  -- bytes that ask the device
-  abbrev pub Asks : List ℕ → Type 0
-  Asks sent = IsReadBody device sent ⊎ IsCallBody device sent
-
   is_read : (sent : List ℕ) → Decided (IsReadBody device sent)
   is_read [] = inr (λ w. let spelled : [] ≡ w.0 ∷ [] = w.2.spelled in cc spelled)
   is_read (code ∷ []) =
@@ -249,5 +245,5 @@ module _ (device : DeviceParts) where
           let rest : sent ≡ wire form bytes = cc spelled in
           (form, subst (λ (c : ℕ). (forms device c).call ≡ Some form) same is.called, (bytes, is.fits, rest))
 
-  pub asks : (sent : List ℕ) → Decided (Asks sent)
+  pub asks : (sent : List ℕ) → Decided (IsRequest device sent)
   asks sent = one_of (IsReadBody device sent) (IsCallBody device sent) (is_read sent) (is_call sent)

@@ -10,11 +10,11 @@ use Rattle.pmb_command.specs.Parts.{DeviceParts, IsNew, device_with}
 use Rattle.pmb_command.specs.PecMode.{AllowsPec}
 use Rattle.pmb_command.specs.Wire.{AreByteValues, Fits, wire}
 use Rattle.pmb_transaction.specs.Transaction.{PartData, ReadData, CallData, RefusedData, TransactionData, Write, Read, Call, Refused, Alert, NoAlert}
-use Rattle.pmb_transaction.specs.Body.{forms, checked}
+use Rattle.pmb_transaction.specs.Body.{forms, checked, IsRequest}
 use Rattle.pmb_transaction.specs.Packet.{Packet, PartEvents, PartsEvents, WritePacket, ReadPacket, CallPacket, RefusedPacket, AlertPacket, AddressRefused, ByteRefused, ReadRefused, RefusedLeg, addresses, answered, leg, nacked}
 use Rattle.pmb_transaction.proofs.Decided.{Decided, at_most, begins_with, below, both, either_way, of_each, of_some, same_bool, same_number}
 use Rattle.pmb_transaction.proofs.OnePacket.{one_packet}
-use Rattle.pmb_transaction.proofs.DecidedBodies.{Asks, Goes, allows, are_bytes, asks, fits, goes}
+use Rattle.pmb_transaction.proofs.DecidedBodies.{Goes, allows, are_bytes, asks, fits, goes}
 
 -- ---- addresses
 
@@ -185,7 +185,7 @@ module _ (profile : List DeviceParts) where
 
   read_refused : (parts : List PartData) (addr : ℕ) (sent : List ℕ) → Decided ((events : List Event) × ReadRefused profile parts addr sent events)
   read_refused parts addr sent =
-      either_way ((parts ≡ []) × ((device : DeviceParts) × (device_with addr profile ≡ Some device) × Asks device sent))
+      either_way ((parts ≡ []) × ((device : DeviceParts) × (device_with addr profile ≡ Some device) × IsRequest device sent))
       ((events : List Event) × ReadRefused profile parts addr sent events)
       (λ w. (
         leg (write_address addr ∷ sent) ++ Start ∷ Byte (read_address addr) ∷ Nack ∷ [],
@@ -193,8 +193,8 @@ module _ (profile : List DeviceParts) where
       ))
       (λ w. (w.1.alone, (w.1.device, w.1.known, w.1.body)))
       (
-      both (parts ≡ []) ((device : DeviceParts) × (device_with addr profile ≡ Some device) × Asks device sent) (no_parts parts)
-      (of_some DeviceParts (device_with addr profile) (λ device. Asks device sent) (λ device. asks device sent))
+      both (parts ≡ []) ((device : DeviceParts) × (device_with addr profile ≡ Some device) × IsRequest device sent) (no_parts parts)
+      (of_some DeviceParts (device_with addr profile) (λ device. IsRequest device sent) (λ device. asks device sent))
       )
 
   refused_leg : (parts : List PartData) (addr : ℕ) (sent : List ℕ) (at_read : Bool)

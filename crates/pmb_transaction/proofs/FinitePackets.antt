@@ -1,6 +1,6 @@
 -- Transactions that have packets are finitely many, so whether some packet begins with events is
 -- decided.
-use Rattle.std.proofs.Common.{◌≡◌, ℕ, ◌+◌, ◌<◌, ◌≤◌, ◌⊎◌, inl, inr, Bool, true, false, List, [], ◌∷◌, ◌++◌, length, refl, sym, ap, subst, arith}
+use Rattle.std.proofs.Common.{◌≡◌, ℕ, ◌+◌, ◌<◌, ◌≤◌, ◌⊎◌, inl, inr, Bool, true, false, List, [], ◌∷◌, ◌++◌, length, refl, ap, arith}
 use Rattle.std.specs.List.{AllByRecursion}
 use Rattle.std.proofs.lemmas.List.{length-append}
 use Rattle.pmb_bus.specs.Event as of_events
@@ -8,23 +8,22 @@ use Rattle.pmb_bus.specs.Pec.{pec}
 use Rattle.pmb_bus.specs.declared.event.Event.{Event}
 use Rattle.pmb_bus.specs.declared.event.Event.TheVariants.{Start, Byte, Ack, Nack, Stop}
 use Rattle.pmb_command.specs.declared.form.Form.{Form}
-use Rattle.pmb_command.specs.declared.form.Form.TheVariants.{Zero, One, Two, Four, Eight, Block}
 use Rattle.pmb_command.specs.declared.form.Shape.{Shape}
 use Rattle.pmb_command.specs.Bus.{IsBus}
 use Rattle.pmb_command.specs.Parts.{DeviceParts}
-use Rattle.pmb_command.specs.Wire.{Fits, wire}
+use Rattle.pmb_command.specs.Wire.{Fits}
 use Rattle.pmb_transaction.specs.Transaction.{PartData, ReadData, CallData, RefusedData, AlertData, TransactionData, Write, Read, Call, Refused, Alert, NoAlert}
-use Rattle.pmb_transaction.specs.Body.{checked, IsProperPrefix, IsWriteBody, IsReadBody, IsCallBody, Allowed}
 use Rattle.pmb_transaction.specs.Packet.{Packet, PartEvents, PartsEvents, ReadRefused, RefusedLeg}
 use Rattle.pmb_transaction.specs.Capture.{MayFollow, Viable}
 use Rattle.pmb_transaction.specs.Reason.{FollowsAlone}
 use Rattle.pmb_transaction.proofs.Bytes.{packets_are_bytes, seven_bits, small_sent}
 use Rattle.pmb_transaction.proofs.Decided.{Decided, both, either_way, not_so, one_of, settled}
-use Rattle.pmb_transaction.proofs.DecidedBodies.{few_of_form, few_that_fit}
+use Rattle.pmb_transaction.proofs.DecidedBodies.{few_that_fit}
 use Rattle.pmb_transaction.proofs.DecidedPackets.{begins_packet, same_event}
 use Rattle.pmb_transaction.proofs.Finite.{Few, Finite, bools, bytes, data_bytes, image, lists, numbers, pairs, some_of}
 use Rattle.pmb_transaction.proofs.Fronts.{no_end}
 use Rattle.pmb_transaction.proofs.Known.{code_is_byte, device_is}
+use Rattle.pmb_transaction.proofs.Lengths.{body_is_short, front_is_short}
 
 -- ---- transactions within bounds
 
@@ -174,54 +173,6 @@ transactions P each =
     )
     )
 
--- ---- lengths
-
-wire_length : (form : Form) (bytes : List ℕ) → Fits form bytes → length (wire form bytes) ≤ 256
-wire_length Zero bytes fits = omega (arith, few_of_form Zero bytes fits.taken)
-wire_length One bytes fits = omega (arith, few_of_form One bytes fits.taken)
-wire_length Two bytes fits = omega (arith, few_of_form Two bytes fits.taken)
-wire_length Four bytes fits = omega (arith, few_of_form Four bytes fits.taken)
-wire_length Eight bytes fits = omega (arith, few_of_form Eight bytes fits.taken)
-wire_length Block bytes fits = let few : length bytes ≤ 255 = fits.taken in omega (arith, few)
-
-checked_length : (with_pec : Bool) (before bytes : List ℕ) → length (checked with_pec before bytes) ≤ length bytes + 1
-checked_length false before bytes = omega arith
-checked_length true before bytes = omega (arith, length-append bytes (pec (before ++ bytes) ∷ []))
-
-write_length : (device : DeviceParts) (body : List ℕ) → IsWriteBody device body → length body ≤ 258
-write_length device body w =
-    let is = w.3 in
-    let sent = w.0 ∷ wire is.form w.1 in
-    let all : length body ≤ length sent + 1 =
-    subst (λ (bs : List ℕ). length bs ≤ length sent + 1) (sym is.spelled) (checked_length w.2 _ sent) in
-    let few : length (wire is.form w.1) ≤ 256 = wire_length is.form w.1 is.fits in
-    omega (arith, all, few)
-
-read_length : (device : DeviceParts) (body : List ℕ) → IsReadBody device body → length body ≤ 258
-read_length device body w = let all : length body ≡ 1 = ap length w.2.spelled in omega (arith, all)
-
-call_length : (device : DeviceParts) (body : List ℕ) → IsCallBody device body → length body ≤ 258
-call_length device body w =
-    let is = w.3 in
-    let all : length body ≡ length (w.0 ∷ wire w.1 w.2) = ap length is.spelled in
-    let few : length (wire w.1 w.2) ≤ 256 = wire_length w.1 w.2 is.fits in
-    omega (arith, all, few)
-
-body_length : (device : DeviceParts) (group : List PartData) (body : List ℕ) → Allowed device group body → length body ≤ 258
-body_length device [] body (inl is) = write_length device body is
-body_length device [] body (inr (inl is)) = read_length device body is
-body_length device [] body (inr (inr is)) = call_length device body is
-body_length device (part ∷ group) body is = write_length device body is
-
-front_length : (device : DeviceParts) (group : List PartData) (front : List ℕ)
-    → (front ≡ []) ⊎ ((body : List ℕ) × Allowed device group body × IsProperPrefix front body) → length front ≤ 258
-front_length device group front (inl none) = let all : length front ≡ 0 = ap length none in omega (arith, all)
-front_length device group front (inr w) =
-    let inside = w.2 in
-    let all : length w.0 ≡ length (front ++ inside.next ∷ inside.rest) = ap length inside.split in
-    let few : length w.0 ≤ 258 = body_length device group w.0 w.1 in
-    omega (arith, all, few, length-append front (inside.next ∷ inside.rest))
-
 module _ (pec_is_byte : (bytes : List ℕ) → pec bytes < 256) (profile : List DeviceParts) (bus : IsBus profile) where
   -- ---- what has a packet is within bounds
 
@@ -240,10 +191,6 @@ module _ (pec_is_byte : (bytes : List ℕ) → pec bytes < 256) (profile : List 
   parts_in [] events each = tt
   parts_in (part ∷ group) events each = (part_in part each.0 each.3, parts_in group each.1 each.4)
 
-  asked_length : (device : DeviceParts) (sent : List ℕ) → IsReadBody device sent ⊎ IsCallBody device sent → length sent ≤ 259
-  asked_length device sent (inl is) = omega (arith, read_length device sent is)
-  asked_length device sent (inr is) = omega (arith, call_length device sent is)
-
   -- an address, and what was sent to it
   abbrev InLeg : ℕ → List ℕ → Type 0
   InLeg addr sent = (addr < 128) × Few (λ b. b < 256) 259 sent
@@ -252,7 +199,7 @@ module _ (pec_is_byte : (bytes : List ℕ) → pec bytes < 256) (profile : List 
       → InLeg addr sent
   read_refused_in group addr sent events w = (
     seven_bits pec_is_byte profile bus addr w.device w.known,
-    (asked_length w.device sent w.body, small_sent pec_is_byte profile bus addr w.device sent w.known w.body),
+    (omega (arith, body_is_short w.device [] sent (inr w.body)), small_sent pec_is_byte profile bus addr w.device sent w.known w.body),
   )
 
   refused_in : (group : List PartData) (addr : ℕ) (sent : List ℕ) (at_read : Bool) (events : List Event)
@@ -260,7 +207,7 @@ module _ (pec_is_byte : (bytes : List ℕ) → pec bytes < 256) (profile : List 
   refused_in group addr [] false events w = (w.seven, (omega arith, tt))
   refused_in group addr (b ∷ sent) false events w =
       let all : length (b ∷ sent) ≡ length (w.front ++ w.last ∷ []) = ap length w.split in
-      let few : length w.front ≤ 258 = front_length w.device group w.front w.begins in
+      let few : length w.front ≤ 257 = front_is_short w.device group w.front w.begins in
       let short : length (b ∷ sent) ≤ 259 = omega (arith, all, few, length-append w.front (w.last ∷ [])) in
       (seven_bits pec_is_byte profile bus addr w.device w.known, (short, w.bytes))
   refused_in group addr [] true events w = read_refused_in group addr [] events w

@@ -8,7 +8,7 @@ use Rattle.pmb_bus.specs.Address.{write_address, read_address, alert_address}
 use Rattle.pmb_command.specs.Parts.{DeviceParts, device_with}
 use Rattle.pmb_command.specs.Wire.{wire}
 use Rattle.pmb_transaction.specs.Transaction.{PartData, TransactionData, Write, Read, Call, Refused, Alert, NoAlert}
-use Rattle.pmb_transaction.specs.Body.{checked, IsReadBody, IsCallBody}
+use Rattle.pmb_transaction.specs.Body.{checked, IsRequest}
 use Rattle.pmb_transaction.specs.Packet.{Packet, PartEvents, PartsEvents, RefusedLeg, acked, addresses, leg, nacked}
 use Rattle.pmb_transaction.specs.Capture.{IsPacket}
 use Rattle.pmb_transaction.specs.Reason.{has_start}
@@ -146,9 +146,9 @@ module _ (profile : List DeviceParts) where
     in_written : (parts : List PartData) → length parts ≤ 15 → IsDistinct nat_eq (addresses parts) → PartsEvents profile parts front
         → LegBegins profile parts (Start ∷ own) → InLastLeg front own
     at_reply : (addr : ℕ) → (device : DeviceParts) → (body : List ℕ) → device_with addr profile ≡ Some device
-        → IsReadBody device body ⊎ IsCallBody device body → front ≡ leg (write_address addr ∷ body) → own ≡ [] → InLastLeg front own
+        → IsRequest device body → front ≡ leg (write_address addr ∷ body) → own ≡ [] → InLastLeg front own
     at_read_address : (addr : ℕ) → (device : DeviceParts) → (body : List ℕ) → device_with addr profile ≡ Some device
-        → IsReadBody device body ⊎ IsCallBody device body → front ≡ leg (write_address addr ∷ body) → own ≡ Byte (read_address addr) ∷ []
+        → IsRequest device body → front ≡ leg (write_address addr ∷ body) → own ≡ Byte (read_address addr) ∷ []
         → InLastLeg front own
     in_reply : (addr : ℕ) → (device : DeviceParts) → (body : List ℕ) → (answer : List ℕ) → device_with addr profile ≡ Some device
         → IsAnswer device addr body answer → front ≡ leg (write_address addr ∷ body) → AnswerBegins (read_address addr) answer (Start ∷ own)

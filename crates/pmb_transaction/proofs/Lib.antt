@@ -1,6 +1,9 @@
 pub mod Stops
+pub mod AfterStop
 pub mod OnePacket
 pub mod Known
+pub mod Lengths
+pub mod ByAddress
 pub mod Legs
 pub mod Data
 pub mod Telling

@@ -1,5 +1,5 @@
 -- What follows a written leg of a device: STOP, or START, and then an address byte.
-use Rattle.std.proofs.Common.{◌≡◌, ℕ, ◌+◌, ◌<◌, ◌≤◌, ◌⊎◌, Some, List, [], ◌∷◌, ◌++◌, length, nat_eq, refl, sym, ap, ◌∙◌, subst, append_assoc, arith}
+use Rattle.std.proofs.Common.{◌≡◌, ℕ, ◌+◌, ◌<◌, ◌≤◌, Some, List, [], ◌∷◌, ◌++◌, length, nat_eq, refl, sym, ap, ◌∙◌, subst, append_assoc, arith}
 use Rattle.std.specs.List.{IsDistinct}
 use Rattle.std.proofs.lemmas.List.{length_push}
 use Rattle.pmb_bus.specs.Pec.{pec}
@@ -9,7 +9,7 @@ use Rattle.pmb_bus.specs.Address.{write_address, read_address, alert_address}
 use Rattle.pmb_command.specs.Bus.{IsBus}
 use Rattle.pmb_command.specs.Parts.{DeviceParts, IsNew, device_with}
 use Rattle.pmb_transaction.specs.Transaction.{PartData}
-use Rattle.pmb_transaction.specs.Body.{IsWriteBody, IsReadBody, IsCallBody}
+use Rattle.pmb_transaction.specs.Body.{IsWriteBody, IsRequest}
 use Rattle.pmb_transaction.specs.Packet.{PartEvents, PartsEvents, acked, addresses, leg, nacked}
 use Rattle.pmb_transaction.specs.Capture.{MayFollow, Viable}
 use Rattle.pmb_transaction.specs.Viable.{AnswerBegins, LegBegins, answer_taken, answer_sent, leg_start, leg_address, leg_taken, leg_sent, written, read, read_start, read_address_sent}
@@ -92,9 +92,9 @@ module _ (pec_is_byte : (bytes : List ℕ) → pec bytes < 256) (profile : List 
     record IsFirstLeg (other : ℕ) (d : DeviceParts) (body : List ℕ) : Type 0 where
       pub alone : parts ≡ []
       pub same : other ≡ addr
-      pub asked : IsReadBody device bytes ⊎ IsCallBody device bytes
+      pub asked : IsRequest device bytes
 
-    is_first : (other : ℕ) (d : DeviceParts) (body : List ℕ) → device_with other profile ≡ Some d → IsReadBody d body ⊎ IsCallBody d body
+    is_first : (other : ℕ) (d : DeviceParts) (body : List ℕ) → device_with other profile ≡ Some d → IsRequest d body
         → all_legs ≡ leg (write_address other ∷ body) → IsFirstLeg other d body
     is_first other d body found is same =
         let cut =
@@ -106,11 +106,11 @@ module _ (pec_is_byte : (bytes : List ℕ) → pec bytes < 256) (profile : List 
         let same_bytes : body ≡ bytes = sym (one_row_of_bytes bytes body rest) in
         let there : device_with addr profile ≡ Some d = subst (λ (a : ℕ). device_with a profile ≡ Some d) same_address found in
         let same_device : d ≡ device = same_found (device_with addr profile) d device there known in
-        let by_device = subst (λ (x : DeviceParts). IsReadBody x body ⊎ IsCallBody x body) same_device is in
+        let by_device = subst (λ (x : DeviceParts). IsRequest x body) same_device is in
         record {
           alone = one_list_of_parts profile parts [] legs each cut.0;
           same = same_address;
-          asked = subst (λ (bs : List ℕ). IsReadBody device bs ⊎ IsCallBody device bs) same_bytes by_device;
+          asked = subst (λ (bs : List ℕ). IsRequest device bs) same_bytes by_device;
         }
 
     -- parts with this leg are one more than those before

@@ -1,5 +1,5 @@
 -- Packets that events make with their last one.
-use Rattle.std.proofs.Common.{◌≡◌, ℕ, ◌+◌, ◌<◌, ◌≤◌, ◌⊎◌, inl, inr, Bool, true, false, Option, Some, List, [], ◌∷◌, ◌++◌, length, nat_eq, refl, sym, ap, ◌∙◌, subst, append_assoc, arith}
+use Rattle.std.proofs.Common.{◌≡◌, ℕ, ◌+◌, ◌<◌, ◌≤◌, inl, inr, Bool, true, false, Option, Some, List, [], ◌∷◌, ◌++◌, length, nat_eq, refl, sym, ap, ◌∙◌, subst, append_assoc, arith}
 use Rattle.std.specs.List.{IsDistinct}
 use Rattle.std.proofs.lemmas.List.{length_push}
 use Rattle.std.proofs.lemmas.Option.{same_Some}
@@ -13,7 +13,7 @@ use Rattle.pmb_command.specs.Parts.{DeviceParts, IsNew, device_with}
 use Rattle.pmb_command.specs.PecMode.{AllowsPec}
 use Rattle.pmb_command.specs.Wire.{IsByte, Fits, wire}
 use Rattle.pmb_transaction.specs.Transaction.{PartData, Write, Read, Call, Refused, Alert}
-use Rattle.pmb_transaction.specs.Body.{checked, forms, WriteBody, ReadBody, CallBody, IsReadBody, IsCallBody}
+use Rattle.pmb_transaction.specs.Body.{checked, forms, WriteBody, ReadBody, CallBody, IsRequest, IsFormOfRequest}
 use Rattle.pmb_transaction.specs.Packet.{Packet, PartEvents, PartsEvents, addresses, answered, leg, nacked}
 use Rattle.pmb_transaction.specs.Viable.{IsInsideBody}
 use Rattle.pmb_transaction.proofs.Addresses.{distinct_none, distinct_with}
@@ -48,11 +48,6 @@ answered_is addr body reply with_pec bytes byte spelled =
 one_form : (o : Option Form) (a b : Form) → o ≡ Some a → o ≡ Some b → a ≡ b
 one_form o a b first second = same_Some a b (sym first ∙ second)
 
--- a body that asks in two ways
-abbrev Asks : DeviceParts → Form → List ℕ → Type 0
-Asks device form body =
-    ((code : ℕ) × ReadBody device code form body) ⊎ ((code : ℕ) × (sent : List ℕ) × CallBody device code form sent body)
-
 module _ (profile : List DeviceParts) (bus : IsBus profile) (addr : ℕ) (device : DeviceParts) (known : device_with addr profile ≡ Some device) (body : List ℕ) where
   -- a call body has data after its code, and so is no read body
   no_call : (code : ℕ) (a b : Form) (asked : ℕ) (sent : List ℕ) → ReadBody device code a body → CallBody device asked b sent body → ⊥
@@ -63,14 +58,14 @@ module _ (profile : List DeviceParts) (bus : IsBus profile) (addr : ℕ) (device
       let none : [] ≡ wire b sent = cc same in
       cc (none ∙ some.split)
 
-  read_form_is : (code : ℕ) (a b : Form) → ReadBody device code a body → Asks device b body → a ≡ b
+  read_form_is : (code : ℕ) (a b : Form) → ReadBody device code a body → IsFormOfRequest device b body → a ≡ b
   read_form_is code a b read (inl w) =
       let same : code ∷ [] ≡ w.0 ∷ [] = sym read.spelled ∙ w.1.spelled in
       let same_code : code ≡ w.0 = cc same in
       one_form (forms device w.0).read a b (subst (λ (c : ℕ). (forms device c).read ≡ Some a) same_code read.read) w.1.read
   read_form_is code a b read (inr w) = absurd (no_call code a b w.0 w.1 read w.2)
 
-  call_form_is : (code : ℕ) (content : List ℕ) (a b : Form) → CallBody device code a content body → Asks device b body → a ≡ b
+  call_form_is : (code : ℕ) (content : List ℕ) (a b : Form) → CallBody device code a content body → IsFormOfRequest device b body → a ≡ b
   call_form_is code content a b call (inl w) = absurd (no_call w.0 b a code content w.1 call)
   call_form_is code content a b call (inr w) =
       let same : code ∷ wire a content ≡ w.0 ∷ wire b w.1 = sym call.spelled ∙ w.2.spelled in
@@ -85,7 +80,7 @@ module _ (profile : List DeviceParts) (bus : IsBus profile) (addr : ℕ) (device
     IsWhole = bytes ++ byte ∷ [] ≡ checked with_pec (write_address addr ∷ body ++ read_address addr ∷ []) (wire form reply)
 
     -- a whole reply to a read body
-    pub read_packet : (code : ℕ) (read_form : Form) → Asks device form body → Fits form reply → AllowsPec device.pec with_pec → IsWhole
+    pub read_packet : (code : ℕ) (read_form : Form) → IsFormOfRequest device form body → Fits form reply → AllowsPec device.pec with_pec → IsWhole
         → ReadBody device code read_form body → Packet profile (Read (record { addr = addr; code = code; reply = reply; pec = with_pec })) all_events
     read_packet code read_form asks fits mode spelled read = record {
       device = device;
@@ -100,7 +95,7 @@ module _ (profile : List DeviceParts) (bus : IsBus profile) (addr : ℕ) (device
     }
 
     -- a whole reply to a call body
-    pub call_packet : (code : ℕ) (content : List ℕ) (call_form : Form) → Asks device form body → Fits form reply → AllowsPec device.pec with_pec
+    pub call_packet : (code : ℕ) (content : List ℕ) (call_form : Form) → IsFormOfRequest device form body → Fits form reply → AllowsPec device.pec with_pec
         → IsWhole → CallBody device code call_form content body
         → Packet profile (Call (record { addr = addr; code = code; bytes = content; reply = reply; pec = with_pec })) all_events
     call_packet code content call_form asks fits mode spelled call =
@@ -182,7 +177,7 @@ module _ (pec_is_byte : (bytes : List ℕ) → pec bytes < 256) (profile : List 
 
 -- a device that refuses to be read
 pub read_refused_packet : (pec_is_byte : (bytes : List ℕ) → pec bytes < 256) (profile : List DeviceParts) → IsBus profile
-    → (addr : ℕ) (device : DeviceParts) (body : List ℕ) → device_with addr profile ≡ Some device → IsReadBody device body ⊎ IsCallBody device body
+    → (addr : ℕ) (device : DeviceParts) (body : List ℕ) → device_with addr profile ≡ Some device → IsRequest device body
     → Packet profile (Refused (record { parts = []; addr = addr; sent = body; at_read = true }))
     (leg (write_address addr ∷ body) ++ Start ∷ Byte (read_address addr) ∷ [] ++ Nack ∷ [] ++ Stop ∷ [])
 read_refused_packet pec_is_byte profile bus addr device body known is =

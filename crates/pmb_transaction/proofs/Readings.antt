@@ -16,7 +16,7 @@ use Rattle.pmb_transaction.specs.Reading.{Outcome, Accepted, Refusal, RefusalDat
 use Rattle.pmb_transaction.proofs.Captures.{not_none, same_first_packet}
 use Rattle.pmb_transaction.proofs.Fronts.{Beyond, Within, cut, no_end, no_front}
 use Rattle.pmb_transaction.proofs.OneTransaction.{one_transaction}
-use Rattle.pmb_transaction.proofs.Stops.{same_cut}
+use Rattle.pmb_transaction.proofs.AfterStop.{of_one_rest}
 
 -- ---- one set of kinds
 
@@ -167,15 +167,9 @@ module _ (profile : List DeviceParts) where
       → ((m : ℕ) (rest : List Event) → ReadsFrom profile m rest a → ReadsFrom profile m rest b → a ≡ b)
       → BehindStop (λ m behind. ReadsFrom profile m behind a) (a ≡ []) n events
       → BehindStop (λ m behind. ReadsFrom profile m behind b) (b ≡ []) n events → a ≡ b
-  one_behind a b n events one (inl first) (inl second) = first.1 ∙ sym second.1
-  one_behind a b n events one (inl first) (inr second) = absurd (first.0 second.0 second.1 second.3)
-  one_behind a b n events one (inr first) (inl second) = absurd (second.0 first.0 first.1 first.3)
-  one_behind a b n events one (inr first) (inr second) =
-      let same = same_cut first.0 second.0 first.1 second.1 first.2 second.2 (sym first.3 ∙ second.3) in
-      let counted : ReadsFrom profile (n + length second.0 + 1) first.1 a =
-      subst (λ (passed : List Event). ReadsFrom profile (n + length passed + 1) first.1 a) same.0 first.4 in
-      one (n + length second.0 + 1) second.1
-      (subst (λ (rest : List Event). ReadsFrom profile (n + length second.0 + 1) rest a) same.1 counted) second.4
+  one_behind a b n events one first second =
+      of_one_rest (λ m behind. ReadsFrom profile m behind a) (λ m behind. ReadsFrom profile m behind b) (a ≡ []) (b ≡ []) (a ≡ b) n events one
+      (λ first_none second_none. first_none ∙ sym second_none) first second
 
   module _ (told_by_events : (a b : Kinds) → bits a < 32 → bits b < 32 → ((event : Event) → holds a event ≡ holds b event) → a ≡ b) (bus : IsBus profile) where
     one_refused : (n : ℕ) (front : List Event) (event : Event) (r s : RefusalData) → RefusedAt profile n front event r → RefusedAt profile n front event s

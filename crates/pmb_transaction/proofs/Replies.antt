@@ -1,12 +1,12 @@
 -- The leg in which a device that was asked is read.
-use Rattle.std.proofs.Common.{◌≡◌, ℕ, ◌<◌, ◌⊎◌, Some, List, [], ◌∷◌, ◌++◌, refl, sym, subst, append_assoc}
+use Rattle.std.proofs.Common.{◌≡◌, ℕ, ◌<◌, Some, List, [], ◌∷◌, ◌++◌, refl, sym, subst, append_assoc}
 use Rattle.pmb_bus.specs.Pec.{pec}
 use Rattle.pmb_bus.specs.declared.event.Event.{Event}
 use Rattle.pmb_bus.specs.declared.event.Event.TheVariants.{Start, Byte, Ack, Nack, Stop}
 use Rattle.pmb_bus.specs.Address.{write_address, read_address}
 use Rattle.pmb_command.specs.Bus.{IsBus}
 use Rattle.pmb_command.specs.Parts.{DeviceParts, device_with}
-use Rattle.pmb_transaction.specs.Body.{IsReadBody, IsCallBody}
+use Rattle.pmb_transaction.specs.Body.{IsRequest}
 use Rattle.pmb_transaction.specs.Packet.{acked, leg, nacked}
 use Rattle.pmb_transaction.specs.Capture.{IsPacket, MayFollow}
 use Rattle.pmb_transaction.specs.Viable.{IsAnswer, answer_taken, read, read_answer}
@@ -27,13 +27,13 @@ module _ (pec_is_byte : (bytes : List ℕ) → pec bytes < 256) (profile : List 
   addressed = written_leg ++ Start ∷ Byte (read_address addr) ∷ []
 
   -- NACK may follow
-  pub nack_follows : IsReadBody device body ⊎ IsCallBody device body → MayFollow profile addressed Nack
+  pub nack_follows : IsRequest device body → MayFollow profile addressed Nack
   nack_follows is =
       read_follows pec_is_byte profile bus addr device body known is (addressed ++ Nack ∷ []) (Start ∷ Byte (read_address addr) ∷ Nack ∷ [])
       (Stop ∷ []) (append_assoc written_leg (Start ∷ Byte (read_address addr) ∷ []) (Nack ∷ [])) refl
 
   -- and ACK
-  pub ack_follows : IsReadBody device body ⊎ IsCallBody device body → MayFollow profile addressed Ack
+  pub ack_follows : IsRequest device body → MayFollow profile addressed Ack
   ack_follows is =
       let w = some_answer device addr body is in
       let has = answer_has_byte profile bus addr device body w.0 known w.1 in
@@ -95,5 +95,6 @@ module _ (pec_is_byte : (bytes : List ℕ) → pec bytes < 256) (profile : List 
     ends =
         λ answer answers.
         subst (λ (bs : List ℕ). IsPacket profile ((written_leg ++ (leg (read_address addr ∷ []) ++ nacked bs)) ++ Stop ∷ []))
-        (sym answers.spelled) (answered_packet pec_is_byte profile bus addr device body known answer answers answers.asked);
+        (sym answers.2.spelled)
+        (answered_packet pec_is_byte profile bus addr device body answers.0 answers.1 known answer answers.2 answers.2.asked);
   }

@@ -1,5 +1,5 @@
 -- Reasons worked by hand: what may follow in each row.
-use Rattle.std.proofs.Common.{◌≡◌, ◌≢◌, ℕ, ◌<◌, ◌≤◌, ◌⊎◌, inl, inr, Bool, true, false, cond, Option, Some, None, List, [], ◌∷◌, ◌++◌, length, nat_eq, refl, sym, ap, ◌∙◌, subst, append_assoc, arith}
+use Rattle.std.proofs.Common.{◌≡◌, ℕ, ◌<◌, ◌≤◌, ◌⊎◌, inl, inr, Bool, true, false, codes, cond, Some, None, List, [], ◌∷◌, ◌++◌, length, nat_eq, refl, sym, ap, ◌∙◌, subst, append_assoc, arith}
 use Rattle.std.specs.List.{IsDistinct}
 use Rattle.std.proofs.lemmas.Bool.{eqb-true, eqb-false}
 use Rattle.std.proofs.lemmas.Option.{none-some}
@@ -7,18 +7,21 @@ use Rattle.pmb_bus.specs.declared.event.Event.{Event}
 use Rattle.pmb_bus.specs.declared.event.Event.TheVariants.{Start, Byte, Ack, Nack, Stop}
 use Rattle.pmb_bus.specs.Pec.{plus, divide_step, left_after, number, pec}
 use Rattle.pmb_command.specs.Bus.{IsBus, IsCommand, IsDevice}
-use Rattle.pmb_command.specs.Commands.{standard_entries, standard_entry, standard_rows}
+use Rattle.pmb_command.specs.Commands.{read, standard_entries, standard_entry, standard_rows, written}
+use Rattle.pmb_command.specs.Fitting.{are_kept, calls_fit, has_form, is_fixed, reads_data, ways_agree}
+use Rattle.pmb_command.specs.Names.{IsNameOf}
 use Rattle.pmb_command.specs.declared.form.Form.{Form}
-use Rattle.pmb_command.specs.declared.form.Form.TheVariants.{Zero, One, Two, Four, Eight, Block}
-use Rattle.pmb_command.specs.Wire.{Fits, Takes, wire}
+use Rattle.pmb_command.specs.declared.form.Form.TheVariants.{Zero, One, Two}
+use Rattle.pmb_command.specs.declared.form.Shape.{Shape}
+use Rattle.pmb_command.specs.Wire.{Takes, wire}
 use Rattle.pmb_command.specs.Parts.{DeviceParts, IsNew}
-use Rattle.pmb_transaction.specs.Body.{Allowed, CallBody, IsReadBody, IsWriteBody, ReadBody, WriteBody, checked, forms, shape_of}
+use Rattle.pmb_transaction.specs.Body.{Allowed, IsReadBody, IsWriteBody, WriteBody, checked, forms, shape_of, IsFormOfRequest}
 use Rattle.pmb_transaction.specs.Capture.{MayFollow}
 use Rattle.pmb_transaction.specs.declared.reason.Reason.TheVariants.{ReadFirst, BadRestart, BadPec, UnknownDevice, UnknownCommand, TooLong, TooShort}
 use Rattle.pmb_transaction.specs.Following.{BeginsAnswer, IsFirstAddress, IsInsideAnswer, IsNextAddress, IsAlertAnswer, alert_first, next_leg, reply_leg, written_first}
 use Rattle.pmb_transaction.specs.Packet.{PartsEvents, addresses, leg}
 use Rattle.pmb_transaction.specs.Reason.{FollowsAlone, SomeByteMayFollow}
-use Rattle.pmb_transaction.specs.Rows.{AckAloneFollows, IsOutOfPlace, NackAloneFollows, OtherByteFollows, capability, clear_faults, device_58h, device_59h, read_vin, worked_bus}
+use Rattle.pmb_transaction.specs.Rows.{AckAloneFollows, IsOutOfPlace, NackAloneFollows, OtherByteFollows, capability, clear_faults, command, device_58h, device_59h, read_vin, worked_bus}
 use Rattle.pmb_transaction.specs.Transaction.{PartData}
 use Rattle.pmb_transaction.specs.Turns.{stands_behind}
 use Rattle.pmb_transaction.specs.Viable.{BeginsBody, IsAnswer, IsInsideBody}
@@ -35,66 +38,44 @@ use Rattle.pmb_transaction.proofs.WrittenLegs.{byte_follows as written_byte_foll
 
 -- ---- the bus
 
+-- a command of the rows may be on a bus, by what its code, its name and its forms have to be
+may_be : (code : ℕ) (name : List ℕ) (shape : Shape) → code < 256 → IsNameOf code name → has_form shape ≡ true
+    → ways_agree shape.write shape.read ≡ true → reads_data shape.read ≡ true → calls_fit shape.call ≡ true
+    → (is_fixed code ≡ true → are_kept shape (standard_entry code) ≡ true) → IsCommand (command code name shape)
+may_be code name shape byte named some_form one_form read_data call_form fixed = record {
+  entry = record {
+    byte = byte;
+    name = named;
+    fitting = record {
+      some_form = some_form;
+      one_form = one_form;
+      read_data = read_data;
+      call_form = call_form;
+      fixed = fixed;
+      raw = λ is. refl;
+      page = λ is. refl;
+      kind = refl;
+      exponent = λ exponent is. absurd (cc is);
+    };
+  };
+  initial = tt;
+}
+
 command_03h : IsCommand clear_faults
 unfolding standard_entry standard_entries standard_rows
-command_03h = record {
-  entry = record {
-    byte = omega arith;
-    name = record { some = omega arith; most = omega arith; spelled = inl refl };
-    fitting = record {
-      some_form = refl;
-      one_form = refl;
-      read_data = refl;
-      call_form = refl;
-      fixed = λ is. refl;
-      raw = λ is. refl;
-      page = λ is. refl;
-      kind = refl;
-      exponent = λ exponent is. absurd (cc is);
-    };
-  };
-  initial = tt;
-}
+command_03h =
+    may_be 0x03 (codes "CLEAR_FAULTS") (written Zero) (omega arith) (record { some = omega arith; most = omega arith; spelled = inl refl }) refl
+    refl refl refl (λ is. refl)
 
 command_88h : IsCommand read_vin
-command_88h = record {
-  entry = record {
-    byte = omega arith;
-    name = record { some = omega arith; most = omega arith; spelled = inl refl };
-    fitting = record {
-      some_form = refl;
-      one_form = refl;
-      read_data = refl;
-      call_form = refl;
-      fixed = λ is. absurd (cc is);
-      raw = λ is. refl;
-      page = λ is. refl;
-      kind = refl;
-      exponent = λ exponent is. absurd (cc is);
-    };
-  };
-  initial = tt;
-}
+command_88h =
+    may_be 0x88 (codes "READ_VIN") (read Two) (omega arith) (record { some = omega arith; most = omega arith; spelled = inl refl }) refl refl
+    refl refl (λ is. absurd (cc is))
 
 command_19h : IsCommand capability
-command_19h = record {
-  entry = record {
-    byte = omega arith;
-    name = record { some = omega arith; most = omega arith; spelled = inl refl };
-    fitting = record {
-      some_form = refl;
-      one_form = refl;
-      read_data = refl;
-      call_form = refl;
-      fixed = λ is. absurd (cc is);
-      raw = λ is. refl;
-      page = λ is. refl;
-      kind = refl;
-      exponent = λ exponent is. absurd (cc is);
-    };
-  };
-  initial = tt;
-}
+command_19h =
+    may_be 0x19 (codes "CAPABILITY") (read One) (omega arith) (record { some = omega arith; most = omega arith; spelled = inl refl }) refl refl
+    refl refl (λ is. absurd (cc is))
 
 -- the devices may be on a bus
 is_58h : IsDevice device_58h
@@ -190,7 +171,7 @@ one_body body (inr (inr (code, form, bytes, c))) = absurd (not_called code form 
 
 -- the form of what is asked for by a code that is read and not called
 asked_form : (device : DeviceParts) (code : ℕ) (form : Form) → ((other : Form) → (forms device code).call ≡ Some other → ⊥)
-    → ((asked : ℕ) × ReadBody device asked form (code ∷ [])) ⊎ ((asked : ℕ) × (sent : List ℕ) × CallBody device asked form sent (code ∷ []))
+    → IsFormOfRequest device form (code ∷ [])
     → (forms device code).read ≡ Some form
 asked_form device code form none (inl (asked, r)) =
     let same : asked ≡ code = sym (cc r.spelled) in
@@ -214,11 +195,13 @@ word_read (a ∷ b ∷ c ∷ reply) with_pec answer taken is = absurd (cc taken)
 
 one_word : (answer : List ℕ) → IsAnswer device_58h 0x58 (0x88 ∷ []) answer → OneWord answer
 one_word answer is =
-    let has : Some Two ≡ Some is.form = asked_form device_58h 0x88 is.form (λ other called. absurd (none-some other called)) is.asked in
-    let form : is.form ≡ Two = sym (cc has) in
-    let taken = subst (λ (f : Form). Takes f (length is.reply)) form is.fits.taken in
-    word_read is.reply is.with_pec answer taken
-    (subst (λ (f : Form). answer ≡ checked is.with_pec (0xb0 ∷ 0x88 ∷ 0xb1 ∷ []) (wire f is.reply)) form is.spelled)
+    let reply = is.0 in
+    let says = is.2 in
+    let has : Some Two ≡ Some says.form = asked_form device_58h 0x88 says.form (λ other called. absurd (none-some other called)) says.asked in
+    let form : says.form ≡ Two = sym (cc has) in
+    let taken = subst (λ (f : Form). Takes f (length reply)) form says.fits.taken in
+    word_read reply is.1 answer taken
+    (subst (λ (f : Form). answer ≡ checked is.1 (0xb0 ∷ 0x88 ∷ 0xb1 ∷ []) (wire f reply)) form says.spelled)
 
 byte_read : (reply : List ℕ) (with_pec : Bool) (answer : List ℕ) → Takes One (length reply) → with_pec ≡ false
     → answer ≡ checked with_pec (0xb2 ∷ 0x19 ∷ 0xb3 ∷ []) (wire One reply) → (byte : ℕ) × (answer ≡ byte ∷ [])
@@ -230,11 +213,13 @@ byte_read (a ∷ b ∷ reply) with_pec answer taken off is = absurd (cc taken)
 -- an answer to CAPABILITY is one byte
 one_byte : (answer : List ℕ) → IsAnswer device_59h 0x59 (0x19 ∷ []) answer → (byte : ℕ) × (answer ≡ byte ∷ [])
 one_byte answer is =
-    let has : Some One ≡ Some is.form = asked_form device_59h 0x19 is.form (λ other called. absurd (none-some other called)) is.asked in
-    let form : is.form ≡ One = sym (cc has) in
-    let taken = subst (λ (f : Form). Takes f (length is.reply)) form is.fits.taken in
-    byte_read is.reply is.with_pec answer taken is.mode
-    (subst (λ (f : Form). answer ≡ checked is.with_pec (0xb2 ∷ 0x19 ∷ 0xb3 ∷ []) (wire f is.reply)) form is.spelled)
+    let reply = is.0 in
+    let says = is.2 in
+    let has : Some One ≡ Some says.form = asked_form device_59h 0x19 says.form (λ other called. absurd (none-some other called)) says.asked in
+    let form : says.form ≡ One = sym (cc has) in
+    let taken = subst (λ (f : Form). Takes f (length reply)) form says.fits.taken in
+    byte_read reply is.1 answer taken says.mode
+    (subst (λ (f : Form). answer ≡ checked is.1 (0xb2 ∷ 0x19 ∷ 0xb3 ∷ []) (wire f reply)) form says.spelled)
 
 -- ---- what is no answer to a byte
 
@@ -298,15 +283,17 @@ vin_read = (0x88, Two, record { read = refl; spelled = refl })
 
 -- the answer d3 00 to READ_VIN, with and without a packet error code
 vin_answer : (with_pec : Bool) → IsAnswer device_58h 0x58 (0x88 ∷ []) (checked with_pec (0xb0 ∷ 0x88 ∷ 0xb1 ∷ []) (0x00 ∷ 0xd3 ∷ []))
-vin_answer with_pec = record {
-  form = Two;
-  asked = inl (0x88, record { read = refl; spelled = refl });
-  reply = 0x00 ∷ 0xd3 ∷ [];
-  fits = record { small = (omega arith, (omega arith, tt)); taken = refl };
-  with_pec = with_pec;
-  mode = tt;
-  spelled = refl;
-}
+vin_answer with_pec = (
+  0x00 ∷ 0xd3 ∷ [],
+  with_pec,
+  record {
+    form = Two;
+    asked = inl (0x88, record { read = refl; spelled = refl });
+    fits = record { small = (omega arith, (omega arith, tt)); taken = refl };
+    mode = tt;
+    spelled = refl;
+  },
+)
 
 vin_code : pec (0xb0 ∷ 0x88 ∷ 0xb1 ∷ 0x00 ∷ 0xd3 ∷ []) ≡ 0xf6
 unfolding plus divide_step left_after number pec
@@ -570,15 +557,17 @@ module _ (pec_is_byte : (bytes : List ℕ) → pec bytes < 256) where
   capability_is_read = reply_is_read pec_is_byte worked_bus bus 0x59 device_59h refl (0x19 ∷ [])
 
   capability_answer : CapabilityAnswer (0xb0 ∷ [])
-  capability_answer = record {
-    form = One;
-    asked = inl (0x19, record { read = refl; spelled = refl });
-    reply = 0xb0 ∷ [];
-    fits = record { small = (omega arith, tt); taken = refl };
-    with_pec = false;
-    mode = refl;
-    spelled = refl;
-  }
+  capability_answer = (
+    0xb0 ∷ [],
+    false,
+    record {
+      form = One;
+      asked = inl (0x19, record { read = refl; spelled = refl });
+      fits = record { small = (omega arith, tt); taken = refl };
+      mode = refl;
+      spelled = refl;
+    },
+  )
 
   pub reply_too_long : NackAloneFollows (capability_leg ++ leg (0xb3 ∷ []) ++ Byte 0xb0 ∷ []) TooLong
   reply_too_long =

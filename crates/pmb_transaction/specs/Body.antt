@@ -61,8 +61,24 @@ module _ (device : DeviceParts) where
   abbrev pub IsCallBody : List ℕ → Type 0
   IsCallBody body = (code : ℕ) × (form : Form) × (bytes : List ℕ) × CallBody code form bytes body
 
+  -- a body that asks for a reply
+  abbrev pub IsRequest : List ℕ → Type 0
+  IsRequest body = IsReadBody body ⊎ IsCallBody body
+
+  -- the form of the reply for which it asks
+  abbrev pub IsFormOfRequest : Form → List ℕ → Type 0
+  IsFormOfRequest form body = ((code : ℕ) × ReadBody code form body) ⊎ ((code : ℕ) × (bytes : List ℕ) × CallBody code form bytes body)
+
   -- A body that is allowed in a leg after some parts: in the first leg one of any sort, in a later
   -- one a write body.
   abbrev pub Allowed : List PartData → List ℕ → Type 0
-  Allowed [] body = IsWriteBody body ⊎ (IsReadBody body ⊎ IsCallBody body)
+  Allowed [] body = IsWriteBody body ⊎ IsRequest body
   Allowed (part ∷ parts) body = IsWriteBody body
+
+  -- bytes that begin a body allowed after some parts: none of them, or some, or all
+  abbrev pub BeginsBody : List PartData → List ℕ → Type 0
+  BeginsBody parts bytes = (bytes ≡ []) ⊎ ((body : List ℕ) × (rest : List ℕ) × Allowed parts body × (body ≡ bytes ++ rest))
+
+  -- and that are not all of it
+  abbrev pub IsInsideBody : List PartData → List ℕ → Type 0
+  IsInsideBody parts bytes = (bytes ≡ []) ⊎ ((body : List ℕ) × Allowed parts body × IsProperPrefix bytes body)

@@ -11,10 +11,14 @@ pub record EndsWithStop (events : List Event) : Type 0 where
   pub front : List Event
   pub split : events ≡ front ++ Stop ∷ []
 
--- An outcome n events further on: of a refusal the place moves, and stays at the greatest u64.
+-- A refusal n events further on: its place moves, and stays at the greatest u64.
+abbrev pub moved_refusal : ℕ → RefusalData → RefusalData
+moved_refusal n refusal = record refusal { at = capped (n + refusal.at) }
+
+-- an outcome n events further on
 abbrev pub moved_outcome : ℕ → Outcome → Outcome
 moved_outcome n (Accepted t) = Accepted t
-moved_outcome n (Refusal refusal) = Refusal (record refusal { at = capped (n + refusal.at) })
+moved_outcome n (Refusal refusal) = Refusal (moved_refusal n refusal)
 
 -- outcomes n events further on
 abbrev pub moved : ℕ → List Outcome → List Outcome

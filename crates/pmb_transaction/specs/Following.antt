@@ -1,11 +1,11 @@
 -- What may follow at some places of a packet: the address after a START, a leg after a written
 -- one, and the bytes of an answer.
-use Rattle.std.specs.Prelude.{◌≡◌, ℕ, ◌<◌, ◌⊎◌, Bool, List, [], ◌∷◌, ◌++◌, length}
+use Rattle.std.specs.Prelude.{◌≡◌, ℕ, ◌<◌, Bool, List, [], ◌∷◌, ◌++◌, length}
 use Rattle.pmb_bus.specs.Address.{write_address, read_address, alert_address}
 use Rattle.pmb_command.specs.Parts.{DeviceParts, IsNew}
 use Rattle.pmb_command.specs.Wire.{IsByte}
 use Rattle.pmb_transaction.specs.Transaction.{PartData}
-use Rattle.pmb_transaction.specs.Body.{checked, IsProperPrefix, IsWriteBody, IsReadBody, IsCallBody}
+use Rattle.pmb_transaction.specs.Body.{checked, IsProperPrefix, IsWriteBody, IsRequest}
 use Rattle.pmb_transaction.specs.Packet.{addresses}
 
 -- ---- addresses
@@ -28,7 +28,7 @@ pub data IsNextAddress (device : DeviceParts) (parts : List PartData) (addr : �
   -- The device was asked, in the packet's first leg, and is read.
   --
   -- S addr+W A body A .. S addr+R
-  reply_leg : parts ≡ [] → IsReadBody device bytes ⊎ IsCallBody device bytes → byte ≡ read_address addr
+  reply_leg : parts ≡ [] → IsRequest device bytes → byte ≡ read_address addr
       → IsNextAddress device parts addr bytes byte
 
 -- Why START may follow there.
@@ -36,7 +36,7 @@ pub data LegMayFollow (device : DeviceParts) (parts : List PartData) (bytes : Li
   -- the leg was one more part, and they are less than 16
   leg_of_group : IsWriteBody device bytes → length parts < 15 → LegMayFollow device parts bytes
   -- the device was asked, in the packet's first leg
-  leg_of_reply : parts ≡ [] → IsReadBody device bytes ⊎ IsCallBody device bytes → LegMayFollow device parts bytes
+  leg_of_reply : parts ≡ [] → IsRequest device bytes → LegMayFollow device parts bytes
 
 -- ---- answers
 

@@ -9,3 +9,4 @@ pub mod Rows
 pub mod Reading
 pub mod Cut
 pub mod Turns
+pub mod ByAddress

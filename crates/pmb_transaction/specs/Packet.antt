@@ -4,7 +4,7 @@
 -- what stands between them is a byte; addr+W and addr+R are the address bytes for writing and for
 -- reading. In brackets stands what may be left out, and what `..` follows comes any number of
 -- times, or not at all.
-use Rattle.std.specs.Prelude.{◌≡◌, ℕ, ◌<◌, ◌≤◌, ◌⊎◌, Bool, true, false, Some, List, [], ◌∷◌, ◌++◌, length, map, nat_eq}
+use Rattle.std.specs.Prelude.{◌≡◌, ℕ, ◌<◌, ◌≤◌, Bool, true, false, Some, List, [], ◌∷◌, ◌++◌, length, map, nat_eq}
 use Rattle.std.specs.List.{IsDistinct}
 use Rattle.pmb_bus.specs.declared.event.Event.{Event}
 use Rattle.pmb_bus.specs.declared.event.Event.TheVariants.{Start, Byte, Ack, Nack, Stop}
@@ -14,7 +14,7 @@ use Rattle.pmb_command.specs.Parts.{DeviceParts, IsNew, device_with}
 use Rattle.pmb_command.specs.PecMode.{AllowsPec}
 use Rattle.pmb_command.specs.Wire.{IsByte, AreByteValues, Fits, wire}
 use Rattle.pmb_transaction.specs.Transaction.{PartData, ReadData, CallData, RefusedData, AlertData, TransactionData, Write, Read, Call, Refused, Alert, NoAlert}
-use Rattle.pmb_transaction.specs.Body.{forms, checked, IsProperPrefix, WriteBody, IsReadBody, IsCallBody, Allowed}
+use Rattle.pmb_transaction.specs.Body.{forms, checked, WriteBody, IsRequest, IsInsideBody}
 
 -- each byte, followed by ACK
 abbrev pub acked : List ℕ → List Event
@@ -120,7 +120,7 @@ module _ (profile : List DeviceParts) where
     pub front : List ℕ
     pub last : ℕ
     pub split : sent ≡ front ++ last ∷ []
-    pub begins : (front ≡ []) ⊎ ((body : List ℕ) × Allowed device parts body × IsProperPrefix front body)
+    pub begins : IsInsideBody device parts front
     pub spelled : events ≡ leg (write_address addr ∷ []) ++ nacked sent
 
   -- A known device that is sent a read body or a call body, and then refuses to be read.
@@ -130,7 +130,7 @@ module _ (profile : List DeviceParts) where
     pub alone : parts ≡ []
     pub device : DeviceParts
     pub known : device_with addr profile ≡ Some device
-    pub body : IsReadBody device sent ⊎ IsCallBody device sent
+    pub body : IsRequest device sent
     pub spelled : events ≡ leg (write_address addr ∷ sent) ++ Start ∷ Byte (read_address addr) ∷ Nack ∷ []
 
   -- what is refused, by what was sent and whether reading was refused

@@ -9,9 +9,9 @@ use Rattle.pmb_transaction.specs.Capture.{MayFollow}
 
 -- ---- where a list of events ends
 
--- a place after some events of a packet
+-- a place after events with which a packet begins
 pub data Place : Type 0 where
-  -- after the packet's first START, and after a later one
+  -- after the first START, and after a later one
   BehindStart : Place
   BehindRestart : Place
   -- after the byte that addresses a device
@@ -21,7 +21,7 @@ pub data Place : Type 0 where
   FurtherOn : Place
   -- in a leg that is read, after its address
   InReply : Place
-  -- where no packet has an event
+  -- elsewhere, as after the ACK of an address for writing
   Nowhere : Place
 
 -- whether a START stands among the events
@@ -33,17 +33,17 @@ has_start (Ack ∷ events) = has_start events
 has_start (Nack ∷ events) = has_start events
 has_start (Stop ∷ events) = has_start events
 
--- the events after the last START
+-- the events after the last START; where there is none, all but the first
 abbrev pub last_leg : List Event → List Event
 last_leg [] = []
 last_leg (event ∷ events) = if has_start events then last_leg events else events
 
--- whether one START alone stands among the events of a packet
+-- whether no START stands after the first event, which in a packet is one
 abbrev pub is_first_leg : List Event → Bool
 is_first_leg [] = true
 is_first_leg (event ∷ events) = not (has_start events)
 
--- the place in a written leg after its address and ACK
+-- the place in a written leg, by the events after the answer to its address
 abbrev pub place_written : List Event → Place
 place_written [] = Nowhere
 place_written (event ∷ []) = BehindCode

@@ -1,15 +1,11 @@
 -- Which events take turns in a packet.
-use Rattle.std.specs.Prelude.{Bool, true, false}
+--
+-- Any two events of a packet that stand side by side take turns so. This allows more than packets
+-- do: it looks at two events alone, and knows no address, no command and no length. STOP after
+-- `S addr+W A` takes its turn, and no packet is so short.
+use Rattle.std.specs.Prelude.{Bool, true, false, not}
 use Rattle.pmb_bus.specs.declared.event.Event.{Event}
 use Rattle.pmb_bus.specs.declared.event.Event.TheVariants.{Start, Byte, Ack, Nack, Stop}
-
--- START, a byte or STOP, and not the answer to a byte
-abbrev pub is_no_answer : Event → Bool
-is_no_answer Start = true
-is_no_answer (Byte b) = true
-is_no_answer Ack = false
-is_no_answer Nack = false
-is_no_answer Stop = true
 
 -- the answer to a byte
 abbrev pub is_answer : Event → Bool
@@ -38,6 +34,6 @@ is_stop Stop = true
 abbrev pub stands_behind : Event → Event → Bool
 stands_behind Start event = is_byte event
 stands_behind (Byte b) event = is_answer event
-stands_behind Ack event = is_no_answer event
+stands_behind Ack event = not (is_answer event)
 stands_behind Nack event = is_stop event
 stands_behind Stop event = false

@@ -1,6 +1,6 @@
 -- The beginnings of packets, by what stands in them: a list of events that is not empty is viable
 -- exactly where it is one of these.
-use Rattle.std.specs.Prelude.{◌≡◌, ℕ, ◌<◌, ◌≤◌, ◌⊎◌, Bool, Some, List, [], ◌∷◌, ◌++◌, length, nat_eq}
+use Rattle.std.specs.Prelude.{◌≡◌, ℕ, ◌<◌, ◌≤◌, Bool, Some, List, [], ◌∷◌, ◌++◌, length, nat_eq}
 use Rattle.std.specs.List.{IsDistinct}
 use Rattle.pmb_bus.specs.declared.event.Event.{Event}
 use Rattle.pmb_bus.specs.declared.event.Event.TheVariants.{Start, Byte, Stop}
@@ -10,30 +10,25 @@ use Rattle.pmb_command.specs.Parts.{DeviceParts, IsNew, device_with}
 use Rattle.pmb_command.specs.PecMode.{AllowsPec}
 use Rattle.pmb_command.specs.Wire.{IsByte, Fits, wire}
 use Rattle.pmb_transaction.specs.Transaction.{PartData}
-use Rattle.pmb_transaction.specs.Body.{checked, IsProperPrefix, ReadBody, CallBody, IsReadBody, IsCallBody, Allowed}
+use Rattle.pmb_transaction.specs.Body.{checked, IsProperPrefix, IsFormOfRequest, IsRequest}
+pub use Rattle.pmb_transaction.specs.Body.{BeginsBody, IsInsideBody}
 use Rattle.pmb_transaction.specs.Packet.{leg, addresses, PartsEvents}
 use Rattle.pmb_transaction.specs.Capture.{IsPacket}
 
--- ---- bytes
+-- ---- answers
 
--- bytes that begin a body allowed after some parts: none of them, or some, or all
-abbrev pub BeginsBody : DeviceParts → List PartData → List ℕ → Type 0
-BeginsBody device parts bytes = (bytes ≡ []) ⊎ ((body : List ℕ) × (rest : List ℕ) × Allowed device parts body × (body ≡ bytes ++ rest))
-
--- and that are not all of it
-abbrev pub IsInsideBody : DeviceParts → List PartData → List ℕ → Type 0
-IsInsideBody device parts bytes = (bytes ≡ []) ⊎ ((body : List ℕ) × Allowed device parts body × IsProperPrefix bytes body)
-
--- The bytes with which a device answers a read body or a call body: a reply in the body's form, and
--- the packet error code where there is one.
-pub record IsAnswer (device : DeviceParts) (addr : ℕ) (body : List ℕ) (bytes : List ℕ) : Type 0 where
+-- The bytes with which a device answers a body that asks say a reply in the form for which it asks,
+-- and with the packet error code where there is one.
+pub record SaysAnswer (device : DeviceParts) (addr : ℕ) (body : List ℕ) (reply : List ℕ) (with_pec : Bool) (bytes : List ℕ) : Type 0 where
   pub form : Form
-  pub asked : ((code : ℕ) × ReadBody device code form body) ⊎ ((code : ℕ) × (sent : List ℕ) × CallBody device code form sent body)
-  pub reply : List ℕ
+  pub asked : IsFormOfRequest device form body
   pub fits : Fits form reply
-  pub with_pec : Bool
   pub mode : AllowsPec device.pec with_pec
   pub spelled : bytes ≡ checked with_pec (write_address addr ∷ body ++ read_address addr ∷ []) (wire form reply)
+
+-- and they say some reply
+abbrev pub IsAnswer : DeviceParts → ℕ → List ℕ → List ℕ → Type 0
+IsAnswer device addr body bytes = (reply : List ℕ) × (with_pec : Bool) × SaysAnswer device addr body reply with_pec bytes
 
 -- ---- legs that are read
 
@@ -59,10 +54,10 @@ module _ (profile : List DeviceParts) where
   pub data ReadBegins (events : List Event) : Type 0 where
     -- S addr+W A body A .. S
     read_start : (addr : ℕ) → (device : DeviceParts) → (body : List ℕ) → device_with addr profile ≡ Some device
-        → IsReadBody device body ⊎ IsCallBody device body → events ≡ leg (write_address addr ∷ body) ++ Start ∷ [] → ReadBegins events
+        → IsRequest device body → events ≡ leg (write_address addr ∷ body) ++ Start ∷ [] → ReadBegins events
     -- S addr+W A body A .. S addr+R
     read_address_sent : (addr : ℕ) → (device : DeviceParts) → (body : List ℕ) → device_with addr profile ≡ Some device
-        → IsReadBody device body ⊎ IsCallBody device body → events ≡ leg (write_address addr ∷ body) ++ Start ∷ Byte (read_address addr) ∷ []
+        → IsRequest device body → events ≡ leg (write_address addr ∷ body) ++ Start ∷ Byte (read_address addr) ∷ []
         → ReadBegins events
     -- S addr+W A body A .. S addr+R A ..
     read_answer : (addr : ℕ) → (device : DeviceParts) → (body : List ℕ) → (answer : List ℕ) → (last : List Event)

@@ -1,7 +1,7 @@
 //! Laws on the packets that events make with their last one, and on the places after events: each
 //! function is its contract, and does nothing.
 
-ghost use Rattle.std.specs.Prelude.{◌≡◌, ◌≢◌, ℕ, ◌<◌, ◌≤◌, Bool, true, false, Some, List, [], ◌∷◌, ◌++◌, ◌⊎◌, length, nat_eq};
+ghost use Rattle.std.specs.Prelude.{◌≡◌, ◌≢◌, ℕ, ◌<◌, ◌≤◌, Bool, true, false, Some, List, [], ◌∷◌, ◌++◌, length, nat_eq};
 ghost use Rattle.std.specs.List.{IsDistinct};
 ghost use Rattle.pmb_bus.specs.declared.event.Event.{Event};
 ghost use Rattle.pmb_bus.specs.declared.event.Event.TheVariants.{Start, Byte, Nack, Stop};
@@ -13,7 +13,7 @@ ghost use Rattle.pmb_command.specs.PecMode.{AllowsPec};
 ghost use Rattle.pmb_command.specs.Wire.{IsByte, Fits, wire};
 ghost use Rattle.pmb_transaction.specs.declared.reason.Reason.TheVariants.{BadPec};
 ghost use Rattle.pmb_transaction.specs.Transaction.{PartData, Write, Read, Call, Refused, Alert};
-ghost use Rattle.pmb_transaction.specs.Body.{checked, WriteBody, ReadBody, CallBody, IsReadBody, IsCallBody};
+ghost use Rattle.pmb_transaction.specs.Body.{checked, WriteBody, ReadBody, CallBody, IsRequest, IsFormOfRequest};
 ghost use Rattle.pmb_transaction.specs.Packet.{Packet, PartsEvents, addresses, leg};
 ghost use Rattle.pmb_transaction.specs.Capture.{MayFollow};
 ghost use Rattle.pmb_transaction.specs.Viable.{IsInsideBody};
@@ -75,7 +75,7 @@ pub fn refused_bytes_are_packets()
 /// A device that was asked and refuses to be read.
 pub fn refused_reads_are_packets()
     ensures { (profile : List DeviceParts) (addr : ℕ) (device : DeviceParts) (body : List ℕ) → IsBus profile
-        → device_with addr profile ≡ Some device → IsReadBody device body ⊎ IsCallBody device body
+        → device_with addr profile ≡ Some device → IsRequest device body
         → Packet profile (Refused (record { parts = []; addr = addr; sent = body; at_read = true }))
         (leg (write_address addr ∷ body) ++ Start ∷ Byte (read_address addr) ∷ [] ++ Nack ∷ [] ++ Stop ∷ []) }
 {
@@ -89,7 +89,7 @@ pub fn reads_are_packets()
     ensures { (profile : List DeviceParts) (addr : ℕ) (device : DeviceParts) (body : List ℕ) (form : Form) (reply : List ℕ)
         (with_pec : Bool) (bytes : List ℕ) (byte : ℕ) (code : ℕ) (read_form : Form) → IsBus profile
         → device_with addr profile ≡ Some device
-        → ((asked : ℕ) × ReadBody device asked form body) ⊎ ((asked : ℕ) × (sent : List ℕ) × CallBody device asked form sent body)
+        → IsFormOfRequest device form body
         → Fits form reply → AllowsPec device.pec with_pec
         → bytes ++ byte ∷ [] ≡ checked with_pec (write_address addr ∷ body ++ read_address addr ∷ []) (wire form reply)
         → ReadBody device code read_form body
@@ -102,7 +102,7 @@ pub fn calls_are_packets()
     ensures { (profile : List DeviceParts) (addr : ℕ) (device : DeviceParts) (body : List ℕ) (form : Form) (reply : List ℕ)
         (with_pec : Bool) (bytes : List ℕ) (byte : ℕ) (code : ℕ) (content : List ℕ) (call_form : Form) → IsBus profile
         → device_with addr profile ≡ Some device
-        → ((asked : ℕ) × ReadBody device asked form body) ⊎ ((asked : ℕ) × (sent : List ℕ) × CallBody device asked form sent body)
+        → IsFormOfRequest device form body
         → Fits form reply → AllowsPec device.pec with_pec
         → bytes ++ byte ∷ [] ≡ checked with_pec (write_address addr ∷ body ++ read_address addr ∷ []) (wire form reply)
         → CallBody device code call_form content body

@@ -2,7 +2,7 @@
 //! does nothing. With those of [`crate::laws`] on turns and on the bytes of a written leg they
 //! tell, after any events that begin a packet, each event that may come next.
 
-ghost use Rattle.std.specs.Prelude.{◌≡◌, ◌≢◌, ℕ, ◌<◌, ◌≤◌, true, Some, List, [], ◌∷◌, ◌++◌, ◌⊎◌, ◌↔◌, length, nat_eq};
+ghost use Rattle.std.specs.Prelude.{◌≡◌, ◌≢◌, ℕ, ◌<◌, ◌≤◌, true, Some, List, [], ◌∷◌, ◌++◌, ◌↔◌, length, nat_eq};
 ghost use Rattle.std.specs.List.{IsDistinct};
 ghost use Rattle.pmb_bus.specs.declared.event.Event.{Event};
 ghost use Rattle.pmb_bus.specs.declared.event.Event.TheVariants.{Start, Byte, Ack, Nack, Stop};
@@ -10,7 +10,7 @@ ghost use Rattle.pmb_bus.specs.Address.{write_address, read_address, alert_addre
 ghost use Rattle.pmb_command.specs.Parts.{DeviceParts, IsNew, device_with};
 ghost use Rattle.pmb_command.specs.Bus.{IsBus};
 ghost use Rattle.pmb_transaction.specs.Transaction.{PartData};
-ghost use Rattle.pmb_transaction.specs.Body.{IsWriteBody, IsReadBody, IsCallBody};
+ghost use Rattle.pmb_transaction.specs.Body.{IsWriteBody, IsRequest};
 ghost use Rattle.pmb_transaction.specs.Packet.{addresses, leg, PartsEvents};
 ghost use Rattle.pmb_transaction.specs.Capture.{HasNoStop, IsPacket, MayFollow, Viable};
 ghost use Rattle.pmb_transaction.specs.Viable.{IsAnswer};
@@ -118,7 +118,7 @@ pub fn packets_go_on()
 /// After the address byte that reads a device that was asked ACK may follow.
 pub fn reads_may_be_taken()
     ensures { (profile : List DeviceParts) (addr : ℕ) (device : DeviceParts) (body : List ℕ) → IsBus profile
-        → device_with addr profile ≡ Some device → IsReadBody device body ⊎ IsCallBody device body
+        → device_with addr profile ≡ Some device → IsRequest device body
         → MayFollow profile (leg (write_address addr ∷ body) ++ Start ∷ Byte (read_address addr) ∷ []) Ack }
 {
     pec_is_a_byte();
@@ -127,7 +127,7 @@ pub fn reads_may_be_taken()
 /// After the address byte that reads a device that was asked NACK may follow.
 pub fn reads_may_be_refused()
     ensures { (profile : List DeviceParts) (addr : ℕ) (device : DeviceParts) (body : List ℕ) → IsBus profile
-        → device_with addr profile ≡ Some device → IsReadBody device body ⊎ IsCallBody device body
+        → device_with addr profile ≡ Some device → IsRequest device body
         → MayFollow profile (leg (write_address addr ∷ body) ++ Start ∷ Byte (read_address addr) ∷ []) Nack }
 {
     pec_is_a_byte();

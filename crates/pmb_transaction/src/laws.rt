@@ -1,11 +1,14 @@
 //! The laws of packets and captures: each function is its contract, and does nothing.
 
-ghost use Rattle.std.specs.Prelude.{◌≡◌, ◌≢◌, List, [], ◌++◌};
+ghost use Rattle.std.specs.Prelude.{◌≡◌, ◌≢◌, ℕ, ◌+◌, ◌≤◌, Bool, List, [], ◌++◌, length};
 ghost use Rattle.pmb_bus.specs.declared.event.Event.{Event};
 ghost use Rattle.pmb_bus.specs.Event.{AreBytes};
+ghost use Rattle.pmb_command.specs.declared.form.Form.{Form};
 ghost use Rattle.pmb_command.specs.Parts.{DeviceParts};
 ghost use Rattle.pmb_command.specs.Bus.{IsBus};
-ghost use Rattle.pmb_transaction.specs.Transaction.{TransactionData};
+ghost use Rattle.pmb_command.specs.Wire.{Fits, wire};
+ghost use Rattle.pmb_transaction.specs.Transaction.{PartData, TransactionData};
+ghost use Rattle.pmb_transaction.specs.Body.{Allowed, IsInsideBody, checked};
 ghost use Rattle.pmb_transaction.specs.Packet.{Packet};
 ghost use Rattle.pmb_transaction.specs.Capture.{Capture, EndsAtStop};
 
@@ -24,7 +27,7 @@ pub use crate::following::{
 };
 pub use crate::reading::{
     captures_go_on, captures_may_be_cut_behind_stop, captures_read_as_written,
-    each_list_has_a_reading, fronts_read_as_fronts, one_reading,
+    each_list_has_a_reading, fronts_read_as_fronts, one_reading, refusals_move,
 };
 pub use crate::rows::reasons_of_rows;
 pub use crate::viability::{
@@ -33,6 +36,17 @@ pub use crate::viability::{
     viable_lists,
 };
 use pmb_bus::laws::pec_is_a_byte;
+
+/// A command's data are 256 bytes on the bus at most, a packet error code is one more, and a body
+/// has 258 at most.
+pub fn bodies_are_short()
+    ensures data { (form : Form) (bytes : List ℕ) → Fits form bytes → length (wire form bytes) ≤ 256 }
+    ensures checked { (with_pec : Bool) (before bytes : List ℕ) → length (checked with_pec before bytes) ≤ length bytes + 1 }
+    ensures body { (device : DeviceParts) (parts : List PartData) (body : List ℕ)
+        → Allowed device parts body → length body ≤ 258 }
+    ensures front { (device : DeviceParts) (parts : List PartData) (front : List ℕ)
+        → IsInsideBody device parts front → length front ≤ 257 }
+{}
 
 /// A transaction has one packet at most under a profile.
 pub fn one_packet()

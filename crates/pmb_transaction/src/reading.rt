@@ -1,14 +1,14 @@
 //! Laws on what events read as: each function is its contract, and does nothing.
 
-ghost use Rattle.std.specs.Prelude.{◌≡◌, ◌↔◌, ℕ, List, ◌∷◌, ◌++◌, length, map};
+ghost use Rattle.std.specs.Prelude.{◌≡◌, ◌↔◌, ℕ, ◌+◌, List, ◌∷◌, ◌++◌, length, map};
 ghost use Rattle.std.specs.List.{All};
 ghost use Rattle.pmb_bus.specs.declared.event.Event.{Event};
 ghost use Rattle.pmb_command.specs.Parts.{DeviceParts};
 ghost use Rattle.pmb_command.specs.Bus.{IsBus};
 ghost use Rattle.pmb_transaction.specs.Transaction.{TransactionData};
 ghost use Rattle.pmb_transaction.specs.Capture.{Capture, MayFollow};
-ghost use Rattle.pmb_transaction.specs.Reading.{Accepted, IsUnderWay, Outcome, Reading, ReadsAsFront, ReadsFrom};
-ghost use Rattle.pmb_transaction.specs.Cut.{EndsWithStop, IsNotTruncated, moved};
+ghost use Rattle.pmb_transaction.specs.Reading.{Accepted, IsUnderWay, Outcome, Reading, ReadsAsFront, ReadsFrom, RefusalData, RefusedAt, TruncatedAt};
+ghost use Rattle.pmb_transaction.specs.Cut.{EndsWithStop, IsNotTruncated, moved, moved_refusal};
 
 use pmb_bus::laws::{kinds_are_told_by_events, pec_is_a_byte};
 
@@ -55,6 +55,14 @@ pub fn captures_go_on()
     ensures { (profile : List DeviceParts) (ts done : List TransactionData) (whole front : List Event) (event : Event)
         (more : List Event) → Capture profile ts (whole ++ (front ++ event ∷ more)) → Capture profile done whole
         → IsUnderWay profile front → MayFollow profile front event }
+{}
+
+/// Where n more events came before, a refusal is the same, moved by n.
+pub fn refusals_move()
+    ensures refused { (profile : List DeviceParts) (n m : ℕ) (front : List Event) (event : Event) (refusal : RefusalData)
+        → RefusedAt profile m front event refusal → RefusedAt profile (n + m) front event (moved_refusal n refusal) }
+    ensures truncated { (profile : List DeviceParts) (n m : ℕ) (events : List Event) (refusal : RefusalData)
+        → TruncatedAt profile m events refusal → TruncatedAt profile (n + m) events (moved_refusal n refusal) }
 {}
 
 /// A capture may be cut after any STOP: where the first of two lists of events ends with STOP,

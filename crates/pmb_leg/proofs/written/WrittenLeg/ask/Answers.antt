@@ -1,7 +1,8 @@
 use Rattle.std.proofs.Common.{◌≡◌, ◌∷◌, ◌++◌, [], List, ℕ, Some, sym, ap, subst, ◌∙◌, arith}
 use Rattle.pmb_bus.specs.Pec.{pec}
 use Rattle.pmb_bus.specs.Address.{read_address}
-use Rattle.pmb_leg.specs.Leg.{IsRequest, Written, reply_form}
+use Rattle.pmb_transaction.specs.Body.{IsRequest}
+use Rattle.pmb_leg.specs.Leg.{Written, reply_form}
 use Rattle.pmb_leg.specs.machine.Answers.{CountsAlone}
 use Rattle.pmb_leg.specs.machine.Legs.{kept}
 use Rattle.pmb_leg.proofs.Asking.{leg_answers, leg_says}

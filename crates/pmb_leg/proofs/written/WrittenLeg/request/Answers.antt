@@ -2,7 +2,8 @@ use Rattle.std.proofs.Common.{◌≡◌, ◌∷◌, List, ℕ, sym, ap, subst, �
 use Rattle.pmb_command.specs.declared.form.Form.{Form}
 use Rattle.pmb_transaction.specs.Body.{ReadBody}
 use Rattle.pmb_leg.specs.declared.place.LegPlace.TheVariants.{First}
-use Rattle.pmb_leg.specs.Leg.{IsRequest, Written}
+use Rattle.pmb_transaction.specs.Body.{IsRequest}
+use Rattle.pmb_leg.specs.Leg.{Written}
 use Rattle.pmb_leg.specs.machine.Legs.{kept, IsBehindCode}
 use Rattle.pmb_leg.proofs.Sayings.{asks_nothing, behind_code, reads}
 use Rattle.pmb_leg.proofs.written.WrittenLeg.request.Goals as goal

@@ -1,11 +1,10 @@
 use Rattle.std.proofs.Common.{ap, reverse, sym, ◌∙◌, List, ℕ, Some}
 use Rattle.pmb_said.specs.Said.{legs}
 use Rattle.pmb_said.proofs.Answers.{reply_is, short_backwards}
-use Rattle.pmb_said.proofs.ShortLegs.{legs_are_short}
 use Rattle.pmb_said.proofs.said.Said.reply.Goals as goal
 
 pub returns-in-Read-clause-bytes : goal.returns-in-Read-clause-bytes
 returns-in-Read-clause-bytes c = λ profile events viable stands.
     ap (λ (bs : List ℕ). Some bs) c.reply.ensures.bytes
-    ∙ reply_is c.args.self.now.legs (reverse (legs events)) stands.legs (short_backwards (legs events) (legs_are_short profile events viable))
+    ∙ reply_is c.args.self.now.legs (reverse (legs events)) stands.legs (short_backwards (legs events) (c.legs_are_short.ensures profile events viable))
     (sym c.last.ensures ∙ c.in-Read.is)
