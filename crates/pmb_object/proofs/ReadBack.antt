@@ -3,7 +3,7 @@ use Rattle.std.proofs.Common.{◌≡◌, ℕ, ◌≤◌, Bool, true, false, cond
 use Rattle.json.specs.Token.{Token, bad}
 use Rattle.json.specs.Token as tokens
 use Rattle.json.specs.Word.{ends_word, word}
-use Rattle.json.specs.Lex.{Lexeme, token, comma, colon, lex, between, fresh, after_value, after_comma, begins_colon, place_token, punctuate}
+use Rattle.json.specs.Lex.{Lexeme, Place as TokenPlace, token, comma, colon, lex, between, fresh, after_value, after_comma, begins_colon, place_token, punctuate}
 use Rattle.json.specs.Json.{value, if_last, max_depth, document}
 use Rattle.json.specs.Tree.{json_tokens, items_tokens, members_tokens, depth}
 use Rattle.json.proofs.Printed.Numbers.{in_word-ended, lex-number}
@@ -113,6 +113,12 @@ members_no_colon : (members : Members) (rest : List Lexeme) → begins_colon res
 members_no_colon no_members rest none = none
 members_no_colon (member key one more) rest none = refl
 
+-- a value, and what follows it in its list, by the tokens of each
+one_and_more : (before : TokenPlace) (one more end : List Lexeme) (one_tokens more_tokens after : List Token) → punctuate before (one ++ (more ++ end)) ≡ one_tokens ++ punctuate after_value (more ++ end)
+    → punctuate after_value (more ++ end) ≡ more_tokens ++ after → punctuate before ((one ++ more) ++ end) ≡ (one_tokens ++ more_tokens) ++ after
+one_and_more before one more end one_tokens more_tokens after first later =
+    ap (punctuate before) (append_assoc one more end) ∙ first ∙ ap (λ (l : List Token). one_tokens ++ l) later ∙ sym (append_assoc one_tokens more_tokens after)
+
 mutual
   unfolding punctuate
 
@@ -141,39 +147,35 @@ mutual
   first_items no_items rest = refl
   first_items (item one more) rest =
       let end = token tokens.end_array ∷ rest in
-      ap (punctuate fresh) (append_assoc (value_lexemes one) (items_lexemes Later more) end)
-      ∙ first_value one (items_lexemes Later more ++ end) (items_no_colon more end refl)
-      ∙ ap (λ (l : List Token). json_tokens (read_value one) ++ l) (later_items more rest)
-      ∙ sym (append_assoc (json_tokens (read_value one)) (items_tokens (read_items more)) (punctuate after_value rest))
+      let after = items_lexemes Later more in
+      one_and_more fresh (value_lexemes one) after end (json_tokens (read_value one)) (items_tokens (read_items more)) (punctuate after_value rest)
+      (first_value one (after ++ end) (items_no_colon more end refl)) (later_items more rest)
 
   later_items : (items : Items) (rest : List Lexeme) → punctuate after_value (items_lexemes Later items ++ token tokens.end_array ∷ rest) ≡ items_tokens (read_items items) ++ punctuate after_value rest
   later_items no_items rest = refl
   later_items (item one more) rest =
       let end = token tokens.end_array ∷ rest in
-      ap (punctuate after_comma) (append_assoc (value_lexemes one) (items_lexemes Later more) end)
-      ∙ later_value one (items_lexemes Later more ++ end) (items_no_colon more end refl)
-      ∙ ap (λ (l : List Token). json_tokens (read_value one) ++ l) (later_items more rest)
-      ∙ sym (append_assoc (json_tokens (read_value one)) (items_tokens (read_items more)) (punctuate after_value rest))
+      let after = items_lexemes Later more in
+      one_and_more after_comma (value_lexemes one) after end (json_tokens (read_value one)) (items_tokens (read_items more)) (punctuate after_value rest)
+      (later_value one (after ++ end) (items_no_colon more end refl)) (later_items more rest)
 
   first_members : (members : Members) (rest : List Lexeme) → punctuate fresh (members_lexemes First members ++ token tokens.end_object ∷ rest) ≡ members_tokens (read_members members) ++ punctuate after_value rest
   first_members no_members rest = refl
   first_members (member key one more) rest =
       let end = token tokens.end_object ∷ rest in
+      let after = members_lexemes Later more in
       ap (λ (l : List Token). tokens.key (in_utf8 key) ∷ l)
-      (ap (punctuate fresh) (append_assoc (value_lexemes one) (members_lexemes Later more) end)
-      ∙ first_value one (members_lexemes Later more ++ end) (members_no_colon more end refl)
-      ∙ ap (λ (l : List Token). json_tokens (read_value one) ++ l) (later_members more rest)
-      ∙ sym (append_assoc (json_tokens (read_value one)) (members_tokens (read_members more)) (punctuate after_value rest)))
+      (one_and_more fresh (value_lexemes one) after end (json_tokens (read_value one)) (members_tokens (read_members more)) (punctuate after_value rest)
+      (first_value one (after ++ end) (members_no_colon more end refl)) (later_members more rest))
 
   later_members : (members : Members) (rest : List Lexeme) → punctuate after_value (members_lexemes Later members ++ token tokens.end_object ∷ rest) ≡ members_tokens (read_members members) ++ punctuate after_value rest
   later_members no_members rest = refl
   later_members (member key one more) rest =
       let end = token tokens.end_object ∷ rest in
+      let after = members_lexemes Later more in
       ap (λ (l : List Token). tokens.key (in_utf8 key) ∷ l)
-      (ap (punctuate fresh) (append_assoc (value_lexemes one) (members_lexemes Later more) end)
-      ∙ first_value one (members_lexemes Later more ++ end) (members_no_colon more end refl)
-      ∙ ap (λ (l : List Token). json_tokens (read_value one) ++ l) (later_members more rest)
-      ∙ sym (append_assoc (json_tokens (read_value one)) (members_tokens (read_members more)) (punctuate after_value rest)))
+      (one_and_more fresh (value_lexemes one) after end (json_tokens (read_value one)) (members_tokens (read_members more)) (punctuate after_value rest)
+      (first_value one (after ++ end) (members_no_colon more end refl)) (later_members more rest))
 
 -- ---- the value
 
