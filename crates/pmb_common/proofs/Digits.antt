@@ -1,7 +1,7 @@
 -- The table of digits, computed as a whole and told of each byte.
-use Rattle.std.proofs.Common.{◌≡◌, ℕ, ◌+◌, ◌*◌, ◌/◌, ◌%◌, ◌<◌, ◌≤◌, Bool, true, ◌==◌, Some, get_or, [], ◌∷◌, refl, sym, ap, ◌∙◌, arith}
-use Rattle.std.specs.Prelude.{◌||◌, nat_le}
-use Rattle.std.proofs.lemmas.Bool.{agree_below, agree_below_at, eqb-true}
+use Rattle.std.proofs.Common.{◌≡◌, ℕ, ◌+◌, ◌*◌, ◌/◌, ◌%◌, ◌<◌, Bool, true, ◌==◌, ◌⊎◌, inl, inr, get_or, [], ◌∷◌, refl, sym, ap, ◌∙◌, arith}
+use Rattle.std.specs.Prelude.{◌||◌, nat_le, nat_lt}
+use Rattle.std.proofs.lemmas.Bool.{agree_below, agree_below_at, eqb-true, ltb-true, or_cases}
 use Rattle.std.proofs.lemmas.Bool.Decides.{nat_tests}
 use Rattle.hex.specs.Hex.{encode_with}
 use Rattle.pmb_bus.specs.declared.event.Event.TheVariants.{Byte}
@@ -43,15 +43,24 @@ pub digit_reads : (value : ℕ) → value < 16 → entry (lower_digit value) ≡
 digit_reads value small =
     eqb-true (entry (lower_digit value)) value (agree_below_at reads_right (λ value. true) 16 value table_reads_right small)
 
--- an entry that is no value is that of no digit
-pub no_value : (byte value : ℕ) → 16 ≤ entry byte → value < 16 → lower_digit value ≡ byte → ⊥
-no_value byte value big small same =
-    let reads : entry byte ≡ value = ap entry (sym same) ∙ digit_reads value small in
-    omega arith
+-- the test of one entry: it is a value, or it says that there is none
+abbrev is_known : ℕ → Bool
+is_known byte = nat_lt (entry byte) 16 || entry byte == 256
+
+table_is_known : agree_below is_known (λ byte. true) 256 ≡ true
+table_is_known = refl
+
+known : (value : ℕ) → (nat_lt value 16 ≡ true) ⊎ ((value == 256) ≡ true) → (value < 16) ⊎ (value ≡ 256)
+known value (inl small) = inl (ltb-true value 16 small)
+known value (inr none) = inr (eqb-true value 256 none)
+
+pub entry_is_known : (byte : ℕ) → byte < 256 → (entry byte < 16) ⊎ (entry byte ≡ 256)
+entry_is_known byte small =
+    known (entry byte) (or_cases (nat_lt (entry byte) 16) (entry byte == 256) (agree_below_at is_known (λ byte. true) 256 byte table_is_known small))
 
 -- a digit's entry
-pub value_of : (byte value : ℕ) → value < 16 → lower_digit value ≡ byte → Some (entry byte) ≡ Some value
-value_of byte value small same = ap (λ (n : ℕ). Some n) (ap entry (sym same) ∙ digit_reads value small)
+pub value_of : (byte value : ℕ) → value < 16 → lower_digit value ≡ byte → entry byte ≡ value
+value_of byte value small same = ap entry (sym same) ∙ digit_reads value small
 
 -- a digit tells its value
 pub same_digit : (v w : ℕ) → v < 16 → w < 16 → lower_digit v ≡ lower_digit w → v ≡ w
@@ -73,6 +82,17 @@ spells_byte first second space high low high_small low_small one two is_space =
     let left : lower_digit ((high * 16 + low) / 16) ≡ first = ap lower_digit above ∙ one in
     let right : lower_digit ((high * 16 + low) % 16) ≡ second = ap lower_digit below ∙ two in
     byte_text (high * 16 + low) ∙ cc (left, right, is_space)
+
+-- Two values are those of digits.
+pub record AreDigits (high : ℕ) (low : ℕ) : Type 0 where
+  pub high_small : high < 16
+  pub low_small : low < 16
+
+-- where they make a byte
+pub are_digits : (high low : ℕ) → (high < 16) ⊎ (high ≡ 256) → (low < 16) ⊎ (low ≡ 256) → high * 16 + low < 256 → AreDigits high low
+are_digits high low (inl above) (inl below) small = record { high_small = above; low_small = below }
+are_digits high low (inr none) below small = absurd (omega (arith, none, small))
+are_digits high low (inl above) (inr none) small = absurd (omega (arith, none, small))
 
 -- What is spelled so.
 pub record IsSpelled (byte : ℕ) (first : ℕ) (second : ℕ) (space : ℕ) : Type 0 where
@@ -100,7 +120,7 @@ same_byte a b small other above below =
     omega arith
 
 -- a letter is no digit
-pub no_digit : (value letter : ℕ) → value < 16 → entry letter ≡ 255 → lower_digit value ≡ letter → ⊥
+pub no_digit : (value letter : ℕ) → value < 16 → entry letter ≡ 256 → lower_digit value ≡ letter → ⊥
 no_digit value letter small none same =
     let reads : entry letter ≡ value = ap entry (sym same) ∙ digit_reads value small in
     omega arith

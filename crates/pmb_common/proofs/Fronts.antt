@@ -1,10 +1,11 @@
 -- Bytes taken from the front of a text.
-use Rattle.std.proofs.Common.{◌≡◌, ℕ, ◌<◌, List, [], ◌∷◌, ◌++◌, length, refl, sym, ap, ◌∙◌, arith, append_assoc, length-append}
-use Rattle.std.proofs.lemmas.List.{append-nil}
+use Rattle.std.proofs.Common.{◌≡◌, ℕ, ◌+◌, ◌-◌, ◌*◌, ◌<◌, ◌≤◌, min, ◌⊎◌, inl, inr, List, [], ◌∷◌, ◌++◌, length, take, drop, set, refl, sym, ap, ◌∙◌, arith, append_assoc, length-append, length-drop, length-set}
+use Rattle.std.proofs.lemmas.Bool.{cases_lt}
+use Rattle.std.proofs.lemmas.List.{append-nil, drop_at, take_more_set}
 use Rattle.hex.specs.Hex.{encode_with}
 use Rattle.pmb_command.specs.Wire.{AreByteValues}
 use Rattle.pmb_common.specs.Front.{NoneAcked, TakenFront, acked_text}
-use Rattle.pmb_common.proofs.Texts.{GoesOn, acked_text-append, goes_on, small-append}
+use Rattle.pmb_common.proofs.Texts.{GoesOn, acked_text-append, goes_on, length-acked_text, small-append}
 
 -- none yet
 pub taken_none : (text old : List ℕ) → TakenFront text old old text
@@ -66,3 +67,81 @@ module _ (text : List ℕ) (old : List ℕ) (new : List ℕ) (behind : List ℕ)
         length-append taken.more goes.left,
         length-append old front,
       )
+
+-- Bytes with their ACKs were put into the first places, and what is left of the text finds room.
+pub record PutSoFar (text : List ℕ) (old : List ℕ) (len : ℕ) (places : List ℕ) (rest : List ℕ) : Type 0 where
+  pub taken : TakenFront text old (take len places) rest
+  pub room : 5 * len + length rest ≤ 2580
+  pub all_places : length places ≡ 516
+
+-- one more, where it finds room
+pub put_more : (text old : List ℕ) (len : ℕ) (places rest : List ℕ) (byte : ℕ) → PutSoFar text old len places rest → byte < 256 → 5 ≤ length rest
+    → rest ≡ acked_text (byte ∷ []) ++ drop 5 rest → PutSoFar text old (len + 1) (set places len byte) (drop 5 rest)
+put_more text old len places rest byte so_far small long front =
+    let within : len < length places = omega (arith, so_far.room, so_far.all_places, long) in
+    let next : take (len + 1) (set places len byte) ≡ take len places ++ byte ∷ [] = take_more_set places len byte within in
+    record {
+      taken = rw next (taken_more text old (take len places) rest byte (drop 5 rest) so_far.taken small front);
+      room = omega (arith, so_far.room, long, length-drop 5 rest);
+      all_places = length-set places len byte ∙ so_far.all_places;
+    }
+
+-- a byte at the front of a text stands in its first five bytes
+in_five : (rest tail : List ℕ) (byte : ℕ) (more : List ℕ) → 5 ≤ length rest → rest ++ tail ≡ acked_text (byte ∷ []) ++ more
+    → rest ≡ acked_text (byte ∷ []) ++ drop 5 rest
+unfolding encode_with
+in_five [] tail byte more long same = absurd (omega arith)
+in_five (a ∷ []) tail byte more long same = absurd (omega arith)
+in_five (a ∷ b ∷ []) tail byte more long same = absurd (omega arith)
+in_five (a ∷ b ∷ c ∷ []) tail byte more long same = absurd (omega arith)
+in_five (a ∷ b ∷ c ∷ d ∷ []) tail byte more long same = absurd (omega arith)
+in_five (a ∷ b ∷ c ∷ d ∷ e ∷ rest) tail byte more long same =
+    let word : a ∷ b ∷ c ∷ d ∷ e ∷ [] ≡ acked_text (byte ∷ []) = ap (λ (l : List ℕ). take 5 l) same in
+    ap (λ (l : List ℕ). l ++ rest) word
+
+module _ (part : List ℕ) (tail : List ℕ) (old : List ℕ) (new : List ℕ) (rest : List ℕ) (taken : TakenFront part old new rest) where
+  -- what was taken of a text that others follow
+  split_before : part ++ tail ≡ acked_text taken.more ++ (rest ++ tail)
+  split_before = ap (λ (l : List ℕ). l ++ tail) taken.split ∙ append_assoc (acked_text taken.more) rest tail
+
+  pub taken_before : TakenFront (part ++ tail) old new (rest ++ tail)
+  taken_before = record { more = taken.more; added = taken.added; split = split_before; small = taken.small }
+
+  -- how long that is
+  long : length part ≡ 5 * length taken.more + length rest
+  long = ap length taken.split ∙ length-append (acked_text taken.more) rest ∙ ap (λ (n : ℕ). n + length rest) (length-acked_text taken.more)
+
+  pub left_before : drop (length part - length rest) (part ++ tail) ≡ rest ++ tail
+  left_before =
+      let acked : length (acked_text taken.more) ≡ length part - length rest = omega (arith, long, length-acked_text taken.more) in
+      ap (λ (l : List ℕ). drop (length part - length rest) l) split_before
+      ∙ drop_at (acked_text taken.more) (rest ++ tail) (length part - length rest) acked
+
+  -- none is left, where no more of the text was looked at than finds room
+  module _ (room : ℕ) (limit : length part ≡ min (length (part ++ tail)) (5 * room)) (all_room : length old + room ≡ 516) (ended : NoneAcked rest)
+      (front : List ℕ) (behind : List ℕ) (small : AreByteValues front) (none : NoneAcked behind) (fits : length (old ++ front) ≤ 516)
+      (same : part ++ tail ≡ acked_text front ++ behind) where
+    none_by : (byte : ℕ) (more : List ℕ) → byte < 256 → rest ++ tail ≡ acked_text (byte ∷ []) ++ more → (length rest < 5) ⊎ (5 ≤ length rest) → ⊥
+    none_by byte more is_byte at_front (inr enough) = ended byte (drop 5 rest) is_byte (in_five rest tail byte more enough at_front)
+    none_by byte more is_byte at_front (inl short) =
+        let others : length new < length (old ++ front) =
+        room_left (part ++ tail) old new (rest ++ tail) front behind taken_before byte more small none same is_byte at_front in
+        omega (
+          arith,
+          others,
+          fits,
+          short,
+          limit,
+          all_room,
+          long,
+          ap length taken.added,
+          length-append old taken.more,
+          length-append part tail,
+          length-append rest tail,
+          ap length at_front,
+          length-append (acked_text (byte ∷ [])) more,
+          length-acked_text (byte ∷ []),
+        )
+
+    pub none_before : NoneAcked (rest ++ tail)
+    none_before byte more is_byte at_front = none_by byte more is_byte at_front (cases_lt (length rest) 5)

@@ -3,8 +3,10 @@
 //! An `ArrayVec` clears each place that is no longer in use. Here they stay as they are: none is
 //! read before a byte is put there, and a packet pays for none that it doesn't use.
 
-ghost use Rattle.std.specs.Prelude.{◌≡◌, ◌≤◌, ◌<◌, ◌++◌, ◌∷◌, [], false, length, nat_eq};
+ghost use Rattle.std.specs.Prelude.{◌≡◌, ◌≤◌, ◌<◌, ◌+◌, ◌*◌, ◌++◌, ◌∷◌, [], false, length, nat_eq};
+ghost use Rattle.pmb_common.specs.Front.{NoneAcked, TakenFront};
 
+use crate::words::front_acked;
 use std::marker::Model;
 
 /// How many bytes a packet has at most: those of a block process call, with two address bytes, a
@@ -63,6 +65,33 @@ impl PacketBytes {
         ensures room { result ≡ false → length self.now.items < 516 }
     {
         self.len == PLACES
+    }
+
+    /// How many more find room.
+    #[inline(always)]
+    pub(crate) fn room(&self) -> usize
+        ensures { length self.now.items + result ≡ 516 }
+    {
+        PLACES - self.len
+    }
+
+    /// Puts the acknowledged bytes at the front of a text after the others, and returns the text after
+    /// them. All that the text may have find room. Their count is kept once, at the end.
+    #[inline(always)]
+    pub(crate) fn push_acked<'t>(&mut self, text: &'t [u8]) -> &'t [u8]
+        requires { 5 * length self.old.items + length text.now ≤ 2580 }
+        ensures taken { TakenFront text.now self.old.items self.new.items result.now }
+        ensures all { NoneAcked result.now }
+    {
+        let mut len = self.len;
+        let mut rest = text;
+        while let Some(byte) = front_acked(rest) {
+            self.places[len] = byte;
+            len += 1;
+            rest = &rest[5..];
+        }
+        self.len = len;
+        rest
     }
 
     /// Puts one after the others.

@@ -4,7 +4,7 @@
 //! high digit of the byte down and the low digit across; the proof of `digit_value` computes over
 //! the whole table that each entry is the value of its digit.
 
-ghost use Rattle.std.specs.Prelude.{◌≡◌, ◌≤◌, ◌<◌, List, [], ◌∷◌, ◌++◌, ◌%◌, ℕ, IfSome, IsSome, Some, drop, length, nat_eq};
+ghost use Rattle.std.specs.Prelude.{◌≡◌, ◌↔◌, ◌⊎◌, ◌≤◌, ◌<◌, List, [], ◌∷◌, ◌++◌, ◌%◌, ℕ, IfSome, IsSome, Some, drop, length, nat_eq, true};
 ghost use Rattle.pmb_bus.specs.declared.event.Event.{Event as BusEvent};
 ghost use Rattle.pmb_bus.specs.Event.{canonical_text};
 ghost use Rattle.pmb_command.specs.Wire.{AreByteValues};
@@ -12,12 +12,12 @@ ghost use Rattle.pmb_common.specs.Front.{NoneAcked, TakenFront, acked_text, end_
 
 use crate::packet_bytes::PacketBytes;
 
-/// What is no digit.
-const NONE: u8 = 0xff;
+/// What is no digit: no sum with it is a byte.
+const NONE: u32 = 0x100;
 
 /// The value of each hexadecimal digit in lower case.
 #[rattlefmt::skip]
-const DIGITS: [u8; 256] = [
+const DIGITS: [u32; 256] = [
     NONE, NONE, NONE, NONE, NONE, NONE, NONE, NONE, NONE, NONE, NONE, NONE, NONE, NONE, NONE, NONE,
     NONE, NONE, NONE, NONE, NONE, NONE, NONE, NONE, NONE, NONE, NONE, NONE, NONE, NONE, NONE, NONE,
     NONE, NONE, NONE, NONE, NONE, NONE, NONE, NONE, NONE, NONE, NONE, NONE, NONE, NONE, NONE, NONE,
@@ -36,35 +36,44 @@ const DIGITS: [u8; 256] = [
     NONE, NONE, NONE, NONE, NONE, NONE, NONE, NONE, NONE, NONE, NONE, NONE, NONE, NONE, NONE, NONE,
 ];
 
-/// The value of a digit.
+/// The value of a digit, and `NONE` of what is none.
 #[inline(always)]
-fn digit_value(digit: u8) -> Option<u8>
-    ensures spelled { IfSome result (λ value. (value < 16) × (lower_digit value ≡ digit)) }
-    ensures only { (value : ℕ) → value < 16 → lower_digit value ≡ digit → result ≡ Some value }
+fn digit_value(digit: u8) -> u32
+    ensures spelled { result < 16 → lower_digit result ≡ digit }
+    ensures only { (value : ℕ) → value < 16 → lower_digit value ≡ digit → result ≡ value }
+    ensures known { (result < 16) ⊎ (result ≡ 256) }
 {
-    let value = DIGITS[digit as usize];
-    if value < 16 { Some(value) } else { None }
+    DIGITS[digit as usize]
 }
 
-/// The byte that two digits in lower case and a space spell.
+/// The byte that two digits in lower case and a space spell. What both digits are is looked up before
+/// it is asked whether they are digits, so that one test is enough.
 #[inline(always)]
 pub(crate) fn spelled_byte(first: u8, second: u8, space: u8) -> Option<u8>
     ensures spelled { IfSome result (λ byte. canonical_text (BusEvent.Byte byte ∷ []) ≡ first ∷ second ∷ space ∷ []) }
     ensures small { IfSome result (λ byte. byte < 256) }
     ensures only { (byte : ℕ) → byte < 256 → canonical_text (BusEvent.Byte byte ∷ []) ≡ first ∷ second ∷ space ∷ [] → result ≡ Some byte }
 {
-    let high = digit_value(first)?;
-    let low = digit_value(second)?;
-    if space == b' ' {
-        Some(high * 16 + low)
-    } else {
-        None
+    if space != b' ' {
+        return None;
     }
+    let high = digit_value(first);
+    let low = digit_value(second);
+    let byte = high * 16 + low;
+    if byte < 256 { Some(byte as u8) } else { None }
+}
+
+/// Whether two bytes are a letter and what separates it from the next word: both in one comparison.
+#[inline(always)]
+fn are_word(first: u8, second: u8, letter: u8, separator: u8) -> bool
+    ensures { (result ≡ true) ↔ ((first ≡ letter) × (second ≡ separator)) }
+{
+    u16::from_le_bytes([first, second]) == u16::from_le_bytes([letter, separator])
 }
 
 /// The byte at the front of a text, with ACK after it: five bytes of the text.
 #[inline(always)]
-fn front_acked(text: &[u8]) -> Option<u8>
+pub(crate) fn front_acked(text: &[u8]) -> Option<u8>
     ensures spelled { IfSome result (λ byte. text.now ≡ acked_text (byte ∷ []) ++ drop 5 text.now) }
     ensures small { IfSome result (λ byte. byte < 256) }
     ensures within { IfSome result (λ byte. 5 ≤ length text.now) }
@@ -73,10 +82,7 @@ fn front_acked(text: &[u8]) -> Option<u8>
     let [first, second, space, ack, last, ..] = text else {
         return None;
     };
-    if *ack != b'A' {
-        return None;
-    }
-    if *last != b' ' {
+    if !are_word(*ack, *last, b'A', b' ') {
         return None;
     }
     spelled_byte(*first, *second, *space)
@@ -91,16 +97,10 @@ pub(crate) fn front_last(text: &[u8]) -> Option<u8>
     let [first, second, space, nack, behind, stop, last, ..] = text else {
         return None;
     };
-    if *nack != b'N' {
+    if !are_word(*nack, *behind, b'N', b' ') {
         return None;
     }
-    if *behind != b' ' {
-        return None;
-    }
-    if *stop != b'P' {
-        return None;
-    }
-    if *last != b'\n' {
+    if !are_word(*stop, *last, b'P', b'\n') {
         return None;
     }
     spelled_byte(*first, *second, *space)
@@ -112,9 +112,13 @@ pub(crate) fn behind_start(text: &[u8]) -> Option<&[u8]>
     ensures spelled { IfSome result (λ behind. text.now ≡ canonical_text (BusEvent.Start ∷ []) ++ behind.now) }
     ensures found { (rest : List ℕ) → text.now ≡ canonical_text (BusEvent.Start ∷ []) ++ rest → IsSome result }
 {
-    match text {
-        [b'S', b' ', behind @ ..] => Some(behind),
-        _ => None,
+    let [first, second, behind @ ..] = text else {
+        return None;
+    };
+    if are_word(*first, *second, b'S', b' ') {
+        Some(behind)
+    } else {
+        None
     }
 }
 
@@ -124,9 +128,13 @@ pub(crate) fn behind_stop(text: &[u8]) -> Option<&[u8]>
     ensures spelled { IfSome result (λ behind. text.now ≡ canonical_text (BusEvent.Stop ∷ []) ++ behind.now) }
     ensures found { (rest : List ℕ) → text.now ≡ canonical_text (BusEvent.Stop ∷ []) ++ rest → IsSome result }
 {
-    match text {
-        [b'P', b'\n', behind @ ..] => Some(behind),
-        _ => None,
+    let [first, second, behind @ ..] = text else {
+        return None;
+    };
+    if are_word(*first, *second, b'P', b'\n') {
+        Some(behind)
+    } else {
+        None
     }
 }
 
@@ -139,10 +147,7 @@ pub(crate) fn is_even(text: &[u8]) -> bool
     let [_, digit, ..] = text else {
         return false;
     };
-    match digit_value(*digit) {
-        Some(value) => value % 2 == 0,
-        None => false,
-    }
+    digit_value(*digit) % 2 == 0
 }
 
 /// Puts the acknowledged bytes at the front of a text after others, as many as there are and find
@@ -154,13 +159,8 @@ pub(crate) fn take_acked<'t>(text: &'t [u8], bytes: &mut PacketBytes) -> &'t [u8
     ensures all { (front rest : List ℕ) → AreByteValues front → NoneAcked rest → length (bytes.old.items ++ front) ≤ 516
         → text.now ≡ acked_text front ++ rest → (bytes.new.items ≡ bytes.old.items ++ front) × (result.now ≡ rest) }
 {
-    let mut rest = text;
-    while let Some(byte) = front_acked(rest) {
-        if bytes.is_full() {
-            return rest;
-        }
-        bytes.push(byte);
-        rest = &rest[5..];
-    }
-    rest
+    // No more of the text than finds room, so that no byte has to be asked whether it does.
+    let front = &text[..text.len().min(5 * bytes.room())];
+    let rest = bytes.push_acked(front);
+    &text[front.len() - rest.len()..]
 }

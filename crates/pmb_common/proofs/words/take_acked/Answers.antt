@@ -1,34 +1,47 @@
-use Rattle.std.proofs.Common.{◌≡◌, ◌<◌, [], ◌∷◌, ◌++◌, length, drop, sym, ◌∙◌, arith}
-use Rattle.std.proofs.lemmas.Bool.{eqb-true}
-use Rattle.std.proofs.lemmas.List.{take_rest}
-use Rattle.pmb_common.specs.Front.{TakenFront}
-use Rattle.pmb_common.proofs.Fronts.{all_taken, room_left, taken_more}
+use Rattle.std.proofs.Common.{◌≡◌, ℕ, ◌-◌, ◌*◌, min, List, ◌++◌, length, take, drop, sym, ap, ◌∙◌, subst, arith, length-take}
+use Rattle.std.proofs.lemmas.List.{take-append-drop, take_rest}
+use Rattle.pmb_common.specs.Front.{NoneAcked, TakenFront}
+use Rattle.pmb_common.proofs.Fronts.{all_taken, left_before, none_before, taken_before}
 use Rattle.pmb_common.proofs.words.take_acked.Goals as goal
 
-pub loop-byte-preserved : goal.loop-byte-preserved
-loop-byte-preserved c =
+-- what was taken of the text, of which only a part was looked at
+module _ (text : List ℕ) (most : ℕ) (old : List ℕ) (new : List ℕ) (rest : List ℕ) (taken : TakenFront (take most text) old new rest) where
+  whole : take most text ++ drop most text ≡ text
+  whole = take-append-drop most text
+
+  of_text : TakenFront text old new (rest ++ drop most text)
+  of_text = subst (λ (l : List ℕ). TakenFront l old new (rest ++ drop most text)) whole (taken_before (take most text) (drop most text) old new rest taken)
+
+  left : take (length text - (length (take most text) - length rest)) (drop (length (take most text) - length rest) text) ≡ rest ++ drop most text
+  left =
+      take_rest text (length (take most text) - length rest)
+      ∙ ap (drop (length (take most text) - length rest)) (sym whole)
+      ∙ left_before (take most text) (drop most text) old new rest taken
+
+pub returns-clause-taken : goal.returns-clause-taken
+returns-clause-taken c =
     let text = c.args.text.now in
     let old = c.args.bytes.now.items in
-    let rest = c.loop-byte.rest.now in
-    let new = c.loop-byte.bytes.items in
-    let more : TakenFront text old (new ++ c.in-Some.byte ∷ []) (drop 5 rest) =
-    taken_more text old new rest c.in-Some.byte (drop 5 rest) c.loop-byte.invariant c.in-Some.ensures.small c.in-Some.ensures.spelled in
-    rw (c.push.ensures, take_rest) more
-
-pub returns-then-is_full-clause-all : goal.returns-then-is_full-clause-all
-returns-then-is_full-clause-all c front rest small none room same =
-    let new = c.loop-byte.bytes.items in
-    let at = c.loop-byte.rest.now in
-    let less : length new < length (c.args.bytes.now.items ++ front) =
-    room_left c.args.text.now c.args.bytes.now.items new at front rest c.loop-byte.invariant c.in-Some.byte (drop 5 at) small none same
-    c.in-Some.ensures.small c.in-Some.ensures.spelled in
-    let full : length new ≡ 516 = eqb-true (length new) 516 (sym c.is_full.ensures.value ∙ c.if-is_full.true) in
-    absurd (omega (arith, less, full, room))
+    let new = c.push_acked-rest.new.self.items in
+    let rest = c.push_acked-rest.result.now in
+    let most = c.min.result in
+    let taken = c.push_acked-rest.ensures.taken in
+    subst (λ (l : List ℕ). TakenFront text old new l) (sym (left text most old new rest taken)) (of_text text most old new rest taken)
 
 pub returns-clause-all : goal.returns-clause-all
-returns-clause-all c front rest small none room same =
-    all_taken c.args.text.now c.args.bytes.now.items c.loop-byte.bytes.items c.loop-byte.rest.now front rest c.loop-byte.invariant
-    (λ byte more is_byte at_front. c.in_default.not-Some byte (c.front_acked.ensures.only byte more is_byte at_front)) small none same
-
-pub push-requires : goal.push-requires
-push-requires c = c.is_full.ensures.room c.if-is_full.false
+returns-clause-all c front behind small none fits same =
+    let text = c.args.text.now in
+    let old = c.args.bytes.now.items in
+    let new = c.push_acked-rest.new.self.items in
+    let rest = c.push_acked-rest.result.now in
+    let most = c.min.result in
+    let taken = c.push_acked-rest.ensures.taken in
+    let part = take most text in
+    let tail = drop most text in
+    let limit : length part ≡ min (length (part ++ tail)) (5 * c.room.result) =
+    omega (arith, length-take most text, c.min.ensures, ap length (whole text most old new rest taken)) in
+    let ended : NoneAcked (rest ++ tail) =
+    none_before part tail old new rest taken c.room.result limit c.room.ensures c.push_acked-rest.ensures.all front behind small none fits
+    (whole text most old new rest taken ∙ same) in
+    let all = all_taken text old new (rest ++ tail) front behind (of_text text most old new rest taken) ended small none same in
+    (all.0, left text most old new rest taken ∙ all.1)
