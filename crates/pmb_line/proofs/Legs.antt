@@ -8,7 +8,7 @@ use Rattle.pmb_line.specs.declared.word_fault.WordFault.{WordFault}
 use Rattle.pmb_line.specs.declared.word_fault.WordFault.TheVariants.{TooLong}
 use Rattle.pmb_line.specs.declared.words.Located.{Located}
 use Rattle.pmb_line.specs.Fault.{ArePartsWithin}
-use Rattle.pmb_line.specs.machine.Reading.{refused_next, refused_sent, refused_pec, part_with, on_sent, step, LineStandsAt, IsWordFaultOf, HasRoomForPart}
+use Rattle.pmb_line.specs.machine.Reading.{refused_next, refused_sent, refused_pec, refused_read, part_with, on_sent, step, LineStandsAt, IsWordFaultOf, HasRoomForPart}
 use Rattle.pmb_line.specs.machine.Pieces.{NotPushed, codeless, full, Pushed, ReadsLeg, RefusesOn}
 use Rattle.pmb_line.proofs.Completions.{parts_push}
 use Rattle.pmb_line.proofs.Steps.{room_before}
@@ -21,6 +21,12 @@ no_sent (Some Read) ps a sent not_byte not_read not_pec not_plus = absurd (not_r
 no_sent (Some Pec) ps a sent not_byte not_read not_pec not_plus = absurd (not_pec refl)
 no_sent (Some Plus) ps a sent not_byte not_read not_pec not_plus = absurd (not_plus refl)
 no_sent _ ps a sent not_byte not_read not_pec not_plus = refl
+
+-- `read`, after which no word fits
+pub sent_read : (all : List Located) (ps : List PartData) (a : ℕ) (sent : List ℕ) (word : Located) (before left : List Located) → LineStandsAt all (refused_sent ps a sent) before
+    → before ≡ word ∷ left → word.token ≡ Some Read → LineStandsAt all (refused_read ps a sent) left
+sent_read all ps a sent word before left stands same is =
+    next_of all (refused_sent ps a sent) (refused_read ps a sent) word before left stands same (ap (step (refused_sent ps a sent)) is) stands.room
 
 -- `pec` makes a part of it, where there is a code and room
 pub not_pushed_pec : (all : List Located) (end : ℕ) (ps : List PartData) (a : ℕ) (sent : List ℕ) (word : Located) (before left : List Located) (fault : WordFault)

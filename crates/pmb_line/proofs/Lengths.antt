@@ -11,7 +11,7 @@ use Rattle.pmb_line.specs.declared.token.Token.TheVariants.{Byte, Write, Read, C
 use Rattle.pmb_line.specs.Token.{token_text}
 use Rattle.pmb_line.specs.Spelling.{bytes, mark, part, parts, part_before, tokens, line, spaced}
 use Rattle.pmb_line.specs.Fault.{IsPartWithin, IsWithin}
-use Rattle.pmb_line.specs.machine.Written.{behind}
+use Rattle.pmb_line.specs.machine.LineText.{behind}
 use Rattle.pmb_line.proofs.Writings.{behind-append}
 
 -- ---- no LF

@@ -13,7 +13,7 @@ use Rattle.pmb_line.specs.Words.{texts, line_words, words_from, without_cr}
 use Rattle.pmb_line.specs.Token.{token_of, token_text, byte_of_digits, or_keyword}
 use Rattle.pmb_line.specs.Spelling.{ArePartBytes, HasBytes, HasLine, SpellsTransaction, bytes, mark, part, parts, part_before, tokens, line, spaced}
 use Rattle.pmb_line.specs.machine.Reading.{ends_line_word}
-use Rattle.pmb_line.specs.machine.Written.{behind}
+use Rattle.pmb_line.specs.machine.LineText.{behind}
 use Rattle.pmb_line.specs.machine.Front.{EndsWord}
 use Rattle.pmb_line.proofs.WordLemmas.{AllGo, word_then}
 

@@ -32,7 +32,7 @@ use Rattle.pmb_line.proofs.Firsts.{begin}
 use Rattle.pmb_line.proofs.Lines.{IsSmall}
 use Rattle.pmb_line.proofs.Standing.{next}
 use Rattle.pmb_line.proofs.Steps.{cases, ran}
-use Rattle.pmb_line.proofs.Told.{told}
+use Rattle.pmb_line.proofs.NamedFault.{told}
 
 -- ---- room
 

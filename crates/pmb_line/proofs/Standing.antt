@@ -7,7 +7,8 @@ use Rattle.pmb_line.specs.declared.word_fault.WordFault.{WordFault}
 use Rattle.pmb_line.specs.declared.word_fault.WordFault.TheVariants.{BadWord, TooLong}
 use Rattle.pmb_line.specs.declared.words.Located.{Located}
 use Rattle.pmb_transaction.specs.Transaction.{TransactionData}
-use Rattle.pmb_line.specs.machine.Reading.{Partial, nothing, run, step, finish, Room, LineStandsAt, SaysTransaction, IsWordFaultOf, tokens_said, on_byte, on_data, on_plus, on_colon, on_bytes, on_reply, on_alert, on_pec}
+use Rattle.pmb_line.specs.machine.Reading.{Partial, nothing, run, step, finish, Room, LineStandsAt, SaysTransaction, IsWordFaultOf, tokens_said, on_data, on_plus, on_colon, on_bytes, on_alert}
+use Rattle.pmb_line.specs.NextWord.{on_byte, on_byte_or_pec, on_pec}
 use Rattle.pmb_line.specs.machine.Pieces.{AddsBytes, AddsTooMany, Misses, short, other}
 use Rattle.pmb_line.proofs.Partials.{append-nil}
 use Rattle.pmb_line.proofs.Steps.{run-append}
@@ -123,7 +124,7 @@ no_bytes more colon (Some Colon) not_byte not_colon = absurd (not_colon refl)
 no_bytes more colon _ not_byte not_colon = refl
 
 pub no_reply : (more : ℕ → Partial) (pec : Partial) (token : Option Token) → ((b : ℕ) → token ≡ Some (Byte b) → ⊥) → (token ≡ Some Pec → ⊥)
-    → on_reply token more pec ≡ None
+    → on_byte_or_pec token more pec ≡ None
 no_reply more pec (Some (Byte b)) not_byte not_pec = absurd (not_byte b refl)
 no_reply more pec (Some Pec) not_byte not_pec = absurd (not_pec refl)
 no_reply more pec _ not_byte not_pec = refl

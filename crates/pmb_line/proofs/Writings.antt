@@ -18,7 +18,7 @@ use Rattle.pmb_line.specs.declared.token.Token.{Token}
 use Rattle.pmb_line.specs.declared.token.Token.TheVariants.{Byte, Write, Read, Call, Refused, Alert, Nobody, Pec, Plus, Colon}
 use Rattle.pmb_line.specs.Token.{token_text}
 use Rattle.pmb_line.specs.Spelling.{bytes, mark, part, parts, tokens, line, spaced}
-use Rattle.pmb_line.specs.machine.Written.{behind}
+use Rattle.pmb_line.specs.machine.LineText.{behind}
 use Rattle.pmb_line.proofs.Partials.{append-nil}
 
 pub behind-append : (xs ys : List Token) → behind (xs ++ ys) ≡ behind xs ++ behind ys

@@ -1,13 +1,14 @@
 -- What is wrong with a line.
-use Rattle.std.specs.Prelude.{◌≡◌, ◌≢◌, ℕ, ◌≤◌, List, [], ◌∷◌, ◌++◌, length, Some, ◌⊎◌}
+use Rattle.std.specs.Prelude.{◌≡◌, ℕ, ◌≤◌, List, [], ◌∷◌, ◌++◌, length, Some}
 use Rattle.std.specs.List.{AllByRecursion}
 use Rattle.pmb_transaction.specs.Transaction.{PartData, TransactionData}
 use Rattle.pmb_transaction.specs.Transaction as says
 use Rattle.pmb_line.specs.declared.word_fault.WordFault.{WordFault}
-use Rattle.pmb_line.specs.declared.word_fault.WordFault.TheVariants.{Blank, BadWord, TooLong}
 use Rattle.pmb_line.specs.declared.token.Token.TheVariants.{Plus}
 use Rattle.pmb_line.specs.Token.{token_of}
-use Rattle.pmb_line.specs.Words.{Word, texts, without_cr, line_words}
+use Rattle.pmb_line.specs.Words.{Word}
+use Rattle.pmb_line.specs.WordsFault.{IsWordsFault}
+use Rattle.pmb_line.specs.WordsFault as words_fault
 use Rattle.pmb_line.specs.Spelling.{SpellsTransaction}
 
 -- ---- how much a transaction holds
@@ -55,39 +56,22 @@ pub data HasRoom (front : List (List ℕ)) : Type 0 where
 
 -- ---- the faults
 
--- A word of a line, where there is room for all before it.
-pub record At (line : List ℕ) (before : List Word) (word : Word) : Type 0 where
-  pub behind : List Word
-  pub split : line_words line ≡ before ++ word ∷ behind
-  pub room : HasRoom (texts before)
+-- a word of a line, where there is room for all before it
+abbrev pub At : List ℕ → List Word → Word → Type 0
+At line before word = words_fault.At HasRoom line before word
 
--- A word does not fit: no line goes on so.
-pub record IsBadWord (line : List ℕ) (at : ℕ) : Type 0 where
-  pub before : List Word
-  pub word : Word
-  pub stands : At line before word
-  pub place : at ≡ word.at
-  pub unfit : BeginsLine (texts (before ++ word ∷ [])) → ⊥
+-- a word does not fit: no such line can have it there
+abbrev pub IsBadWord : List ℕ → ℕ → Type 0
+IsBadWord line at = words_fault.IsBadWord BeginsLine HasRoom line at
 
--- Words are missing at the end. The place is the line's length, in which a comment counts and a CR
--- that was dropped does not.
-pub record IsCutShort (line : List ℕ) (at : ℕ) : Type 0 where
-  pub some : line_words line ≢ []
-  pub room : HasRoom (texts (line_words line))
-  pub unfinished : (t : TransactionData) → SpellsTransaction (texts (line_words line)) t → ⊥
-  pub place : at ≡ length (without_cr line)
+-- words are missing at the end
+abbrev pub IsCutShort : List ℕ → ℕ → Type 0
+IsCutShort line at = words_fault.IsCutShort HasRoom SpellsTransaction line at
 
--- A word fits, but a list has no room for what it says.
-pub record IsTooLong (line : List ℕ) (at : ℕ) : Type 0 where
-  pub before : List Word
-  pub word : Word
-  pub stands : At line before word
-  pub place : at ≡ word.at
-  pub fits : BeginsLine (texts (before ++ word ∷ []))
-  pub full : HasRoom (texts (before ++ word ∷ [])) → ⊥
+-- a word fits, but a list has no room for what it says
+abbrev pub IsTooLong : List ℕ → ℕ → Type 0
+IsTooLong line at = words_fault.IsTooLong BeginsLine HasRoom line at
 
 -- the first fault of a line that spells no transaction which is not too large
 abbrev pub IsFault : List ℕ → WordFault → Type 0
-IsFault line Blank = line_words line ≡ []
-IsFault line (BadWord at) = IsBadWord line at ⊎ IsCutShort line at
-IsFault line (TooLong at) = IsTooLong line at
+IsFault line fault = IsWordsFault BeginsLine HasRoom SpellsTransaction line fault

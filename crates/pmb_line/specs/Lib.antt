@@ -1,7 +1,9 @@
 pub mod Words
 pub mod Left
 pub mod Token
+pub mod NextWord
 pub mod Spelling
+pub mod WordsFault
 pub mod Fault
 pub mod LineFault
 pub mod machine

@@ -16,22 +16,23 @@
 
 mod byte_text;
 mod front_word;
-mod kept_lines;
 pub mod laws;
 mod line_fault;
 mod line_reader;
-mod reading;
+mod line_text;
+mod parts;
+mod pieces;
 mod refused;
-mod taking;
+mod reply;
 mod token;
+mod whole_line;
 mod word_fault;
 mod words;
-mod writing;
 
-pub use kept_lines::LineReader;
 pub use line_fault::{FaultText, LineFault};
-pub use line_reader::{parse_line, read_line, read_words};
+pub use line_reader::LineReader;
+pub use line_text::{Line, append_line, line_of};
 pub use token::{Token, token_of};
+pub use whole_line::{parse_line, read_line, read_words};
 pub use word_fault::WordFault;
 pub use words::{TextWord, Words, word_at};
-pub use writing::{Line, append_line, line_of};

@@ -3,11 +3,11 @@
 ghost use Rattle.std.specs.Prelude.{◌≡◌, ◌<◌, List, [], length, map, true, Ok};
 ghost use Rattle.pmb_transaction.specs.Transaction.{Refused as says_refused, part_data};
 ghost use Rattle.pmb_line.specs.declared.words.Located.{Located as Place};
-ghost use Rattle.pmb_line.specs.machine.Reading.{LineStandsAt, refused_next};
+ghost use Rattle.pmb_line.specs.machine.Reading.{LineStandsAt, refused_next, refused_sent};
 ghost use Rattle.pmb_line.specs.machine.Left.{left, end};
-ghost use Rattle.pmb_line.specs.machine.Pieces.{PushesPart, ReadsLine, ReadsLeg};
+ghost use Rattle.pmb_line.specs.machine.Pieces.{IsNoByteNext, PushesPart, ReadsLine, ReadsLeg};
 
-use crate::taking::{ByteWord, take_bytes, take_end, take_wanted_plus};
+use crate::pieces::{ByteWord, take_bytes, take_end, take_wanted_plus};
 use crate::token::Token;
 use crate::word_fault::WordFault;
 use crate::words::Words;
@@ -50,6 +50,24 @@ fn read_leg(
     *addr = ByteWord::take(words)?.byte;
     sent.clear();
     take_bytes(words, sent)?;
+    end_leg(words, parts, *addr, sent.as_slice(), at_read)
+}
+
+/// Reads what stands after the bytes that were sent to an address: a `+` after a part, or the line's
+/// end. Tells whether it was a `+`.
+#[inline(always)]
+fn end_leg(
+    words: &mut Words,
+    parts: &mut ArrayVec<Part, 15>,
+    addr: u8,
+    sent: &[u8],
+    at_read: &mut bool,
+) -> Result<bool, WordFault>
+    ensures reads { (all : List Place) → LineStandsAt all (refused_sent (map part_data parts.old.items) addr sent.now) (left words.old)
+        → IsNoByteNext (left words.old) → ReadsLeg all (end words.old) (map part_data parts.new.items) addr sent.now at_read.new result (left words.new) }
+    ensures end { end words.new ≡ end words.old }
+    ensures shrinks { result ≡ Ok true → length (left words.new) < length (left words.old) }
+{
     let Some(word) = words.next() else {
         *at_read = false;
         return Ok(false);
@@ -64,12 +82,12 @@ fn read_leg(
             Ok(false)
         }
         Token::Pec => {
-            push_part(parts, *addr, sent.as_slice(), true, word.at)?;
+            push_part(parts, addr, sent, true, word.at)?;
             take_wanted_plus(words)?;
             Ok(true)
         }
         Token::Plus => {
-            push_part(parts, *addr, sent.as_slice(), false, word.at)?;
+            push_part(parts, addr, sent, false, word.at)?;
             Ok(true)
         }
         _ => Err(WordFault::BadWord(word.at)),

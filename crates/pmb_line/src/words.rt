@@ -5,7 +5,7 @@ ghost use Rattle.pmb_line.specs.Words.{bounds, is_blank as is_blank_byte, word_b
 ghost use Rattle.pmb_line.specs.machine.Reading.{ends_line_word};
 
 use crate::front_word::{FrontWord, common_byte, common_keyword};
-use crate::taking::ByteWord;
+use crate::pieces::ByteWord;
 use crate::token::{Token, token_of};
 
 /// A word of a line: the offset of its first byte, and its bytes.

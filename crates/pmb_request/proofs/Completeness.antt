@@ -9,7 +9,8 @@ use Rattle.pmb_request.specs.declared.verb.Verb.TheVariants.{Read, Call, Set, Ge
 use Rattle.pmb_request.specs.Request.{Command}
 use Rattle.pmb_request.specs.Spelling.{Task, to_read, to_call, to_set, to_get, Wording, Write, Ask, token, IsWanted, AreWanted, keyword, operands, mark, Spells}
 use Rattle.pmb_request.specs.Fault.{IsWithin}
-use Rattle.pmb_request.specs.machine.Reading.{Partial, nothing, writing, at_address, at_code, behind, ended, behind_code, on_first, on_byte, on_more, step, run, finish, Room}
+use Rattle.pmb_line.specs.NextWord.{on_byte}
+use Rattle.pmb_request.specs.machine.Reading.{Partial, nothing, writing, at_address, at_code, behind, ended, behind_code, on_first, on_more, step, run, finish, Room}
 use Rattle.pmb_request.proofs.Runs.{run-writing}
 use Rattle.pmb_request.proofs.Steps.{append-nil}
 

@@ -13,12 +13,13 @@ use Rattle.pmb_line.specs.declared.token.Token.TheVariants as said
 use Rattle.pmb_line.specs.Spelling.{SpellsTransaction, part, parts}
 use Rattle.pmb_line.specs.Token.{token_of}
 use Rattle.pmb_line.specs.Words.{Word, texts, line_words}
+use Rattle.pmb_line.proofs.OneWordsFault.{IsOfWhole, IsRoom, Kind, blank, stop, whole, bad, long, no_stop_fault, not_empty, one_fault}
 use Rattle.pmb_request.specs.declared.request_fault.RequestFault.{RequestFault}
 use Rattle.pmb_request.specs.declared.request_fault.RequestFault.TheVariants.{Line, Quantity}
 use Rattle.pmb_request.specs.Request.{Command, RequestData}
 use Rattle.pmb_request.specs.Spelling.{Task, to_read, to_call, to_set, to_get, Wording, Write, Ask, Spells}
-use Rattle.pmb_request.specs.Fault.{At, BeginsRequest, HasRoom, goes_on, plus, IsBadWord, IsCutShort, IsTooLong, IsWithin}
-use Rattle.pmb_request.specs.RequestFault.{IsBadQuantity, IsRequestFault, Means, SpellsRequest}
+use Rattle.pmb_request.specs.Fault.{BeginsRequest, HasRoom, goes_on, plus, IsCutShort, IsWithin}
+use Rattle.pmb_request.specs.RequestFault.{IsBadQuantity, IsRequestFault, Means, SpellsRequest, of_words}
 use Rattle.pmb_request.specs.machine.Reading.{writing, finish}
 use Rattle.pmb_request.proofs.Steps.{append-nil}
 use Rattle.pmb_request.proofs.Completeness.{finish_reached, last_place, reached}
@@ -93,10 +94,6 @@ begun : (front : List (List ℕ)) → HasRoom front → BeginsRequest front
 begun front (goes_on more wording spells within) = record { more = more; wording = wording; spells = spells }
 begun front (plus before word ps split is spells within) = subst BeginsRequest (sym split) (plus_begun before word ps is spells)
 
-not_empty : {A : Type 0} (xs : List A) (x : A) (back : List A) → xs ++ x ∷ back ≡ [] → ⊥
-not_empty [] x back is = cc is
-not_empty (y ∷ xs) x back is = cc is
-
 -- Words before others.
 record Front (front before : List (List ℕ)) : Type 0 where
   rest : List (List ℕ)
@@ -123,89 +120,26 @@ room_before front (b ∷ back) (plus before word ps split is spells within) =
     let f = front_of front back before b word split in
     goes_on f.rest (Write ps) (subst (λ ws. SpellsTransaction ws (says.Write ps)) f.split spells) within
 
-room_of_front : (all front back : List Word) → all ≡ front ++ back → HasRoom (texts all) → HasRoom (texts front)
-room_of_front all front back split room =
-    room_before (texts front) (texts back) (subst HasRoom (ap texts split ∙ map-append (λ (w : Word). w.text) front back) room)
-
--- ---- places in a list
-
--- Of two places in a list, they are the same, or one stands before the other.
-data Places {A : Type 0} (xs : List A) (x : A) (ys : List A) (y : A) : Type 0 where
-  same : xs ≡ ys → x ≡ y → Places xs x ys y
-  first : (zs : List A) → ys ≡ (xs ++ x ∷ []) ++ zs → Places xs x ys y
-  second : (zs : List A) → xs ≡ (ys ++ y ∷ []) ++ zs → Places xs x ys y
-
-behind_one : {A : Type 0} (z : A) (xs : List A) (x : A) (ys : List A) (y : A) → Places xs x ys y → Places (z ∷ xs) x (z ∷ ys) y
-behind_one z xs x ys y (same fronts here) = same (ap (λ ws. z ∷ ws) fronts) here
-behind_one z xs x ys y (first zs is) = first zs (ap (λ ws. z ∷ ws) is)
-behind_one z xs x ys y (second zs is) = second zs (ap (λ ws. z ∷ ws) is)
-
-places : {A : Type 0} (xs : List A) (x : A) (back : List A) (ys : List A) (y : A) (rest : List A) → xs ++ x ∷ back ≡ ys ++ y ∷ rest → Places xs x ys y
-places [] x back [] y rest is = same refl (cc is)
-places [] x back (b ∷ ys) y rest is = let head : b ≡ x = cc is in first ys (ap (λ w. w ∷ ys) head)
-places (a ∷ xs) x back [] y rest is = let head : a ≡ y = cc is in second xs (ap (λ w. w ∷ xs) head)
-places (a ∷ xs) x back (b ∷ ys) y rest is =
-    let head : a ≡ b = cc is in
-    let tail : xs ++ x ∷ back ≡ ys ++ y ∷ rest = cc is in
-    subst (λ w. Places (a ∷ xs) x (w ∷ ys) y) head (behind_one a xs x ys y (places xs x back ys y rest tail))
-
--- ---- where a line stops
-
--- A word for which there is no room, whether it fits or not.
-record Stops (line : List ℕ) : Type 0 where
-  before : List Word
-  word : Word
-  stands : At line before word
-  full : HasRoom (texts (before ++ word ∷ [])) → ⊥
-
-abbrev at_bad : (line : List ℕ) (at : ℕ) → IsBadWord line at → Stops line
-at_bad line at is = record { before = is.before; word = is.word; stands = is.stands; full = λ room. is.unfit (begun (texts (is.before ++ is.word ∷ [])) room) }
-
-abbrev at_long : (line : List ℕ) (at : ℕ) → IsTooLong line at → Stops line
-at_long line at is = record { before = is.before; word = is.word; stands = is.stands; full = is.full }
-
-one_place : (line : List ℕ) (a b : Stops line) → Places a.before a.word b.before b.word → (a.before ≡ b.before) × (a.word ≡ b.word)
-one_place line a b (same fronts here) = (fronts, here)
-one_place line a b (first zs is) = absurd (a.full (room_of_front b.before (a.before ++ a.word ∷ []) zs is b.stands.room))
-one_place line a b (second zs is) = absurd (b.full (room_of_front a.before (b.before ++ b.word ∷ []) zs is a.stands.room))
-
-one_stop : (line : List ℕ) (a b : Stops line) → (a.before ≡ b.before) × (a.word ≡ b.word)
-one_stop line a b = one_place line a b (places a.before a.word a.stands.behind b.before b.word b.stands.behind (sym a.stands.split ∙ b.stands.split))
-
--- not where there is room for all words
-no_stop : (line : List ℕ) → Stops line → HasRoom (texts (line_words line)) → ⊥
-no_stop line s room =
-    s.full (room_of_front (line_words line) (s.before ++ s.word ∷ []) s.stands.behind (s.stands.split ∙ sym (append_assoc s.before (s.word ∷ []) s.stands.behind)) room)
-
-stop_has_words : (line : List ℕ) → Stops line → line_words line ≢ []
-stop_has_words line s none = not_empty s.before s.word s.stands.behind (sym s.stands.split ∙ none)
+is_room : IsRoom BeginsRequest HasRoom
+is_room = record { begun = begun; room_before = room_before }
 
 -- ---- the faults, in three kinds
 
-data StopFault (line : List ℕ) (f : RequestFault) : Type 0 where
-  bad : (at : ℕ) → f ≡ Line (line_fault.BadWord at) → IsBadWord line at → StopFault line f
-  long : (at : ℕ) → f ≡ Line (line_fault.TooLong at) → IsTooLong line at → StopFault line f
-
+-- A fault of a line as a whole.
 data WholeFault (line : List ℕ) (f : RequestFault) : Type 0 where
   short : (at : ℕ) → f ≡ Line (line_fault.BadWord at) → IsCutShort line at → WholeFault line f
   quantity : (why : QuantityFault) → f ≡ Quantity why → IsBadQuantity line why → WholeFault line f
 
-data Kind (line : List ℕ) (f : RequestFault) : Type 0 where
-  blank : f ≡ Line line_fault.Blank → line_words line ≡ [] → Kind line f
-  stop : StopFault line f → Kind line f
-  whole : WholeFault line f → Kind line f
+abbrev KindOfLine : List ℕ → RequestFault → Type 0
+KindOfLine line f = Kind BeginsRequest HasRoom of_words (WholeFault line) line f
 
-kind : (line : List ℕ) (f : RequestFault) → IsRequestFault line f → Kind line f
+kind : (line : List ℕ) (f : RequestFault) → IsRequestFault line f → KindOfLine line f
 kind line (Line line_fault.Blank) is = blank refl is
 kind line (Line (line_fault.BadWord at)) (inl is) = stop (bad at refl is)
 kind line (Line (line_fault.BadWord at)) (inr is) = whole (short at refl is)
 kind line (Line (line_fault.TooLong at)) is = stop (long at refl is)
 kind line (Line (line_fault.Invalid why)) is = absurd is
 kind line (Quantity why) is = whole (quantity why refl is)
-
-stops : (line : List ℕ) (f : RequestFault) → StopFault line f → Stops line
-stops line f (bad at is fault) = at_bad line at fault
-stops line f (long at is fault) = at_long line at fault
 
 -- there is room for words that ask for something that is not too large
 room_for : (line : List ℕ) (wording : Wording) → Spells (texts (line_words line)) wording → IsWithin wording → HasRoom (texts (line_words line))
@@ -227,24 +161,6 @@ whole_has_words line f (quantity why is unread) = spelled_some (line_words line)
 
 -- ---- one fault
 
-same_at : (before rest : List Word) (word here : Word) → before ≡ rest → word ≡ here → texts (before ++ word ∷ []) ≡ texts (rest ++ here ∷ [])
-same_at before rest word here fronts words_are = ap (λ ws. texts (ws ++ word ∷ [])) fronts ∙ ap (λ (w : Word). texts (rest ++ w ∷ [])) words_are
-
-fits_or_not : (line : List ℕ) (at place : ℕ) → IsBadWord line at → IsTooLong line place → ⊥
-fits_or_not line at place unfit full =
-    let both = one_stop line (at_bad line at unfit) (at_long line place full) in
-    unfit.unfit (subst BeginsRequest (sym (same_at unfit.before full.before unfit.word full.word both.0 both.1)) full.fits)
-
-one_stop_fault : (line : List ℕ) (a b : RequestFault) → StopFault line a → StopFault line b → a ≡ b
-one_stop_fault line a b (bad at is one) (bad place fault_is other) =
-    let both = one_stop line (at_bad line at one) (at_bad line place other) in
-    is ∙ ap (λ n. Line (line_fault.BadWord n)) (one.place ∙ ap (λ (w : Word). w.at) both.1 ∙ sym other.place) ∙ sym fault_is
-one_stop_fault line a b (bad at is one) (long place fault_is other) = absurd (fits_or_not line at place one other)
-one_stop_fault line a b (long at is one) (bad place fault_is other) = absurd (fits_or_not line place at other one)
-one_stop_fault line a b (long at is one) (long place fault_is other) =
-    let both = one_stop line (at_long line at one) (at_long line place other) in
-    is ∙ ap (λ n. Line (line_fault.TooLong n)) (one.place ∙ ap (λ (w : Word). w.at) both.1 ∙ sym other.place) ∙ sym fault_is
-
 -- the text of a quantity, and so its fault
 one_quantity : (line : List ℕ) (why reason : QuantityFault) → IsBadQuantity line why → IsBadQuantity line reason → why ≡ reason
 one_quantity line why reason one other =
@@ -260,19 +176,11 @@ one_whole_fault line a b (short at is one) (quantity why fault_is other) = absur
 one_whole_fault line a b (quantity why is one) (short place fault_is other) = absurd (other.unfinished (Ask one.command (to_set one.text)) one.spells)
 one_whole_fault line a b (quantity why is one) (quantity reason fault_is other) = is ∙ ap Quantity (one_quantity line why reason one other) ∙ sym fault_is
 
-one_kind : (line : List ℕ) (a b : RequestFault) → Kind line a → Kind line b → a ≡ b
-one_kind line a b (blank is none) (blank fault_is other) = is ∙ sym fault_is
-one_kind line a b (blank is none) (stop other) = absurd (stop_has_words line (stops line b other) none)
-one_kind line a b (blank is none) (whole other) = absurd (whole_has_words line b other none)
-one_kind line a b (stop one) (blank fault_is none) = absurd (stop_has_words line (stops line a one) none)
-one_kind line a b (stop one) (stop other) = one_stop_fault line a b one other
-one_kind line a b (stop one) (whole other) = absurd (no_stop line (stops line a one) (whole_has_room line b other))
-one_kind line a b (whole one) (blank fault_is none) = absurd (whole_has_words line a one none)
-one_kind line a b (whole one) (stop other) = absurd (no_stop line (stops line b other) (whole_has_room line a one))
-one_kind line a b (whole one) (whole other) = one_whole_fault line a b one other
+of_whole : (line : List ℕ) → IsOfWhole HasRoom (WholeFault line) line
+of_whole line = record { has_words = whole_has_words line; has_room = whole_has_room line; one = one_whole_fault line }
 
 pub one_request_fault : (line : List ℕ) (a b : RequestFault) → IsRequestFault line a → IsRequestFault line b → a ≡ b
-one_request_fault line a b one other = one_kind line a b (kind line a one) (kind line b other)
+one_request_fault line a b one other = one_fault BeginsRequest HasRoom is_room of_words (WholeFault line) line (of_whole line) a b (kind line a one) (kind line b other)
 
 -- ---- no fault where a line spells a request
 
@@ -284,9 +192,9 @@ no_quantity mode line request why spells unread =
     let both : Ok means.0 ≡ Err why = sym means.1 ∙ unread.bad in
     cc both
 
-no_kind : (mode : ℕ → Option ℕ) (line : List ℕ) (request : RequestData) (f : RequestFault) → SpellsRequest mode line request → Kind line f → ⊥
+no_kind : (mode : ℕ → Option ℕ) (line : List ℕ) (request : RequestData) (f : RequestFault) → SpellsRequest mode line request → KindOfLine line f → ⊥
 no_kind mode line request f spells (blank is none) = spelled_some (line_words line) spells.wording spells.spells none
-no_kind mode line request f spells (stop one) = no_stop line (stops line f one) (room_for line spells.wording spells.spells spells.within)
+no_kind mode line request f spells (stop one) = no_stop_fault BeginsRequest HasRoom is_room line of_words f one (room_for line spells.wording spells.spells spells.within)
 no_kind mode line request f spells (whole (short at is cut)) = cut.unfinished spells.wording spells.spells
 no_kind mode line request f spells (whole (quantity why is unread)) = no_quantity mode line request why spells unread
 

@@ -4,7 +4,8 @@ use Rattle.pmb_line.specs.declared.token.Token.{Token}
 use Rattle.pmb_line.specs.declared.token.Token.TheVariants as said
 use Rattle.pmb_line.specs.Token.{token_of}
 use Rattle.pmb_request.specs.Spelling.{to_read, to_call, to_set, to_get}
-use Rattle.pmb_request.specs.machine.Reading.{Partial, nothing, writing, at_address, at_code, at_quantity, behind, ended, on_byte, on_operand, step, run, Room}
+use Rattle.pmb_line.specs.NextWord.{on_byte, on_byte_or_pec}
+use Rattle.pmb_request.specs.machine.Reading.{Partial, nothing, writing, at_address, at_code, at_quantity, behind, ended, step, run, Room}
 
 pub run-append : (o : Option Partial) (xs ys : List (List ℕ)) → run o (xs ++ ys) ≡ run (run o xs) ys
 run-append None xs ys = refl
@@ -50,7 +51,7 @@ fewer : (bytes : List ℕ) (b : ℕ) → length (bytes ++ b ∷ []) ≤ 255 → 
 fewer bytes b few = omega (arith, length-append bytes (b ∷ []))
 
 operand_room : (token : Option Token) (a c : ℕ) (bytes : List ℕ) (after : Partial)
-    → on_operand token (λ b. behind a c (to_call (bytes ++ b ∷ []))) (ended a c (to_call bytes)) ≡ Some after → Room after → Room (behind a c (to_call bytes))
+    → on_byte_or_pec token (λ b. behind a c (to_call (bytes ++ b ∷ []))) (ended a c (to_call bytes)) ≡ Some after → Room after → Room (behind a c (to_call bytes))
 operand_room (Some (said.Byte b)) a c bytes after is room =
     let same : behind a c (to_call (bytes ++ b ∷ [])) ≡ after = cc is in
     fewer bytes b (subst Room (sym same) room)

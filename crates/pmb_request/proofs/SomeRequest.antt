@@ -22,7 +22,8 @@ use Rattle.pmb_request.specs.Request.{Command, RequestData, WriteParts, ReadByte
 use Rattle.pmb_request.specs.Request as requests
 use Rattle.pmb_request.specs.RequestFault.{IsRequestFault, SpellsRequest, of_words}
 use Rattle.pmb_request.specs.Spelling.{Task, to_read, to_call, to_set, to_get, Wording, Write, Ask, Spells}
-use Rattle.pmb_request.specs.machine.Reading.{AsksFor, IsFaultOf, IsWriteLine, Partial, Room, StandsAt, nothing, writing, at_address, at_code, at_quantity, behind, ended, begins, behind_code, finish, on_byte, on_operand, on_pec, step, verb_of}
+use Rattle.pmb_line.specs.NextWord.{on_byte, on_byte_or_pec, on_pec}
+use Rattle.pmb_request.specs.machine.Reading.{AsksFor, IsFaultOf, IsWriteLine, Partial, Room, StandsAt, nothing, writing, at_address, at_code, at_quantity, behind, ended, begins, behind_code, finish, step, verb_of}
 use Rattle.pmb_request.proofs.Faults.{asked, fault_of}
 use Rattle.pmb_request.proofs.Runs.{cases}
 use Rattle.pmb_request.proofs.Standing.{begin, full_word, next, unfit_word}
@@ -56,7 +57,7 @@ pec_later : (token : Option Token) (pec : Partial) → IsLater pec → IfSome (o
 pec_later (Some said.Pec) pec later = later
 pec_later _ pec later = tt
 
-operand_later : (token : Option Token) (more : ℕ → Partial) (pec : Partial) → ((b : ℕ) → IsLater (more b)) → IsLater pec → IfSome (on_operand token more pec) IsLater
+operand_later : (token : Option Token) (more : ℕ → Partial) (pec : Partial) → ((b : ℕ) → IsLater (more b)) → IsLater pec → IfSome (on_byte_or_pec token more pec) IsLater
 operand_later (Some (said.Byte b)) more pec later also = later b
 operand_later (Some said.Pec) more pec later also = also
 operand_later _ more pec later also = tt

@@ -3,14 +3,17 @@ use Rattle.std.proofs.Common.{◌≡◌, ◌≢◌, ℕ, ◌≤◌, ◌<◌, Opt
 use Rattle.std.proofs.lemmas.List.{map-append}
 use Rattle.pmb_line.specs.declared.token.Token.{Token}
 use Rattle.pmb_line.specs.declared.token.Token.TheVariants as said
+use Rattle.pmb_line.specs.declared.word_fault.WordFault.{WordFault}
 use Rattle.pmb_line.specs.declared.word_fault.WordFault.TheVariants.{BadWord, TooLong}
+use Rattle.pmb_line.specs.LineFault.{word_fault}
 use Rattle.pmb_line.specs.Token.{token_of}
 use Rattle.pmb_line.specs.Words.{Word, texts}
 use Rattle.pmb_request.specs.declared.verb.Verb.{Verb}
 use Rattle.pmb_request.specs.declared.verb.Verb.TheVariants.{Read, Call, Set, Get}
 use Rattle.pmb_request.specs.Spelling.{Task, to_read, to_call, to_set, to_get, Wording}
-use Rattle.pmb_request.specs.machine.Reading.{Partial, nothing, writing, at_address, at_code, behind, behind_code, ended, on_byte, on_pec, on_operand, on_more, step, run, finish, Room, StandsAt, AsksFor, IsFaultOf}
-use Rattle.pmb_request.specs.machine.Pieces.{NoMoreBytes, WantsByte, said_byte}
+use Rattle.pmb_line.specs.NextWord.{on_byte, on_byte_or_pec, on_pec}
+use Rattle.pmb_request.specs.machine.Reading.{Partial, nothing, writing, at_address, at_code, behind, behind_code, ended, on_more, step, run, finish, Room, StandsAt, AsksFor, IsFaultOf}
+use Rattle.pmb_request.specs.machine.Pieces.{IsLineFaultOf, NoMoreBytes, WantsByte, said_byte}
 use Rattle.pmb_request.proofs.Runs.{run-next}
 
 -- before the first word
@@ -75,7 +78,7 @@ pub no_pec : (pec : Partial) (token : Option Token) → (token ≡ Some said.Pec
 no_pec pec (Some said.Pec) not = absurd (not refl)
 no_pec pec _ not = refl
 
-pub no_operand : (more : ℕ → Partial) (pec : Partial) (token : Option Token) → ((b : ℕ) → token ≡ Some (said.Byte b) → ⊥) → (token ≡ Some said.Pec → ⊥) → on_operand token more pec ≡ None
+pub no_operand : (more : ℕ → Partial) (pec : Partial) (token : Option Token) → ((b : ℕ) → token ≡ Some (said.Byte b) → ⊥) → (token ≡ Some said.Pec → ⊥) → on_byte_or_pec token more pec ≡ None
 no_operand more pec (Some (said.Byte b)) not_byte not_pec = absurd (not_byte b refl)
 no_operand more pec (Some said.Pec) not_byte not_pec = absurd (not_pec refl)
 no_operand more pec _ not_byte not_pec = refl
@@ -129,7 +132,7 @@ call_on all a c bytes new b word before left stands same is few added =
     let more : ℕ → Partial = λ x. behind a c (to_call (bytes ++ x ∷ [])) in
     let there : StandsAt all (behind a c (to_call (bytes ++ b ∷ []))) left =
     next all (behind a c (to_call bytes)) (behind a c (to_call (bytes ++ b ∷ []))) word before left stands same
-    (ap (λ t. on_operand t more (ended a c (to_call bytes))) (byte_said (token_of word.text) b is)) room (λ e. cc e) in
+    (ap (λ t. on_byte_or_pec t more (ended a c (to_call bytes))) (byte_said (token_of word.text) b is)) room (λ e. cc e) in
     subst (λ bs. StandsAt all (behind a c (to_call bs)) left) (sym added) there
 
 -- and one for which there is no room
@@ -138,7 +141,7 @@ pub call_full : (all : List Word) (end : ℕ) (a c : ℕ) (bytes : List ℕ) (b 
 call_full all end a c bytes b word before left stands same is long =
     let more : ℕ → Partial = λ x. behind a c (to_call (bytes ++ x ∷ [])) in
     full_word all end (behind a c (to_call bytes)) (behind a c (to_call (bytes ++ b ∷ []))) word before left stands same
-    (ap (λ t. on_operand t more (ended a c (to_call bytes))) (byte_said (token_of word.text) b is))
+    (ap (λ t. on_byte_or_pec t more (ended a c (to_call bytes))) (byte_said (token_of word.text) b is))
     (λ (room : length (bytes ++ b ∷ []) ≤ 255). absurd (omega (arith, length-append bytes (b ∷ []), long, room)))
 
 -- `pec` at the end of a request
@@ -152,3 +155,11 @@ pub pec_on : (all : List Word) (a c : ℕ) (task : Task) (word : Word) (before l
     → token_of word.text ≡ Some said.Pec → StandsAt all (ended a c task) left
 pec_on all a c task word before left stands same is =
     next all (behind a c task) (ended a c task) word before left stands same (ap (on_more a c task) is ∙ pec_step a c task) stands.room (λ e. cc e)
+
+-- before the bytes of a call, in an empty list
+pub no_bytes_yet : (all : List Word) (a c : ℕ) (bytes : List ℕ) (left : List Word) → StandsAt all (behind a c (to_call [])) left → bytes ≡ [] → StandsAt all (behind a c (to_call bytes)) left
+no_bytes_yet all a c bytes left stands none = subst (λ bs. StandsAt all (behind a c (to_call bs)) left) (sym none) stands
+
+-- a fault of the words is one of the line, which ends there
+pub of_the_line : (all : List Word) (end now : ℕ) (fault : WordFault) → now ≡ end → IsFaultOf all now fault → IsLineFaultOf all end (word_fault fault)
+of_the_line all end now fault same is = record { of_words = fault; is = subst (λ n. IsFaultOf all n fault) same is; named = refl }

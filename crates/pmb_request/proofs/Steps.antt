@@ -10,7 +10,8 @@ use Rattle.pmb_line.specs.Token.{token_of}
 use Rattle.pmb_request.specs.declared.verb.Verb.{Verb}
 use Rattle.pmb_request.specs.declared.verb.Verb.TheVariants.{Read, Call, Set, Get}
 use Rattle.pmb_request.specs.Spelling.{Task, to_read, to_call, to_set, to_get, Wanted, token, text, IsWanted, AreWanted, keyword, operands}
-use Rattle.pmb_request.specs.machine.Reading.{Partial, nothing, writing, at_address, at_code, at_quantity, behind, ended, behind_code, begins, on_first, on_byte, on_operand, on_pec, step, run}
+use Rattle.pmb_line.specs.NextWord.{on_byte, on_byte_or_pec, on_pec}
+use Rattle.pmb_request.specs.machine.Reading.{Partial, nothing, writing, at_address, at_code, at_quantity, behind, ended, behind_code, begins, on_first, step, run}
 use Rattle.pmb_request.proofs.Runs.{cases, run-none, run-writing}
 
 -- the keyword of a verb
@@ -94,7 +95,7 @@ leads_pec _ word a c task after says is = cc is
 
 -- a byte more of a call, or `pec`
 leads_operand : (said_so : Option Token) (word : List ℕ) (a c : ℕ) (bytes : List ℕ) (after : Partial) → token_of word ≡ said_so
-    → on_operand said_so (λ b. behind a c (to_call (bytes ++ b ∷ []))) (ended a c (to_call bytes)) ≡ Some after → Leads (behind a c (to_call bytes)) word after
+    → on_byte_or_pec said_so (λ b. behind a c (to_call (bytes ++ b ∷ []))) (ended a c (to_call bytes)) ≡ Some after → Leads (behind a c (to_call bytes)) word after
 leads_operand (Some (said.Byte b)) word a c bytes after says is =
     led (behind a c (to_call (bytes ++ b ∷ []))) (record {
       wanted = token (said.Byte b);

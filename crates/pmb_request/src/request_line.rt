@@ -41,11 +41,27 @@ pub fn parse_request(context: &Context<'_>, line: &[u8]) -> Result<Request, Requ
         return parse_write(line);
     }
     match Verb::of(first.text) {
-        Some(Verb::Read) => parse_read(&mut words),
-        Some(Verb::Call) => parse_call(&mut words),
-        Some(Verb::Set) => parse_set(context, &mut words),
-        Some(Verb::Get) => parse_get(context, &mut words),
+        Some(verb) => parse_operands(verb, context, &mut words),
         None => Err(RequestFault::from(WordFault::BadWord(first.at))),
+    }
+}
+
+/// Reads what stands after a verb.
+fn parse_operands(
+    verb: Verb,
+    context: &Context<'_>,
+    words: &mut Words,
+) -> Result<Request, RequestFault>
+    ensures ok { (all : List Word) (profile : List DeviceParts) (ts : List TransactionData) → HasSeen context.now profile ts
+        → StandsAt all (at_address verb) (words_left words.old) → IfOk result (AsksForRequest (mode profile ts) all) }
+    ensures err { (all : List Word) → StandsAt all (at_address verb) (words_left words.old)
+        → IfErr result (IsRequestFaultOf all (end words.old)) }
+{
+    match verb {
+        Verb::Read => parse_read(words),
+        Verb::Call => parse_call(words),
+        Verb::Set => parse_set(context, words),
+        Verb::Get => parse_get(context, words),
     }
 }
 

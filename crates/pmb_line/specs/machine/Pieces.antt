@@ -7,8 +7,8 @@ use Rattle.pmb_line.specs.declared.token.Token.TheVariants.{Byte, Plus}
 use Rattle.pmb_line.specs.declared.word_fault.WordFault.{WordFault}
 use Rattle.pmb_line.specs.declared.word_fault.WordFault.TheVariants.{BadWord, TooLong}
 use Rattle.pmb_line.specs.declared.words.Located.{Located}
-use Rattle.pmb_line.specs.declared.taking.ByteWord.{ByteWord}
-use Rattle.pmb_line.specs.machine.Reading.{LineStandsAt, SaysTransaction, IsWordFaultOf, tokens_said, part_with, write_next, refused_next}
+use Rattle.pmb_line.specs.declared.pieces.ByteWord.{ByteWord}
+use Rattle.pmb_line.specs.machine.Reading.{Partial, LineStandsAt, SaysTransaction, IsWordFaultOf, tokens_said, part_with, write_next, read_colon, read_reply, read_pec, call_data, call_reply, call_pec, refused_next}
 
 -- The next word is not this one.
 abbrev pub IsNotNext : Token → List Located → Type 0
@@ -92,6 +92,36 @@ ReadsPart all length ps (Err fault) after = IsWordFaultOf all length fault
 abbrev pub WritesOn : List Located → List PartData → Bool → List Located → Type 0
 WritesOn all ps true left = LineStandsAt all (write_next ps) left
 WritesOn all ps false left = SaysTransaction all (says.Write ps)
+
+-- The words before the `:` of a read or a call.
+pub data Asked : Type 0 where
+  read_of : ℕ → ℕ → Asked
+  call_of : ℕ → ℕ → List ℕ → Asked
+
+-- where the `:` comes
+abbrev pub at_colon : Asked → Partial
+at_colon (read_of a c) = read_colon a c
+at_colon (call_of a c bs) = call_data a c bs
+
+-- after it, and a reply so far
+abbrev pub at_reply : Asked → List ℕ → Partial
+at_reply (read_of a c) rs = read_reply a c rs
+at_reply (call_of a c bs) rs = call_reply a c bs rs
+
+-- after the `pec` of a reply
+abbrev pub at_pec : Asked → List ℕ → Partial
+at_pec (read_of a c) rs = read_pec a c rs
+at_pec (call_of a c bs) rs = call_pec a c bs rs
+
+-- the transaction with a reply
+abbrev pub replied : Asked → List ℕ → Bool → TransactionData
+replied (read_of a c) rs pec = says.Read (record { addr = a; code = c; reply = rs; pec = pec })
+replied (call_of a c bs) rs pec = says.Call (record { addr = a; code = c; bytes = bs; reply = rs; pec = pec })
+
+-- No byte more comes of a call's data.
+abbrev pub NoDataNext : Asked → List Located → Type 0
+NoDataNext (read_of a c) left = Unit {0}
+NoDataNext (call_of a c bs) left = IsNoByteNext left
 
 -- A part more of a refused packet, of an address and the bytes after it.
 pub record Pushed (ps : List PartData) (addr : ℕ) (sent : List ℕ) (pec : Bool) (after : List PartData) : Type 0 where

@@ -1,14 +1,16 @@
 -- Where a reader of a line stands between two words: what the words so far say.
-use Rattle.std.specs.Prelude.{◌≡◌, ◌≢◌, ℕ, ◌≤◌, ◌+◌, ◌⊎◌, Bool, true, false, Option, Some, None, ◌||◌, List, [], ◌∷◌, ◌++◌, length, map}
+use Rattle.std.specs.Prelude.{◌≡◌, ℕ, ◌≤◌, ◌+◌, ◌⊎◌, Bool, true, false, Option, Some, None, ◌||◌, List, [], ◌∷◌, ◌++◌, length, map}
 use Rattle.pmb_transaction.specs.Transaction.{PartData, TransactionData}
 use Rattle.pmb_transaction.specs.Transaction as says
 use Rattle.pmb_line.specs.declared.token.Token.{Token}
-use Rattle.pmb_line.specs.declared.token.Token.TheVariants.{Byte, Write, Read, Call, Refused, Alert, Nobody, Pec, Plus, Colon}
+use Rattle.pmb_line.specs.declared.token.Token.TheVariants.{Byte}
 use Rattle.pmb_line.specs.declared.word_fault.WordFault.{WordFault}
 use Rattle.pmb_line.specs.declared.word_fault.WordFault.TheVariants.{Blank, BadWord, TooLong}
 use Rattle.pmb_line.specs.declared.words.Located.{Located}
+use Rattle.pmb_line.specs.machine.Stop as stop
 use Rattle.pmb_line.specs.Words.{Word, is_blank, is_comment}
 use Rattle.pmb_line.specs.Token.{byte_of, token_of}
+use Rattle.pmb_line.specs.NextWord.{after_word, no_word, on_byte, on_byte_or_pec, on_pec}
 use Rattle.std.specs.List.{AllByRecursion}
 use Rattle.pmb_line.specs.Fault.{ArePartsWithin, IsCallWithin, IsPartWithin, IsRefusedWithin}
 
@@ -42,67 +44,44 @@ pub data Partial : Type 0 where
   alert_pec : ℕ → Partial
   alert_none : Partial
 
--- where a byte alone may come
-abbrev pub on_byte : Option Token → (ℕ → Partial) → Option Partial
-on_byte (Some (Byte b)) next = Some (next b)
-on_byte _ next = None
-
 -- the first word
 abbrev pub on_keyword : Option Token → Option Partial
-on_keyword (Some Write) = Some (write_next [])
-on_keyword (Some Read) = Some read_next
-on_keyword (Some Call) = Some call_next
-on_keyword (Some Refused) = Some (refused_next [])
-on_keyword (Some Alert) = Some alert_next
-on_keyword _ = None
+on_keyword token =
+    after_word (record no_word { write = Some (write_next []); read = Some read_next; call = Some call_next; refused = Some (refused_next []); alert = Some alert_next }) token
 
 -- after a part, where there may be data more, `pec` and `+`
 abbrev pub on_data : Option Token → (ℕ → Partial) → Partial → Partial → Option Partial
-on_data (Some (Byte b)) more pec plus = Some (more b)
-on_data (Some Pec) more pec plus = Some pec
-on_data (Some Plus) more pec plus = Some plus
-on_data _ more pec plus = None
+on_data token more pec plus = after_word (record no_word { byte = λ b. Some (more b); pec = Some pec; plus = Some plus }) token
 
 -- after `pec`, where a `+` may come
 abbrev pub on_plus : Option Token → Partial → Option Partial
-on_plus (Some Plus) plus = Some plus
-on_plus _ plus = None
+on_plus token plus = after_word (record no_word { plus = Some plus }) token
 
 -- where a colon may come
 abbrev pub on_colon : Option Token → Partial → Option Partial
-on_colon (Some Colon) colon = Some colon
-on_colon _ colon = None
+on_colon token colon = after_word (record no_word { colon = Some colon }) token
 
 -- where bytes may come, and a colon
 abbrev pub on_bytes : Option Token → (ℕ → Partial) → Partial → Option Partial
-on_bytes (Some (Byte b)) more colon = Some (more b)
-on_bytes (Some Colon) more colon = Some colon
-on_bytes _ more colon = None
+on_bytes token more colon = after_word (record no_word { byte = λ b. Some (more b); colon = Some colon }) token
 
--- where bytes may come, and `pec`
-abbrev pub on_reply : Option Token → (ℕ → Partial) → Partial → Option Partial
-on_reply (Some (Byte b)) more pec = Some (more b)
-on_reply (Some Pec) more pec = Some pec
-on_reply _ more pec = None
+-- what was sent to the address of a `refused` is a part where it has a code
+abbrev pub as_part : List ℕ → (ℕ → List ℕ → Partial) → Option Partial
+as_part [] part = None
+as_part (code ∷ bytes) part = Some (part code bytes)
 
--- after what was sent to the address of a `refused`: the first byte is a code, if it is a part
+-- after what was sent
 abbrev pub on_sent : Option Token → List PartData → ℕ → List ℕ → Option Partial
-on_sent (Some (Byte b)) ps addr sent = Some (refused_sent ps addr (sent ++ b ∷ []))
-on_sent (Some Read) ps addr sent = Some (refused_read ps addr sent)
-on_sent (Some Pec) ps addr (code ∷ bytes) = Some (refused_pec ps addr code bytes)
-on_sent (Some Plus) ps addr (code ∷ bytes) = Some (refused_next (ps ++ part_with addr code bytes false ∷ []))
-on_sent _ ps addr sent = None
+on_sent token ps addr sent = after_word (record no_word {
+  byte = λ b. Some (refused_sent ps addr (sent ++ b ∷ []));
+  read = Some (refused_read ps addr sent);
+  pec = as_part sent (λ code bytes. refused_pec ps addr code bytes);
+  plus = as_part sent (λ code bytes. refused_next (ps ++ part_with addr code bytes false ∷ []));
+}) token
 
 -- after `alert`
 abbrev pub on_alert : Option Token → Option Partial
-on_alert (Some (Byte b)) = Some (alert_byte b)
-on_alert (Some Nobody) = Some alert_none
-on_alert _ = None
-
--- where `pec` may come
-abbrev pub on_pec : Option Token → Partial → Option Partial
-on_pec (Some Pec) pec = Some pec
-on_pec _ pec = None
+on_alert token = after_word (record no_word { byte = λ b. Some (alert_byte b); nobody = Some alert_none }) token
 
 -- what one word more says, if it fits
 abbrev pub step : Partial → Option Token → Option Partial
@@ -114,12 +93,12 @@ step (write_pec ps a c bs) token = on_plus token (write_next (ps ++ part_with a 
 step read_next token = on_byte token (λ b. read_code b)
 step (read_code a) token = on_byte token (λ b. read_colon a b)
 step (read_colon a c) token = on_colon token (read_reply a c [])
-step (read_reply a c bs) token = on_reply token (λ b. read_reply a c (bs ++ b ∷ [])) (read_pec a c bs)
+step (read_reply a c bs) token = on_byte_or_pec token (λ b. read_reply a c (bs ++ b ∷ [])) (read_pec a c bs)
 step (read_pec a c bs) token = None
 step call_next token = on_byte token (λ b. call_code b)
 step (call_code a) token = on_byte token (λ b. call_data a b [])
 step (call_data a c bs) token = on_bytes token (λ b. call_data a c (bs ++ b ∷ [])) (call_reply a c bs [])
-step (call_reply a c bs rs) token = on_reply token (λ b. call_reply a c bs (rs ++ b ∷ [])) (call_pec a c bs rs)
+step (call_reply a c bs rs) token = on_byte_or_pec token (λ b. call_reply a c bs (rs ++ b ∷ [])) (call_pec a c bs rs)
 step (call_pec a c bs rs) token = None
 step (refused_next ps) token = on_byte token (λ b. refused_sent ps b [])
 step (refused_sent ps a bs) token = on_sent token ps a bs
@@ -220,33 +199,17 @@ pub record LineStandsAt (all : List Located) (s : Partial) (left : List Located)
 
 -- ---- faults
 
--- A word does not fit.
-pub record IsUnfit (all : List Located) (place : ℕ) : Type 0 where
-  pub s : Partial
-  pub word : Located
-  pub left : List Located
-  pub stands : LineStandsAt all s (word ∷ left)
-  pub unfit : step s word.token ≡ None
-  pub place_is : place ≡ word.at
+-- a word does not fit
+abbrev pub IsUnfit : List Located → ℕ → Type 0
+IsUnfit all place = stop.IsUnfit (LineStandsAt all) (λ (s : Partial) (word : Located). step s word.token) (λ (word : Located). word.at) place
 
--- A word is missing at the end.
-pub record IsShort (all : List Located) (length : ℕ) (place : ℕ) : Type 0 where
-  pub s : Partial
-  pub stands : LineStandsAt all s []
-  pub begun : nothing ≢ s
-  pub unfinished : finish s ≡ None
-  pub place_is : place ≡ length
+-- a word is missing at the end
+abbrev pub IsShort : List Located → ℕ → ℕ → Type 0
+IsShort all length place = stop.IsShort (LineStandsAt all) nothing finish length place
 
--- A word fits, but there is no room.
-pub record IsFull (all : List Located) (place : ℕ) : Type 0 where
-  pub s : Partial
-  pub word : Located
-  pub left : List Located
-  pub after : Partial
-  pub stands : LineStandsAt all s (word ∷ left)
-  pub fits : step s word.token ≡ Some after
-  pub full : Room after → ⊥
-  pub place_is : place ≡ word.at
+-- a word fits, but there is no room
+abbrev pub IsFull : List Located → ℕ → Type 0
+IsFull all place = stop.IsFull (LineStandsAt all) (λ (s : Partial) (word : Located). step s word.token) Room (λ (word : Located). word.at) place
 
 -- what is wrong with a line of these words that ends at `length`
 abbrev pub IsWordFaultOf : List Located → ℕ → WordFault → Type 0

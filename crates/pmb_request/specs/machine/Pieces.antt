@@ -8,6 +8,7 @@ use Rattle.pmb_line.specs.declared.token.Token.{Token}
 use Rattle.pmb_line.specs.declared.token.Token.TheVariants as said
 use Rattle.pmb_line.specs.declared.word_fault.WordFault.{WordFault}
 use Rattle.pmb_line.specs.LineFault.{word_fault}
+use Rattle.pmb_line.specs.NextWord.{after_word, no_word, on_byte}
 use Rattle.pmb_line.specs.Token.{token_of}
 use Rattle.pmb_line.specs.Words.{Word}
 use Rattle.pmb_request.specs.declared.command_words.Target.{Target}
@@ -18,12 +19,11 @@ use Rattle.pmb_request.specs.declared.verb.Verb.{Verb}
 use Rattle.pmb_request.specs.Request.{Command, request_data}
 use Rattle.pmb_request.specs.Spelling.{Task, to_read, to_call, to_set, to_get, Wording, Ask}
 use Rattle.pmb_request.specs.RequestFault.{Means}
-use Rattle.pmb_request.specs.machine.Reading.{Partial, nothing, writing, behind, behind_code, step, on_byte, finish, command_with, Room, StandsAt, AsksFor, IsFaultOf}
+use Rattle.pmb_request.specs.machine.Reading.{Partial, nothing, writing, behind, behind_code, step, finish, command_with, Room, StandsAt, AsksFor, IsFaultOf}
 
 -- the byte that a word says
 abbrev pub said_byte : Option Token → Option ℕ
-said_byte (Some (said.Byte b)) = Some b
-said_byte _ = None
+said_byte token = after_word (record no_word { byte = λ b. Some b }) token
 
 -- A place where a byte alone may come, and words are missing.
 pub record WantsByte (s : Partial) (next : ℕ → Partial) : Type 0 where

@@ -5,7 +5,9 @@ use Rattle.pmb_line.specs.declared.token.Token.{Token}
 use Rattle.pmb_line.specs.declared.token.Token.TheVariants as said
 use Rattle.pmb_line.specs.declared.word_fault.WordFault.{WordFault}
 use Rattle.pmb_line.specs.declared.word_fault.WordFault.TheVariants.{Blank, BadWord, TooLong}
+use Rattle.pmb_line.specs.NextWord.{after_word, any_word, on_byte, on_byte_or_pec, on_pec}
 use Rattle.pmb_line.specs.Token.{token_of}
+use Rattle.pmb_line.specs.machine.Stop as stop
 use Rattle.pmb_line.specs.Words.{Word, texts, line_words}
 use Rattle.pmb_request.specs.declared.verb.Verb.{Verb}
 use Rattle.pmb_request.specs.declared.verb.Verb.TheVariants.{Read, Call, Set, Get}
@@ -38,9 +40,7 @@ on_verb word =
 
 -- what the first word asks for, if it is none of a write
 abbrev pub verb_of : Option Token → List ℕ → Option Verb
-verb_of (Some said.Read) word = Some Read
-verb_of (Some said.Call) word = Some Call
-verb_of _ word = on_verb word
+verb_of token word = after_word (record (any_word (on_verb word)) { read = Some Read; call = Some Call }) token
 
 abbrev pub begins : Option Verb → Option Partial
 begins (Some verb) = Some (at_address verb)
@@ -48,13 +48,7 @@ begins None = None
 
 -- the first word
 abbrev pub on_first : Option Token → List ℕ → Option Partial
-on_first (Some said.Write) word = Some writing
-on_first token word = begins (verb_of token word)
-
--- where a byte alone may come
-abbrev pub on_byte : Option Token → (ℕ → Partial) → Option Partial
-on_byte (Some (said.Byte b)) next = Some (next b)
-on_byte _ next = None
+on_first token word = after_word (record (any_word (begins (verb_of token word))) { write = Some writing }) token
 
 -- after the code
 abbrev pub behind_code : Verb → ℕ → ℕ → Partial
@@ -63,19 +57,9 @@ behind_code Call a c = behind a c (to_call [])
 behind_code Set a c = at_quantity a c
 behind_code Get a c = behind a c to_get
 
--- where `pec` may come
-abbrev pub on_pec : Option Token → Partial → Option Partial
-on_pec (Some said.Pec) pec = Some pec
-on_pec _ pec = None
-
--- where a byte of a call may come, or `pec`
-abbrev pub on_operand : Option Token → (ℕ → Partial) → Partial → Option Partial
-on_operand (Some (said.Byte b)) more pec = Some (more b)
-on_operand (Some said.Pec) more pec = Some pec
-on_operand _ more pec = None
-
+-- and what was asked for so far
 abbrev pub on_more : ℕ → ℕ → Task → Option Token → Option Partial
-on_more a c (to_call bytes) token = on_operand token (λ b. behind a c (to_call (bytes ++ b ∷ []))) (ended a c (to_call bytes))
+on_more a c (to_call bytes) token = on_byte_or_pec token (λ b. behind a c (to_call (bytes ++ b ∷ []))) (ended a c (to_call bytes))
 on_more a c to_read token = on_pec token (ended a c to_read)
 on_more a c (to_set quantity) token = on_pec token (ended a c (to_set quantity))
 on_more a c to_get token = on_pec token (ended a c to_get)
@@ -141,33 +125,17 @@ pub record IsWriteLine (line : List ℕ) : Type 0 where
 
 -- ---- faults
 
--- A word does not fit.
-pub record IsUnfit (all : List Word) (place : ℕ) : Type 0 where
-  pub s : Partial
-  pub word : Word
-  pub left : List Word
-  pub stands : StandsAt all s (word ∷ left)
-  pub unfit : step s word.text ≡ None
-  pub place_is : place ≡ word.at
+-- a word does not fit
+abbrev pub IsUnfit : List Word → ℕ → Type 0
+IsUnfit all place = stop.IsUnfit (StandsAt all) (λ (s : Partial) (word : Word). step s word.text) (λ (word : Word). word.at) place
 
--- A word is missing at the end.
-pub record IsShort (all : List Word) (length : ℕ) (place : ℕ) : Type 0 where
-  pub s : Partial
-  pub stands : StandsAt all s []
-  pub begun : nothing ≢ s
-  pub unfinished : finish s ≡ None
-  pub place_is : place ≡ length
+-- a word is missing at the end
+abbrev pub IsShort : List Word → ℕ → ℕ → Type 0
+IsShort all length place = stop.IsShort (StandsAt all) nothing finish length place
 
--- A word fits, but there is no room.
-pub record IsFull (all : List Word) (place : ℕ) : Type 0 where
-  pub s : Partial
-  pub word : Word
-  pub left : List Word
-  pub after : Partial
-  pub stands : StandsAt all s (word ∷ left)
-  pub fits : step s word.text ≡ Some after
-  pub full : Room after → ⊥
-  pub place_is : place ≡ word.at
+-- a word fits, but there is no room
+abbrev pub IsFull : List Word → ℕ → Type 0
+IsFull all place = stop.IsFull (StandsAt all) (λ (s : Partial) (word : Word). step s word.text) Room (λ (word : Word). word.at) place
 
 -- what is wrong with a line of these words that ends at `length`
 abbrev pub IsFaultOf : List Word → ℕ → WordFault → Type 0
