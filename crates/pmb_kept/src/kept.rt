@@ -9,21 +9,10 @@ ghost use Rattle.std.specs.Option.{option_to_list};
 ghost use Rattle.pmb_transaction.specs.Transaction.{Write as says_write, Read as says_read, Call as says_call, Refused as says_refused, Alert as says_alert, NoAlert as says_no_alert, transaction_data};
 ghost use Rattle.pmb_transaction.specs.Packet.{addresses};
 
+use crate::kind::{Kind, make_alert, make_call, make_read, make_refused, make_write};
 use crate::parts::{copy_parts, copy_sent, front_parts, put_part};
-use arrayvec::ArrayVec;
 use pmb_transaction::Transaction;
 use std::marker::Model;
-
-/// The kinds of transactions that are kept apart.
-#[derive(Clone, Copy)]
-pub(crate) enum Slot {
-    Write,
-    Read,
-    Call,
-    Refused,
-    Alert,
-    NoAlert,
-}
 
 /// The parts of the packet under way, and the transaction whose packet ended last.
 #[derive(Drop)]
@@ -39,7 +28,7 @@ pub struct Kept {
     /// It says nothing else ever.
     no_alert: Transaction,
     /// Which of them ended last.
-    last: Slot,
+    last: Kind,
 }
 
 impl Model for Kept {
@@ -67,7 +56,7 @@ impl Kept {
             refused: Transaction::NoAlert,
             alert: Transaction::NoAlert,
             no_alert: Transaction::NoAlert,
-            last: Slot::NoAlert,
+            last: Kind::NoAlert,
         }
     }
 
@@ -77,12 +66,12 @@ impl Kept {
         ensures { transaction_data result.now ≡ self.now.last }
     {
         match self.last {
-            Slot::Write => &self.write,
-            Slot::Read => &self.read,
-            Slot::Call => &self.call,
-            Slot::Refused => &self.refused,
-            Slot::Alert => &self.alert,
-            Slot::NoAlert => &self.no_alert,
+            Kind::Write => &self.write,
+            Kind::Read => &self.read,
+            Kind::Call => &self.call,
+            Kind::Refused => &self.refused,
+            Kind::Alert => &self.alert,
+            Kind::NoAlert => &self.no_alert,
         }
     }
 
@@ -92,12 +81,12 @@ impl Kept {
     {
         self.count = 0;
         match self.last {
-            Slot::Write => std::mem::replace(&mut self.write, Transaction::NoAlert),
-            Slot::Read => std::mem::replace(&mut self.read, Transaction::NoAlert),
-            Slot::Call => std::mem::replace(&mut self.call, Transaction::NoAlert),
-            Slot::Refused => std::mem::replace(&mut self.refused, Transaction::NoAlert),
-            Slot::Alert => std::mem::replace(&mut self.alert, Transaction::NoAlert),
-            Slot::NoAlert => Transaction::NoAlert,
+            Kind::Write => std::mem::replace(&mut self.write, Transaction::NoAlert),
+            Kind::Read => std::mem::replace(&mut self.read, Transaction::NoAlert),
+            Kind::Call => std::mem::replace(&mut self.call, Transaction::NoAlert),
+            Kind::Refused => std::mem::replace(&mut self.refused, Transaction::NoAlert),
+            Kind::Alert => std::mem::replace(&mut self.alert, Transaction::NoAlert),
+            Kind::NoAlert => Transaction::NoAlert,
         }
     }
 
@@ -136,15 +125,12 @@ impl Kept {
         ensures { self.new.parts ≡ self.old.parts ++ record { addr = addr; code = code; bytes = data_bytes.now; pec = pec } ∷ [] }
     {
         let count = self.count;
-        if let Transaction::Write { parts } = &mut self.write {
-            put_part(parts, count, addr, code, data_bytes, pec);
-            self.count = count + 1;
-            return;
-        }
-        let mut parts = ArrayVec::new();
-        put_part(&mut parts, 0, addr, code, data_bytes, pec);
-        self.write = Transaction::Write { parts };
-        self.count = 1;
+        make_write(&mut self.write);
+        let Transaction::Write { parts } = &mut self.write else {
+            unreachable!()
+        };
+        put_part(parts, count, addr, code, data_bytes, pec);
+        self.count = count + 1;
     }
 
     /// The packet was the write of its parts.
@@ -152,15 +138,13 @@ impl Kept {
     pub fn end_write(&mut self)
         ensures { self.new.last ≡ says_write self.old.parts }
     {
-        self.last = Slot::Write;
+        self.last = Kind::Write;
         let count = self.count;
-        if let Transaction::Write { parts } = &mut self.write {
-            parts.truncate(count);
-            return;
-        }
-        self.write = Transaction::Write {
-            parts: ArrayVec::new(),
+        make_write(&mut self.write);
+        let Transaction::Write { parts } = &mut self.write else {
+            unreachable!()
         };
+        parts.truncate(count);
     }
 
     /// The packet was a read.
@@ -169,29 +153,22 @@ impl Kept {
         ensures { self.new.last
             ≡ says_read (record { addr = address; code = command; reply = data_bytes.now; pec = with_pec }) }
     {
-        self.last = Slot::Read;
-        if let Transaction::Read {
+        self.last = Kind::Read;
+        make_read(&mut self.read);
+        let Transaction::Read {
             addr,
             code,
             reply,
             pec,
         } = &mut self.read
-        {
-            *addr = address;
-            *code = command;
-            reply.clear();
-            let _ = reply.try_extend_from_slice(data_bytes);
-            *pec = with_pec;
-            return;
-        }
-        let mut reply = ArrayVec::new();
-        let _ = reply.try_extend_from_slice(data_bytes);
-        self.read = Transaction::Read {
-            addr: address,
-            code: command,
-            reply,
-            pec: with_pec,
+        else {
+            unreachable!()
         };
+        *addr = address;
+        *code = command;
+        reply.clear();
+        let _ = reply.try_extend_from_slice(data_bytes);
+        *pec = with_pec;
     }
 
     /// The packet was a call.
@@ -208,35 +185,25 @@ impl Kept {
         ensures { self.new.last
             ≡ says_call (record { addr = address; code = command; bytes = sent.now; reply = data_bytes.now; pec = with_pec }) }
     {
-        self.last = Slot::Call;
-        if let Transaction::Call {
+        self.last = Kind::Call;
+        make_call(&mut self.call);
+        let Transaction::Call {
             addr,
             code,
             bytes,
             reply,
             pec,
         } = &mut self.call
-        {
-            *addr = address;
-            *code = command;
-            bytes.clear();
-            let _ = bytes.try_extend_from_slice(sent);
-            reply.clear();
-            let _ = reply.try_extend_from_slice(data_bytes);
-            *pec = with_pec;
-            return;
-        }
-        let mut bytes = ArrayVec::new();
-        let _ = bytes.try_extend_from_slice(sent);
-        let mut reply = ArrayVec::new();
-        let _ = reply.try_extend_from_slice(data_bytes);
-        self.call = Transaction::Call {
-            addr: address,
-            code: command,
-            bytes,
-            reply,
-            pec: with_pec,
+        else {
+            unreachable!()
         };
+        *addr = address;
+        *code = command;
+        bytes.clear();
+        let _ = bytes.try_extend_from_slice(sent);
+        reply.clear();
+        let _ = reply.try_extend_from_slice(data_bytes);
+        *pec = with_pec;
     }
 
     /// The packet was refused after its parts, where these bytes were taken, and the next one not,
@@ -247,53 +214,41 @@ impl Kept {
         ensures { self.new.last
             ≡ says_refused (record { parts = self.old.parts; addr = address; sent = taken.now ++ option_to_list refused; at_read = to_read }) }
     {
-        self.last = Slot::Refused;
+        self.last = Kind::Refused;
         let front = front_parts(&self.write, self.count);
-        if let Transaction::Refused {
+        make_refused(&mut self.refused);
+        let Transaction::Refused {
             parts,
             addr,
             sent,
             at_read,
         } = &mut self.refused
-        {
-            copy_parts(front, parts);
-            *addr = address;
-            copy_sent(taken, refused, sent);
-            *at_read = to_read;
-            return;
-        }
-        let mut parts = ArrayVec::new();
-        copy_parts(front, &mut parts);
-        let mut sent = ArrayVec::new();
-        copy_sent(taken, refused, &mut sent);
-        self.refused = Transaction::Refused {
-            parts,
-            addr: address,
-            sent,
-            at_read: to_read,
+        else {
+            unreachable!()
         };
+        copy_parts(front, parts);
+        *addr = address;
+        copy_sent(taken, refused, sent);
+        *at_read = to_read;
     }
 
     /// A device answered at the Alert Response Address.
     pub fn end_alert(&mut self, answered: u8, with_pec: bool)
         ensures { self.new.last ≡ says_alert (record { byte = answered; pec = with_pec }) }
     {
-        self.last = Slot::Alert;
-        if let Transaction::Alert { byte, pec } = &mut self.alert {
-            *byte = answered;
-            *pec = with_pec;
-            return;
-        }
-        self.alert = Transaction::Alert {
-            byte: answered,
-            pec: with_pec,
+        self.last = Kind::Alert;
+        make_alert(&mut self.alert);
+        let Transaction::Alert { byte, pec } = &mut self.alert else {
+            unreachable!()
         };
+        *byte = answered;
+        *pec = with_pec;
     }
 
     /// No device answered there.
     pub fn end_no_alert(&mut self)
         ensures { self.new.last ≡ says_no_alert }
     {
-        self.last = Slot::NoAlert;
+        self.last = Kind::NoAlert;
     }
 }

@@ -14,6 +14,8 @@
 #![tactic(auto)]
 
 mod kept;
+mod kind;
 mod parts;
 
 pub use kept::Kept;
+pub use kind::{Kind, make_alert, make_call, make_no_alert, make_read, make_refused, make_write};

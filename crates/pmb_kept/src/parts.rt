@@ -7,7 +7,7 @@
 ghost use Rattle.std.specs.Prelude.{◌≡◌, ◌<◌, ◌≤◌, ◌+◌, ◌++◌, ◌∷◌, [], length, map, take};
 ghost use Rattle.std.specs.Option.{option_to_list};
 ghost use Rattle.pmb_transaction.specs.Transaction.{part_data};
-ghost use Rattle.pmb_kept.specs.machine.Kept.{parts_of};
+ghost use Rattle.pmb_kept.specs.Kind.{parts_of};
 
 use arrayvec::ArrayVec;
 use pmb_transaction::{Part, Transaction};

@@ -2,4 +2,3 @@ pub mod Agreeing
 pub mod Telling
 pub mod Cutting
 pub mod Full
-pub mod Standings

@@ -7,6 +7,7 @@ ghost use Rattle.pmb_line.specs.LineFault.{IsLineFault, Parses};
 use crate::line_fault::LineFault;
 use crate::whole_line::read_line;
 use crate::words::blanks;
+use pmb_kept::Kind;
 use pmb_table::Profile;
 use pmb_transaction::Transaction;
 
@@ -19,7 +20,7 @@ pub struct LineReader {
     call: Transaction,
     refused: Transaction,
     alert: Transaction,
-    other: Transaction,
+    no_alert: Transaction,
 }
 
 impl LineReader {
@@ -31,7 +32,7 @@ impl LineReader {
             call: Transaction::NoAlert,
             refused: Transaction::NoAlert,
             alert: Transaction::NoAlert,
-            other: Transaction::NoAlert,
+            no_alert: Transaction::NoAlert,
         }
     }
 
@@ -44,20 +45,33 @@ impl LineReader {
         ensures ok { IfOk result (λ t. Parses profile.now line.now (transaction_data t.now)) }
         ensures err { IfErr result (IsLineFault profile.now line.now) }
     {
-        // Any of them would do, since a line is read into each alike: the first letters, and not the
-        // first word, tell the kind soon enough.
-        let slot = match &line[blanks(line)..] {
-            [b'w', ..] => &mut self.write,
-            [b'r', b'e', b'a', ..] => &mut self.read,
-            [b'r', b'e', b'f', ..] => &mut self.refused,
-            [b'c', ..] => &mut self.call,
-            [b'a', b'l', b'e', b'r', b't', b' ', b'n', ..] => &mut self.other,
-            [b'a', ..] => &mut self.alert,
-            _ => &mut self.other,
+        let slot = match likely_kind(line) {
+            Kind::Write => &mut self.write,
+            Kind::Read => &mut self.read,
+            Kind::Call => &mut self.call,
+            Kind::Refused => &mut self.refused,
+            Kind::Alert => &mut self.alert,
+            Kind::NoAlert => &mut self.no_alert,
         };
         match read_line(profile, line, slot) {
             Ok(()) => Ok(slot),
             Err(fault) => Err(fault),
         }
+    }
+}
+
+/// The kind whose transaction a line is read into: that of its keyword, as far as the first letters
+/// tell. Any would do, since a line is read into each alike. One that begins with no keyword is read
+/// into none.
+#[inline]
+fn likely_kind(line: &[u8]) -> Kind {
+    match &line[blanks(line)..] {
+        [b'w', ..] => Kind::Write,
+        [b'r', b'e', b'a', ..] => Kind::Read,
+        [b'r', b'e', b'f', ..] => Kind::Refused,
+        [b'c', ..] => Kind::Call,
+        [b'a', b'l', b'e', b'r', b't', b' ', b'n', ..] => Kind::NoAlert,
+        [b'a', ..] => Kind::Alert,
+        _ => Kind::NoAlert,
     }
 }

@@ -19,7 +19,7 @@ use crate::reply::{read_call, read_read};
 use crate::token::Token;
 use crate::word_fault::WordFault;
 use crate::words::Words;
-use arrayvec::ArrayVec;
+use pmb_kept::{make_alert, make_call, make_no_alert, make_read, make_refused, make_write};
 use pmb_table::Profile;
 use pmb_transaction::Transaction;
 use pmb_writer::check;
@@ -96,99 +96,63 @@ fn write_into(words: &mut Words, into: &mut Transaction) -> Result<(), WordFault
     ensures { (all : List Place) → LineStandsAt all (write_next []) (left words.old)
         → ReadsLine all (end words.old) (transaction_data into.new) result }
 {
-    if let Transaction::Write { parts } = into {
-        return read_write(words, parts);
-    }
-    let mut parts = ArrayVec::new();
-    let done = read_write(words, &mut parts);
-    *into = Transaction::Write { parts };
-    done
+    make_write(into);
+    let Transaction::Write { parts } = into else {
+        unreachable!()
+    };
+    read_write(words, parts)
 }
 
 fn read_into(words: &mut Words, into: &mut Transaction) -> Result<(), WordFault>
     ensures { (all : List Place) → LineStandsAt all read_next (left words.old)
         → ReadsLine all (end words.old) (transaction_data into.new) result }
 {
-    if let Transaction::Read {
+    make_read(into);
+    let Transaction::Read {
         addr,
         code,
         reply,
         pec,
     } = into
-    {
-        return read_read(words, addr, code, reply, pec);
-    }
-    let mut addr = 0;
-    let mut code = 0;
-    let mut reply = ArrayVec::new();
-    let mut pec = false;
-    let done = read_read(words, &mut addr, &mut code, &mut reply, &mut pec);
-    *into = Transaction::Read {
-        addr,
-        code,
-        reply,
-        pec,
+    else {
+        unreachable!()
     };
-    done
+    read_read(words, addr, code, reply, pec)
 }
 
 fn call_into(words: &mut Words, into: &mut Transaction) -> Result<(), WordFault>
     ensures { (all : List Place) → LineStandsAt all call_next (left words.old)
         → ReadsLine all (end words.old) (transaction_data into.new) result }
 {
-    if let Transaction::Call {
+    make_call(into);
+    let Transaction::Call {
         addr,
         code,
         bytes,
         reply,
         pec,
     } = into
-    {
-        return read_call(words, addr, code, bytes, reply, pec);
-    }
-    let mut addr = 0;
-    let mut code = 0;
-    let mut bytes = ArrayVec::new();
-    let mut reply = ArrayVec::new();
-    let mut pec = false;
-    let done = read_call(
-        words, &mut addr, &mut code, &mut bytes, &mut reply, &mut pec,
-    );
-    *into = Transaction::Call {
-        addr,
-        code,
-        bytes,
-        reply,
-        pec,
+    else {
+        unreachable!()
     };
-    done
+    read_call(words, addr, code, bytes, reply, pec)
 }
 
 fn refused_into(words: &mut Words, into: &mut Transaction) -> Result<(), WordFault>
     ensures { (all : List Place) → LineStandsAt all (refused_next []) (left words.old)
         → ReadsLine all (end words.old) (transaction_data into.new) result }
 {
-    if let Transaction::Refused {
+    make_refused(into);
+    let Transaction::Refused {
         parts,
         addr,
         sent,
         at_read,
     } = into
-    {
-        return read_refused(words, parts, addr, sent, at_read);
-    }
-    let mut parts = ArrayVec::new();
-    let mut addr = 0;
-    let mut sent = ArrayVec::new();
-    let mut at_read = false;
-    let done = read_refused(words, &mut parts, &mut addr, &mut sent, &mut at_read);
-    *into = Transaction::Refused {
-        parts,
-        addr,
-        sent,
-        at_read,
+    else {
+        unreachable!()
     };
-    done
+    read_refused(words, parts, addr, sent, at_read)
 }
 
 /// Reads what stands after `alert`.
@@ -209,7 +173,7 @@ fn alert_into(words: &mut Words, into: &mut Transaction) -> Result<(), WordFault
             take_end(words)
         }
         Token::Nobody => {
-            keep_no_alert(into);
+            make_no_alert(into);
             take_end(words)
         }
         _ => Err(WordFault::BadWord(word.at)),
@@ -220,24 +184,14 @@ fn alert_into(words: &mut Words, into: &mut Transaction) -> Result<(), WordFault
 fn keep_alert(byte: u8, pec: bool, into: &mut Transaction)
     ensures { transaction_data into.new ≡ transaction_data (Transaction.Alert byte pec) }
 {
-    if let Transaction::Alert {
+    make_alert(into);
+    let Transaction::Alert {
         byte: kept,
         pec: with_pec,
     } = into
-    {
-        *kept = byte;
-        *with_pec = pec;
-        return;
-    }
-    *into = Transaction::Alert { byte, pec };
-}
-
-/// Keeps that nobody answered there. A transaction of another kind is large to write over.
-fn keep_no_alert(into: &mut Transaction)
-    ensures { into.new ≡ Transaction.NoAlert }
-{
-    if let Transaction::NoAlert = into {
-        return;
-    }
-    *into = Transaction::NoAlert;
+    else {
+        unreachable!()
+    };
+    *kept = byte;
+    *with_pec = pec;
 }

@@ -2,6 +2,5 @@ pub mod Texts
 pub mod OneLine
 pub mod SetBits
 pub mod StatusLemmas
-pub mod Standings
 pub mod Notes
 pub mod ShortNotes

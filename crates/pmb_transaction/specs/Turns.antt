@@ -15,6 +15,10 @@ is_answer Ack = true
 is_answer Nack = true
 is_answer Stop = false
 
+-- START, a byte or STOP
+abbrev pub is_no_answer : Event → Bool
+is_no_answer event = not (is_answer event)
+
 abbrev pub is_byte : Event → Bool
 is_byte Start = false
 is_byte (Byte b) = true
@@ -34,6 +38,6 @@ is_stop Stop = true
 abbrev pub stands_behind : Event → Event → Bool
 stands_behind Start event = is_byte event
 stands_behind (Byte b) event = is_answer event
-stands_behind Ack event = not (is_answer event)
+stands_behind Ack event = is_no_answer event
 stands_behind Nack event = is_stop event
 stands_behind Stop event = false

@@ -1,16 +1,14 @@
 -- What a context keeps.
-use Rattle.std.specs.Prelude.{◌≡◌, ℕ, Option, Some, List, length, option_and_then, slice_get}
-use Rattle.pmb_command.specs.Bus.{IsBus}
+use Rattle.std.specs.Prelude.{◌≡◌, ℕ, Option, List, option_and_then, slice_get}
 use Rattle.pmb_command.specs.Parts.{DeviceParts, device_with}
+use Rattle.pmb_transaction.specs.ByAddress.{KeptByAddress}
 use Rattle.pmb_transaction.specs.Transaction.{TransactionData}
 use Rattle.pmb_note.specs.Paging.{PagingData, paging, selected_mode}
 use Rattle.pmb_note.specs.declared.context.Context.{Context}
 
 -- At the address of each device of an accepted profile its PAGE and VOUT_MODE are kept.
-pub record Keeps (kept : List PagingData) (profile : List DeviceParts) (now : DeviceParts → PagingData) : Type 0 where
-  pub bus : IsBus profile
-  pub long : length kept ≡ 128
-  pub each : (addr : ℕ) (device : DeviceParts) → device_with addr profile ≡ Some device → slice_get kept addr ≡ Some (now device)
+abbrev pub Keeps : List PagingData → List DeviceParts → (DeviceParts → PagingData) → Type 0
+Keeps kept profile now = KeptByAddress kept profile now
 
 -- A context of a profile keeps those.
 pub record StandsSo (context : Context) (profile : List DeviceParts) (now : DeviceParts → PagingData) : Type 0 where

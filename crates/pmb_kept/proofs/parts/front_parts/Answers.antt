@@ -3,7 +3,7 @@ use Rattle.std.proofs.lemmas.List.{take-map}
 use Rattle.pmb_transaction.specs.declared.part.Part.{Part}
 use Rattle.pmb_transaction.specs.declared.transaction.Transaction.{Transaction}
 use Rattle.pmb_transaction.specs.Transaction.{part_data}
-use Rattle.pmb_kept.specs.machine.Kept.{parts_of}
+use Rattle.pmb_kept.specs.Kind.{parts_of}
 use Rattle.pmb_kept.proofs.parts.front_parts.Goals as goal
 
 pub returns-in-Write : goal.returns-in-Write

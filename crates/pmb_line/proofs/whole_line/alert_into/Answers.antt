@@ -22,5 +22,5 @@ pub returns-in-Nobody : goal.returns-in-Nobody
 returns-in-Nobody c all stands =
     let at_none : LineStandsAt all alert_none (left c.next.new.self) =
     next_of all alert_next alert_none c.in-Some.word _ _ stands c.in-Some.ensures.some (ap (step alert_next) (c.in-Some-token.is ∙ ap Some c.in-Nobody.is)) tt in
-    subst (λ t. ReadsLine all (end c.args.words.now) (transaction_data t) c.take_end-in-Nobody.result) (sym c.keep_no_alert.ensures)
+    subst (λ t. ReadsLine all (end c.args.words.now) (transaction_data t) c.take_end-in-Nobody.result) (sym c.make_no_alert.ensures)
     (ends all (end c.args.words.now) alert_none says.NoAlert _ c.take_end-in-Nobody.result at_none refl (λ word rest same. refl) c.take_end-in-Nobody.ensures.takes)

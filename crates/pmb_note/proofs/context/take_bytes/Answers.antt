@@ -1,7 +1,7 @@
 use Rattle.std.proofs.Common.{List, ℕ, subst, sym}
+use Rattle.pmb_transaction.proofs.ByAddress.{one_byte}
 use Rattle.pmb_note.specs.Paging.{after_told}
 use Rattle.pmb_note.specs.machine.Standing.{Keeps}
-use Rattle.pmb_note.proofs.Standings.{one_byte}
 use Rattle.pmb_note.proofs.context.take_bytes.Goals as goal
 
 pub returns-then-is_paging : goal.returns-then-is_paging

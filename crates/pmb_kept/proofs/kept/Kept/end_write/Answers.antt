@@ -4,11 +4,11 @@ use Rattle.pmb_transaction.specs.declared.part.Part.{Part}
 use Rattle.pmb_transaction.specs.declared.transaction.Transaction.{Transaction}
 use Rattle.pmb_transaction.specs.Transaction.{PartData, Write, part_data}
 use Rattle.pmb_kept.specs.Kept.{KeptData}
-use Rattle.pmb_kept.specs.machine.Kept.{parts_of}
+use Rattle.pmb_kept.specs.Kind.{parts_of}
 use Rattle.pmb_kept.proofs.kept.Kept.end_write.Goals as goal
 
-pub returns-in-Write : goal.returns-in-Write
-returns-in-Write c =
+pub returns : goal.returns
+returns c =
     let count = c.self.inside.count in
     let before : take count (parts_of c.self.inside.write) ≡ c.args.self.now.parts = ap (λ (k : KeptData). k.parts) c.self.view_is in
     let said = ap (λ (t : Transaction). take count (parts_of t)) c.in-Write.is in
@@ -17,5 +17,6 @@ returns-in-Write c =
     ap (λ (ps : List Part). map part_data ps) c.truncate.ensures.items
     ∙ sym (take-map part_data count c.in-Write.parts.items)
     ∙ sym said
+    ∙ ap (take count) c.make_write.ensures.parts
     ∙ before
     )

@@ -1,0 +1,110 @@
+//! Transactions of a kind, to be written over in place.
+//!
+//! A transaction has room for the most that one of its kind holds, and that room is cleared where the
+//! transaction is made. So one that is of the kind already stays, and only what the next one holds is
+//! written.
+
+ghost use Rattle.std.specs.Prelude.{◌≡◌};
+ghost use Rattle.pmb_kept.specs.Kind.{IsWrite, IsRead, IsCall, IsRefused, IsAlert, parts_of};
+
+use arrayvec::ArrayVec;
+use pmb_transaction::Transaction;
+
+/// The kinds of transactions.
+#[derive(Clone, Copy)]
+pub enum Kind {
+    Write,
+    Read,
+    Call,
+    Refused,
+    Alert,
+    NoAlert,
+}
+
+/// Makes a transaction a write, unless it is one. Its parts stay.
+#[inline]
+pub fn make_write(transaction: &mut Transaction)
+    ensures kind { IsWrite transaction.new }
+    ensures parts { parts_of transaction.new ≡ parts_of transaction.old }
+{
+    if let Transaction::Write { .. } = transaction {
+        return;
+    }
+    *transaction = Transaction::Write {
+        parts: ArrayVec::new(),
+    };
+}
+
+/// Makes a transaction a read, unless it is one.
+#[inline]
+pub fn make_read(transaction: &mut Transaction)
+    ensures { IsRead transaction.new }
+{
+    if let Transaction::Read { .. } = transaction {
+        return;
+    }
+    *transaction = Transaction::Read {
+        addr: 0,
+        code: 0,
+        reply: ArrayVec::new(),
+        pec: false,
+    };
+}
+
+/// Makes a transaction a call, unless it is one.
+#[inline]
+pub fn make_call(transaction: &mut Transaction)
+    ensures { IsCall transaction.new }
+{
+    if let Transaction::Call { .. } = transaction {
+        return;
+    }
+    *transaction = Transaction::Call {
+        addr: 0,
+        code: 0,
+        bytes: ArrayVec::new(),
+        reply: ArrayVec::new(),
+        pec: false,
+    };
+}
+
+/// Makes a transaction a refused one, unless it is one.
+#[inline]
+pub fn make_refused(transaction: &mut Transaction)
+    ensures { IsRefused transaction.new }
+{
+    if let Transaction::Refused { .. } = transaction {
+        return;
+    }
+    *transaction = Transaction::Refused {
+        parts: ArrayVec::new(),
+        addr: 0,
+        sent: ArrayVec::new(),
+        at_read: false,
+    };
+}
+
+/// Makes a transaction an answer at the Alert Response Address, unless it is one.
+#[inline]
+pub fn make_alert(transaction: &mut Transaction)
+    ensures { IsAlert transaction.new }
+{
+    if let Transaction::Alert { .. } = transaction {
+        return;
+    }
+    *transaction = Transaction::Alert {
+        byte: 0,
+        pec: false,
+    };
+}
+
+/// Makes a transaction one in which nobody answered there, unless it is one.
+#[inline]
+pub fn make_no_alert(transaction: &mut Transaction)
+    ensures { transaction.new ≡ Transaction.NoAlert }
+{
+    if let Transaction::NoAlert = transaction {
+        return;
+    }
+    *transaction = Transaction::NoAlert;
+}
