@@ -1,45 +1,8 @@
--- The command of a device that has a code, and what it holds at first.
-use Rattle.std.proofs.Common.{◌≡◌, ◌⊎◌, ◌∙◌, inl, inr, ℕ, zero, suc, ◌<◌, Bool, true, false, cond, Option, Some, None, List, [], ◌∷◌, length, map, nat_eq, refl, sym, ap, arith, eq-eqb, eqb-true}
+-- The command of a device at an index.
+use Rattle.std.proofs.Common.{◌≡◌, inl, inr, ℕ, zero, suc, ◌<◌, true, false, Some, List, [], ◌∷◌, length, map, nat_eq, sym, ap, arith, eq-eqb}
 use Rattle.std.specs.List.{AllByRecursion, IsDistinct, slice_get}
-use Rattle.std.specs.Option.{option_and_then, unwrap_or}
-use Rattle.std.proofs.lemmas.Bool.{ne_eqb}
 use Rattle.std.proofs.lemmas.Option.{slice_get_cases}
-use Rattle.pmb_command.specs.declared.form.Form.{Form}
-use Rattle.pmb_command.specs.Parts.{CommandParts, DeviceParts, HaveOwnCodes, command_with}
-use Rattle.pmb_registers.specs.State.{first_bytes, zeros}
-
--- ---- the command with a code
-
-pick : (test : Bool) (x command : CommandParts) (rest : Option CommandParts) → cond test (Some x) rest ≡ Some command
-    → ((test ≡ true) × (x ≡ command)) ⊎ ((test ≡ false) × (rest ≡ Some command))
-pick true x command rest is = inl (refl, cc)
-pick false x command rest is = inr (refl, is)
-
--- it has that code
-found_code : (code : ℕ) (cs : List CommandParts) (command : CommandParts) → command_with code cs ≡ Some command → command.entry.code ≡ code
-found_code code [] command is = absurd (cc is)
-found_code code (x ∷ cs) command is = elim (pick (nat_eq x.entry.code code) x command (command_with code cs) is) [
-  | inl p ↦ ap (λ (c : CommandParts). c.entry.code) (sym p.1) ∙ eqb-true x.entry.code code p.0
-  | inr p ↦ found_code code cs command p.1
-]
-
--- ---- what it holds at first
-
-module _ (device : DeviceParts) (code : ℕ) (command : CommandParts) (form : Form) (is : command_with code device.commands ≡ Some command) where
-  -- VOUT_MODE begins with the mode
-  pub begins_with_mode : code ≡ 0x20 → first_bytes device command form ≡ device.vout_mode ∷ []
-  begins_with_mode same =
-      let equal : nat_eq command.entry.code 0x20 ≡ true = eq-eqb command.entry.code 0x20 (found_code code device.commands command is ∙ same) in
-      rw equal refl
-
-  -- what the profile gives no bytes begins with zeros
-  pub begins_with_zeros : (code ≡ 0x20 → ⊥) → None ≡ option_and_then (λ c. c.initial) (command_with code device.commands) → first_bytes device command form ≡ zeros form
-  begins_with_zeros other none =
-      let apart : nat_eq command.entry.code 0x20 ≡ false = ne_eqb command.entry.code 0x20 (λ same. other (sym (found_code code device.commands command is) ∙ same)) in
-      let not_given : command.initial ≡ None = sym (none ∙ ap (option_and_then (λ (c : CommandParts). c.initial)) is) in
-      rw apart (ap (λ (initial : Option (List ℕ)). unwrap_or initial (zeros form)) not_given)
-
--- ---- the command at an index
+use Rattle.pmb_command.specs.Parts.{CommandParts, HaveOwnCodes, command_with}
 
 -- there is one
 pub some_at : {X : Type 0} (xs : List X) (i : ℕ) → i < length xs → (x : X) × (slice_get xs i ≡ Some x)

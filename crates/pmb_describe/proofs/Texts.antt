@@ -1,11 +1,10 @@
 -- Texts put together.
-use Rattle.std.proofs.Common.{◌≡◌, ◌≢◌, ◌≤◌, ◌∙◌, ℕ, ◌+◌, Option, Some, Result, Ok, Err, OnOk, List, [], ◌∷◌, ◌++◌, ap, sym, refl, append_assoc, append-nil, length, take, take_all, arith}
+use Rattle.std.proofs.Common.{◌≡◌, ◌≢◌, ◌≤◌, ◌∙◌, ℕ, ◌+◌, Option, Some, Result, Ok, Err, OnOk, List, [], ◌∷◌, ◌++◌, ap, sym, subst, refl, append_assoc, append-nil, length, take, take_all, arith}
 use Rattle.std.specs.List.{flat_map, slice_get}
 use Rattle.std.proofs.lemmas.List.{flat_map_more, length-take-le, take_more}
 use Rattle.std.proofs.lemmas.Option.{get_or_from_slice_get, slice_get_within}
 use Rattle.pmb_command.specs.Parts.{DeviceParts}
 use Rattle.pmb_io.specs.Outgoing.{PutsText}
-use Rattle.pmb_io.proofs.Writing.{writes_as}
 use Rattle.pmb_describe.specs.Table.{device_text, devices_text}
 use Rattle.pmb_describe.specs.Words.{bytes_word, digits}
 
@@ -18,9 +17,14 @@ pub on_ok : {T F P Q : Type 0} (r : Result T F) → (P → Q) → OnOk r P → O
 on_ok (Ok x) then p = then p
 on_ok (Err e) then p = tt
 
+-- and from two facts of it
+pub on_ok_both : {T F P Q R : Type 0} (r : Result T F) → (P → Q → R) → OnOk r P → OnOk r Q → OnOk r R
+on_ok_both (Ok x) join p q = join p q
+on_ok_both (Err e) join p q = tt
+
 -- the same of an equal text
 pub puts_as : (h0 h1 : Option (List ℕ)) (w0 w1 a b : List ℕ) → a ≡ b → PutsText h0 w0 h1 w1 a → PutsText h0 w0 h1 w1 b
-puts_as h0 h1 w0 w1 a b same puts = writes_as h0 h1 w0 w1 w1 a b refl same puts
+puts_as h0 h1 w0 w1 a b same puts = subst (λ (t : List ℕ). PutsText h0 w0 h1 w1 t) same puts
 
 -- some bytes are the digits of each
 pub some_bytes : (bytes : List ℕ) → bytes ≢ [] → bytes_word bytes ≡ flat_map digits bytes

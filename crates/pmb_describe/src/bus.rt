@@ -10,6 +10,7 @@ ghost use Rattle.pmb_describe.specs.Table.{bus_head, bus_text, command_row, comm
 use crate::command_row::{command_row, heading};
 use crate::device_head::{append_count, device_head};
 use crate::row::Row;
+use pmb_io::laws::texts_add_up;
 use pmb_io::{RunFault, Sink, Waiting, put, send};
 use pmb_table::laws::accepted_device;
 use pmb_table::{DeviceProfile, Profile};
@@ -24,6 +25,7 @@ pub fn describe<W: Sink>(profile: &Profile, writer: &mut W) -> Result<(), RunFau
     ensures written { OnOk result (Appends (W.told writer.old).held (W.told writer.new).held (bus_text profile.now)) }
     ensures failed { WriterTells (W.told writer.old) (W.told writer.new) result }
 {
+    texts_add_up();
     let mut waiting = Waiting::new();
     put_bus(profile, &mut waiting, writer)?;
     send(&mut waiting, writer)
@@ -38,6 +40,7 @@ fn put_bus<W: Sink>(
     ensures puts { OnOk result (PutsText (W.told writer.old).held waiting.old.items (W.told writer.new).held waiting.new.items (bus_text profile.now)) }
     ensures failed { WriterTells (W.told writer.old) (W.told writer.new) result }
 {
+    texts_add_up();
     put(waiting, bus_head(profile).as_slice(), writer)?;
     put_devices(profile, waiting, writer)
 }
@@ -60,6 +63,7 @@ fn put_devices<W: Sink>(
     ensures puts { OnOk result (PutsText (W.told writer.old).held waiting.old.items (W.told writer.new).held waiting.new.items (devices_text 0 profile.now)) }
     ensures failed { WriterTells (W.told writer.old) (W.told writer.new) result }
 {
+    texts_add_up();
     for i in 0..profile.len() {
         put_device_at(profile, i, waiting, writer)?;
     }
@@ -94,6 +98,7 @@ fn put_device<W: Sink>(
     ensures puts { OnOk result (PutsText (W.told writer.old).held waiting.old.items (W.told writer.new).held waiting.new.items (device_text place device.now)) }
     ensures failed { WriterTells (W.told writer.old) (W.told writer.new) result }
 {
+    texts_add_up();
     put(waiting, device_head(place, device).as_slice(), writer)?;
     put(waiting, heading().as_slice(), writer)?;
     put_commands(device, waiting, writer)
@@ -108,6 +113,7 @@ fn put_commands<W: Sink>(
     ensures puts { OnOk result (PutsText (W.told writer.old).held waiting.old.items (W.told writer.new).held waiting.new.items (command_table device.now device.now.commands)) }
     ensures failed { WriterTells (W.told writer.old) (W.told writer.new) result }
 {
+    texts_add_up();
     for i in 0..device.len() {
         put_command(device, i, waiting, writer)?;
     }

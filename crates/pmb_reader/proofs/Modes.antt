@@ -12,7 +12,7 @@ use Rattle.pmb_reader.specs.declared.reader.Mode.TheVariants as modes
 use Rattle.pmb_reader.specs.declared.reader.Reader.{Reader}
 use Rattle.pmb_reader.specs.declared.refusal.Refusal.{Refusal as Answered}
 use Rattle.pmb_reader.specs.Refusal.{refusal_data}
-use Rattle.pmb_reader.specs.Reader.{Standing, Open, Held, Passing, ReaderStandsAt, behind_passed}
+use Rattle.pmb_reader.specs.Reader.{Standing, Open, Held, Passing, IsBetween, ReaderStandsAt, behind_passed}
 use Rattle.pmb_reader.specs.machine.Standing.{IsMode}
 
 -- ---- counts
@@ -66,6 +66,18 @@ module _ (profile : List DeviceParts) (reader : Reader) (Holds : Standing → Ty
   while_passing mode holds (Open n events) stands = absurd (subst (λ m. IsMode m (Open n events)) mode stands.mode)
   while_passing mode holds (Held n refusal) stands = absurd (subst (λ m. IsMode m (Held n refusal)) mode stands.mode)
   while_passing mode holds (Passing n) stands = holds n stands
+
+open_here : (mode : Mode) (n : ℕ) (events : List Event) → IsMode mode (Open n events) → mode ≡ modes.Open
+open_here modes.Open n events is = refl
+open_here (modes.Held held) n events is = absurd is
+open_here modes.Passing n events is = absurd is
+
+-- a reader that reads no packet stands between none
+pub not_between : (profile : List DeviceParts) (reader : Reader) → (reader.mode ≡ modes.Open → ⊥)
+    → (standing : Standing) → ReaderStandsAt profile reader standing → IsBetween standing → ⊥
+not_between profile reader other (Open n events) stands between = other (open_here reader.mode n events stands.mode)
+not_between profile reader other (Held n refusal) stands between = between
+not_between profile reader other (Passing n) stands between = between
 
 -- ---- kinds
 

@@ -4,11 +4,11 @@
 //! up to the next STOP. The packet under way is an [`UnderWay`], which alone knows what a packet
 //! is; here events are counted and refusals are kept.
 
-ghost use Rattle.std.specs.Prelude.{◌≡◌, ◌<◌, ◌≤◌, ◌↔◌, ◌+◌, ℕ, IfSome, None, List, [], length, true};
+ghost use Rattle.std.specs.Prelude.{◌≡◌, ◌<◌, ◌≤◌, ◌↔◌, ◌+◌, ℕ, IfSome, IsSome, None, List, [], length, true};
 ghost use Rattle.pmb_bus.specs.declared.event.Event.{Event as BusEvent};
 ghost use Rattle.pmb_bus.specs.Kinds.{AreKindsOf};
 ghost use Rattle.pmb_command.specs.Parts.{DeviceParts};
-ghost use Rattle.pmb_common.specs.Common.{TakesPacket};
+ghost use Rattle.pmb_common.specs.Common.{BeginsCommon, TakesPacket};
 ghost use Rattle.pmb_transaction.specs.Capture.{MayFollow};
 ghost use Rattle.pmb_transaction.specs.Reading.{RefusedAt};
 ghost use Rattle.pmb_transaction.specs.Transaction.{transaction_data};
@@ -159,7 +159,8 @@ impl<'p> Reader<'p> {
     }
 
     /// Takes the common packet at the front of a text whole, between two packets. It returns `None`
-    /// where none lies there, and stands where it stood.
+    /// where none lies there and where it doesn't stand between two packets, and stands where it
+    /// stood.
     #[inline(always)]
     pub fn take_common(&mut self, common: &mut Common, text: &[u8]) -> Option<Taken>
         ensures takes { (profile : List DeviceParts) (n : ℕ) → ReaderStandsAt profile self.old (Open n [])
@@ -170,7 +171,16 @@ impl<'p> Reader<'p> {
             → IfSome result (λ taken. ReaderStandsAt profile self.new (Open (n + taken.events) [])) }
         ensures same { (profile : List DeviceParts) (n : ℕ) → ReaderStandsAt profile self.old (Open n []) → result ≡ None
             → ReaderStandsAt profile self.new (Open n []) }
+
+        // Between two packets a common packet that lies whole in front is taken.
+        ensures answers { (profile : List DeviceParts) (standing : Standing) → ReaderStandsAt profile self.old standing
+            → (IsSome result ↔ (IsBetween standing × BeginsCommon profile text.now)) }
+        ensures elsewhere { (profile : List DeviceParts) (standing : Standing) → ReaderStandsAt profile self.old standing
+            → ¬ (IsBetween standing) → self.new ≡ self.old }
     {
+        let Mode::Open = self.mode else {
+            return None;
+        };
         let taken = self.under_way.take_common(common, text)?;
         self.used = self.used.saturating_add(taken.events as u64);
         Some(taken)

@@ -43,8 +43,9 @@ fn list_of(bytes: &[u8]) -> ArrayVec<u8, 255>
     list
 }
 
-/// What the register of a code holds at first, in its form.
-fn first_bytes(device: &DeviceProfile, code: u8, form: Form) -> ArrayVec<u8, 255>
+/// What the register of a code holds at first, in its form: VOUT_MODE the device's mode, any other
+/// what the profile says, or zeros.
+pub fn first_bytes(device: &DeviceProfile, code: u8, form: Form) -> ArrayVec<u8, 255>
     ensures { (command : CommandParts) → command_with code device.now.commands ≡ Some command → result.items ≡ first_bytes device.now command form }
 {
     if code == VOUT_MODE {

@@ -15,7 +15,7 @@ use pmb_table::DeviceProfile;
 use pmb_table::laws::accepted_device;
 
 /// The form of a command's register, where it has one: it is read, or written with data.
-pub(crate) fn register_form(shape: Shape) -> Option<Form>
+pub fn register_form(shape: Shape) -> Option<Form>
     ensures { result ≡ register_form shape }
 {
     let form = if shape.read.is_some() {

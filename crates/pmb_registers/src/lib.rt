@@ -25,5 +25,7 @@ mod registers;
 mod reply;
 
 pub use cml_bit::CmlBit;
+pub use first::first_bytes;
+pub use forms::register_form;
 pub use registers::Registers;
 pub use reply::Reply;

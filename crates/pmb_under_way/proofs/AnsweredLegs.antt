@@ -12,6 +12,7 @@ use Rattle.pmb_command.specs.Wire.{IsByte, Fits, wire}
 use Rattle.pmb_transaction.specs.Body.{checked, ReadBody, CallBody}
 use Rattle.pmb_transaction.specs.Packet.{leg}
 use Rattle.pmb_transaction.specs.Transaction.{PartData, Refused}
+use Rattle.pmb_transaction.specs.Capture.{MayFollow}
 use Rattle.pmb_transaction.specs.Following.{BeginsAnswer, IsAlertAnswer, IsInsideAnswer}
 use Rattle.pmb_transaction.specs.Viable.{IsAnswer}
 use Rattle.pmb_leg.specs.declared.place.LegPlace.TheVariants.{First}
@@ -93,6 +94,24 @@ answer_law profile bus u sources.Alert front addr bytes Holds Says said same dev
     let spelled = subst (λ (es : List Event). Holds (es ++ leg (read_address addr ∷ bytes)) ↔ Says IsAlertAnswer said) (sym asked.0) addressed in
     let one = same (IsReply u.answer.expected) IsAlertAnswer answers.answers in
     (λ follows. one.1 (spelled.0 follows), λ so. spelled.1 (one.0 so))
+
+-- What may follow after a byte of an answer of either source, by the bytes so far.
+pub answer_byte_law : (profile : List DeviceParts) → IsBus profile → (u : UnderWay) (source : Source) (events : List Event) (event : Event)
+    (Says : (List ℕ → Type 0) → List ℕ → Type 0)
+    → ((A B : List ℕ → Type 0) → ((all : List ℕ) → (A all ↔ B all)) → (said : List ℕ) → (Says A said ↔ Says B said))
+    → ((addr : ℕ) (device : DeviceParts) (body bytes : List ℕ) (byte : ℕ) → IsBus profile → device_with addr profile ≡ Some device
+    → (MayFollow profile ((leg (write_address addr ∷ body) ++ leg (read_address addr ∷ bytes)) ++ Byte byte ∷ []) event ↔ Says (IsAnswer device addr body) (bytes ++ byte ∷ [])))
+    → ((bytes : List ℕ) (byte : ℕ) → IsBus profile
+    → (MayFollow profile (leg (read_address alert_address ∷ bytes) ++ Byte byte ∷ []) event ↔ Says IsAlertAnswer (bytes ++ byte ∷ [])))
+    → BehindAnswerByte profile u source events → (MayFollow profile events event ↔ Says (IsReply u.answer.expected) u.answer.bytes)
+answer_byte_law profile bus u source events event Says same reply_law alert_law at =
+    let law =
+    answer_law profile bus u source at.front at.addr at.bytes (λ (es : List Event). MayFollow profile (es ++ Byte at.byte ∷ []) event) Says (at.bytes ++ at.byte ∷ [])
+    (λ A B all. same A B all (at.bytes ++ at.byte ∷ []))
+    (λ addr device body. reply_law addr device body at.bytes at.byte) (alert_law at.bytes at.byte bus) at.asked at.answers in (
+      λ follows. subst (λ (bs : List ℕ). Says (IsReply u.answer.expected) bs) (sym at.last) (law.0 (subst (λ (es : List Event). MayFollow profile es event) at.spelled follows)),
+      λ so. subst (λ (es : List Event). MayFollow profile es event) (sym at.spelled) (law.1 (subst (λ (bs : List ℕ). Says (IsReply u.answer.expected) bs) at.last so)),
+    )
 
 -- an event that is no byte
 pub in_answer_ends : (profile : List DeviceParts) (u : UnderWay) (source : Source) (events : List Event) (at : InAnswer profile u source events)

@@ -24,3 +24,16 @@ some_events profile u (ReadAddress source) events other here none = not_none her
 some_events profile u (Answer source) events other here none = not_none here.front _ _ (sym here.spelled ∙ none)
 some_events profile u (AnswerByte source) events other here none = not_none _ _ _ (sym here.spelled ∙ none)
 some_events profile u End events other here none = not_none here.front _ _ (sym here.spelled ∙ none)
+
+-- so where none came it is the place between packets
+pub at_none : (profile : List DeviceParts) (u : UnderWay) (place : Place) → IsPacketPlace place profile u [] → place ≡ Between
+at_none profile u Between here = refl
+at_none profile u Start here = absurd (some_events profile u Start [] (λ same. cc same) here refl)
+at_none profile u (Address addr) here = absurd (some_events profile u (Address addr) [] (λ same. cc same) here refl)
+at_none profile u Leg here = absurd (some_events profile u Leg [] (λ same. cc same) here refl)
+at_none profile u (LegByte byte) here = absurd (some_events profile u (LegByte byte) [] (λ same. cc same) here refl)
+at_none profile u Restart here = absurd (some_events profile u Restart [] (λ same. cc same) here refl)
+at_none profile u (ReadAddress source) here = absurd (some_events profile u (ReadAddress source) [] (λ same. cc same) here refl)
+at_none profile u (Answer source) here = absurd (some_events profile u (Answer source) [] (λ same. cc same) here refl)
+at_none profile u (AnswerByte source) here = absurd (some_events profile u (AnswerByte source) [] (λ same. cc same) here refl)
+at_none profile u End here = absurd (some_events profile u End [] (λ same. cc same) here refl)

@@ -8,3 +8,5 @@ pub mod Reasons
 pub mod Expected
 pub mod OneKind
 pub mod NoAnswers
+pub mod Wholes
+pub mod Turns

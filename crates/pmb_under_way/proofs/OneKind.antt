@@ -1,11 +1,20 @@
 -- The kind that alone may follow.
-use Rattle.std.proofs.Common.{◌≡◌, true, List, refl, sym, ap, subst, ◌∙◌, arith}
+use Rattle.std.proofs.Common.{◌≡◌, ℕ, ◌⊎◌, inl, inr, true, List, [], ◌∷◌, ◌++◌, refl, sym, ap, subst, ◌∙◌, arith}
 use Rattle.pmb_bus.specs.declared.event.Event.{Event}
 use Rattle.pmb_bus.specs.declared.event.Event.TheVariants.{Start, Byte, Ack, Nack, Stop}
+use Rattle.pmb_bus.specs.Address.{read_address}
 use Rattle.pmb_bus.specs.Kinds.{AreKindsOf, holds, kind_of}
+use Rattle.pmb_command.specs.Bus.{IsBus}
 use Rattle.pmb_command.specs.Parts.{DeviceParts}
+use Rattle.pmb_transaction.specs.Packet.{leg}
 use Rattle.pmb_transaction.specs.Capture.{MayFollow}
 use Rattle.pmb_transaction.specs.Turns.{is_byte, is_stop}
+use Rattle.pmb_under_way.specs.declared.under_way.Source.{Source}
+use Rattle.pmb_under_way.specs.declared.under_way.Place.{Place}
+use Rattle.pmb_under_way.specs.declared.under_way.Place.TheVariants as places
+use Rattle.pmb_under_way.specs.declared.under_way.UnderWay.{UnderWay}
+use Rattle.pmb_under_way.specs.machine.UnderWay.{IsPacketPlace}
+use Rattle.pmb_under_way.proofs.Steps.{TakeTurns}
 
 module _ (profile : List DeviceParts) (events : List Event) (some : (event : Event) × MayFollow profile events event) where
   byte_kind : (event : Event) → is_byte event ≡ true → kind_of event ≡ 2
@@ -77,3 +86,29 @@ module _ (profile : List DeviceParts) (events : List Event) (some : (event : Eve
     each = λ event follows. subst (λ (e : Event). holds (record { 0 = 1 }) e ≡ true) (sym (turn event follows)) refl;
     only = λ event held. (some.0, ap (λ (e : Event). kind_of e) (turn some.0 some.1) ∙ start_held event held, some.1);
   }
+
+-- ---- places after which a byte alone may follow
+
+-- after START, and in a leg that is read after ACK
+abbrev pub IsBeforeByte : Place → Type 0
+IsBeforeByte place = (place ≡ places.Start) ⊎ ((place ≡ places.Restart) ⊎ ((s : Source) × (place ≡ places.Answer s)))
+
+pub not_between : (place : Place) → IsBeforeByte place → place ≡ places.Between → ⊥
+not_between place (inl is) between = cc (is, between)
+not_between place (inr (inl is)) between = cc (is, between)
+not_between place (inr (inr is)) between = let at = is.1 in cc (at, between)
+
+pub bytes_alone_here : (turns : TakeTurns) (profile : List DeviceParts) → IsBus profile
+    → ((front : List Event) (addr : ℕ) (bytes : List ℕ) (event : Event) → IsBus profile → MayFollow profile (front ++ leg (read_address addr ∷ bytes)) event
+    → is_byte event ≡ true)
+    → (u : UnderWay) (place : Place) (events : List Event) → IsBeforeByte place → IsPacketPlace place profile u events
+    → (event : Event) → MayFollow profile events event → is_byte event ≡ true
+bytes_alone_here turns profile bus answers u place events (inl is) at event follows =
+    let here : IsPacketPlace places.Start profile u events = subst (λ (p : Place). IsPacketPlace p profile u events) is at in
+    turns profile [] Start event (subst (λ (es : List Event). MayFollow profile es event) here.0 follows)
+bytes_alone_here turns profile bus answers u place events (inr (inl is)) at event follows =
+    let here : IsPacketPlace places.Restart profile u events = subst (λ (p : Place). IsPacketPlace p profile u events) is at in
+    turns profile here.front Start event (subst (λ (es : List Event). MayFollow profile es event) here.spelled follows)
+bytes_alone_here turns profile bus answers u place events (inr (inr is)) at event follows =
+    let here : IsPacketPlace (places.Answer is.0) profile u events = subst (λ (p : Place). IsPacketPlace p profile u events) is.1 at in
+    answers here.front here.addr u.answer.bytes event bus (subst (λ (es : List Event). MayFollow profile es event) here.spelled follows)

@@ -2,16 +2,16 @@
 use Rattle.std.proofs.Common.{◌≡◌, ◌≢◌, ℕ, ◌⊎◌, inl, inr, true, false, List, [], ◌∷◌, ◌++◌, refl, sym, ap, subst, ◌∙◌, append_assoc}
 use Rattle.pmb_bus.specs.declared.event.Event.{Event}
 use Rattle.pmb_bus.specs.declared.event.Event.TheVariants.{Start, Byte, Ack, Nack, Stop}
+use Rattle.pmb_command.specs.Bus.{IsBus}
 use Rattle.pmb_command.specs.Parts.{DeviceParts}
-use Rattle.pmb_transaction.specs.Transaction.{TransactionData}
 use Rattle.pmb_transaction.specs.Packet.{Packet, acked, leg}
-use Rattle.pmb_transaction.specs.Capture.{MayFollow}
+use Rattle.pmb_transaction.specs.Capture.{IsPacket, MayFollow}
 use Rattle.pmb_transaction.specs.Reading.{IsUnderWay}
 use Rattle.pmb_transaction.specs.Turns.{is_answer, is_byte, is_no_answer, is_stop, stands_behind}
 use Rattle.pmb_under_way.specs.declared.under_way.Place.{Place}
 use Rattle.pmb_under_way.specs.declared.under_way.Place.TheVariants as places
 use Rattle.pmb_under_way.specs.declared.under_way.UnderWay.{UnderWay}
-use Rattle.pmb_under_way.specs.machine.UnderWay.{IsPacketPlace, StandsIn}
+use Rattle.pmb_under_way.specs.machine.UnderWay.{GoesOn, IsPacketPlace, StandsIn}
 
 no_front : (front rest : List Event) → [] ≡ front ++ rest → front ≡ []
 no_front [] rest split = refl
@@ -22,34 +22,42 @@ pub at_place : (profile : List DeviceParts) (u : UnderWay) (events : List Event)
     → IsPacketPlace place profile u events
 at_place profile u events place is stands = subst (λ (p : Place). IsPacketPlace p profile u events) is stands.place
 
--- an event that may follow leads on
-pub moves_on : (profile : List DeviceParts) (events : List Event) (event : Event) (after : UnderWay)
-    → ((profile : List DeviceParts) (events : List Event) (event : Event) → MayFollow profile events event → event ≢ Stop
-    → IsUnderWay profile (events ++ event ∷ []))
-    → after.profile.now ≡ profile → MayFollow profile events event → event ≢ Stop → IsPacketPlace after.place profile after (events ++ event ∷ [])
-    → StandsIn profile after (events ++ event ∷ [])
-moves_on profile events event after go known follows other place =
-    record { known = known; goes = go profile events event follows other; place = place }
+-- An event that may follow leads to a place.
+pub moves_on : (profile : List DeviceParts) (events : List Event) (event : Event) (after : UnderWay) → after.profile.now ≡ profile → IsBus profile
+    → MayFollow profile events event → event ≢ Stop → IsPacketPlace after.place profile after (events ++ event ∷ []) → GoesOn profile events event after
+moves_on profile events event after known bus follows other place =
+    record { known = known; bus = bus; follows = follows; no_stop = other; place = place }
 
 -- It leads to a place, where nothing else changes.
-pub moves_to : (profile : List DeviceParts) (u : UnderWay) (place : Place) (events : List Event) (event : Event)
-    → ((profile : List DeviceParts) (events : List Event) (event : Event) → MayFollow profile events event → event ≢ Stop
-    → IsUnderWay profile (events ++ event ∷ []))
-    → u.profile.now ≡ profile → MayFollow profile events event → event ≢ Stop
-    → IsPacketPlace place profile (record u { place = place }) (events ++ event ∷ [])
-    → StandsIn profile (record u { place = place }) (events ++ event ∷ [])
-moves_to profile u place events event go known follows other here =
-    moves_on profile events event (record u { place = place }) go known follows other here
+pub moves_to : (profile : List DeviceParts) (u : UnderWay) (place : Place) (events : List Event) (event : Event) → u.profile.now ≡ profile → IsBus profile
+    → MayFollow profile events event → event ≢ Stop → IsPacketPlace place profile (record u { place = place }) (events ++ event ∷ [])
+    → GoesOn profile events event (record u { place = place })
+moves_to profile u place events event known bus follows other here =
+    moves_on profile events event (record u { place = place }) known bus follows other here
+
+-- NACK leads to the end of a packet.
+pub moves_to_end : (profile : List DeviceParts) (events : List Event) (after : UnderWay) → after.profile.now ≡ profile → IsBus profile
+    → after.place ≡ places.End → MayFollow profile events Nack → Packet profile after.kept.last ((events ++ Nack ∷ []) ++ Stop ∷ [])
+    → GoesOn profile events Nack after
+moves_to_end profile events after known bus at follows packet =
+    moves_on profile events Nack after known bus follows (λ e. cc e)
+    (subst (λ (p : Place). IsPacketPlace p profile after (events ++ Nack ∷ [])) (sym at) (record { front = events; spelled = refl; packet = packet }))
 
 -- Between packets no event is under way.
-pub restarts : (profile : List DeviceParts) (u : UnderWay)
-    → ((profile : List DeviceParts) (t : TransactionData) (events : List Event) → Packet profile t events → events ≢ []) → u.profile.now ≡ profile
+pub between_packets : (profile : List DeviceParts) (u : UnderWay) → (IsPacket profile [] → ⊥) → u.profile.now ≡ profile → IsBus profile
     → u.place ≡ places.Between → StandsIn profile u []
-restarts profile u some known between = record {
+between_packets profile u none known bus between = record {
   known = known;
-  goes = record { viable = inl refl; no_packet = λ front rest split packet. some profile packet.0 front packet.1 (no_front front rest split) };
+  bus = bus;
+  goes = record { viable = inl refl; no_packet = λ front rest split packet. none (subst (IsPacket profile) (no_front front rest split) packet) };
   place = subst (λ (p : Place). IsPacketPlace p profile u []) (sym between) refl;
 }
+
+-- It stands there again, whichever events were under way.
+pub restarts : (profile : List DeviceParts) (u after : UnderWay) (events : List Event) → StandsIn profile u events → after.profile.now ≡ profile
+    → after.place ≡ places.Between → StandsIn profile after []
+restarts profile u after events stands known between =
+    between_packets profile after (stands.goes.no_packet [] events refl) known stands.bus between
 
 -- a byte is no STOP
 pub byte_is_no_stop : (event : Event) (byte : ℕ) → event ≡ Byte byte → event ≢ Stop

@@ -135,6 +135,11 @@ module _ (profile : List DeviceParts) (bus : IsBus profile) (kept : KeptData) (w
       (sym (is ∙ ap (λ (es : List Event). es ++ more) at.spelled))
       (law parts at.legs written.device.address written.device written.bytes bus at.has.few at.has.distinct at.has.each at.another at.known)
 
+  -- after START, a byte
+  pub restart_law : (events : List Event) (byte : ℕ) → LegLaw profile (Start ∷ []) (Byte byte) (λ device others addr bytes. IsNextAddress device others addr bytes byte)
+      → events ≡ front ++ Start ∷ [] → (MayFollow profile events (Byte byte) ↔ IsNextAddress written.device parts written.device.address written.bytes byte)
+  restart_law events byte law is = tail_law (Start ∷ []) events (Byte byte) (λ device others addr bytes. IsNextAddress device others addr bytes byte) law is
+
 -- ---- the leg that is kept is one
 
 pub same_leg : (u : UnderWay) (a b : Written) → u.leg ≡ Some a → u.leg ≡ Some b → a ≡ b

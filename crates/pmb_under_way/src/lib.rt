@@ -12,11 +12,12 @@
 //! ```
 #![tactic(auto)]
 
-mod answering;
-mod expecting;
+mod kinds;
 pub mod laws;
 mod legs;
+mod read_leg;
+mod reason;
 mod under_way;
-mod writing;
+mod written_leg;
 
 pub use under_way::{Move, UnderWay};

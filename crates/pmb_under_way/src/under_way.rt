@@ -1,23 +1,26 @@
 //! The packet under way.
 //!
 //! [`Place`] says where its events end. What each place says of the events, of the leg under way
-//! and of the answer under way stands in `specs/machine/UnderWay`; a new place needs its line
-//! there, its arm in `step_by_place`, in `expected`, and in the three functions that tell reasons.
+//! and of the answer under way stands in `specs/machine/UnderWay`. A new place needs its lines there,
+//! in `IsPacketPlace` and `has_turn`, and its arm in `step_by_place`, in `expected`, and in the three
+//! functions that tell reasons.
 
-ghost use Rattle.std.specs.Prelude.{◌≡◌, ◌<◌, ◌≤◌, ◌↔◌, IfSome, true, List, [], length};
+ghost use Rattle.std.specs.Prelude.{◌≡◌, ◌≢◌, ◌<◌, ◌≤◌, ◌↔◌, IfSome, IsSome, true, List, [], length};
 ghost use Rattle.pmb_bus.specs.declared.event.Event.{Event as BusEvent};
 ghost use Rattle.pmb_command.specs.Parts.{DeviceParts};
-ghost use Rattle.pmb_common.specs.Common.{TakesPacket};
+ghost use Rattle.pmb_common.specs.Common.{BeginsCommon, TakesPacket};
 ghost use Rattle.pmb_transaction.specs.Transaction.{transaction_data};
 ghost use Rattle.pmb_under_way.specs.UnderWay.{Moves, StandsIn, packet_of};
+ghost use Rattle.pmb_under_way.specs.machine.UnderWay.{Steps};
 
 use pmb_bus::Event;
 use pmb_common::{Common, Taken};
 use pmb_kept::Kept;
 use pmb_leg::{Answer, WrittenLeg};
 use pmb_table::Profile;
+use pmb_table::laws::accepted_bus;
 use pmb_transaction::Transaction;
-use pmb_transaction::laws::packet_is_not_empty;
+use pmb_transaction::laws::{events_take_turns, packet_is_not_empty, packets_go_on};
 
 /// What an event does to the packet under way.
 #[derive(Clone, Copy, Debug, PartialEq, Eq)]
@@ -81,6 +84,7 @@ impl<'p> UnderWay<'p> {
     pub fn new(profile: &'p Profile) -> Self
         ensures { StandsIn profile.now result [] }
     {
+        accepted_bus(profile);
         packet_is_not_empty();
         UnderWay {
             profile,
@@ -105,7 +109,6 @@ impl<'p> UnderWay<'p> {
         ensures { (profile : List DeviceParts) (events : List BusEvent) → StandsIn profile self.old events
             → StandsIn profile self.new [] }
     {
-        packet_is_not_empty();
         self.place = Place::Between;
     }
 
@@ -133,13 +136,11 @@ impl<'p> UnderWay<'p> {
         ensures read { transaction_data result ≡ packet_of self.old }
         ensures stands { (profile : List DeviceParts) → StandsIn profile self.old [] → StandsIn profile self.new [] }
     {
-        packet_is_not_empty();
-        self.place = Place::Between;
         self.kept.take_last()
     }
 
     /// Takes the common packet at the front of a text whole, between packets. It returns `None`
-    /// where none lies there.
+    /// where none lies there, and inside a packet, which stays as it is.
     #[inline(always)]
     pub fn take_common(&mut self, common: &mut Common, text: &[u8]) -> Option<Taken>
         ensures takes { (profile : List DeviceParts) → StandsIn profile self.old []
@@ -147,9 +148,16 @@ impl<'p> UnderWay<'p> {
         ensures some { IfSome result (λ taken. 0 < taken.used) }
         ensures within { IfSome result (λ taken. taken.used ≤ length text.now) }
         ensures stands { (profile : List DeviceParts) → StandsIn profile self.old [] → StandsIn profile self.new [] }
+
+        // Between packets a common packet that lies whole in front is taken.
+        ensures answers { (profile : List DeviceParts) (events : List BusEvent) → StandsIn profile self.old events
+            → (IsSome result ↔ ((events ≡ []) × BeginsCommon profile text.now)) }
+        ensures inside { (profile : List DeviceParts) (events : List BusEvent) → StandsIn profile self.old events
+            → events ≢ [] → self.new ≡ self.old }
     {
-        packet_is_not_empty();
-        self.place = Place::Between;
+        let Place::Between = self.place else {
+            return None;
+        };
         common.take(&mut self.kept, self.profile, text)
     }
 
@@ -161,6 +169,8 @@ impl<'p> UnderWay<'p> {
         ensures { (profile : List DeviceParts) (events : List BusEvent) → StandsIn profile self.old events
             → Moves profile self.old events event result self.new }
     {
+        packets_go_on();
+        events_take_turns();
         match event {
             Event::Byte(byte) => match self.place {
                 Place::Leg => self.send_byte(byte),
@@ -180,7 +190,7 @@ impl<'p> UnderWay<'p> {
     #[inline(never)]
     fn step_by_place(&mut self, event: Event) -> Move
         ensures { (profile : List DeviceParts) (events : List BusEvent) → StandsIn profile self.old events
-            → Moves profile self.old events event result self.new }
+            → Steps profile self.old events event result self.new }
     {
         match self.place {
             Place::Between => self.begin(event),

@@ -1,20 +1,27 @@
 -- Where the packet under way stands, by what is kept of it.
-use Rattle.std.specs.Prelude.{◌≡◌, ℕ, ◌<◌, ◌≤◌, ◌↔◌, Bool, Some, List, [], ◌∷◌, ◌++◌, length, nat_eq}
+use Rattle.std.specs.Prelude.{◌≡◌, ◌≢◌, ℕ, ◌<◌, ◌≤◌, ◌↔◌, Bool, true, Some, List, [], ◌∷◌, ◌++◌, length, nat_eq}
 use Rattle.std.specs.List.{IsDistinct}
 use Rattle.pmb_bus.specs.declared.event.Event.{Event}
 use Rattle.pmb_bus.specs.declared.event.Event.TheVariants.{Start, Byte, Nack, Stop}
+use Rattle.pmb_bus.specs.declared.kinds.Kinds.{Kinds}
+use Rattle.pmb_bus.specs.Kinds.{AreKindsOf}
 use Rattle.pmb_bus.specs.Address.{write_address, read_address, alert_address}
+use Rattle.pmb_command.specs.Bus.{IsBus}
 use Rattle.pmb_command.specs.Parts.{DeviceParts, IsNew, device_with}
 use Rattle.pmb_command.specs.Wire.{IsByte}
 use Rattle.pmb_transaction.specs.Transaction.{PartData, TransactionData}
 use Rattle.pmb_transaction.specs.Body.{WriteBody, IsWriteBody}
 use Rattle.pmb_transaction.specs.Packet.{Packet, PartsEvents, addresses, leg}
+use Rattle.pmb_transaction.specs.Capture.{MayFollow}
 use Rattle.pmb_transaction.specs.Viable.{IsAnswer, IsInsideBody}
 use Rattle.pmb_transaction.specs.Following.{IsAlertAnswer}
 use Rattle.pmb_transaction.specs.Reading.{IsUnderWay}
+use Rattle.pmb_transaction.specs.Turns.{is_answer, is_byte, is_no_answer, is_stop}
 use Rattle.pmb_leg.specs.declared.place.LegPlace.TheVariants.{First}
 use Rattle.pmb_leg.specs.Leg.{Written, IsRequest, place_of}
 use Rattle.pmb_leg.specs.Reply.{IsReply, SaysAlert, SaysAnswer, SaysReply}
+use Rattle.pmb_under_way.specs.declared.under_way.Move.{Move}
+use Rattle.pmb_under_way.specs.declared.under_way.Move.TheVariants as moves
 use Rattle.pmb_under_way.specs.declared.under_way.Source.{Source}
 use Rattle.pmb_under_way.specs.declared.under_way.Source.TheVariants as sources
 use Rattle.pmb_under_way.specs.declared.under_way.Place.{Place}
@@ -158,15 +165,57 @@ IsPacketPlace (places.Answer source) profile u events = InAnswer profile u sourc
 IsPacketPlace (places.AnswerByte source) profile u events = BehindAnswerByte profile u source events
 IsPacketPlace places.End profile u events = AtEnd profile u events
 
--- The events are those of the packet under way.
+-- The events are those of the packet under way. Its profile was accepted.
 pub record StandsIn (profile : List DeviceParts) (u : UnderWay) (events : List Event) : Type 0 where
   pub known : u.profile.now ≡ profile
+  pub bus : IsBus profile
   pub goes : IsUnderWay profile events
   pub place : IsPacketPlace u.place profile u events
 
 -- the transaction whose packet ended last
 abbrev pub packet_of : UnderWay → TransactionData
 packet_of u = u.kept.last
+
+-- ---- one event more
+
+-- The packet goes on with an event, and this is its place then.
+pub record GoesOn (profile : List DeviceParts) (events : List Event) (event : Event) (after : UnderWay) : Type 0 where
+  pub known : after.profile.now ≡ profile
+  pub bus : IsBus profile
+  pub follows : MayFollow profile events event
+  pub no_stop : event ≢ Stop
+  pub place : IsPacketPlace after.place profile after (events ++ event ∷ [])
+
+-- whether an event has its turn at a place: after START a byte, after a byte its answer, after ACK
+-- what is no answer, after NACK STOP
+abbrev pub has_turn : Place → Event → Bool
+has_turn places.Between event = true
+has_turn places.Start event = is_byte event
+has_turn (places.Address addr) event = is_answer event
+has_turn places.Leg event = is_no_answer event
+has_turn (places.LegByte byte) event = is_answer event
+has_turn places.Restart event = is_byte event
+has_turn (places.ReadAddress source) event = is_answer event
+has_turn (places.Answer source) event = is_no_answer event
+has_turn (places.AnswerByte source) event = is_answer event
+has_turn places.End event = is_stop event
+
+-- What an event comes to at a place. `UnderWay.step` says the same by `Moves`: where the packet goes
+-- on, it is still under way, and an event that has no turn may not follow.
+abbrev pub Steps : List DeviceParts → UnderWay → List Event → Event → Move → UnderWay → Type 0
+Steps profile before events event moves.On after = GoesOn profile events event after
+Steps profile before events event moves.Packet after = Packet profile (packet_of after) (events ++ event ∷ []) × StandsIn profile after []
+Steps profile before events event moves.No after = (has_turn before.place event ≡ true → MayFollow profile events event → ⊥) × (after ≡ before)
+
+-- so it is where the packet stands at a place
+abbrev pub StepsAt : Place → UnderWay → Event → Move → UnderWay → Type 0
+StepsAt place before event move after = (profile : List DeviceParts) (events : List Event) → before.place ≡ place → StandsIn profile before events
+    → Steps profile before events event move after
+
+-- the kinds of the events that may follow there
+abbrev pub ExpectsAt : Place → UnderWay → Kinds → Type 0
+ExpectsAt place u kinds = (profile : List DeviceParts) (events : List Event) → u.place ≡ place → StandsIn profile u events
+    → AreKindsOf (MayFollow profile events) kinds
 
 -- ---- one part more
 

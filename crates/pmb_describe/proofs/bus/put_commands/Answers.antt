@@ -1,12 +1,11 @@
 use Rattle.std.proofs.Common.{◌∙◌, ◌≤◌, ◌<◌, length, take, ap, refl, arith}
-use Rattle.pmb_io.proofs.Writing.{writes_nothing, writes_then}
 use Rattle.pmb_describe.specs.Table.{command_row, command_table}
 use Rattle.pmb_describe.proofs.Commands.{some_at}
 use Rattle.pmb_describe.proofs.Texts.{all_taken, puts_as, text_more}
 use Rattle.pmb_describe.proofs.bus.put_commands.Goals as goal
 
 pub loop-i-init : goal.loop-i-init
-loop-i-init g c = record { put = writes_nothing _ _; failures = refl }
+loop-i-init g c = record { put = c.texts_add_up.ensures.nothing _ _; failures = refl }
 
 pub loop-i-preserved : goal.loop-i-preserved
 loop-i-preserved g c =
@@ -17,7 +16,7 @@ loop-i-preserved g c =
     let row = command_row device one.0 in
     record {
       put = puts_as _ _ _ _ _ _ (text_more (command_row device) device.commands i one.0 one.1)
-          (writes_then (g.W.Sink.told c.args.writer.now).held (g.W.Sink.told c.loop-i.writer).held (g.W.Sink.told c.put_command.new.writer).held c.args.waiting.now.items c.loop-i.waiting.items c.put_command.new.waiting.items
+          (c.texts_add_up.ensures.both (g.W.Sink.told c.args.writer.now).held (g.W.Sink.told c.loop-i.writer).held (g.W.Sink.told c.put_command.new.writer).held c.args.waiting.now.items c.loop-i.waiting.items c.put_command.new.waiting.items
           (command_table device (take i device.commands)) row c.loop-i.invariant.put (c.in_ok-put_command.ensures.puts one.0 one.1));
       failures = c.in_ok-put_command.ensures.failed ∙ c.loop-i.invariant.failures;
     }

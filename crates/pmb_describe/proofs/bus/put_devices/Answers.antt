@@ -1,12 +1,11 @@
 use Rattle.std.proofs.Common.{◌∙◌, ◌≤◌, ◌<◌, length, take, ap, refl, arith}
-use Rattle.pmb_io.proofs.Writing.{writes_nothing, writes_then}
 use Rattle.pmb_describe.specs.Table.{device_text, devices_text}
 use Rattle.pmb_describe.proofs.Commands.{some_at}
 use Rattle.pmb_describe.proofs.Texts.{all_taken, device_more, puts_as}
 use Rattle.pmb_describe.proofs.bus.put_devices.Goals as goal
 
 pub loop-i-init : goal.loop-i-init
-loop-i-init g c = record { put = writes_nothing _ _; failures = refl }
+loop-i-init g c = record { put = c.texts_add_up.ensures.nothing _ _; failures = refl }
 
 pub loop-i-preserved : goal.loop-i-preserved
 loop-i-preserved g c =
@@ -16,7 +15,7 @@ loop-i-preserved g c =
     let one = some_at bus i within in
     record {
       put = puts_as _ _ _ _ _ _ (device_more bus i one.0 one.1)
-          (writes_then (g.W.Sink.told c.args.writer.now).held (g.W.Sink.told c.loop-i.writer).held (g.W.Sink.told c.put_device_at.new.writer).held c.args.waiting.now.items c.loop-i.waiting.items c.put_device_at.new.waiting.items
+          (c.texts_add_up.ensures.both (g.W.Sink.told c.args.writer.now).held (g.W.Sink.told c.loop-i.writer).held (g.W.Sink.told c.put_device_at.new.writer).held c.args.waiting.now.items c.loop-i.waiting.items c.put_device_at.new.waiting.items
           (devices_text 0 (take i bus)) (device_text i one.0) c.loop-i.invariant.put (c.in_ok-put_device_at.ensures.puts one.0 one.1));
       failures = c.in_ok-put_device_at.ensures.failed ∙ c.loop-i.invariant.failures;
     }

@@ -1,9 +1,8 @@
-use Rattle.std.proofs.Common.{◌≡◌, [], refl, sym, subst, ◌∙◌}
+use Rattle.std.proofs.Common.{refl, ◌∙◌}
 use Rattle.std.proofs.lemmas.Result.{err_from_is_err_and}
-use Rattle.pmb_line.specs.Left.{end, words_left}
 use Rattle.pmb_request.specs.declared.verb.Verb.TheVariants.{Call}
 use Rattle.pmb_request.specs.Spelling.{Ask, to_call}
-use Rattle.pmb_request.specs.machine.Reading.{StandsAt, behind, command_with}
+use Rattle.pmb_request.specs.machine.Reading.{command_with}
 use Rattle.pmb_request.proofs.Standing.{no_bytes_yet, of_the_line}
 use Rattle.pmb_request.proofs.request_line.parse_call.Goals as goal
 

@@ -1,4 +1,4 @@
-use Rattle.std.proofs.Common.{refl, subst}
+use Rattle.std.proofs.Common.{refl}
 use Rattle.std.proofs.lemmas.Result.{err_from_is_err_and}
 use Rattle.pmb_line.specs.Left.{words_left}
 use Rattle.pmb_request.specs.declared.verb.Verb.TheVariants.{Read}

@@ -1,5 +1,4 @@
 use Rattle.std.proofs.Common.{◌≡◌, ◌∷◌, sym, subst, ◌∙◌}
-use Rattle.pmb_note.specs.Context.{mode}
 use Rattle.pmb_line.specs.Left.{end, text_word, words_left}
 use Rattle.pmb_line.specs.Words.{line_words}
 use Rattle.pmb_request.specs.RequestFault.{IsRequestFault}

@@ -1,6 +1,6 @@
-use Rattle.std.proofs.Common.{◌≡◌, refl, sym, ap, subst, ◌∙◌}
+use Rattle.std.proofs.Common.{refl, sym, ap, ◌∙◌}
 use Rattle.std.proofs.lemmas.Result.{err_from_is_err_and}
-use Rattle.pmb_line.specs.Left.{end, words_left}
+use Rattle.pmb_line.specs.Left.{words_left}
 use Rattle.pmb_request.specs.declared.verb.Verb.TheVariants as verb
 use Rattle.pmb_request.specs.Request.{Set}
 use Rattle.pmb_request.specs.Spelling.{Ask, to_set}

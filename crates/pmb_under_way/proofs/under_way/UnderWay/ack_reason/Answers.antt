@@ -1,11 +1,9 @@
-use Rattle.std.proofs.Common.{subst}
-use Rattle.pmb_command.specs.Bus.{IsBus}
 use Rattle.pmb_under_way.proofs.Reasons.{ack_elsewhere, plain_here}
 use Rattle.pmb_under_way.proofs.under_way.UnderWay.ack_reason.Goals as goal
 
 pub returns-in-Between : goal.returns-in-Between
 returns-in-Between c = λ profile events stands alone.
-    let bus = subst IsBus stands.known c.accepted_bus.ensures in
+    let bus = stands.bus in
     absurd
     (
     ack_elsewhere c.events_take_turns.ensures profile (λ event. (c.packets_begin_with_start.ensures profile event bus).0) bus (c.reads_may_be_taken.ensures profile)

@@ -1,30 +1,32 @@
-use Rattle.std.proofs.Common.{◌≡◌, ◌<◌, ◌/◌, ℕ, List, [], ◌∷◌, ◌++◌, ap, subst, arith, refl, sym, ◌∙◌}
+use Rattle.std.proofs.Common.{◌≡◌, true, ◌<◌, ◌/◌, ℕ, List, [], ◌∷◌, ◌++◌, ap, subst, arith, refl, sym, ◌∙◌}
 use Rattle.pmb_bus.specs.Address.{read_address, alert_address}
 use Rattle.pmb_bus.specs.declared.event.Event.{Event}
 use Rattle.pmb_bus.specs.declared.event.Event.TheVariants.{Start, Byte}
-use Rattle.pmb_command.specs.Bus.{IsBus}
 use Rattle.pmb_transaction.specs.Capture.{MayFollow}
 use Rattle.pmb_transaction.specs.Following.{alert_first}
+use Rattle.pmb_transaction.specs.Turns.{is_byte}
+use Rattle.pmb_under_way.specs.declared.under_way.Place.{Place}
 use Rattle.pmb_under_way.specs.declared.under_way.Place.TheVariants as places
+use Rattle.pmb_under_way.specs.machine.UnderWay.{has_turn}
 use Rattle.pmb_under_way.specs.declared.under_way.Source.TheVariants as sources
-use Rattle.pmb_under_way.proofs.Steps.{at_place, byte_is_no_stop, moves_to, not_its_turn, other_than_byte}
+use Rattle.pmb_under_way.proofs.Steps.{at_place, byte_is_no_stop, moves_to, other_than_byte}
 use Rattle.pmb_under_way.proofs.WrittenLegs.{even_address, first_address, first_follows, no_first_address}
 use Rattle.pmb_under_way.proofs.under_way.UnderWay.at_start.Goals as goal
 
 pub returns-in_default : goal.returns-in_default
-returns-in_default c = λ profile events at stands.
-    let here = at_place profile c.args.self.now events places.Start at stands in (
-      not_its_turn c.events_take_turns.ensures profile events Start c.args.event (record { front = []; split = here.0 })
-          (other_than_byte c.args.event c.in_default.not-Byte),
-      refl,
-    )
+returns-in_default c = λ profile events at stands. (
+  λ turn follows.
+      let here : is_byte c.args.event ≡ true = subst (λ (p : Place). has_turn p c.args.event ≡ true) at turn in
+      cc (here, other_than_byte c.args.event c.in_default.not-Byte),
+  refl,
+)
 
 pub returns-then-byte-eq0 : goal.returns-then-byte-eq0
 returns-then-byte-eq0 c = λ profile events at stands.
-    let bus = subst IsBus stands.known c.accepted_bus.ensures in
+    let bus = stands.bus in
     let here = at_place profile c.args.self.now events places.Start at stands in
     let small : c.in-Byte.byte < 256 = omega arith in
-    moves_to profile c.args.self.now (places.Address (c.in-Byte.byte / 2)) events c.args.event c.packets_go_on.ensures stands.known
+    moves_to profile c.args.self.now (places.Address (c.in-Byte.byte / 2)) events c.args.event stands.known stands.bus
     (
     first_follows profile c.in-Byte.byte events c.args.event (c.first_addresses.ensures profile c.in-Byte.byte bus).1 here.0 c.in-Byte.is
     (even_address c.in-Byte.byte small c.if-byte-eq0.true)
@@ -34,10 +36,10 @@ returns-then-byte-eq0 c = λ profile events at stands.
 
 pub returns-then-byte-read_address : goal.returns-then-byte-read_address
 returns-then-byte-read_address c = λ profile events at stands.
-    let bus = subst IsBus stands.known c.accepted_bus.ensures in
+    let bus = stands.bus in
     let alert : c.in-Byte.byte ≡ read_address alert_address = c.if-byte-read_address.true ∙ c.read_address.ensures.seven_bits (omega arith) in
     let here = at_place profile c.args.self.now events places.Start at stands in
-    moves_to profile c.args.self.now (places.ReadAddress sources.Alert) events c.args.event c.packets_go_on.ensures stands.known
+    moves_to profile c.args.self.now (places.ReadAddress sources.Alert) events c.args.event stands.known stands.bus
     (
     first_follows profile c.in-Byte.byte events c.args.event (c.first_addresses.ensures profile c.in-Byte.byte bus).1 here.0 c.in-Byte.is
     (alert_first alert)
@@ -55,9 +57,9 @@ returns-then-byte-read_address c = λ profile events at stands.
 
 pub returns-else-byte-read_address : goal.returns-else-byte-read_address
 returns-else-byte-read_address c = λ profile events at stands.
-    let bus = subst IsBus stands.known c.accepted_bus.ensures in
+    let bus = stands.bus in
     let here = at_place profile c.args.self.now events places.Start at stands in (
-      λ follows.
+      λ turn follows.
           no_first_address c.in-Byte.byte c.if-byte-eq0.false (λ (is : c.in-Byte.byte ≡ read_address alert_address). c.if-byte-read_address.false (is ∙ sym (c.read_address.ensures.seven_bits (omega arith))))
           (
           (c.first_addresses.ensures profile c.in-Byte.byte bus).0

@@ -1,14 +1,14 @@
-use Rattle.std.proofs.Common.{refl}
-use Rattle.pmb_bus.specs.declared.event.Event.TheVariants.{Byte}
-use Rattle.pmb_under_way.specs.declared.under_way.Place.TheVariants as places
-use Rattle.pmb_under_way.proofs.Steps.{at_place, no_answer_here, not_its_turn}
-use Rattle.pmb_under_way.proofs.WrittenLegs.{byte_ends}
+use Rattle.std.proofs.Common.{◌≡◌, true, subst, refl}
+use Rattle.pmb_transaction.specs.Turns.{is_answer}
+use Rattle.pmb_under_way.specs.declared.under_way.Place.{Place}
+use Rattle.pmb_under_way.specs.machine.UnderWay.{has_turn}
+use Rattle.pmb_under_way.proofs.Steps.{no_answer_here}
 use Rattle.pmb_under_way.proofs.under_way.UnderWay.behind_leg_byte.Goals as goal
 
 pub returns-in-Start : goal.returns-in-Start
-returns-in-Start c = λ profile events at stands.
-    let here = at_place profile c.args.self.now events (places.LegByte c.args.byte) at stands in (
-      not_its_turn c.events_take_turns.ensures profile events (Byte c.args.byte) c.args.event
-          (byte_ends profile c.args.self.now c.args.byte events here) (no_answer_here c.args.event c.in-Start.is),
-      refl,
-    )
+returns-in-Start c = λ profile events at stands. (
+  λ turn follows.
+      let here : is_answer c.args.event ≡ true = subst (λ (p : Place). has_turn p c.args.event ≡ true) at turn in
+      cc (here, no_answer_here c.args.event c.in-Start.is),
+  refl,
+)

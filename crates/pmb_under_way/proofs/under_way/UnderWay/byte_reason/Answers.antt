@@ -1,9 +1,8 @@
-use Rattle.std.proofs.Common.{List, [], ◌∷◌, ◌++◌, ap, subst, sym, ◌∙◌}
+use Rattle.std.proofs.Common.{List, [], ◌∷◌, ◌++◌, ap, sym, ◌∙◌}
 use Rattle.pmb_bus.specs.declared.event.Event.{Event}
 use Rattle.pmb_bus.specs.declared.event.Event.TheVariants.{Byte, Ack, Nack}
 use Rattle.pmb_bus.specs.declared.event.Event.TheVariants as events_are
 use Rattle.pmb_bus.specs.Address.{write_address}
-use Rattle.pmb_command.specs.Bus.{IsBus}
 use Rattle.pmb_transaction.specs.Reason.{byte_reason, place_behind}
 use Rattle.pmb_under_way.specs.declared.under_way.Place.TheVariants as places
 use Rattle.pmb_under_way.proofs.Steps.{at_place}
@@ -18,6 +17,6 @@ returns-in-Restart c = λ profile events stands.
 
 pub returns-in-Address : goal.returns-in-Address
 returns-in-Address c = λ profile events stands.
-    let bus = subst IsBus stands.known c.accepted_bus.ensures in
+    let bus = stands.bus in
     wrong_code_at c.places_of_events.ensures.wrong_code profile (λ viable. cc ((c.packets_begin_with_start.ensures profile Nack bus).0 viable)) c.args.self.now c.args.self.now.place events
     (late_here c.args.self.now.place c.in-Address.is) stands.goes.viable stands.place

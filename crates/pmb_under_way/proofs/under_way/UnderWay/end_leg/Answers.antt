@@ -1,6 +1,5 @@
-use Rattle.std.proofs.Common.{List, length, ap, subst, sym, refl, ◌∙◌}
+use Rattle.std.proofs.Common.{List, length, ap, sym, refl, ◌∙◌}
 use Rattle.pmb_bus.specs.declared.event.Event.TheVariants.{Start}
-use Rattle.pmb_command.specs.Bus.{IsBus}
 use Rattle.pmb_transaction.specs.Transaction.{PartData}
 use Rattle.pmb_under_way.specs.declared.under_way.Place.TheVariants as places
 use Rattle.pmb_transaction.specs.Following.{LegMayFollow}
@@ -10,7 +9,7 @@ use Rattle.pmb_under_way.proofs.under_way.UnderWay.end_leg.Goals as goal
 
 pub returns-then-not-leg_may_follow : goal.returns-then-not-leg_may_follow
 returns-then-not-leg_may_follow c = λ profile events at stands.
-    let bus = subst IsBus stands.known c.accepted_bus.ensures in
+    let bus = stands.bus in
     let here = at_place profile c.args.self.now events places.Leg at stands in
     let leg = kept_leg profile c.args.self.now c.in-Some.leg events c.in-Some.is here in
     let law =
@@ -18,11 +17,11 @@ returns-then-not-leg_may_follow c = λ profile events at stands.
     (c.legs_follow_whole_bodies.ensures profile) in
     let count = ap (λ (ps : List PartData). length ps) (sym leg.1.has.same) ∙ sym c.part_count.ensures in
     let may = c.leg_may_follow.ensures leg.0 count leg.1.place in
-    (λ follows. cc (may.1 (law.0 follows), c.if-not-leg_may_follow.true), refl)
+    (λ turn follows. cc (may.1 (law.0 follows), c.if-not-leg_may_follow.true), refl)
 
 pub returns : goal.returns
 returns c = λ profile events at stands.
-    let bus = subst IsBus stands.known c.accepted_bus.ensures in
+    let bus = stands.bus in
     let here = at_place profile c.args.self.now events places.Leg at stands in
     let leg = kept_leg profile c.args.self.now c.in-Some.leg events c.in-Some.is here in
     let law =
@@ -30,7 +29,7 @@ returns c = λ profile events at stands.
     (c.legs_follow_whole_bodies.ensures profile) in
     let count = ap (λ (ps : List PartData). length ps) (sym leg.1.has.same) ∙ sym c.part_count.ensures in
     let may = (c.leg_may_follow.ensures leg.0 count leg.1.place).0 c.if-not-leg_may_follow.false in
-    moves_to profile c.args.self.now places.Restart events Start c.packets_go_on.ensures stands.known (law.1 may) (λ e. cc e)
+    moves_to profile c.args.self.now places.Restart events Start stands.known stands.bus (law.1 may) (λ e. cc e)
     (
     record {
       written = c.in-Some.leg;

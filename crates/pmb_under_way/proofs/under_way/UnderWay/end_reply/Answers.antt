@@ -1,33 +1,22 @@
 use Rattle.std.proofs.Common.{ℕ, List, [], ◌∷◌, ◌++◌, ap, subst, sym, refl, ◌∙◌}
 use Rattle.pmb_bus.specs.declared.event.Event.{Event}
-use Rattle.pmb_bus.specs.declared.event.Event.TheVariants.{Byte, Nack, Stop}
-use Rattle.pmb_command.specs.Bus.{IsBus}
+use Rattle.pmb_bus.specs.declared.event.Event.TheVariants.{Nack, Stop}
 use Rattle.pmb_transaction.specs.Transaction.{Call, Read}
 use Rattle.pmb_transaction.specs.Packet.{Packet}
-use Rattle.pmb_transaction.specs.Capture.{MayFollow}
 use Rattle.pmb_under_way.specs.declared.under_way.Place.TheVariants as places
 use Rattle.pmb_under_way.specs.declared.under_way.Source.TheVariants as sources
 use Rattle.pmb_leg.specs.declared.said.Asked.{Asked}
 use Rattle.pmb_leg.specs.Leg.{Asks}
-use Rattle.pmb_leg.specs.Reply.{IsReply}
-use Rattle.pmb_under_way.proofs.Steps.{at_place, moves_on}
-use Rattle.pmb_under_way.proofs.AnsweredLegs.{answer_law, asking_before, reply_ends}
+use Rattle.pmb_under_way.proofs.Steps.{at_place, moves_to_end}
+use Rattle.pmb_under_way.proofs.AnsweredLegs.{answer_byte_law, asking_before, reply_ends}
 use Rattle.pmb_under_way.proofs.under_way.UnderWay.end_reply.Goals as goal
 
 pub returns-in_default : goal.returns-in_default
 returns-in_default c = λ profile events at stands.
-    let bus = subst IsBus stands.known c.accepted_bus.ensures in
+    let bus = stands.bus in
     let here = at_place profile c.args.self.now events (places.AnswerByte sources.Device) at stands in
-    let law =
-    answer_law profile bus c.args.self.now sources.Device here.front here.addr here.bytes (λ (es : List Event). MayFollow profile (es ++ Byte here.byte ∷ []) Nack) (λ A bytes. A bytes) (here.bytes ++ here.byte ∷ [])
-    (λ A B same. same (here.bytes ++ here.byte ∷ []))
-    (λ addr device body. c.replies_end.ensures profile addr device body here.bytes here.byte) (c.alerts_end.ensures profile here.bytes here.byte bus) here.asked here.answers in (
-      λ follows.
-          let whole = law.0 (subst (λ (es : List Event). MayFollow profile es Nack) here.spelled follows) in
-          let kept = subst (IsReply c.args.self.now.answer.expected) (sym here.last) whole in
-          cc (c.in_default.ensures.some.1 kept),
-      refl,
-    )
+    let law = answer_byte_law profile bus c.args.self.now sources.Device events Nack (λ A bytes. A bytes) (λ A B same. same) (c.replies_end.ensures profile) (c.alerts_end.ensures profile) here in
+    (λ turn follows. cc (c.in_default.ensures.some.1 (law.0 follows)), refl)
 
 pub returns-in-None : goal.returns-in-None
 returns-in-None c = λ profile events at stands.
@@ -37,52 +26,32 @@ returns-in-None c = λ profile events at stands.
 
 pub returns-in-Some-Read : goal.returns-in-Some-Read
 returns-in-Some-Read c = λ profile events at stands.
-    let bus = subst IsBus stands.known c.accepted_bus.ensures in
+    let bus = stands.bus in
     let here = at_place profile c.args.self.now events (places.AnswerByte sources.Device) at stands in
-    let law =
-    answer_law profile bus c.args.self.now sources.Device here.front here.addr here.bytes (λ (es : List Event). MayFollow profile (es ++ Byte here.byte ∷ []) Nack) (λ A bytes. A bytes) (here.bytes ++ here.byte ∷ [])
-    (λ A B same. same (here.bytes ++ here.byte ∷ []))
-    (λ addr device body. c.replies_end.ensures profile addr device body here.bytes here.byte) (c.alerts_end.ensures profile here.bytes here.byte bus) here.asked here.answers in
-    let whole = subst (IsReply c.args.self.now.answer.expected) here.last (c.in-Some.ensures.some.0 refl) in
+    let law = answer_byte_law profile bus c.args.self.now sources.Device events Nack (λ A bytes. A bytes) (λ A B same. same) (c.replies_end.ensures profile) (c.alerts_end.ensures profile) here in
     let leg = c.in-Some-leg.leg in
     let asked = subst (λ (a : Asked). Asks leg.device leg.bytes a) c.in-Some-Read.field-0-is c.in-Some-Read.ensures.1 in
     let packet =
     reply_ends profile bus c.args.self.now leg events c.in-Some-leg.is here c.in-Some.reply.bytes.now c.in-Some.reply.pec c.in-Some.ensures.says
     (λ (es : List Event). Packet profile (Read (record { addr = leg.device.address; code = c.in-Some-Read.code; reply = c.in-Some.reply.bytes.now; pec = c.in-Some.reply.pec })) ((es ++ Nack ∷ []) ++ Stop ∷ []))
     (λ form bytes byte known body fits mode spelled. c.reads_are_packets.ensures profile leg.device.address leg.device leg.bytes form c.in-Some.reply.bytes.now c.in-Some.reply.pec bytes byte c.in-Some-Read.code asked.0 bus known body fits mode spelled asked.1) in
-    moves_on profile events Nack (record c.args.self.now { place = places.End; kept = c.end_read.new.self }) c.packets_go_on.ensures stands.known
-    (subst (λ (es : List Event). MayFollow profile es Nack) (sym here.spelled) (law.1 whole)) (λ e. cc e)
-    (
-    record {
-      front = events;
-      spelled = refl;
-      packet = subst (λ t. Packet profile t ((events ++ Nack ∷ []) ++ Stop ∷ []))
-          (sym (c.end_read.ensures ∙ ap (λ (a : ℕ). Read (record { addr = a; code = c.in-Some-Read.code; reply = c.in-Some.reply.bytes.now; pec = c.in-Some.reply.pec })) c.address.ensures)) packet;
-    }
-    )
+    moves_to_end profile events (record c.args.self.now { place = places.End; kept = c.end_read.new.self }) stands.known stands.bus refl
+    (law.1 (c.in-Some.ensures.some.0 refl))
+    (subst (λ t. Packet profile t ((events ++ Nack ∷ []) ++ Stop ∷ []))
+    (sym (c.end_read.ensures ∙ ap (λ (a : ℕ). Read (record { addr = a; code = c.in-Some-Read.code; reply = c.in-Some.reply.bytes.now; pec = c.in-Some.reply.pec })) c.address.ensures)) packet)
 
 pub returns-in-Some-Call : goal.returns-in-Some-Call
 returns-in-Some-Call c = λ profile events at stands.
-    let bus = subst IsBus stands.known c.accepted_bus.ensures in
+    let bus = stands.bus in
     let here = at_place profile c.args.self.now events (places.AnswerByte sources.Device) at stands in
-    let law =
-    answer_law profile bus c.args.self.now sources.Device here.front here.addr here.bytes (λ (es : List Event). MayFollow profile (es ++ Byte here.byte ∷ []) Nack) (λ A bytes. A bytes) (here.bytes ++ here.byte ∷ [])
-    (λ A B same. same (here.bytes ++ here.byte ∷ []))
-    (λ addr device body. c.replies_end.ensures profile addr device body here.bytes here.byte) (c.alerts_end.ensures profile here.bytes here.byte bus) here.asked here.answers in
-    let whole = subst (IsReply c.args.self.now.answer.expected) here.last (c.in-Some.ensures.some.0 refl) in
+    let law = answer_byte_law profile bus c.args.self.now sources.Device events Nack (λ A bytes. A bytes) (λ A B same. same) (c.replies_end.ensures profile) (c.alerts_end.ensures profile) here in
     let leg = c.in-Some-leg.leg in
     let asked = subst (λ (a : Asked). Asks leg.device leg.bytes a) c.in-Some-Call.field-0-is c.in-Some-Call.ensures.1 in
     let packet =
     reply_ends profile bus c.args.self.now leg events c.in-Some-leg.is here c.in-Some.reply.bytes.now c.in-Some.reply.pec c.in-Some.ensures.says
     (λ (es : List Event). Packet profile (Call (record { addr = leg.device.address; code = c.in-Some-Call.code; bytes = c.in-Some-Call.bytes.now; reply = c.in-Some.reply.bytes.now; pec = c.in-Some.reply.pec })) ((es ++ Nack ∷ []) ++ Stop ∷ []))
     (λ form bytes byte known body fits mode spelled. c.calls_are_packets.ensures profile leg.device.address leg.device leg.bytes form c.in-Some.reply.bytes.now c.in-Some.reply.pec bytes byte c.in-Some-Call.code c.in-Some-Call.bytes.now asked.0 bus known body fits mode spelled asked.1) in
-    moves_on profile events Nack (record c.args.self.now { place = places.End; kept = c.end_call.new.self }) c.packets_go_on.ensures stands.known
-    (subst (λ (es : List Event). MayFollow profile es Nack) (sym here.spelled) (law.1 whole)) (λ e. cc e)
-    (
-    record {
-      front = events;
-      spelled = refl;
-      packet = subst (λ t. Packet profile t ((events ++ Nack ∷ []) ++ Stop ∷ []))
-          (sym (c.end_call.ensures ∙ ap (λ (a : ℕ). Call (record { addr = a; code = c.in-Some-Call.code; bytes = c.in-Some-Call.bytes.now; reply = c.in-Some.reply.bytes.now; pec = c.in-Some.reply.pec })) c.address-in-Some-Call.ensures)) packet;
-    }
-    )
+    moves_to_end profile events (record c.args.self.now { place = places.End; kept = c.end_call.new.self }) stands.known stands.bus refl
+    (law.1 (c.in-Some.ensures.some.0 refl))
+    (subst (λ t. Packet profile t ((events ++ Nack ∷ []) ++ Stop ∷ []))
+    (sym (c.end_call.ensures ∙ ap (λ (a : ℕ). Call (record { addr = a; code = c.in-Some-Call.code; bytes = c.in-Some-Call.bytes.now; reply = c.in-Some.reply.bytes.now; pec = c.in-Some.reply.pec })) c.address-in-Some-Call.ensures)) packet)

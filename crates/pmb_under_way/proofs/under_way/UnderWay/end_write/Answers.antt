@@ -1,6 +1,5 @@
 use Rattle.std.proofs.Common.{◌≤◌, List, [], ◌∷◌, ◌++◌, length, ap, subst, sym, refl, ◌∙◌}
 use Rattle.pmb_bus.specs.declared.event.Event.TheVariants.{Stop}
-use Rattle.pmb_command.specs.Bus.{IsBus}
 use Rattle.pmb_transaction.specs.Transaction.{PartData, Write}
 use Rattle.pmb_transaction.specs.Packet.{Packet}
 use Rattle.pmb_under_way.specs.declared.under_way.Place.TheVariants as places
@@ -11,21 +10,21 @@ use Rattle.pmb_under_way.proofs.under_way.UnderWay.end_write.Goals as goal
 
 pub returns-then-push_part : goal.returns-then-push_part
 returns-then-push_part c = λ profile events at stands.
-    let bus = subst IsBus stands.known c.accepted_bus.ensures in
+    let bus = stands.bus in
     let here = at_place profile c.args.self.now events places.Leg at stands in
     let pushed = c.push_part.ensures.pushed c.if-push_part.true in
     let leg = kept_leg profile c.args.self.now pushed.written events pushed.is here in (
       subst (λ t. Packet profile t (events ++ Stop ∷ [])) (sym (c.end_write.ensures ∙ ap (λ (ps : List PartData). Write ps) pushed.pushed))
           (write_ends profile bus c.args.self.now.kept pushed.written leg.0 events leg.1 (c.writes_are_packets.ensures profile) pushed.part pushed.at pushed.body),
-      restarts profile (record c.push_part.new.self { place = places.Between; kept = c.end_write.new.self }) c.packet_is_not_empty.ensures (pushed.same_profile ∙ stands.known) refl,
+      restarts profile c.args.self.now (record c.push_part.new.self { place = places.Between; kept = c.end_write.new.self }) events stands (pushed.same_profile ∙ stands.known) refl,
     )
 
 pub returns-else-push_part : goal.returns-else-push_part
 returns-else-push_part c = λ profile events at stands.
-    let bus = subst IsBus stands.known c.accepted_bus.ensures in
+    let bus = stands.bus in
     let here = at_place profile c.args.self.now events places.Leg at stands in
     let law = leg_law profile bus c.args.self.now.kept here.written here.parts events here.leg Stop (λ device parts addr bytes. IsWriteBody device bytes) (c.writes_end_with_stop.ensures profile) in
     let few = subst (λ (ps : List PartData). length ps ≤ 15) (sym here.leg.has.same) here.leg.has.few in (
-      λ follows. c.push_part.ensures.none c.if-push_part.false few here.written here.is (law.0 follows),
+      λ turn follows. c.push_part.ensures.none c.if-push_part.false few here.written here.is (law.0 follows),
       c.push_part.ensures.same c.if-push_part.false,
     )

@@ -1,5 +1,4 @@
-use Rattle.std.proofs.Common.{true, refl, sym, ap, subst, ◌∙◌, ◌*◌, List}
-use Rattle.pmb_command.specs.Bus.{IsBus}
+use Rattle.std.proofs.Common.{true, refl, sym, ap, ◌∙◌, ◌*◌, List}
 use Rattle.pmb_command.specs.Parts.{DeviceParts, device_with}
 use Rattle.pmb_under_way.specs.declared.under_way.Place.TheVariants as places
 use Rattle.pmb_under_way.proofs.Expected.{answers_may_follow, found_known}
@@ -9,7 +8,7 @@ use Rattle.pmb_under_way.proofs.under_way.UnderWay.expected_at_address.Goals as 
 
 pub returns : goal.returns
 returns c profile events at stands =
-    let bus = subst IsBus stands.known c.accepted_bus.ensures in
+    let bus = stands.bus in
     let here = at_place profile c.args.self.now events (places.Address c.args.addr) at stands in
     let taken = address_law profile bus c.args.self.now c.args.addr events here (c.addresses_taken_are_known.ensures profile) in
     let refused = address_refused_follows profile bus c.args.self.now c.args.addr events here (c.addresses_may_be_refused.ensures profile) in

@@ -1,7 +1,6 @@
-use Rattle.std.proofs.Common.{true, subst, refl}
+use Rattle.std.proofs.Common.{true, refl}
 use Rattle.pmb_bus.specs.declared.event.Event.TheVariants.{Ack, Nack}
 use Rattle.pmb_bus.specs.Address.{read_address}
-use Rattle.pmb_command.specs.Bus.{IsBus}
 use Rattle.pmb_under_way.specs.declared.under_way.Place.TheVariants as places
 use Rattle.pmb_under_way.proofs.Steps.{at_place}
 use Rattle.pmb_under_way.proofs.Expected.{answers_may_follow}
@@ -11,7 +10,7 @@ use Rattle.pmb_under_way.proofs.under_way.UnderWay.expected_at_read_address.Goal
 
 pub returns : goal.returns
 returns c = λ profile events at stands.
-    let bus = subst IsBus stands.known c.accepted_bus.ensures in
+    let bus = stands.bus in
     let here = at_place profile c.args.self.now events (places.ReadAddress c.args.source) at stands in
     let taken = read_may_be_answered Ack profile bus c.args.self.now c.args.source events (c.reads_may_be_taken.ensures profile) (c.alerts_may_be_taken.ensures profile bus) here in
     let refused = read_may_be_answered Nack profile bus c.args.self.now c.args.source events (c.reads_may_be_refused.ensures profile) (c.alerts_may_be_refused.ensures profile) here in

@@ -1,6 +1,5 @@
-use Rattle.std.proofs.Common.{◌++◌, ◌∷◌, [], true, refl, subst}
+use Rattle.std.proofs.Common.{◌++◌, ◌∷◌, [], true, refl}
 use Rattle.pmb_bus.specs.declared.event.Event.TheVariants.{Ack, Byte, Nack}
-use Rattle.pmb_command.specs.Bus.{IsBus}
 use Rattle.pmb_command.specs.Wire.{IsByte}
 use Rattle.pmb_transaction.specs.Viable.{BeginsBody, IsInsideBody}
 use Rattle.pmb_under_way.specs.declared.under_way.Place.TheVariants as places
@@ -11,7 +10,7 @@ use Rattle.pmb_under_way.proofs.under_way.UnderWay.expected_behind_byte.Goals as
 
 pub returns : goal.returns
 returns c profile events at stands =
-    let bus = subst IsBus stands.known c.accepted_bus.ensures in
+    let bus = stands.bus in
     let here = at_place profile c.args.self.now events (places.LegByte c.args.byte) at stands in
     let leg = kept_byte profile c.args.self.now c.in-Some.leg c.args.byte events c.in-Some.is here in
     let taken =

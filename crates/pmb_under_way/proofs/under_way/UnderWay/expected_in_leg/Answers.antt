@@ -1,6 +1,5 @@
-use Rattle.std.proofs.Common.{◌<◌, ℕ, List, length, ap, subst, sym, arith, ◌∙◌}
+use Rattle.std.proofs.Common.{◌<◌, ℕ, List, length, ap, sym, arith, ◌∙◌}
 use Rattle.pmb_bus.specs.declared.event.Event.TheVariants.{Start, Byte, Stop}
-use Rattle.pmb_command.specs.Bus.{IsBus}
 use Rattle.pmb_command.specs.Wire.{IsByte}
 use Rattle.pmb_transaction.specs.Transaction.{PartData}
 use Rattle.pmb_transaction.specs.Body.{IsWriteBody}
@@ -14,7 +13,7 @@ use Rattle.pmb_under_way.proofs.under_way.UnderWay.expected_in_leg.Goals as goal
 
 pub returns : goal.returns
 returns c = λ profile events at stands.
-    let bus = subst IsBus stands.known c.accepted_bus.ensures in
+    let bus = stands.bus in
     let here = at_place profile c.args.self.now events places.Leg at stands in
     let leg = kept_leg profile c.args.self.now c.in-Some.leg events c.in-Some.is here in
     let kept = c.args.self.now.kept in

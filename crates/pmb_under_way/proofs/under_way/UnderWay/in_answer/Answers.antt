@@ -2,7 +2,6 @@ use Rattle.std.proofs.Common.{List, [], ◌∷◌, ◌++◌, ap, subst, sym, ref
 use Rattle.pmb_bus.specs.declared.event.Event.{Event}
 use Rattle.pmb_bus.specs.declared.event.Event.TheVariants.{Byte}
 use Rattle.pmb_bus.specs.Address.{read_address}
-use Rattle.pmb_command.specs.Bus.{IsBus}
 use Rattle.pmb_transaction.specs.Packet.{leg}
 use Rattle.pmb_transaction.specs.Capture.{MayFollow}
 use Rattle.pmb_transaction.specs.Following.{BeginsAnswer}
@@ -13,25 +12,25 @@ use Rattle.pmb_under_way.proofs.under_way.UnderWay.in_answer.Goals as goal
 
 pub returns-in_default : goal.returns-in_default
 returns-in_default c = λ profile events at stands.
-    let bus = subst IsBus stands.known c.accepted_bus.ensures in
+    let bus = stands.bus in
     let here = at_place profile c.args.self.now events (places.Answer c.args.source) at stands in (
-      λ follows.
-          let turn = c.bytes_alone_follow_in_an_answer.ensures profile here.front here.addr c.args.self.now.answer.bytes c.args.event bus
+      λ turn follows.
+          let byte = c.bytes_alone_follow_in_an_answer.ensures profile here.front here.addr c.args.self.now.answer.bytes c.args.event bus
           (subst (λ (es : List Event). MayFollow profile es c.args.event) here.spelled follows) in
-          cc (turn, other_than_byte c.args.event c.in_default.not-Byte),
+          cc (byte, other_than_byte c.args.event c.in_default.not-Byte),
       refl,
     )
 
 pub returns-then-not-begins : goal.returns-then-not-begins
 returns-then-not-begins c = λ profile events at stands.
-    let bus = subst IsBus stands.known c.accepted_bus.ensures in
+    let bus = stands.bus in
     let here = at_place profile c.args.self.now events (places.Answer c.args.source) at stands in
     let bytes = c.args.self.now.answer.bytes in
     let law =
     answer_law profile bus c.args.self.now c.args.source here.front here.addr bytes (λ (es : List Event). MayFollow profile es (Byte c.in-Byte.byte)) BeginsAnswer (bytes ++ c.in-Byte.byte ∷ [])
     (λ A B same. begins_with_same A B same (bytes ++ c.in-Byte.byte ∷ []))
     (λ addr device body. c.bytes_follow_in_a_reply.ensures profile addr device body bytes c.in-Byte.byte) (c.bytes_follow_in_an_alert.ensures profile bytes c.in-Byte.byte bus) here.asked here.answers in (
-      λ follows.
+      λ turn follows.
           let begins = law.0 (subst (λ (es : List Event). MayFollow profile es (Byte c.in-Byte.byte)) here.spelled (subst (λ (e : Event). MayFollow profile events e) c.in-Byte.is follows)) in
           cc (c.begins.ensures.1 begins, c.if-not-begins.true),
       refl,
@@ -39,7 +38,7 @@ returns-then-not-begins c = λ profile events at stands.
 
 pub returns : goal.returns
 returns c = λ profile events at stands.
-    let bus = subst IsBus stands.known c.accepted_bus.ensures in
+    let bus = stands.bus in
     let here = at_place profile c.args.self.now events (places.Answer c.args.source) at stands in
     let bytes = c.args.self.now.answer.bytes in
     let law =
@@ -50,7 +49,7 @@ returns c = λ profile events at stands.
     let follows : MayFollow profile events c.args.event =
     subst (λ (e : Event). MayFollow profile events e) (sym c.in-Byte.is) (subst (λ (es : List Event). MayFollow profile es (Byte c.in-Byte.byte)) (sym here.spelled) (law.1 begins)) in
     let after = record c.args.self.now { place = places.AnswerByte c.args.source; answer = c.take.new.self } in
-    moves_on profile events c.args.event after c.packets_go_on.ensures stands.known follows (byte_is_no_stop c.args.event c.in-Byte.byte c.in-Byte.is)
+    moves_on profile events c.args.event after stands.known stands.bus follows (byte_is_no_stop c.args.event c.in-Byte.byte c.in-Byte.is)
     (
     record {
       front = here.front;

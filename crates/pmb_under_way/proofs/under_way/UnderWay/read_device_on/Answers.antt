@@ -1,7 +1,6 @@
 use Rattle.std.proofs.Common.{List, subst, sym}
 use Rattle.pmb_bus.specs.declared.event.Event.{Event}
 use Rattle.pmb_bus.specs.declared.event.Event.TheVariants.{Ack}
-use Rattle.pmb_command.specs.Bus.{IsBus}
 use Rattle.pmb_transaction.specs.Capture.{MayFollow}
 use Rattle.pmb_under_way.specs.declared.under_way.Place.TheVariants as places
 use Rattle.pmb_under_way.specs.declared.under_way.Source.TheVariants as sources
@@ -17,12 +16,12 @@ returns-then-not-is_asking c = λ profile events at stands.
 
 pub returns : goal.returns
 returns c = λ profile events at stands.
-    let bus = subst IsBus stands.known c.accepted_bus.ensures in
+    let bus = stands.bus in
     let here = at_place profile c.args.self.now events (places.ReadAddress sources.Device) at stands in
     let law = c.reads_may_be_taken.ensures profile here.asked.written.device.address here.asked.written.device here.asked.written.bytes bus here.asked.known here.asked.request in
     let is = asked_with profile c.args.self.now events here in
     let after = record c.args.self.now { place = places.Answer sources.Device; answer = c.ask.new.answer } in
-    moves_on profile events Ack after c.packets_go_on.ensures stands.known
+    moves_on profile events Ack after stands.known stands.bus
     (subst (λ (es : List Event). MayFollow profile es Ack) (sym is) law) (λ e. cc e)
     (
     record {

@@ -1,10 +1,9 @@
 use Rattle.std.proofs.Common.{List, [], ◌∷◌, ◌++◌, length, ap, subst, sym, arith, refl}
 use Rattle.pmb_bus.specs.declared.event.Event.TheVariants.{Nack, Stop}
-use Rattle.pmb_command.specs.Bus.{IsBus}
 use Rattle.pmb_transaction.specs.Transaction.{PartData}
 use Rattle.pmb_transaction.specs.Packet.{Packet}
 use Rattle.pmb_under_way.specs.declared.under_way.Place.TheVariants as places
-use Rattle.pmb_under_way.proofs.Steps.{at_place, moves_on}
+use Rattle.pmb_under_way.proofs.Steps.{at_place, moves_to_end}
 use Rattle.pmb_under_way.proofs.WrittenLegs.{address_refused_follows, refused_address_ends}
 use Rattle.pmb_under_way.proofs.under_way.UnderWay.refuse_address.Goals as goal
 
@@ -16,16 +15,10 @@ returns-then-part_count-gt-MOST_BEFORE c = λ profile events at stands.
 
 pub returns : goal.returns
 returns c = λ profile events at stands.
-    let bus = subst IsBus stands.known c.accepted_bus.ensures in
+    let bus = stands.bus in
     let here = at_place profile c.args.self.now events (places.Address c.args.addr) at stands in
     let after = record c.args.self.now { place = places.End; kept = c.end_refused.new.self } in
-    moves_on profile events Nack after c.packets_go_on.ensures stands.known
-    (address_refused_follows profile bus c.args.self.now c.args.addr events here (c.addresses_may_be_refused.ensures profile)) (λ e. cc e)
-    (
-    record {
-      front = events;
-      spelled = refl;
-      packet = subst (λ t. Packet profile t ((events ++ Nack ∷ []) ++ Stop ∷ [])) (sym c.end_refused.ensures)
-          (refused_address_ends profile bus c.args.self.now c.args.addr events here (c.refused_addresses_are_packets.ensures profile));
-    }
-    )
+    moves_to_end profile events after stands.known stands.bus refl
+    (address_refused_follows profile bus c.args.self.now c.args.addr events here (c.addresses_may_be_refused.ensures profile))
+    (subst (λ t. Packet profile t ((events ++ Nack ∷ []) ++ Stop ∷ [])) (sym c.end_refused.ensures)
+    (refused_address_ends profile bus c.args.self.now c.args.addr events here (c.refused_addresses_are_packets.ensures profile)))

@@ -1,14 +1,13 @@
 use Rattle.std.proofs.Common.{true, List, [], ◌∷◌, ◌++◌, length, ap, subst, sym, arith, refl, ◌∙◌}
 use Rattle.pmb_bus.specs.declared.event.Event.{Event}
 use Rattle.pmb_bus.specs.declared.event.Event.TheVariants.{Nack, Stop}
-use Rattle.pmb_command.specs.Bus.{IsBus}
 use Rattle.pmb_transaction.specs.Transaction.{PartData}
 use Rattle.pmb_transaction.specs.Packet.{Packet}
 use Rattle.pmb_transaction.specs.Capture.{MayFollow}
 use Rattle.pmb_under_way.specs.declared.under_way.Place.TheVariants as places
 use Rattle.pmb_under_way.specs.declared.under_way.Source.TheVariants as sources
 use Rattle.pmb_transaction.specs.Transaction.{Refused}
-use Rattle.pmb_under_way.proofs.Steps.{at_place, moves_on}
+use Rattle.pmb_under_way.proofs.Steps.{at_place, moves_to_end}
 use Rattle.pmb_under_way.proofs.AnsweredLegs.{asked_with, read_refused_said, same_kept_leg}
 use Rattle.pmb_under_way.proofs.under_way.UnderWay.refuse_read.Goals as goal
 
@@ -20,20 +19,14 @@ returns-then-part_count-gt0 c = λ profile events at stands.
 
 pub returns : goal.returns
 returns c = λ profile events at stands.
-    let bus = subst IsBus stands.known c.accepted_bus.ensures in
+    let bus = stands.bus in
     let here = at_place profile c.args.self.now events (places.ReadAddress sources.Device) at stands in
     let same = same_kept_leg c.args.self.now here.asked.written c.in-Some.leg here.asked.is c.in-Some.is in
     let law = c.reads_may_be_refused.ensures profile here.asked.written.device.address here.asked.written.device here.asked.written.bytes bus here.asked.known here.asked.request in
     let packet = c.refused_reads_are_packets.ensures profile here.asked.written.device.address here.asked.written.device here.asked.written.bytes bus here.asked.known here.asked.request in
     let is = asked_with profile c.args.self.now events here in
-    moves_on profile events Nack (record c.args.self.now { place = places.End; kept = c.end_refused.new.self }) c.packets_go_on.ensures stands.known
-    (subst (λ (es : List Event). MayFollow profile es Nack) (sym is) law) (λ e. cc e)
-    (
-    record {
-      front = events;
-      spelled = refl;
-      packet = subst (λ t. Packet profile t ((events ++ Nack ∷ []) ++ Stop ∷ []))
-          (sym (c.end_refused.ensures ∙ read_refused_said c.args.self.now.kept.parts c.address.result c.bytes.result.now c.in-Some.leg here.asked.written here.asked.alone c.address.ensures c.bytes.ensures.value same))
-          (subst (λ (es : List Event). Packet profile (Refused (record { parts = []; addr = here.asked.written.device.address; sent = here.asked.written.bytes; at_read = true })) ((es ++ Nack ∷ []) ++ Stop ∷ [])) (sym is) packet);
-    }
-    )
+    moves_to_end profile events (record c.args.self.now { place = places.End; kept = c.end_refused.new.self }) stands.known stands.bus refl
+    (subst (λ (es : List Event). MayFollow profile es Nack) (sym is) law)
+    (subst (λ t. Packet profile t ((events ++ Nack ∷ []) ++ Stop ∷ []))
+    (sym (c.end_refused.ensures ∙ read_refused_said c.args.self.now.kept.parts c.address.result c.bytes.result.now c.in-Some.leg here.asked.written here.asked.alone c.address.ensures c.bytes.ensures.value same))
+    (subst (λ (es : List Event). Packet profile (Refused (record { parts = []; addr = here.asked.written.device.address; sent = here.asked.written.bytes; at_read = true })) ((es ++ Nack ∷ []) ++ Stop ∷ [])) (sym is) packet))

@@ -1,6 +1,5 @@
-use Rattle.std.proofs.Common.{◌<◌, subst, arith, refl}
+use Rattle.std.proofs.Common.{◌<◌, arith, refl}
 use Rattle.pmb_bus.specs.declared.event.Event.TheVariants.{Byte}
-use Rattle.pmb_command.specs.Bus.{IsBus}
 use Rattle.pmb_command.specs.Wire.{IsByte}
 use Rattle.pmb_under_way.specs.declared.under_way.Place.TheVariants as places
 use Rattle.pmb_transaction.specs.Viable.{IsInsideBody}
@@ -10,18 +9,18 @@ use Rattle.pmb_under_way.proofs.under_way.UnderWay.send_byte.Goals as goal
 
 pub returns-then-not-goes_on : goal.returns-then-not-goes_on
 returns-then-not-goes_on c = λ profile events at stands.
-    let bus = subst IsBus stands.known c.accepted_bus.ensures in
+    let bus = stands.bus in
     let here = at_place profile c.args.self.now events places.Leg at stands in
     let leg = kept_leg profile c.args.self.now c.in-Some.leg events c.in-Some.is here in
     let law =
     leg_law profile bus c.args.self.now.kept c.in-Some.leg leg.0 events leg.1 (Byte c.args.byte) (λ device parts addr bytes. IsInsideBody device parts bytes × IsByte c.args.byte)
     (λ parts legs addr device bytes. c.bytes_follow_inside_a_body.ensures profile parts legs addr device bytes c.args.byte) in
     let inside = c.goes_on.ensures.inside leg.0 leg.1.place in
-    (λ follows. cc (inside.1 (law.0 follows).0, c.if-not-goes_on.true), refl)
+    (λ turn follows. cc (inside.1 (law.0 follows).0, c.if-not-goes_on.true), refl)
 
 pub returns : goal.returns
 returns c = λ profile events at stands.
-    let bus = subst IsBus stands.known c.accepted_bus.ensures in
+    let bus = stands.bus in
     let here = at_place profile c.args.self.now events places.Leg at stands in
     let leg = kept_leg profile c.args.self.now c.in-Some.leg events c.in-Some.is here in
     let law =
@@ -29,7 +28,7 @@ returns c = λ profile events at stands.
     (λ parts legs addr device bytes. c.bytes_follow_inside_a_body.ensures profile parts legs addr device bytes c.args.byte) in
     let inside = (c.goes_on.ensures.inside leg.0 leg.1.place).0 c.if-not-goes_on.false in
     let small : c.args.byte < 256 = omega arith in
-    moves_to profile c.args.self.now (places.LegByte c.args.byte) events (Byte c.args.byte) c.packets_go_on.ensures stands.known (law.1 (inside, small)) (λ e. cc e)
+    moves_to profile c.args.self.now (places.LegByte c.args.byte) events (Byte c.args.byte) stands.known stands.bus (law.1 (inside, small)) (λ e. cc e)
     (
     record {
       written = c.in-Some.leg;

@@ -1,6 +1,5 @@
-use Rattle.std.proofs.Common.{◌≡◌, Some, subst, sym, ◌∙◌, refl}
+use Rattle.std.proofs.Common.{◌≡◌, Some, sym, ◌∙◌, refl}
 use Rattle.pmb_bus.specs.declared.event.Event.TheVariants.{Ack}
-use Rattle.pmb_command.specs.Bus.{IsBus}
 use Rattle.pmb_under_way.specs.declared.under_way.Place.TheVariants as places
 use Rattle.pmb_command.specs.Parts.{device_with}
 use Rattle.pmb_under_way.proofs.Devices.{found_device, has_address, no_device}
@@ -10,10 +9,10 @@ use Rattle.pmb_under_way.proofs.under_way.UnderWay.take_address.Goals as goal
 
 pub returns-in_default : goal.returns-in_default
 returns-in_default c = λ profile events at stands.
-    let bus = subst IsBus stands.known c.accepted_bus.ensures in
+    let bus = stands.bus in
     let here = at_place profile c.args.self.now events (places.Address c.args.addr) at stands in
     let law = address_law profile bus c.args.self.now c.args.addr events here (c.addresses_taken_are_known.ensures profile) in (
-      λ follows.
+      λ turn follows.
           let device = law.0 follows in
           no_device profile c.args.self.now.profile.now c.args.addr c.device.result device.0 stands.known c.device.ensures.device c.in_default.is device.1,
       refl,
@@ -21,12 +20,12 @@ returns-in_default c = λ profile events at stands.
 
 pub returns : goal.returns
 returns c = λ profile events at stands.
-    let bus = subst IsBus stands.known c.accepted_bus.ensures in
+    let bus = stands.bus in
     let here = at_place profile c.args.self.now events (places.Address c.args.addr) at stands in
     let law = address_law profile bus c.args.self.now c.args.addr events here (c.addresses_taken_are_known.ensures profile) in
     let known : device_with c.args.addr profile ≡ Some c.in-Some.device.now =
     found_device profile c.args.self.now.profile.now c.args.addr c.device.result c.in-Some.device stands.known c.device.ensures.device c.in-Some.is in
-    moves_on profile events Ack (record c.start_leg.new.self { place = places.Leg }) c.packets_go_on.ensures (c.start_leg.ensures.same_profile ∙ stands.known) (law.1 (c.in-Some.device.now, known)) (λ e. cc e)
+    moves_on profile events Ack (record c.start_leg.new.self { place = places.Leg }) (c.start_leg.ensures.same_profile ∙ stands.known) stands.bus (law.1 (c.in-Some.device.now, known)) (λ e. cc e)
     (leg_begins profile c.args.self.now (record c.start_leg.new.self { place = places.Leg }) c.args.addr c.in-Some.device.now events here known
     (sym (has_address profile c.args.addr c.in-Some.device.now known))
     (record { leg = c.start_leg.ensures.leg; same_kept = c.start_leg.ensures.same_kept; same_profile = c.start_leg.ensures.same_profile }))

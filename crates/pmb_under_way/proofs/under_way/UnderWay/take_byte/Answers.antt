@@ -1,6 +1,5 @@
-use Rattle.std.proofs.Common.{Some, [], ◌∷◌, ◌++◌, ap, subst, sym, refl, ◌∙◌}
+use Rattle.std.proofs.Common.{Some, [], ◌∷◌, ◌++◌, ap, sym, refl, ◌∙◌}
 use Rattle.pmb_bus.specs.declared.event.Event.TheVariants.{Byte, Ack}
-use Rattle.pmb_command.specs.Bus.{IsBus}
 use Rattle.pmb_under_way.specs.declared.under_way.Place.TheVariants as places
 use Rattle.pmb_transaction.specs.Viable.{BeginsBody}
 use Rattle.pmb_under_way.proofs.Steps.{at_place, moves_on}
@@ -9,7 +8,7 @@ use Rattle.pmb_under_way.proofs.under_way.UnderWay.take_byte.Goals as goal
 
 pub returns-then-not-take : goal.returns-then-not-take
 returns-then-not-take c = λ profile events at stands.
-    let bus = subst IsBus stands.known c.accepted_bus.ensures in
+    let bus = stands.bus in
     let here = at_place profile c.args.self.now events (places.LegByte c.args.byte) at stands in
     let leg = kept_byte profile c.args.self.now c.in-Some.leg c.args.byte events c.in-Some.is here in
     let law =
@@ -17,20 +16,20 @@ returns-then-not-take c = λ profile events at stands.
     (λ parts legs addr device bytes. c.bytes_taken_begin_a_body.ensures profile parts legs addr device bytes c.args.byte) leg.5 in
     let begins = c.take.ensures.begins leg.0 leg.2.place in
     let same = c.take.ensures.refused c.if-not-take.true in (
-      λ follows. cc (begins.1 (law.0 follows), c.if-not-take.true),
+      λ turn follows. cc (begins.1 (law.0 follows), c.if-not-take.true),
       ap (λ l. record c.args.self.now { leg = l }) (ap (λ w. Some w) same ∙ sym c.in-Some.is),
     )
 
 pub returns : goal.returns
 returns c = λ profile events at stands.
-    let bus = subst IsBus stands.known c.accepted_bus.ensures in
+    let bus = stands.bus in
     let here = at_place profile c.args.self.now events (places.LegByte c.args.byte) at stands in
     let leg = kept_byte profile c.args.self.now c.in-Some.leg c.args.byte events c.in-Some.is here in
     let law =
     tail_law profile bus c.args.self.now.kept c.in-Some.leg leg.0 leg.1 leg.2 (Byte c.args.byte ∷ []) events Ack (λ device parts addr bytes. BeginsBody device parts (bytes ++ c.args.byte ∷ []))
     (λ parts legs addr device bytes. c.bytes_taken_begin_a_body.ensures profile parts legs addr device bytes c.args.byte) leg.5 in
     let begins = (c.take.ensures.begins leg.0 leg.2.place).0 c.if-not-take.false in
-    moves_on profile events Ack (record c.args.self.now { place = places.Leg; leg = Some c.take.new.self }) c.packets_go_on.ensures stands.known (law.1 begins) (λ e. cc e)
+    moves_on profile events Ack (record c.args.self.now { place = places.Leg; leg = Some c.take.new.self }) stands.known stands.bus (law.1 begins) (λ e. cc e)
     (
     record {
       written = c.take.new.self;

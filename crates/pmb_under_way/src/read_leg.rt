@@ -1,28 +1,24 @@
 //! An event more, at the places of a leg that is read, and after NACK.
 
-ghost use Rattle.std.specs.Prelude.{◌≡◌, List};
+ghost use Rattle.std.specs.Prelude.{◌≡◌};
 ghost use Rattle.pmb_bus.specs.declared.event.Event.{Event as BusEvent};
-ghost use Rattle.pmb_command.specs.Parts.{DeviceParts};
-ghost use Rattle.pmb_under_way.specs.UnderWay.{Moves, StandsIn};
+ghost use Rattle.pmb_under_way.specs.machine.UnderWay.{StepsAt};
 
 use crate::legs::is_asking;
 use crate::under_way::{Move, Place, Source, UnderWay};
 use pmb_bus::Event;
 use pmb_leg::Asked;
-use pmb_table::laws::accepted_bus;
 use pmb_transaction::laws::{
     alerts_are_packets, alerts_end, alerts_go_on, alerts_may_be_refused, alerts_may_be_taken,
     bytes_alone_follow_in_an_answer, bytes_follow_in_a_reply, bytes_follow_in_an_alert,
-    calls_are_packets, events_take_turns, packet_is_not_empty, packets_go_on, reads_are_packets,
-    reads_may_be_refused, reads_may_be_taken, refused_reads_are_packets, replies_end,
-    replies_go_on,
+    calls_are_packets, reads_are_packets, reads_may_be_refused, reads_may_be_taken,
+    refused_reads_are_packets, replies_end, replies_go_on,
 };
 
 impl<'p> UnderWay<'p> {
     /// After the address byte of a leg that is read.
     pub(crate) fn behind_read_address(&mut self, source: Source, event: Event) -> Move
-        ensures { (profile : List DeviceParts) (events : List BusEvent) → self.old.place ≡ Place.ReadAddress source
-            → StandsIn profile self.old events → Moves profile self.old events event result self.new }
+        ensures { StepsAt (Place.ReadAddress source) self.old event result self.new }
     {
         match event {
             Event::Ack => match source {
@@ -33,22 +29,16 @@ impl<'p> UnderWay<'p> {
                 Source::Device => self.refuse_read(),
                 Source::Alert => self.refuse_alert(),
             },
-            Event::Start | Event::Byte(_) | Event::Stop => {
-                events_take_turns();
-                Move::No
-            }
+            Event::Start | Event::Byte(_) | Event::Stop => Move::No,
         }
     }
 
     // The device that was asked answers.
     #[inline(never)]
     fn read_device_on(&mut self) -> Move
-        ensures { (profile : List DeviceParts) (events : List BusEvent) → self.old.place ≡ Place.ReadAddress Source.Device
-            → StandsIn profile self.old events → Moves profile self.old events BusEvent.Ack result self.new }
+        ensures { StepsAt (Place.ReadAddress Source.Device) self.old BusEvent.Ack result self.new }
     {
-        accepted_bus(self.profile);
         reads_may_be_taken();
-        packets_go_on();
         let Some(leg) = &self.leg else {
             return Move::No;
         };
@@ -63,12 +53,9 @@ impl<'p> UnderWay<'p> {
     // Some device answers at the Alert Response Address.
     #[inline(never)]
     fn read_alert_on(&mut self) -> Move
-        ensures { (profile : List DeviceParts) (events : List BusEvent) → self.old.place ≡ Place.ReadAddress Source.Alert
-            → StandsIn profile self.old events → Moves profile self.old events BusEvent.Ack result self.new }
+        ensures { StepsAt (Place.ReadAddress Source.Alert) self.old BusEvent.Ack result self.new }
     {
-        accepted_bus(self.profile);
         alerts_may_be_taken();
-        packets_go_on();
         self.answer.restart_at_alert();
         self.place = Place::Answer(Source::Alert);
         Move::On
@@ -77,13 +64,10 @@ impl<'p> UnderWay<'p> {
     // The device that was asked refuses to be read.
     #[inline(never)]
     fn refuse_read(&mut self) -> Move
-        ensures { (profile : List DeviceParts) (events : List BusEvent) → self.old.place ≡ Place.ReadAddress Source.Device
-            → StandsIn profile self.old events → Moves profile self.old events BusEvent.Nack result self.new }
+        ensures { StepsAt (Place.ReadAddress Source.Device) self.old BusEvent.Nack result self.new }
     {
-        accepted_bus(self.profile);
         reads_may_be_refused();
         refused_reads_are_packets();
-        packets_go_on();
         let Some(leg) = &self.leg else {
             return Move::No;
         };
@@ -99,11 +83,9 @@ impl<'p> UnderWay<'p> {
     // No device answers at the Alert Response Address.
     #[inline(never)]
     fn refuse_alert(&mut self) -> Move
-        ensures { (profile : List DeviceParts) (events : List BusEvent) → self.old.place ≡ Place.ReadAddress Source.Alert
-            → StandsIn profile self.old events → Moves profile self.old events BusEvent.Nack result self.new }
+        ensures { StepsAt (Place.ReadAddress Source.Alert) self.old BusEvent.Nack result self.new }
     {
         alerts_may_be_refused();
-        packets_go_on();
         self.kept.end_no_alert();
         self.place = Place::End;
         Move::On
@@ -112,14 +94,11 @@ impl<'p> UnderWay<'p> {
     /// In a leg that is read, after ACK.
     #[inline(always)]
     pub(crate) fn in_answer(&mut self, source: Source, event: Event) -> Move
-        ensures { (profile : List DeviceParts) (events : List BusEvent) → self.old.place ≡ Place.Answer source
-            → StandsIn profile self.old events → Moves profile self.old events event result self.new }
+        ensures { StepsAt (Place.Answer source) self.old event result self.new }
     {
-        accepted_bus(self.profile);
         bytes_alone_follow_in_an_answer();
         bytes_follow_in_a_reply();
         bytes_follow_in_an_alert();
-        packets_go_on();
         let Event::Byte(byte) = event else {
             return Move::No;
         };
@@ -134,8 +113,7 @@ impl<'p> UnderWay<'p> {
     /// In a leg that is read, after a byte.
     #[inline]
     pub(crate) fn behind_answer_byte(&mut self, source: Source, event: Event) -> Move
-        ensures { (profile : List DeviceParts) (events : List BusEvent) → self.old.place ≡ Place.AnswerByte source
-            → StandsIn profile self.old events → Moves profile self.old events event result self.new }
+        ensures { StepsAt (Place.AnswerByte source) self.old event result self.new }
     {
         match event {
             Event::Ack => self.answer_on(source),
@@ -143,23 +121,17 @@ impl<'p> UnderWay<'p> {
                 Source::Device => self.end_reply(),
                 Source::Alert => self.end_alert(),
             },
-            Event::Start | Event::Byte(_) | Event::Stop => {
-                events_take_turns();
-                Move::No
-            }
+            Event::Start | Event::Byte(_) | Event::Stop => Move::No,
         }
     }
 
     /// The answer goes on.
     #[inline(always)]
     pub(crate) fn answer_on(&mut self, source: Source) -> Move
-        ensures { (profile : List DeviceParts) (events : List BusEvent) → self.old.place ≡ Place.AnswerByte source
-            → StandsIn profile self.old events → Moves profile self.old events BusEvent.Ack result self.new }
+        ensures { StepsAt (Place.AnswerByte source) self.old BusEvent.Ack result self.new }
     {
-        accepted_bus(self.profile);
         replies_go_on();
         alerts_go_on();
-        packets_go_on();
         if !self.answer.goes_on() {
             return Move::No;
         }
@@ -170,15 +142,12 @@ impl<'p> UnderWay<'p> {
     // The reply of a device ends.
     #[inline(never)]
     fn end_reply(&mut self) -> Move
-        ensures { (profile : List DeviceParts) (events : List BusEvent) → self.old.place ≡ Place.AnswerByte Source.Device
-            → StandsIn profile self.old events → Moves profile self.old events BusEvent.Nack result self.new }
+        ensures { StepsAt (Place.AnswerByte Source.Device) self.old BusEvent.Nack result self.new }
     {
-        accepted_bus(self.profile);
         replies_end();
         alerts_end();
         reads_are_packets();
         calls_are_packets();
-        packets_go_on();
         let Some(reply) = self.answer.reply() else {
             return Move::No;
         };
@@ -205,14 +174,11 @@ impl<'p> UnderWay<'p> {
     // The answer at the Alert Response Address ends.
     #[inline(never)]
     fn end_alert(&mut self) -> Move
-        ensures { (profile : List DeviceParts) (events : List BusEvent) → self.old.place ≡ Place.AnswerByte Source.Alert
-            → StandsIn profile self.old events → Moves profile self.old events BusEvent.Nack result self.new }
+        ensures { StepsAt (Place.AnswerByte Source.Alert) self.old BusEvent.Nack result self.new }
     {
-        accepted_bus(self.profile);
         replies_end();
         alerts_end();
         alerts_are_packets();
-        packets_go_on();
         let Some(reply) = self.answer.reply() else {
             return Move::No;
         };
@@ -227,11 +193,8 @@ impl<'p> UnderWay<'p> {
     /// After NACK.
     #[inline]
     pub(crate) fn at_end(&mut self, event: Event) -> Move
-        ensures { (profile : List DeviceParts) (events : List BusEvent) → self.old.place ≡ Place.End
-            → StandsIn profile self.old events → Moves profile self.old events event result self.new }
+        ensures { StepsAt Place.End self.old event result self.new }
     {
-        events_take_turns();
-        packet_is_not_empty();
         let Event::Stop = event else {
             return Move::No;
         };

@@ -3,36 +3,30 @@
 ghost use Rattle.std.specs.Prelude.{◌≡◌, ◌<◌, ◌≤◌, ◌+◌, ◌*◌, ◌↔◌, IsTrue, true, false, List, ◌∷◌, length, nat_eq};
 ghost use Rattle.std.specs.List.{list_any};
 ghost use Rattle.pmb_bus.specs.declared.event.Event.{Event as BusEvent};
-ghost use Rattle.pmb_command.specs.Parts.{DeviceParts};
 ghost use Rattle.pmb_transaction.specs.Packet.{addresses};
 ghost use Rattle.pmb_leg.specs.Leg.{Written};
-ghost use Rattle.pmb_under_way.specs.UnderWay.{Moves, StandsIn};
-ghost use Rattle.pmb_under_way.specs.machine.UnderWay.{PushesLeg, SaysNoPart, StartsLeg};
+ghost use Rattle.pmb_under_way.specs.machine.UnderWay.{PushesLeg, SaysNoPart, StartsLeg, StepsAt};
 
 use crate::legs::{MOST_BEFORE, is_asking, leg_may_follow, place_behind};
 use crate::under_way::{Move, Place, Source, UnderWay};
 use pmb_bus::{ALERT_ADDRESS, Event, read_address};
 use pmb_leg::WrittenLeg;
 use pmb_table::DeviceProfile;
-use pmb_table::laws::accepted_bus;
 use pmb_transaction::laws::{
     addresses_may_be_refused, addresses_taken_are_known, bytes_follow_inside_a_body,
-    bytes_may_be_refused, bytes_taken_begin_a_body, events_take_turns, first_addresses,
-    later_addresses, legs_follow_whole_bodies, one_part_more, packet_is_not_empty,
-    packets_begin_with_start, packets_go_on, refused_addresses_are_packets,
-    refused_bytes_are_packets, writes_are_packets, writes_end_with_stop,
+    bytes_may_be_refused, bytes_taken_begin_a_body, first_addresses, later_addresses,
+    legs_follow_whole_bodies, one_part_more, packets_begin_with_start,
+    refused_addresses_are_packets, refused_bytes_are_packets, writes_are_packets,
+    writes_end_with_stop,
 };
 
 impl<'p> UnderWay<'p> {
     /// Between packets.
     #[inline]
     pub(crate) fn begin(&mut self, event: Event) -> Move
-        ensures { (profile : List DeviceParts) (events : List BusEvent) → self.old.place ≡ Place.Between
-            → StandsIn profile self.old events → Moves profile self.old events event result self.new }
+        ensures { StepsAt Place.Between self.old event result self.new }
     {
-        accepted_bus(self.profile);
         packets_begin_with_start();
-        packets_go_on();
         let Event::Start = event else {
             return Move::No;
         };
@@ -44,13 +38,9 @@ impl<'p> UnderWay<'p> {
     /// After the first START.
     #[inline]
     pub(crate) fn at_start(&mut self, event: Event) -> Move
-        ensures { (profile : List DeviceParts) (events : List BusEvent) → self.old.place ≡ Place.Start
-            → StandsIn profile self.old events → Moves profile self.old events event result self.new }
+        ensures { StepsAt Place.Start self.old event result self.new }
     {
-        accepted_bus(self.profile);
-        events_take_turns();
         first_addresses();
-        packets_go_on();
         let Event::Byte(byte) = event else {
             return Move::No;
         };
@@ -68,28 +58,21 @@ impl<'p> UnderWay<'p> {
     /// After the address byte of a write.
     #[inline]
     pub(crate) fn behind_address(&mut self, addr: u8, event: Event) -> Move
-        ensures { (profile : List DeviceParts) (events : List BusEvent) → self.old.place ≡ Place.Address addr
-            → StandsIn profile self.old events → Moves profile self.old events event result self.new }
+        ensures { StepsAt (Place.Address addr) self.old event result self.new }
     {
         match event {
             Event::Ack => self.take_address(addr),
             Event::Nack => self.refuse_address(addr),
-            Event::Start | Event::Byte(_) | Event::Stop => {
-                events_take_turns();
-                Move::No
-            }
+            Event::Start | Event::Byte(_) | Event::Stop => Move::No,
         }
     }
 
     // An address is taken.
     #[inline(never)]
     fn take_address(&mut self, addr: u8) -> Move
-        ensures { (profile : List DeviceParts) (events : List BusEvent) → self.old.place ≡ Place.Address addr
-            → StandsIn profile self.old events → Moves profile self.old events BusEvent.Ack result self.new }
+        ensures { StepsAt (Place.Address addr) self.old BusEvent.Ack result self.new }
     {
-        accepted_bus(self.profile);
         addresses_taken_are_known();
-        packets_go_on();
         let Some(device) = self.profile.device(addr) else {
             return Move::No;
         };
@@ -113,13 +96,10 @@ impl<'p> UnderWay<'p> {
     // An address is refused.
     #[inline(never)]
     fn refuse_address(&mut self, addr: u8) -> Move
-        ensures { (profile : List DeviceParts) (events : List BusEvent) → self.old.place ≡ Place.Address addr
-            → StandsIn profile self.old events → Moves profile self.old events BusEvent.Nack result self.new }
+        ensures { StepsAt (Place.Address addr) self.old BusEvent.Nack result self.new }
     {
-        accepted_bus(self.profile);
         addresses_may_be_refused();
         refused_addresses_are_packets();
-        packets_go_on();
         if self.kept.part_count() > MOST_BEFORE {
             return Move::No;
         }
@@ -131,29 +111,22 @@ impl<'p> UnderWay<'p> {
     /// In a written leg, after ACK.
     #[inline]
     pub(crate) fn in_leg(&mut self, event: Event) -> Move
-        ensures { (profile : List DeviceParts) (events : List BusEvent) → self.old.place ≡ Place.Leg
-            → StandsIn profile self.old events → Moves profile self.old events event result self.new }
+        ensures { StepsAt Place.Leg self.old event result self.new }
     {
         match event {
             Event::Byte(byte) => self.send_byte(byte),
             Event::Start => self.end_leg(),
             Event::Stop => self.end_write(),
-            Event::Ack | Event::Nack => {
-                events_take_turns();
-                Move::No
-            }
+            Event::Ack | Event::Nack => Move::No,
         }
     }
 
     /// A byte is sent.
     #[inline(always)]
     pub(crate) fn send_byte(&mut self, byte: u8) -> Move
-        ensures { (profile : List DeviceParts) (events : List BusEvent) → self.old.place ≡ Place.Leg
-            → StandsIn profile self.old events → Moves profile self.old events (BusEvent.Byte byte) result self.new }
+        ensures { StepsAt Place.Leg self.old (BusEvent.Byte byte) result self.new }
     {
-        accepted_bus(self.profile);
         bytes_follow_inside_a_body();
-        packets_go_on();
         let Some(leg) = &self.leg else {
             return Move::No;
         };
@@ -167,12 +140,9 @@ impl<'p> UnderWay<'p> {
     // START after a leg.
     #[inline(never)]
     fn end_leg(&mut self) -> Move
-        ensures { (profile : List DeviceParts) (events : List BusEvent) → self.old.place ≡ Place.Leg
-            → StandsIn profile self.old events → Moves profile self.old events BusEvent.Start result self.new }
+        ensures { StepsAt Place.Leg self.old BusEvent.Start result self.new }
     {
-        accepted_bus(self.profile);
         legs_follow_whole_bodies();
-        packets_go_on();
         let Some(leg) = &self.leg else {
             return Move::No;
         };
@@ -186,13 +156,10 @@ impl<'p> UnderWay<'p> {
     // STOP after a leg.
     #[inline(never)]
     fn end_write(&mut self) -> Move
-        ensures { (profile : List DeviceParts) (events : List BusEvent) → self.old.place ≡ Place.Leg
-            → StandsIn profile self.old events → Moves profile self.old events BusEvent.Stop result self.new }
+        ensures { StepsAt Place.Leg self.old BusEvent.Stop result self.new }
     {
-        accepted_bus(self.profile);
         writes_end_with_stop();
         writes_are_packets();
-        packet_is_not_empty();
         if self.push_part() {
             self.kept.end_write();
             self.place = Place::Between;
@@ -225,28 +192,21 @@ impl<'p> UnderWay<'p> {
     /// In a written leg, after a byte.
     #[inline]
     pub(crate) fn behind_leg_byte(&mut self, byte: u8, event: Event) -> Move
-        ensures { (profile : List DeviceParts) (events : List BusEvent) → self.old.place ≡ Place.LegByte byte
-            → StandsIn profile self.old events → Moves profile self.old events event result self.new }
+        ensures { StepsAt (Place.LegByte byte) self.old event result self.new }
     {
         match event {
             Event::Ack => self.take_byte(byte),
             Event::Nack => self.refuse_byte(byte),
-            Event::Start | Event::Byte(_) | Event::Stop => {
-                events_take_turns();
-                Move::No
-            }
+            Event::Start | Event::Byte(_) | Event::Stop => Move::No,
         }
     }
 
     /// A byte is taken.
     #[inline(always)]
     pub(crate) fn take_byte(&mut self, byte: u8) -> Move
-        ensures { (profile : List DeviceParts) (events : List BusEvent) → self.old.place ≡ Place.LegByte byte
-            → StandsIn profile self.old events → Moves profile self.old events BusEvent.Ack result self.new }
+        ensures { StepsAt (Place.LegByte byte) self.old BusEvent.Ack result self.new }
     {
-        accepted_bus(self.profile);
         bytes_taken_begin_a_body();
-        packets_go_on();
         let Some(leg) = &mut self.leg else {
             return Move::No;
         };
@@ -260,13 +220,10 @@ impl<'p> UnderWay<'p> {
     // A byte is refused.
     #[inline(never)]
     fn refuse_byte(&mut self, byte: u8) -> Move
-        ensures { (profile : List DeviceParts) (events : List BusEvent) → self.old.place ≡ Place.LegByte byte
-            → StandsIn profile self.old events → Moves profile self.old events BusEvent.Nack result self.new }
+        ensures { StepsAt (Place.LegByte byte) self.old BusEvent.Nack result self.new }
     {
-        accepted_bus(self.profile);
         bytes_may_be_refused();
         refused_bytes_are_packets();
-        packets_go_on();
         let Some(leg) = &self.leg else {
             return Move::No;
         };
@@ -284,8 +241,7 @@ impl<'p> UnderWay<'p> {
 
     /// After a later START.
     pub(crate) fn at_restart(&mut self, event: Event) -> Move
-        ensures { (profile : List DeviceParts) (events : List BusEvent) → self.old.place ≡ Place.Restart
-            → StandsIn profile self.old events → Moves profile self.old events event result self.new }
+        ensures { StepsAt Place.Restart self.old event result self.new }
     {
         match event {
             Event::Byte(byte) => {
@@ -295,10 +251,7 @@ impl<'p> UnderWay<'p> {
                     self.read_device(byte / 2)
                 }
             }
-            Event::Start | Event::Ack | Event::Nack | Event::Stop => {
-                events_take_turns();
-                Move::No
-            }
+            Event::Start | Event::Ack | Event::Nack | Event::Stop => Move::No,
         }
     }
 
@@ -306,13 +259,10 @@ impl<'p> UnderWay<'p> {
     #[inline(never)]
     fn begin_part(&mut self, addr: u8) -> Move
         requires { addr < 128 }
-        ensures { (profile : List DeviceParts) (events : List BusEvent) → self.old.place ≡ Place.Restart
-            → StandsIn profile self.old events → Moves profile self.old events (BusEvent.Byte (2 * addr)) result self.new }
+        ensures { StepsAt Place.Restart self.old (BusEvent.Byte (2 * addr)) result self.new }
     {
-        accepted_bus(self.profile);
         later_addresses();
         one_part_more();
-        packets_go_on();
         if self.kept.part_count() >= MOST_BEFORE {
             return Move::No;
         }
@@ -341,12 +291,9 @@ impl<'p> UnderWay<'p> {
     #[inline(never)]
     fn read_device(&mut self, addr: u8) -> Move
         requires { addr < 128 }
-        ensures { (profile : List DeviceParts) (events : List BusEvent) → self.old.place ≡ Place.Restart
-            → StandsIn profile self.old events → Moves profile self.old events (BusEvent.Byte (2 * addr + 1)) result self.new }
+        ensures { StepsAt Place.Restart self.old (BusEvent.Byte (2 * addr + 1)) result self.new }
     {
-        accepted_bus(self.profile);
         later_addresses();
-        packets_go_on();
         let Some(leg) = &self.leg else {
             return Move::No;
         };

@@ -1,0 +1,148 @@
+//! Why an event may not come.
+
+ghost use Rattle.std.specs.Prelude.{◌≡◌, List};
+ghost use Rattle.pmb_bus.specs.declared.event.Event.{Event as BusEvent};
+ghost use Rattle.pmb_command.specs.Parts.{DeviceParts};
+ghost use Rattle.pmb_transaction.specs.Reason.{FollowsAlone, IsReason, ack_reason, byte_reason, nack_reason, place_behind};
+ghost use Rattle.pmb_under_way.specs.UnderWay.{StandsIn};
+
+use crate::under_way::{Place, UnderWay};
+use pmb_bus::laws::kinds_are_told_by_events;
+use pmb_bus::{Event, Kinds};
+use pmb_transaction::Reason;
+use pmb_transaction::laws::{
+    alerts_may_be_taken, events_take_turns, packets_begin_with_start, places_of_events,
+    reads_may_be_taken,
+};
+
+/// The bits of the set of ACK alone, and of NACK alone.
+const ACK_ALONE: u8 = 4;
+
+const NACK_ALONE: u8 = 8;
+
+impl<'p> UnderWay<'p> {
+    /// Why no packet goes on with an event.
+    pub fn reason(&self, event: Event) -> Reason
+        ensures { (profile : List DeviceParts) (events : List BusEvent) → StandsIn profile self.now events
+            → IsReason profile events event result }
+    {
+        match event {
+            Event::Byte(byte) => self.reason_of_byte(byte),
+            Event::Ack => self.reason_of_ack(),
+            Event::Nack => self.reason_of_nack(),
+            Event::Start => Reason::WrongEvent,
+            Event::Stop => Reason::WrongEvent,
+        }
+    }
+
+    fn reason_of_byte(&self, byte: u8) -> Reason
+        ensures { (profile : List DeviceParts) (events : List BusEvent) → StandsIn profile self.now events
+            → IsReason profile events (BusEvent.Byte byte) result }
+    {
+        if self.expected().contains(Kinds::BYTE) {
+            self.byte_reason()
+        } else {
+            Reason::WrongEvent
+        }
+    }
+
+    fn reason_of_ack(&self) -> Reason
+        ensures { (profile : List DeviceParts) (events : List BusEvent) → StandsIn profile self.now events
+            → IsReason profile events BusEvent.Ack result }
+    {
+        kinds_are_told_by_events();
+        let kinds = self.expected();
+        if kinds.bits() == NACK_ALONE {
+            self.ack_reason()
+        } else {
+            Reason::WrongEvent
+        }
+    }
+
+    fn reason_of_nack(&self) -> Reason
+        ensures { (profile : List DeviceParts) (events : List BusEvent) → StandsIn profile self.now events
+            → IsReason profile events BusEvent.Nack result }
+    {
+        kinds_are_told_by_events();
+        let kinds = self.expected();
+        if kinds.bits() == ACK_ALONE {
+            self.nack_reason()
+        } else {
+            Reason::WrongEvent
+        }
+    }
+
+    // Why a byte may not come where another may.
+    fn byte_reason(&self) -> Reason
+        ensures { (profile : List DeviceParts) (events : List BusEvent) → StandsIn profile self.now events
+            → result ≡ byte_reason (place_behind events) }
+    {
+        packets_begin_with_start();
+        places_of_events();
+        match self.place {
+            Place::Between | Place::Start => Reason::ReadFirst,
+            Place::Restart => Reason::BadRestart,
+            Place::Address(_)
+            | Place::Leg
+            | Place::LegByte(_)
+            | Place::ReadAddress(_)
+            | Place::Answer(_)
+            | Place::AnswerByte(_)
+            | Place::End => Reason::BadPec,
+        }
+    }
+
+    // Why ACK may not come where NACK alone may.
+    fn ack_reason(&self) -> Reason
+        ensures { (profile : List DeviceParts) (events : List BusEvent) → StandsIn profile self.now events
+            → FollowsAlone profile events BusEvent.Nack → result ≡ ack_reason (place_behind events) }
+    {
+        packets_begin_with_start();
+        events_take_turns();
+        reads_may_be_taken();
+        alerts_may_be_taken();
+        places_of_events();
+        match self.place {
+            Place::Address(_) => Reason::UnknownDevice,
+            Place::LegByte(byte) => self.taken_reason(byte),
+            Place::AnswerByte(_) => Reason::TooLong,
+            Place::Between
+            | Place::Start
+            | Place::Leg
+            | Place::Restart
+            | Place::ReadAddress(_)
+            | Place::Answer(_)
+            | Place::End => Reason::WrongEvent,
+        }
+    }
+
+    // Why a byte of a written leg may not be taken.
+    fn taken_reason(&self, byte: u8) -> Reason
+        ensures { (profile : List DeviceParts) (events : List BusEvent) → self.now.place ≡ Place.LegByte byte
+            → StandsIn profile self.now events → result ≡ ack_reason (place_behind events) }
+    {
+        places_of_events();
+        let Some(leg) = &self.leg else {
+            return Reason::BadPec;
+        };
+        if leg.bytes().len() > 0 {
+            Reason::BadPec
+        } else {
+            Reason::UnknownCommand
+        }
+    }
+
+    // Why NACK may not come where ACK alone may.
+    fn nack_reason(&self) -> Reason
+        ensures { (profile : List DeviceParts) (events : List BusEvent) → StandsIn profile self.now events
+            → FollowsAlone profile events BusEvent.Ack → result ≡ nack_reason (place_behind events) }
+    {
+        packets_begin_with_start();
+        events_take_turns();
+        places_of_events();
+        let Place::AnswerByte(_) = self.place else {
+            return Reason::WrongEvent;
+        };
+        Reason::TooShort
+    }
+}
