@@ -8,8 +8,8 @@ use Rattle.pmb_transaction.specs.Body.{ReadBody, CallBody}
 pub use Rattle.pmb_transaction.specs.Body.{IsRequest}
 use Rattle.pmb_leg.specs.declared.place.LegPlace.{LegPlace}
 use Rattle.pmb_leg.specs.declared.place.LegPlace.TheVariants.{First, Later}
-use Rattle.pmb_leg.specs.declared.said.Asked.{Asked}
-use Rattle.pmb_leg.specs.declared.said.Asked.TheVariants.{Read, Call}
+use Rattle.pmb_leg.specs.declared.content.Asked.{Asked}
+use Rattle.pmb_leg.specs.declared.content.Asked.TheVariants.{Read, Call}
 
 -- A leg in which bytes are written to a device: which leg of the packet it is, and the bytes that
 -- were taken after the address.

@@ -8,8 +8,8 @@ ghost use Rattle.pmb_bus.specs.Pec.{pec};
 ghost use Rattle.pmb_transaction.specs.Following.{BeginsAnswer, IsInsideAnswer, IsAlertAnswer};
 ghost use Rattle.pmb_leg.specs.Reply.{IsReply, SaysAlert, SaysReply};
 
+use crate::content::Reply;
 use crate::left::{Left, data_within};
-use crate::said::Reply;
 use arrayvec::ArrayVec;
 use pmb_bus::laws::{pec_is_all_that_counts, worked_pecs};
 use pmb_bus::{ALERT_ADDRESS, pec_next, read_address};

@@ -16,12 +16,12 @@
 #![tactic(auto)]
 
 mod answer;
+mod content;
 mod left;
 mod place;
-mod said;
-mod written;
+mod written_leg;
 
 pub use answer::Answer;
+pub use content::{Asked, Reply, Said};
 pub use place::LegPlace;
-pub use said::{Asked, Reply, Said};
-pub use written::WrittenLeg;
+pub use written_leg::WrittenLeg;

@@ -9,7 +9,7 @@ use Rattle.pmb_command.specs.Parts.{DeviceParts}
 use Rattle.pmb_transaction.specs.Body.{forms}
 use Rattle.pmb_leg.specs.declared.place.LegPlace.{LegPlace}
 use Rattle.pmb_leg.specs.declared.left.Left.{Left}
-use Rattle.pmb_leg.specs.declared.written.WrittenLeg.TheInside.{Inside}
+use Rattle.pmb_leg.specs.declared.written_leg.WrittenLeg.TheInside.{Inside}
 use Rattle.pmb_leg.specs.Leg.{Written, call_form}
 use Rattle.pmb_leg.specs.machine.Left.{LeavesOf}
 

@@ -5,7 +5,7 @@ use Rattle.pmb_transaction.specs.Transaction.{Call, Read}
 use Rattle.pmb_transaction.specs.Packet.{Packet}
 use Rattle.pmb_under_way.specs.declared.under_way.Place.TheVariants as places
 use Rattle.pmb_under_way.specs.declared.under_way.Source.TheVariants as sources
-use Rattle.pmb_leg.specs.declared.said.Asked.{Asked}
+use Rattle.pmb_leg.specs.declared.content.Asked.{Asked}
 use Rattle.pmb_leg.specs.Leg.{Asks}
 use Rattle.pmb_under_way.proofs.Steps.{at_place, moves_to_end}
 use Rattle.pmb_under_way.proofs.AnsweredLegs.{answer_byte_law, asking_before, reply_ends}

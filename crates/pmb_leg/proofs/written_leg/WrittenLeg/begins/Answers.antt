@@ -2,7 +2,7 @@ use Rattle.std.proofs.Common.{sym, ap, ◌∙◌, arith}
 use Rattle.pmb_leg.specs.Leg.{Written}
 use Rattle.pmb_leg.specs.machine.Legs.{kept}
 use Rattle.pmb_leg.proofs.Legs.{is_empty, tells_takes, tells_code}
-use Rattle.pmb_leg.proofs.written.WrittenLeg.begins.Goals as goal
+use Rattle.pmb_leg.proofs.written_leg.WrittenLeg.begins.Goals as goal
 
 pub returns-then-is_empty : goal.returns-then-is_empty
 returns-then-is_empty c parts here =

@@ -6,8 +6,8 @@ use Rattle.pmb_transaction.specs.Body.{IsRequest}
 use Rattle.pmb_leg.specs.Leg.{Written}
 use Rattle.pmb_leg.specs.machine.Legs.{kept, IsBehindCode}
 use Rattle.pmb_leg.proofs.Sayings.{asks_nothing, behind_code, reads}
-use Rattle.pmb_leg.proofs.written.WrittenLeg.request.Goals as goal
-use Rattle.pmb_leg.proofs.written.WrittenLeg.request.Goals.{After-is_read}
+use Rattle.pmb_leg.proofs.written_leg.WrittenLeg.request.Goals as goal
+use Rattle.pmb_leg.proofs.written_leg.WrittenLeg.request.Goals.{After-is_read}
 
 -- the bytes, by their code
 split : (c : After-is_read) → c.self.inside.bytes.items ≡ c.in-Some.code.now ∷ c.in-Some.behind.now

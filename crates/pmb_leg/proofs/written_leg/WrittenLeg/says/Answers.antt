@@ -6,8 +6,8 @@ use Rattle.pmb_leg.specs.machine.Legs.{kept, IsBehindCode}
 use Rattle.pmb_leg.specs.machine.Left.{has_code, is_whole, SpellsData}
 use Rattle.pmb_leg.proofs.Bodies.{in_front}
 use Rattle.pmb_leg.proofs.Sayings.{behind_code, says_write, write_data, write_is_whole}
-use Rattle.pmb_leg.proofs.written.WrittenLeg.says.Goals as goal
-use Rattle.pmb_leg.proofs.written.WrittenLeg.says.Goals.{After-has_code-pec, After-is_whole}
+use Rattle.pmb_leg.proofs.written_leg.WrittenLeg.says.Goals as goal
+use Rattle.pmb_leg.proofs.written_leg.WrittenLeg.says.Goals.{After-has_code-pec, After-is_whole}
 
 -- the bytes, by their code
 split : (c : After-is_whole) → c.self.inside.bytes.items ≡ c.in-Some.code.now ∷ c.in-Some.behind.now

@@ -3,7 +3,7 @@ use Rattle.pmb_leg.specs.Leg.{Written}
 use Rattle.pmb_leg.specs.declared.left.Left.{Left}
 use Rattle.pmb_leg.specs.machine.Legs.{IsKeptLeg, kept}
 use Rattle.pmb_leg.proofs.Legs.{next_kept, not_empty, tells_room, tells_takes}
-use Rattle.pmb_leg.proofs.written.WrittenLeg.take_data.Goals as goal
+use Rattle.pmb_leg.proofs.written_leg.WrittenLeg.take_data.Goals as goal
 
 pub push-requires : goal.push-requires
 push-requires c = (

@@ -14,9 +14,9 @@ ghost use Rattle.pmb_leg.specs.Leg.{IsAsked, begins_with, call_form, is_read, pl
 ghost use Rattle.pmb_leg.specs.Reply.{IsReply, SaysReply};
 
 use crate::answer::Answer;
+use crate::content::{Asked, Said};
 use crate::left::{Left, data_within, one_goes_on, one_takes};
 use crate::place::LegPlace;
-use crate::said::{Asked, Said};
 use arrayvec::ArrayVec;
 use pmb_bus::laws::{pec_is_all_that_counts, worked_pecs};
 use pmb_bus::{pec_next, read_address, write_address};

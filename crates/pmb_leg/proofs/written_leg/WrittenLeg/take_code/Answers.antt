@@ -7,7 +7,7 @@ use Rattle.pmb_transaction.specs.Body.{forms}
 use Rattle.pmb_leg.specs.Leg.{Written, begins_with}
 use Rattle.pmb_leg.proofs.Bodies.{in_front}
 use Rattle.pmb_leg.proofs.Legs.{first_kept, tells_code}
-use Rattle.pmb_leg.proofs.written.WrittenLeg.take_code.Goals as goal
+use Rattle.pmb_leg.proofs.written_leg.WrittenLeg.take_code.Goals as goal
 
 pub invariant_of-self : goal.invariant_of-self
 invariant_of-self c =

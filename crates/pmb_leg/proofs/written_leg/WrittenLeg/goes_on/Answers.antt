@@ -2,7 +2,7 @@ use Rattle.std.proofs.Common.{inl, refl, sym, ap, ◌∙◌}
 use Rattle.pmb_leg.specs.Leg.{Written}
 use Rattle.pmb_leg.specs.machine.Legs.{kept}
 use Rattle.pmb_leg.proofs.Legs.{is_empty, tells_goes_on, tells_room_to_go_on}
-use Rattle.pmb_leg.proofs.written.WrittenLeg.goes_on.Goals as goal
+use Rattle.pmb_leg.proofs.written_leg.WrittenLeg.goes_on.Goals as goal
 
 pub returns-then-is_empty-clause-inside : goal.returns-then-is_empty-clause-inside
 returns-then-is_empty-clause-inside c parts here =

@@ -6,8 +6,8 @@ use Rattle.pmb_leg.specs.Leg.{Written, reply_form}
 use Rattle.pmb_leg.specs.machine.Answers.{CountsAlone}
 use Rattle.pmb_leg.specs.machine.Legs.{kept}
 use Rattle.pmb_leg.proofs.Asking.{leg_answers, leg_says}
-use Rattle.pmb_leg.proofs.written.WrittenLeg.ask.Goals as goal
-use Rattle.pmb_leg.proofs.written.WrittenLeg.ask.Goals.{After-restart}
+use Rattle.pmb_leg.proofs.written_leg.WrittenLeg.ask.Goals as goal
+use Rattle.pmb_leg.proofs.written_leg.WrittenLeg.ask.Goals.{After-restart}
 
 -- the byte that is sent to read the device
 read_byte : (c : After-restart) → c.read_address.result ≡ read_address c.self.inside.device.now.address
