@@ -22,27 +22,29 @@ use Rattle.pmb_capture.proofs.Texts.{packets_append, refusals_append}
 
 -- ---- what moves keeps its kind
 
+-- so a count does that adds up and is kept by one
+counted_moved : (count : List Outcome → ℕ) → ((a b : List Outcome) → count (a ++ b) ≡ count a + count b)
+    → ((n : ℕ) (one : Outcome) → count (moved n (one ∷ [])) ≡ count (one ∷ [])) → (n : ℕ) (outcomes : List Outcome) → count (moved n outcomes) ≡ count outcomes
+counted_moved count append alike n [] = refl
+counted_moved count append alike n (one ∷ more) =
+    append (moved n (one ∷ [])) (moved n more)
+    ∙ ap (λ (k : ℕ). k + count (moved n more)) (alike n one)
+    ∙ ap (λ (k : ℕ). count (one ∷ []) + k) (counted_moved count append alike n more)
+    ∙ sym (append (one ∷ []) more)
+
+packet_moved : (n : ℕ) (one : Outcome) → packets_in (moved n (one ∷ [])) ≡ packets_in (one ∷ [])
+packet_moved n (Accepted t) = refl
+packet_moved n (Refusal refusal) = refl
+
+refusal_moved : (n : ℕ) (one : Outcome) → refusals_in (moved n (one ∷ [])) ≡ refusals_in (one ∷ [])
+refusal_moved n (Accepted t) = refl
+refusal_moved n (Refusal refusal) = refl
+
 packets_moved : (n : ℕ) (outcomes : List Outcome) → packets_in (moved n outcomes) ≡ packets_in outcomes
-packets_moved n [] = refl
-packets_moved n (Accepted t ∷ more) =
-    packets_append (Accepted t ∷ []) (moved n more)
-    ∙ ap (λ (k : ℕ). packets_in (Accepted t ∷ []) + k) (packets_moved n more)
-    ∙ sym (packets_append (Accepted t ∷ []) more)
-packets_moved n (Refusal refusal ∷ more) =
-    packets_append (moved_outcome n (Refusal refusal) ∷ []) (moved n more)
-    ∙ ap (λ (k : ℕ). packets_in (Refusal refusal ∷ []) + k) (packets_moved n more)
-    ∙ sym (packets_append (Refusal refusal ∷ []) more)
+packets_moved n outcomes = counted_moved packets_in packets_append packet_moved n outcomes
 
 refusals_moved : (n : ℕ) (outcomes : List Outcome) → refusals_in (moved n outcomes) ≡ refusals_in outcomes
-refusals_moved n [] = refl
-refusals_moved n (Accepted t ∷ more) =
-    refusals_append (Accepted t ∷ []) (moved n more)
-    ∙ ap (λ (k : ℕ). refusals_in (Accepted t ∷ []) + k) (refusals_moved n more)
-    ∙ sym (refusals_append (Accepted t ∷ []) more)
-refusals_moved n (Refusal refusal ∷ more) =
-    refusals_append (moved_outcome n (Refusal refusal) ∷ []) (moved n more)
-    ∙ ap (λ (k : ℕ). refusals_in (Refusal refusal ∷ []) + k) (refusals_moved n more)
-    ∙ sym (refusals_append (Refusal refusal ∷ []) more)
+refusals_moved n outcomes = counted_moved refusals_in refusals_append refusal_moved n outcomes
 
 but-append : (a b : List Outcome) → but_truncation (a ++ b) ≡ but_truncation a ++ but_truncation b
 but-append a b = filter-append (λ o. not (is_truncation o)) a b

@@ -12,47 +12,34 @@ use Rattle.pmb_scan.specs.Scan.{end_spans}
 use Rattle.pmb_spans.specs.Spans.{Span, ReadSpan, RefusedSpan, TruncatedSpan, SpansFrom, is_whole, outcome}
 use Rattle.pmb_spans.proofs.Outcomes.{spans_read}
 use Rattle.pmb_transaction.specs.declared.reason.Reason.{Reason}
-use Rattle.pmb_transaction.specs.Reason.{Place, BehindStart, BehindRestart, BehindAddress, BehindCode, FurtherOn, InReply, Nowhere, byte_reason, ack_reason, nack_reason, IsReason}
+use Rattle.pmb_transaction.specs.Reason.{Place, BehindStart, BehindRestart, BehindAddress, BehindCode, FurtherOn, InReply, Nowhere, byte_reason, ack_reason, nack_reason, place_behind, IsReason}
 use Rattle.pmb_transaction.specs.Reading.{Outcome, Accepted, Refusal, BehindStop, Reading}
 use Rattle.pmb_capture.specs.Output.{but_truncation, is_end_inside}
 
 -- ---- no event's reason is an end inside a packet
 
-byte_no_end : (place : Place) → is_end_inside (byte_reason place) ≡ false
-byte_no_end BehindStart = refl
-byte_no_end BehindRestart = refl
-byte_no_end BehindAddress = refl
-byte_no_end BehindCode = refl
-byte_no_end FurtherOn = refl
-byte_no_end InReply = refl
-byte_no_end Nowhere = refl
+record NoEndAt (place : Place) : Type 0 where
+  byte : is_end_inside (byte_reason place) ≡ false
+  ack : is_end_inside (ack_reason place) ≡ false
+  nack : is_end_inside (nack_reason place) ≡ false
 
-ack_no_end : (place : Place) → is_end_inside (ack_reason place) ≡ false
-ack_no_end BehindStart = refl
-ack_no_end BehindRestart = refl
-ack_no_end BehindAddress = refl
-ack_no_end BehindCode = refl
-ack_no_end FurtherOn = refl
-ack_no_end InReply = refl
-ack_no_end Nowhere = refl
-
-nack_no_end : (place : Place) → is_end_inside (nack_reason place) ≡ false
-nack_no_end BehindStart = refl
-nack_no_end BehindRestart = refl
-nack_no_end BehindAddress = refl
-nack_no_end BehindCode = refl
-nack_no_end FurtherOn = refl
-nack_no_end InReply = refl
-nack_no_end Nowhere = refl
+no_end_at : (place : Place) → NoEndAt place
+no_end_at BehindStart = record { byte = refl; ack = refl; nack = refl }
+no_end_at BehindRestart = record { byte = refl; ack = refl; nack = refl }
+no_end_at BehindAddress = record { byte = refl; ack = refl; nack = refl }
+no_end_at BehindCode = record { byte = refl; ack = refl; nack = refl }
+no_end_at FurtherOn = record { byte = refl; ack = refl; nack = refl }
+no_end_at InReply = record { byte = refl; ack = refl; nack = refl }
+no_end_at Nowhere = record { byte = refl; ack = refl; nack = refl }
 
 module _ (profile : List DeviceParts) where
   reason_no_end : (events : List Event) (event : Event) (reason : Reason) → IsReason profile events event reason → is_end_inside reason ≡ false
   reason_no_end events Start reason is = ap is_end_inside is
-  reason_no_end events (Byte b) reason (inl so) = ap is_end_inside so.1 ∙ byte_no_end _
+  reason_no_end events (Byte b) reason (inl so) = ap is_end_inside so.1 ∙ (no_end_at (place_behind events)).byte
   reason_no_end events (Byte b) reason (inr other) = ap is_end_inside other.1
-  reason_no_end events Ack reason (inl so) = ap is_end_inside so.1 ∙ ack_no_end _
+  reason_no_end events Ack reason (inl so) = ap is_end_inside so.1 ∙ (no_end_at (place_behind events)).ack
   reason_no_end events Ack reason (inr other) = ap is_end_inside other.1
-  reason_no_end events Nack reason (inl so) = ap is_end_inside so.1 ∙ nack_no_end _
+  reason_no_end events Nack reason (inl so) = ap is_end_inside so.1 ∙ (no_end_at (place_behind events)).nack
   reason_no_end events Nack reason (inr other) = ap is_end_inside other.1
   reason_no_end events Stop reason is = ap is_end_inside is
 
