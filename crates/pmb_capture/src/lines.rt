@@ -1,17 +1,17 @@
 //! The lines of refusals, of words that are no token, and of a tally.
 
 ghost use Rattle.std.specs.Prelude.{◌≡◌, ◌+◌, ◌≤◌, ℕ, List, Bool, bit_and, ◌==◌, [], ◌∷◌, ◌++◌, length, codes};
-ghost use Rattle.pmb_bus.specs.declared.event.Event.TheVariants.{Start, Byte, Ack, Nack, Stop};
-ghost use Rattle.pmb_bus.specs.Kinds.{bits, holds};
+ghost use Rattle.pmb_bus.specs.Kinds.{bits};
 ghost use Rattle.pmb_reader.specs.Refusal.{refusal_data};
-ghost use Rattle.pmb_capture.specs.Lines.{bad_token_line as bad_token_text, joined_names, kind_names, reason_name as reason_text, refusal_line as refusal_text, tally_line as tally_text, with_name};
+ghost use Rattle.pmb_capture.specs.Lines.{bad_token_line as bad_token_text, joined_names, refusal_line as refusal_text, tally_line as tally_text};
+ghost use Rattle.pmb_objects.specs.Names.{kind_names, with_name};
 
 use arrayvec::ArrayVec;
 use itoa::Buffer;
 use pmb_bus::Kinds;
 use pmb_io::Tally;
+use pmb_objects::reason_name;
 use pmb_reader::Refusal;
-use pmb_transaction::Reason;
 
 /// A line with its LF.
 pub(crate) type Line = ArrayVec<u8, 128>;
@@ -38,23 +38,6 @@ pub(crate) fn refusal_line(refusal: Refusal) -> Line
     append_kinds(&mut line, refusal.expected);
     append(&mut line, b"\n");
     line
-}
-
-fn reason_name(reason: Reason) -> &'static [u8]
-    ensures name { result.now ≡ reason_text reason }
-    ensures short { length result.now ≤ 14 }
-{
-    match reason {
-        Reason::ReadFirst => b"ReadFirst",
-        Reason::BadRestart => b"BadRestart",
-        Reason::BadPec => b"BadPec",
-        Reason::UnknownDevice => b"UnknownDevice",
-        Reason::UnknownCommand => b"UnknownCommand",
-        Reason::TooLong => b"TooLong",
-        Reason::TooShort => b"TooShort",
-        Reason::WrongEvent => b"WrongEvent",
-        Reason::Truncated => b"Truncated",
-    }
 }
 
 /// Appends the names of kinds, with ` or ` between each two.

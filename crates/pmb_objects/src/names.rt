@@ -22,8 +22,8 @@ pub(crate) const KINDS_MEMBER: usize = ARRAY_MEMBER + 5 * (TEXT_ITEM + 6 * 5) + 
 /// The most bytes of the refused event.
 pub(crate) const GOT_MEMBER: usize = TEXT_MEMBER + 6 * 5;
 
-/// The name of a reason.
-pub(crate) fn reason_name(reason: Reason) -> &'static [u8]
+/// The name of a reason, as it is printed.
+pub fn reason_name(reason: Reason) -> &'static [u8]
     ensures name { result.now ≡ reason_text reason }
     ensures short { length result.now ≤ 14 }
 {

@@ -1,6 +1,6 @@
 -- The line is made of seven pieces.
 use Rattle.std.proofs.Common.{decimal, codes, ap, ◌∙◌, ◌++◌}
-use Rattle.pmb_capture.specs.Lines.{reason_name}
+use Rattle.pmb_objects.specs.Names.{reason_name}
 use Rattle.pmb_capture.proofs.Texts.{of_seven}
 use Rattle.pmb_capture.proofs.lines.refusal_line.Goals as goal
 
