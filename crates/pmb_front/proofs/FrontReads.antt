@@ -1,17 +1,15 @@
 -- A run of `front` over a reader, piece by piece.
-use Rattle.std.proofs.Common.{◌≡◌, ◌≢◌, ◌↔◌, IsTrue, ℕ, ◌+◌, ◌<◌, ◌≤◌, min, Bool, true, false, Result, Ok, Err, IfOk, OnErr, List, [], ◌++◌, length, take, drop, inl, inr, refl, sym, ap, ◌∙◌, subst, arith}
+use Rattle.std.proofs.Common.{◌≡◌, ◌≢◌, ◌↔◌, IsTrue, ℕ, ◌+◌, ◌<◌, ◌≤◌, min, Bool, true, false, Result, Ok, Err, IfOk, OnErr, List, [], ◌++◌, length, take, drop, append-nil, inl, inr, refl, sym, ap, ◌∙◌, subst, arith}
 use Rattle.std.specs.Prelude.{if◌then◌else◌}
 use Rattle.std.specs.Result.{is_ok, is_err}
 use Rattle.std.specs.declared.alloc.AllocError.{AllocError}
-use Rattle.std.specs.Io.KnownBytes.{Consumes, IsAtEnd, Keeps}
+use Rattle.std.specs.Io.KnownBytes.{Consumes, IsAtEnd}
 use Rattle.std.proofs.lemmas.List.{length-take-le}
 use Rattle.pmb_io.specs.Count.{raised}
 use Rattle.pmb_io.specs.Runs.{Gave, OpenBefore, most_piece}
 use Rattle.pmb_io.specs.Told.{ReaderTold}
 use Rattle.pmb_io.specs.declared.fault.ToolFault.{ToolFault}
 use Rattle.pmb_io.specs.declared.fault.ToolFault.TheVariants.{ProfileTooLong}
-use Rattle.pmb_io.proofs.Running.{bytes_more, gave_no_more, gave_nothing, gave_then, one_read_more, raised_by_none}
-use Rattle.pmb_io.proofs.Writing.{keeps_consumes}
 use Rattle.pmb_front.specs.Front.{FirstMark, MayFit, NoMark, Parts, ReadFront, ReadTooMuch, Reads, Undecided, most_profile}
 use Rattle.pmb_front.proofs.Limits.{late_cannot_fit}
 
@@ -20,7 +18,7 @@ use Rattle.pmb_front.proofs.Limits.{late_cannot_fit}
 -- a read gives a piece
 pub gave_piece : (old new : ReaderTold) (count : ℕ) (buffer : List ℕ) → count ≤ length buffer → Consumes old.left new.left (take count buffer) → new.given ≡ raised old.given count
     → Gave old new (take count buffer)
-gave_piece old new count buffer within consumed given = record { consumed = consumed; given = bytes_more old.given new.given count buffer within given }
+gave_piece old new count buffer within consumed given = record { consumed = consumed; given = given ∙ ap (raised old.given) (sym (length-take-le count buffer within)) }
 
 -- or nothing
 pub gave_none : (old new : ReaderTold) (count : ℕ) (buffer : List ℕ) → count ≡ 0 → Consumes old.left new.left (take count buffer) → new.given ≡ raised old.given count → Gave old new []
@@ -29,61 +27,68 @@ gave_none old new count buffer none consumed given = record {
   given = given ∙ ap (raised old.given) none;
 }
 
--- or fails
-pub gave_no_bytes : (old mid new : ReaderTold) (read : List ℕ) → Gave old mid read → Keeps mid.left new.left → new.given ≡ mid.given → Gave old new read
-gave_no_bytes old mid new read first kept same =
-    gave_no_more old mid new read first (record { consumed = keeps_consumes mid.left new.left kept; given = same ∙ sym (raised_by_none mid.given) })
-
 -- ---- what was read
 
 -- nothing is read
-pub reads_nothing : {R : Type 0} (told : R → ReaderTold) (reader : R) → Reads told reader reader []
-reads_nothing told reader = record { gave = gave_nothing (told reader); in_time = inl (refl, refl) }
+pub reads_nothing : {R : Type 0} (told : R → ReaderTold) (reader : R) → Gave (told reader) (told reader) [] → Reads told reader reader []
+reads_nothing told reader gave = record { gave = gave; in_time = inl (refl, refl) }
 
--- the bytes of one read more, where nothing was decided
-pub reads_piece : {R : Type 0} (told : R → ReaderTold) (old mid new : R) (read : List ℕ) (count : ℕ) (buffer : List ℕ) → Reads told old mid read → NoMark read → MayFit read
-    → count ≤ length buffer → length buffer ≤ most_piece → count ≢ 0
-    → Consumes (told mid).left (told new).left (take count buffer) → (told new).given ≡ raised (told mid).given count → (told new).reads ≡ raised (told mid).reads (min count 1)
-    → Reads told old new (read ++ take count buffer)
-reads_piece told old mid new read count buffer reads none fit within small some consumed given counted =
-    let gave = gave_piece (told mid) (told new) count buffer within consumed given in
-    let one : min count 1 ≡ 1 = omega (arith, some) in record {
-      gave = gave_then (told old) (told mid) (told new) read (take count buffer) reads.gave gave;
-      in_time = inr (record {
-        before = read;
-        piece = take count buffer;
-        whole = refl;
-        is_open = record { none = none; may_fit = fit };
-        middle = mid;
-        gave_before = reads.gave;
-        gave_piece = gave;
-        one_read = counted ∙ ap (raised (told mid).reads) one;
-        small = omega (arith, length-take-le count buffer within, within, small);
-      });
-    }
+raised_by_none : (count : ℕ) → raised count 0 ≡ count
+raised_by_none count = omega arith
 
--- a read that gives nothing
-still_in_time : {R : Type 0} (told : R → ReaderTold) (old mid new : R) (read : List ℕ) → OpenBefore told Undecided [] old mid read → Gave (told mid) (told new) [] → (told new).reads ≡ (told mid).reads
-    → OpenBefore told Undecided [] old new read
-still_in_time told old mid new read (inl nothing) gave same = inl (nothing.0, same ∙ nothing.1)
-still_in_time told old mid new read (inr last) gave same = inr (record {
-  before = last.before;
-  piece = last.piece;
-  whole = last.whole;
-  is_open = last.is_open;
-  middle = last.middle;
-  gave_before = last.gave_before;
-  gave_piece = gave_no_more (told last.middle) (told mid) (told new) last.piece last.gave_piece gave;
-  one_read = same ∙ last.one_read;
-  small = last.small;
-})
+module _ (both_given : (old mid new : ReaderTold) (x y : List ℕ) → Gave old mid x → Gave mid new y → Gave old new (x ++ y)) where
+  -- no byte more is given
+  gave_no_more : (old mid new : ReaderTold) (read : List ℕ) → Gave old mid read → Gave mid new [] → Gave old new read
+  gave_no_more old mid new read first second = subst (λ (t : List ℕ). Gave old new t) (append-nil read) (both_given old mid new read [] first second)
 
-pub reads_no_more : {R : Type 0} (told : R → ReaderTold) (old mid new : R) (read : List ℕ) (count : ℕ) → Reads told old mid read → Gave (told mid) (told new) []
-    → (told new).reads ≡ raised (told mid).reads (min count 1) → count ≡ 0 → Reads told old new read
-reads_no_more told old mid new read count reads gave counted none = record {
-  gave = gave_no_more (told old) (told mid) (told new) read reads.gave gave;
-  in_time = still_in_time told old mid new read reads.in_time gave (counted ∙ (ap (λ n. raised (told mid).reads (min n 1)) none ∙ raised_by_none (told mid).reads));
-}
+  -- a read fails
+  pub gave_no_bytes : (old mid new : ReaderTold) (read : List ℕ) → Gave old mid read → Consumes mid.left new.left [] → new.given ≡ mid.given → Gave old new read
+  gave_no_bytes old mid new read first none same = gave_no_more old mid new read first (record { consumed = none; given = same ∙ sym (raised_by_none mid.given) })
+
+  -- the bytes of one read more, where nothing was decided
+  pub reads_piece : {R : Type 0} (told : R → ReaderTold) (old mid new : R) (read : List ℕ) (count : ℕ) (buffer : List ℕ) → Reads told old mid read → NoMark read → MayFit read
+      → count ≤ length buffer → length buffer ≤ most_piece → count ≢ 0
+      → Consumes (told mid).left (told new).left (take count buffer) → (told new).given ≡ raised (told mid).given count → (told new).reads ≡ raised (told mid).reads (min count 1)
+      → Reads told old new (read ++ take count buffer)
+  reads_piece told old mid new read count buffer reads none fit within small some consumed given counted =
+      let gave = gave_piece (told mid) (told new) count buffer within consumed given in
+      let one : min count 1 ≡ 1 = omega (arith, some) in record {
+        gave = both_given (told old) (told mid) (told new) read (take count buffer) reads.gave gave;
+        in_time = inr (record {
+          before = read;
+          piece = take count buffer;
+          whole = refl;
+          is_open = record { none = none; may_fit = fit };
+          middle = mid;
+          gave_before = reads.gave;
+          gave_piece = gave;
+          one_read = counted ∙ ap (raised (told mid).reads) one;
+          small = omega (arith, length-take-le count buffer within, within, small);
+        });
+      }
+
+  -- a read that gives nothing
+  still_in_time : {R : Type 0} (told : R → ReaderTold) (old mid new : R) (read : List ℕ) → OpenBefore told Undecided [] old mid read → Gave (told mid) (told new) [] → (told new).reads ≡ (told mid).reads
+      → OpenBefore told Undecided [] old new read
+  still_in_time told old mid new read (inl nothing) gave same = inl (nothing.0, same ∙ nothing.1)
+  still_in_time told old mid new read (inr last) gave same = inr (record {
+    before = last.before;
+    piece = last.piece;
+    whole = last.whole;
+    is_open = last.is_open;
+    middle = last.middle;
+    gave_before = last.gave_before;
+    gave_piece = gave_no_more (told last.middle) (told mid) (told new) last.piece last.gave_piece gave;
+    one_read = same ∙ last.one_read;
+    small = last.small;
+  })
+
+  pub reads_no_more : {R : Type 0} (told : R → ReaderTold) (old mid new : R) (read : List ℕ) (count : ℕ) → Reads told old mid read → Gave (told mid) (told new) []
+      → (told new).reads ≡ raised (told mid).reads (min count 1) → count ≡ 0 → Reads told old new read
+  reads_no_more told old mid new read count reads gave counted none = record {
+    gave = gave_no_more (told old) (told mid) (told new) read reads.gave gave;
+    in_time = still_in_time told old mid new read reads.in_time gave (counted ∙ (ap (λ n. raised (told mid).reads (min n 1)) none ∙ raised_by_none (told mid).reads));
+  }
 
 -- ---- how often
 
@@ -95,7 +100,7 @@ pub no_reads : (most told : ℕ) → FewReads most told told
 no_reads most told = (0, omega arith, sym (raised_by_none told))
 
 pub one_more : (most more old mid new n : ℕ) → FewReads most old mid → new ≡ raised mid (min n 1) → n ≢ 0 → most < more → FewReads more old new
-one_more most more old mid new n few is some room = (few.0 + 1, omega (arith, few.1), one_read_more old mid new few.0 n few.2 is some)
+one_more most more old mid new n few is some room = (few.0 + 1, omega (arith, few.1), omega (arith, few.2, is, some))
 
 pub none_more : (most more old mid new n : ℕ) → FewReads most old mid → new ≡ raised mid (min n 1) → n ≡ 0 → most ≤ more → FewReads more old new
 none_more most more old mid new n few is none room =

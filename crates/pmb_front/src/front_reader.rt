@@ -9,6 +9,7 @@ ghost use Rattle.pmb_front.specs.machine.Front.{EndsInMark, NoneEndsWithin};
 ghost use Rattle.pmb_io.specs.Count.{raised};
 
 use crate::front_parts::Front;
+use pmb_io::laws::reads_add_up;
 use pmb_io::{Source, ToolFault, without_return};
 use std::alloc::Global;
 
@@ -59,6 +60,7 @@ pub fn front<R: Source>(alloc: Global, reader: &mut R) -> Result<Front, ToolFaul
     ensures few_reads { result ≢ Err ToolFault.TooManyReads }
     ensures no_write { result ≢ Err ToolFault.Write }
 {
+    reads_add_up();
     let mut bytes = Vec::new(alloc);
     let mut piece = [0; PIECE];
     while may_fit(bytes.as_slice()) {

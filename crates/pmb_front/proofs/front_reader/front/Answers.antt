@@ -1,11 +1,11 @@
-use Rattle.std.proofs.Common.{◌≡◌, ◌≢◌, ◌∙◌, true, ◌+◌, ◌≤◌, ◌<◌, ◌++◌, List, ℕ, ap, length, length-append, min, take, drop, inl, sym, subst, length-take-le, refl, arith}
+use Rattle.std.proofs.Common.{◌≡◌, ◌≢◌, ◌∙◌, true, false, Bool, Ok, ◌+◌, ◌≤◌, ◌<◌, ◌++◌, List, ℕ, ap, length, length-append, min, take, drop, inl, sym, subst, length-take-le, refl, arith}
 use Rattle.std.specs.Io.KnownBytes.{IsAtEnd}
 use Rattle.std.proofs.lemmas.Bool.Decides.{nat_tests}
 use Rattle.pmb_io.specs.Count.{raised}
 use Rattle.pmb_io.specs.Runs.{most_piece}
 use Rattle.pmb_io.specs.Told.{ReaderTold}
-use Rattle.pmb_io.proofs.Running.{counts_piece}
-use Rattle.pmb_io.proofs.Writing.{told_end, told_no_end}
+use Rattle.pmb_io.specs.Calls.{CountsRead, TellsEnd}
+use Rattle.pmb_io.specs.declared.fault.IoFault.{IoFault}
 use Rattle.pmb_front.specs.Front.{FirstMark, MayFit, NoMark, Reads, most_profile}
 use Rattle.pmb_front.specs.machine.Front.{NoneEndsWithin}
 use Rattle.pmb_front.proofs.FrontReads.{FewReads, all_past_limit, all_within, cut_past_limit, cut_within, gave_no_bytes, gave_none, grown, marked_so, no_reads, none_more, one_more, reads_no_more, reads_nothing, reads_piece, same_reads, told_unfit, unmarked_not}
@@ -14,6 +14,21 @@ use Rattle.pmb_front.proofs.Marks.{none_in_nothing, none_with_more}
 use Rattle.pmb_front.proofs.front_reader.front.Given as given
 use Rattle.pmb_front.proofs.front_reader.front.Goals as goal
 use Rattle.pmb_front.proofs.front_reader.front.Goals.{After-as_slice-in-loop-piece, After-extend_from_slice, In-Ok, In-Some}
+
+-- ---- what a read tells
+
+-- it counts where it gave bytes
+counts_piece : (old new : ReaderTold) (count : ℕ) (buffer : List ℕ) → CountsRead {F = IoFault} old new (Ok count) buffer → 0 < length buffer → new.reads ≡ raised old.reads (min count 1)
+counts_piece old new count buffer counted room = grind (arith, nat_tests, counted, room)
+
+-- a read of nothing is the end
+told_end : (old new : Bool) (count : ℕ) (buffer : List ℕ) → TellsEnd {F = IoFault} old new (Ok count) buffer → count ≡ 0 → 0 < length buffer → new ≡ true
+told_end old new count buffer told none room = grind (arith, nat_tests)
+
+-- and any other is not
+told_no_end : (old new : Bool) (count : ℕ) (buffer : List ℕ) → TellsEnd {F = IoFault} old new (Ok count) buffer → count ≢ 0 → new ≡ old
+told_no_end true new count buffer told some = told
+told_no_end false new count buffer told some = grind (arith, nat_tests)
 
 -- ---- a read returned bytes, or that there are none
 
@@ -40,7 +55,7 @@ gave_all g c none =
     let count = c.in-Ok.count in
     let buffer = c.read.new.buffer in
     let gave = gave_none (told c.loop-piece.reader) (told c.read.new.self) count buffer none c.in-Ok.ensures.bytes.0 c.in-Ok.ensures.given in record {
-      reads = reads_no_more told c.args.reader.now c.loop-piece.reader c.read.new.self c.loop-piece.bytes.items count c.loop-piece.invariant.reads gave (counted g c) none;
+      reads = reads_no_more c.reads_add_up.ensures.both_given told c.args.reader.now c.loop-piece.reader c.read.new.self c.loop-piece.bytes.items count c.loop-piece.invariant.reads gave (counted g c) none;
       ended = told_end _ _ count buffer c.in-Ok.ensures.ended none (omega arith);
       at_end = c.in-Ok.ensures.bytes.1 none (omega arith);
     }
@@ -55,7 +70,7 @@ reads_more : (g : given.Over) (c : After-extend_from_slice g) → Reads g.R.Sour
 reads_more g c =
     let before = (goal.at.After-extend_from_slice g c).In-Ok in
     let room : length c.read.new.buffer ≤ most_piece = omega arith in
-    reads_piece g.R.Source.told c.args.reader.now c.loop-piece.reader c.read.new.self c.loop-piece.bytes.items c.in-Ok.count c.read.new.buffer
+    reads_piece c.reads_add_up.ensures.both_given g.R.Source.told c.args.reader.now c.loop-piece.reader c.read.new.self c.loop-piece.bytes.items c.in-Ok.count c.read.new.buffer
     c.loop-piece.invariant.reads c.loop-piece.invariant.none (fit g before) c.in-Ok.ensures.within room (some g c) c.in-Ok.ensures.bytes.0 c.in-Ok.ensures.given (counted g before)
 
 -- one read more was made
@@ -100,7 +115,7 @@ loop-piece-init g c =
       not_ended = refl;
       counted = omega (arith, ap length empty, c.new-bytes.ensures.len);
       few = no_reads _ _;
-      reads = subst (λ (t : List ℕ). Reads g.R.Source.told c.args.reader.now c.args.reader.now t) (sym empty) (reads_nothing g.R.Source.told c.args.reader.now);
+      reads = subst (λ (t : List ℕ). Reads g.R.Source.told c.args.reader.now c.args.reader.now t) (sym empty) (reads_nothing g.R.Source.told c.args.reader.now (c.reads_add_up.ensures.nothing_given _));
       none = subst NoMark (sym empty) none_in_nothing;
     }
 
@@ -118,7 +133,7 @@ pub returns-in-Err-clause-before_read : goal.returns-in-Err-clause-before_read
 returns-in-Err-clause-before_read g c is =
     let read = c.loop-piece.bytes.items in
     let fit : MayFit read = subst MayFit c.as_slice.ensures.value (c.may_fit.ensures.0 c.loop-piece-test.true) in
-    let gave = gave_no_bytes (g.R.Source.told c.args.reader.now) (g.R.Source.told c.loop-piece.reader) (g.R.Source.told c.read.new.self) read c.loop-piece.invariant.reads.gave c.in-Err.ensures.bytes c.in-Err.ensures.given in
+    let gave = gave_no_bytes c.reads_add_up.ensures.both_given (g.R.Source.told c.args.reader.now) (g.R.Source.told c.loop-piece.reader) (g.R.Source.told c.read.new.self) read c.loop-piece.invariant.reads.gave (c.reads_add_up.ensures.kept _ _ c.in-Err.ensures.bytes) c.in-Err.ensures.given in
     record { read = read; gave = gave; undecided = record { none = c.loop-piece.invariant.none; may_fit = fit } }
 
 pub returns-in-Err-clause-reads : goal.returns-in-Err-clause-reads
