@@ -53,58 +53,11 @@ fn first_difference(bus: &mut Bus<'_>, capture: &[Event]) -> Option<usize> {
 
 /// A read of READ_VIN as the simulated device answers it, and as one does whose input has another
 /// voltage; a write that a real device refuses at its last byte.
+#[rattlefmt::skip]
 static CAPTURES: [(&[Event], Option<usize>); 3] = [
-    (
-        &[
-            Start,
-            Byte(0xb0),
-            Ack,
-            Byte(0x88),
-            Ack,
-            Start,
-            Byte(0xb1),
-            Ack,
-            Byte(0x00),
-            Ack,
-            Byte(0xd3),
-            Nack,
-            Stop,
-        ],
-        None,
-    ),
-    (
-        &[
-            Start,
-            Byte(0xb0),
-            Ack,
-            Byte(0x88),
-            Ack,
-            Start,
-            Byte(0xb1),
-            Ack,
-            Byte(0x1a),
-            Ack,
-            Byte(0xd3),
-            Nack,
-            Stop,
-        ],
-        Some(8),
-    ),
-    (
-        &[
-            Start,
-            Byte(0xb0),
-            Ack,
-            Byte(0x21),
-            Ack,
-            Byte(0x00),
-            Ack,
-            Byte(0x18),
-            Nack,
-            Stop,
-        ],
-        Some(8),
-    ),
+    (&[Start, Byte(0xb0), Ack, Byte(0x88), Ack, Start, Byte(0xb1), Ack, Byte(0x00), Ack, Byte(0xd3), Nack, Stop], None),
+    (&[Start, Byte(0xb0), Ack, Byte(0x88), Ack, Start, Byte(0xb1), Ack, Byte(0x1a), Ack, Byte(0xd3), Nack, Stop], Some(8)),
+    (&[Start, Byte(0xb0), Ack, Byte(0x21), Ack, Byte(0x00), Ack, Byte(0x18), Nack, Stop], Some(8)),
 ];
 
 #[test]

@@ -4,7 +4,8 @@ use pmb_bus::Event;
 use pmb_device::{Device, DeviceSignal, Exchange, Heard, HostSignal, Outcome};
 use pmb_devices::Bus;
 use pmb_registers::CmlBit;
-use pmb_table::{Profile, SAMPLE};
+use pmb_table::{DeviceProfile, Profile, SAMPLE};
+use std::process::Abort;
 use std::test::Fail;
 
 // The program at the head of `pmb_devices`.
@@ -68,16 +69,22 @@ fn a_device_knows_its_address(rt: HostRuntime) -> Result<(), Fail> {
     Ok(())
 }
 
-#[test]
-fn an_exchange_without_registers_gives_what_it_is_handed(rt: HostRuntime) -> Result<(), Fail> {
-    let profile = Profile::from_toml(rt.alloc(), SAMPLE.as_bytes())?;
-    let device = profile.device_at(0).ok_or("no device")?;
+/// An exchange in which 88h was asked for, up to the read address.
+fn asked<'p>(rt: &impl Abort, device: &'p DeviceProfile) -> Exchange<'p> {
     let mut exchange = Exchange::new(device);
     exchange.start();
     assert_eq!(rt; exchange.byte(0xb0), Heard::Ack);
     assert_eq!(rt; exchange.byte(0x88), Heard::Ack);
     exchange.start();
     assert_eq!(rt; exchange.byte(0xb1), Heard::Read);
+    exchange
+}
+
+#[test]
+fn an_exchange_without_registers_gives_what_it_is_handed(rt: HostRuntime) -> Result<(), Fail> {
+    let profile = Profile::from_toml(rt.alloc(), SAMPLE.as_bytes())?;
+    let device = profile.device_at(0).ok_or("no device")?;
+    let mut exchange = asked(&rt, device);
     assert_eq!(rt; exchange.body(), [0x88].as_slice());
     exchange.reply(&[0x00, 0xd3]);
     assert_eq!(rt; exchange.ask(), DeviceSignal::Byte(0x00));
@@ -95,12 +102,7 @@ fn an_exchange_without_registers_gives_what_it_is_handed(rt: HostRuntime) -> Res
 fn an_exchange_tells_what_its_leg_does(rt: HostRuntime) -> Result<(), Fail> {
     let profile = Profile::from_toml(rt.alloc(), SAMPLE.as_bytes())?;
     let device = profile.device_at(0).ok_or("no device")?;
-    let mut exchange = Exchange::new(device);
-    exchange.start();
-    assert_eq!(rt; exchange.byte(0xb0), Heard::Ack);
-    assert_eq!(rt; exchange.byte(0x88), Heard::Ack);
-    exchange.start();
-    assert_eq!(rt; exchange.byte(0xb1), Heard::Read);
+    let mut exchange = asked(&rt, device);
     exchange.refuse(CmlBit::BadValue);
     assert!(rt; matches!(exchange.outcome(), Outcome::Note(CmlBit::BadValue)));
     exchange.end();

@@ -1,5 +1,5 @@
-//! A bus beside devices by the rules in words, and beside registers to which is applied what a reader
-//! reads of the events.
+//! A bus beside devices by the rules in words, and beside registers to which is applied what a
+//! reader reads of the events.
 
 use plain_devices::PlainDevice;
 use pmb_bus::Event;
@@ -89,8 +89,8 @@ impl<'p> Compared<'p> {
         Ok(self.hold_alike())
     }
 
-    /// Has the reader take an event, and applies what it read. A refused event stays: from it on the
-    /// reader passes over what comes, up to a STOP.
+    /// Has the reader take an event, and applies what it read. A refused event stays: from it on
+    /// the reader passes over what comes, up to a STOP.
     fn read(&mut self, event: Event) {
         match self.reader.take(event) {
             Took::More => {}

@@ -1,5 +1,6 @@
-//! Tests of simulated devices and their bus: sessions told by hand, the programs of `docs/devices.md`,
-//! and random signals beside devices by the rules in words and beside what a reader reads of the events.
+//! Tests of simulated devices and their bus: sessions told by hand, the programs of
+//! `docs/devices.md`, and random signals beside devices by the rules in words and beside what a
+//! reader reads of the events.
 #![tactic(auto)]
 
 #[cfg(test)]

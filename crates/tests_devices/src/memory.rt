@@ -1,5 +1,6 @@
-//! Want of memory: each of these passes whichever one allocation is refused, since what is made anew
-//! behind an error is as if nothing had been tried. `rt try --test --fail-alloc N` refuses the Nth.
+//! Want of memory: each of these passes whichever one allocation is refused, since what is made
+//! anew after an error is as if nothing had been tried. `rt try --test --fail-alloc N` refuses the
+//! Nth.
 
 use pmb_device::{Device, DeviceSignal, HostSignal};
 use pmb_devices::Bus;

@@ -30,18 +30,6 @@ impl Script {
     }
 }
 
-/// The number of data bytes in a form; of a block some.
-fn data_count(random: &mut Random, form: Form) -> u8 {
-    match form {
-        Form::Zero => 0,
-        Form::One => 1,
-        Form::Two => 2,
-        Form::Four => 4,
-        Form::Eight => 8,
-        Form::Block => random.byte() & 3,
-    }
-}
-
 /// Appends random data in a form; of PAGE mostly a page.
 fn put_data(
     random: &mut Random,
@@ -49,7 +37,7 @@ fn put_data(
     code: u8,
     form: Form,
 ) -> Result<(), AllocError> {
-    let count = data_count(random, form);
+    let count = random.data_count(form);
     if form == Form::Block {
         bytes.push(count)?;
     }
@@ -79,6 +67,14 @@ fn entry<'p>(random: &mut Random, device: &'p DeviceProfile) -> Option<&'p Entry
     }
 }
 
+/// The address of a device and the code of an entry.
+fn asking(alloc: Global, device: &DeviceProfile, entry: &Entry) -> Result<Vec<u8>, AllocError> {
+    let mut bytes = Vec::new(alloc);
+    bytes.push(device.address().wrapping_mul(2))?;
+    bytes.push(entry.code)?;
+    Ok(bytes)
+}
+
 /// A leg with a write body.
 fn put_write(
     alloc: Global,
@@ -92,9 +88,7 @@ fn put_write(
     let Some(form) = entry.shape.write else {
         return Ok(());
     };
-    let mut bytes = Vec::new(alloc);
-    bytes.push(device.address().wrapping_mul(2))?;
-    bytes.push(entry.code)?;
+    let mut bytes = asking(alloc, device, entry)?;
     put_data(random, &mut bytes, entry.code, form)?;
     let with_pec = match device.pec() {
         PecMode::Off => false,
@@ -130,8 +124,8 @@ fn put_call_data(
     Ok(())
 }
 
-/// Asks for the bytes of a reply in a form, with a packet error code where there may be one, and ends
-/// it. Of a block it asks for some.
+/// Asks for the bytes of a reply in a form, with a packet error code where there may be one, and
+/// ends it. Of a block it asks for some.
 fn put_asks(
     random: &mut Random,
     script: &mut Script,
@@ -169,9 +163,7 @@ fn put_read(
     let Some(entry) = entry(random, device) else {
         return Ok(());
     };
-    let mut bytes = Vec::new(alloc);
-    bytes.push(device.address().wrapping_mul(2))?;
-    bytes.push(entry.code)?;
+    let mut bytes = asking(alloc, device, entry)?;
     let is_called = entry.shape.call.is_some() && (entry.shape.read.is_none() || random.once_in(2));
     let form = if is_called {
         entry.shape.call
@@ -266,8 +258,8 @@ fn broken(
     Ok(changed)
 }
 
-/// The number of the first list of signals in which the bus and what it is compared with differ, and
-/// at how many STOPs the transactions that were read had made the same.
+/// The number of the first list of signals in which the bus and what it is compared with differ,
+/// and at how many STOPs the transactions that were read had made the same.
 fn first_difference(
     alloc: Global,
     profile: &Profile,
@@ -298,7 +290,8 @@ fn first_difference(
     Ok((None, alike))
 }
 
-/// Compares lists of signals under a profile: none differs, and in most of them transactions are read.
+/// Compares lists of signals under a profile: none differs, and in most of them transactions are
+/// read.
 fn act_by_the_rules<R: Abort>(
     rt: &R,
     alloc: Global,
