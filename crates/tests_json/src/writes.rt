@@ -1,9 +1,10 @@
-//! What `json` writes for each row: whole, byte by byte, cut at each place, and with each read and each
-//! write failing in its turn.
+//! What `json` writes for each row: whole, byte by byte, cut at each place, and with each read and
+//! each write failing in its turn.
 
 use crate::rows::{Row, tables};
+use harness::{Task, Told, Way, is_front, run_in, unlike_cut};
 use pmb_decimal::Digits;
-use pmb_io::{Failing, Io, Source, Tally, ToolFault};
+use pmb_io::{Sink, Source, Tally, ToolFault};
 use pmb_json::json;
 use pmb_stream::Choice;
 use pmb_table::{Profile, SAMPLE};
@@ -11,198 +12,128 @@ use std::alloc::{AllocError, Global};
 use std::process::Abort;
 use std::test::Fail;
 
-/// What `json` answered and wrote.
+/// What the flags of a row choose, under a profile.
 #[derive(Drop)]
-struct Ran {
-    answer: Result<Tally, ToolFault>,
-    written: Vec<u8>,
+struct Chosen<'p> {
+    profile: &'p Profile,
+    digits: Digits,
+    row: &'p Row,
 }
 
-impl Ran {
-    fn parts(&self) -> (Result<Tally, ToolFault>, &[u8]) {
-        (self.answer, self.written.as_slice())
+impl Task for Chosen<'_> {
+    type Answer = Told;
+
+    fn run<R: Source, W: Sink>(&self, first: &[u8], from: &mut R, to: &mut W) -> Told {
+        let flags = self.row.flags;
+        let choice = Choice {
+            digits: self.digits,
+            start: flags.start,
+            devices: flags.devices,
+        };
+        json(self.profile, choice, flags.bad_words, first, from, to)
     }
-}
-
-/// What the flags of a row choose.
-fn choice_of(rt: &impl Abort, row: &Row) -> Choice<'static> {
-    Choice {
-        digits: Digits::new(row.flags.digits).expect(rt, row.name),
-        start: row.flags.start,
-        devices: row.flags.devices,
-    }
-}
-
-/// What is written of the bytes `first` and those that a reader gives.
-fn written<R: Source>(
-    rt: &impl Abort,
-    alloc: Global,
-    profile: &Profile,
-    row: &Row,
-    first: &[u8],
-    reader: &mut R,
-) -> Ran {
-    let mut writer = Io::new(Vec::new(alloc));
-    let choice = choice_of(rt, row);
-    let answer = json(
-        profile,
-        choice,
-        row.flags.bad_words,
-        first,
-        reader,
-        &mut writer,
-    );
-    Ran {
-        answer,
-        written: writer.into_inner(),
-    }
-}
-
-/// A reader that gives the bytes of a capture one by one.
-fn in_bytes(capture: &str) -> Failing<Io<&[u8]>> {
-    let mut reader = Failing::new(Io::new(capture.as_bytes()));
-    reader.give_at_most(1);
-    reader
-}
-
-/// What is written where the write behind so many others fails.
-fn written_to_write(
-    rt: &impl Abort,
-    alloc: Global,
-    profile: &Profile,
-    row: &Row,
-    writes: u64,
-) -> Result<Ran, AllocError> {
-    let mut writer = Failing::new(Io::new(Vec::new(alloc)));
-    writer.fail_after(writes);
-    let answer = json(
-        profile,
-        choice_of(rt, row),
-        row.flags.bad_words,
-        b"",
-        &mut in_bytes(row.capture),
-        &mut writer,
-    );
-    Ok(Ran {
-        answer,
-        written: writer.inner().clone()?.into_inner(),
-    })
 }
 
 /// Whether the lines of a row are written, whole, byte by byte and cut at each place.
-fn check_row(rt: &impl Abort, alloc: Global, profile: &Profile, row: &Row) {
-    let name = row.name;
-    let lines = row.lines.as_bytes();
-    let capture = row.capture.as_bytes();
-    let tally = Tally {
+fn check_cuts(rt: &impl Abort, alloc: Global, task: &Chosen<'_>) -> Result<(), AllocError> {
+    let row = task.row;
+    let answer = Ok(Tally {
         packets: row.packets,
         refusals: row.refusals,
-    };
-    let whole = written(rt, alloc, profile, row, b"", &mut Io::new(capture));
-    assert_eq!(rt; whole.parts(), (Ok(tally), lines), "{name}, whole");
-    let bytes = written(rt, alloc, profile, row, b"", &mut in_bytes(row.capture));
-    assert_eq!(rt; bytes.parts(), (Ok(tally), lines), "{name}, byte by byte");
-    for cut in 0..=capture.len() {
-        let (first, rest) = capture.split_at(cut);
-        let parts = written(rt, alloc, profile, row, first, &mut Io::new(rest));
-        assert_eq!(rt; parts.parts(), (Ok(tally), lines), "{name}, cut at {cut}");
-    }
-}
-
-fn check_rows(rt: &impl Abort, alloc: Global, profile: &Profile, rows: &[Row]) {
-    for row in rows {
-        check_row(rt, alloc, profile, row);
-    }
-}
-
-#[test]
-fn writes_each_row_however_it_is_cut(rt: HostRuntime) -> Result<(), Fail> {
-    let profile = Profile::from_toml(rt.alloc(), SAMPLE.as_bytes())?;
-    for rows in tables() {
-        check_rows(&rt, rt.alloc(), &profile, rows);
-    }
+    });
+    let capture = row.capture.as_bytes();
+    let ran = unlike_cut(alloc, task, capture, answer, row.lines.as_bytes())?;
+    assert!(rt; ran.is_none(), "{}: {ran:?}", row.name);
     Ok(())
 }
 
 /// Whether each run of a row in which a read failed wrote a front of the lines, each of them whole,
 /// and no fewer than a run of fewer reads.
-fn check_reads(rt: &impl Abort, alloc: Global, profile: &Profile, row: &Row) {
-    let name = row.name;
-    let lines = row.lines.as_bytes();
+fn check_reads(rt: &impl Abort, alloc: Global, task: &Chosen<'_>) {
+    let (name, capture) = (task.row.name, task.row.capture);
+    let lines = task.row.lines.as_bytes();
     let mut fewer = 0;
-    for reads in 0..row.capture.len() as u64 + 1 {
-        let mut reader = in_bytes(row.capture);
-        reader.fail_after(reads);
-        let ran = written(rt, alloc, profile, row, b"", &mut reader);
+    for reads in 0..=capture.len() as u64 {
+        let ran = run_in(alloc, task, capture.as_bytes(), Way::FailingRead(reads));
         let found = ran.written.as_slice();
-        let is_front = lines.starts_with(found) && fewer <= found.len();
-        let is_lines = found.is_empty() || found.ends_with(b"\n");
         let is_told = ran.answer == Err(ToolFault::Read) || found.len() == lines.len();
+        let fits = (is_front(found, lines), fewer <= found.len(), is_told);
         assert_eq!(rt;
-            (is_front, is_lines, is_told),
+            fits,
             (true, true, true),
-            "{name}, the read behind {reads} fails"
+            "{name}, the read after {reads} fails"
         );
         fewer = found.len();
     }
 }
 
-fn check_all_reads(rt: &impl Abort, alloc: Global, profile: &Profile, rows: &[Row]) {
-    for row in rows {
-        check_reads(rt, alloc, profile, row);
-    }
-}
-
-#[test]
-fn a_failed_read_leaves_whole_lines(rt: HostRuntime) -> Result<(), Fail> {
-    let profile = Profile::from_toml(rt.alloc(), SAMPLE.as_bytes())?;
-    for rows in tables() {
-        check_all_reads(&rt, rt.alloc(), &profile, rows);
-    }
-    Ok(())
-}
-
 /// Whether each run of a row in which a write failed says so, up to the first in which none did.
-fn check_writes(
-    rt: &impl Abort,
-    alloc: Global,
-    profile: &Profile,
-    row: &Row,
-) -> Result<(), AllocError> {
-    let name = row.name;
-    let lines = row.lines.as_bytes();
-    for writes in 0..row.capture.len() as u64 + 2 {
-        let ran = written_to_write(rt, alloc, profile, row, writes)?;
+fn check_writes(rt: &impl Abort, alloc: Global, task: &Chosen<'_>) {
+    let (name, capture) = (task.row.name, task.row.capture);
+    let lines = task.row.lines.as_bytes();
+    for writes in 0..=capture.len() as u64 + 1 {
+        let ran = run_in(alloc, task, capture.as_bytes(), Way::FailingWrite(writes));
         let found = ran.written.as_slice();
         if ran.answer != Err(ToolFault::Write) {
             assert_eq!(rt; found, lines, "{name}, {writes} writes");
-            return Ok(());
+            return;
         }
-        assert!(rt;
-            lines.starts_with(found) && found.len() < lines.len(),
-            "{name}, the write behind {writes} fails"
-        );
+        let fits = lines.starts_with(found) && found.len() < lines.len();
+        assert!(rt; fits, "{name}, the write after {writes} fails");
     }
-    Ok(())
 }
 
-fn check_all_writes(
+/// What is tried with each row.
+#[derive(Clone, Copy)]
+enum Trial {
+    EachCut,
+    EachReadFails,
+    EachWriteFails,
+}
+
+/// Whether a trial of each row of a table comes to what the row says.
+fn check_rows(
     rt: &impl Abort,
     alloc: Global,
+    trial: Trial,
     profile: &Profile,
     rows: &[Row],
 ) -> Result<(), AllocError> {
     for row in rows {
-        check_writes(rt, alloc, profile, row)?;
+        let digits = Digits::new(row.flags.digits).expect(rt, row.name);
+        let task = Chosen {
+            profile,
+            digits,
+            row,
+        };
+        match trial {
+            Trial::EachCut => check_cuts(rt, alloc, &task)?,
+            Trial::EachReadFails => check_reads(rt, alloc, &task),
+            Trial::EachWriteFails => check_writes(rt, alloc, &task),
+        }
+    }
+    Ok(())
+}
+
+fn check_tables(rt: &impl Abort, alloc: Global, trial: Trial) -> Result<(), Fail> {
+    let profile = Profile::from_toml(alloc, SAMPLE.as_bytes())?;
+    for rows in tables() {
+        check_rows(rt, alloc, trial, &profile, rows)?;
     }
     Ok(())
 }
 
 #[test]
+fn writes_each_row_however_it_is_cut(rt: HostRuntime) -> Result<(), Fail> {
+    check_tables(&rt, rt.alloc(), Trial::EachCut)
+}
+
+#[test]
+fn a_failed_read_leaves_whole_lines(rt: HostRuntime) -> Result<(), Fail> {
+    check_tables(&rt, rt.alloc(), Trial::EachReadFails)
+}
+
+#[test]
 fn a_failed_write_is_told(rt: HostRuntime) -> Result<(), Fail> {
-    let profile = Profile::from_toml(rt.alloc(), SAMPLE.as_bytes())?;
-    for rows in tables() {
-        check_all_writes(&rt, rt.alloc(), &profile, rows)?;
-    }
-    Ok(())
+    check_tables(&rt, rt.alloc(), Trial::EachWriteFails)
 }
