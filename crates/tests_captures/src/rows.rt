@@ -1,13 +1,13 @@
 //! Captures, and what is shown of them under a profile.
 
 use crate::cuts::CUTS;
-use crate::notes::{FIXED_EXPONENTS, NOTES, PAGES};
-use crate::packets::{LATER_FORMS, PACKETS};
-use crate::refusals::{ENDS, PASSED_OVER, REFUSALS};
-use crate::words::{BAD_TOKENS, SPELLINGS};
+use crate::notes::NOTES;
+use crate::packets::PACKETS;
+use crate::refusals::REFUSALS;
+use crate::words::WORDS;
 
-/// A capture, and what is shown of it under a profile: a line with its note for each packet, and one
-/// that begins with `#` for each refusal.
+/// A capture, and what is shown of it under a profile: a line with its note for each packet, and
+/// one that begins with `#` for each refusal.
 pub(crate) struct Row {
     pub(crate) name: &'static str,
     pub(crate) profile: &'static str,
@@ -16,18 +16,6 @@ pub(crate) struct Row {
 }
 
 /// All rows, a table a subject.
-pub(crate) fn tables() -> [&'static [Row]; 11] {
-    [
-        &SPELLINGS,
-        &PACKETS,
-        &REFUSALS,
-        &PASSED_OVER,
-        &ENDS,
-        &BAD_TOKENS,
-        &LATER_FORMS,
-        &NOTES,
-        &PAGES,
-        &FIXED_EXPONENTS,
-        &CUTS,
-    ]
+pub(crate) fn tables() -> [&'static [Row]; 5] {
+    [&WORDS, &PACKETS, &REFUSALS, &NOTES, &CUTS]
 }
