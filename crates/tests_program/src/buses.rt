@@ -1,11 +1,8 @@
-//! `pmb profile`: the bus of a profile alone, of one in front of a capture, and of the sample; and what
+//! `pmb profile`: the bus of a profile alone, of one before a capture, and of the sample; and what
 //! is told of a fault of a profile, with the lines that help.
 
-use crate::run::{
-    Calls, Failure, check_failure, check_text, run, run_told, run_untold, unreadable,
-};
 use pmb_cli::Io;
-use std::test::Fail;
+use program_runs::{run, run_told, run_untold, unlike_text, unreadable};
 
 const PROFILE: [&str; 2] = ["pmb", "profile"];
 
@@ -43,7 +40,7 @@ static ROWS: [Row; 14] = [
         "[[device]]\naddress = 0x58\npec = \"optional\"\nvout_mode = 13\nstandard = false\ncommand = [{ name = \"PMBUS_REVISION\", initial = \"33\" }]\n%%\nP x\n%%\n",
         DEVICE, "", 0,
     ),
-    // Behind the line of a fault stand those that help with it.
+    // After the line of a fault stand those that help with it.
     (
         "nothing", "", "",
         "pmb: profile: MissingKey\n  device is missing: each device begins with a line [[device]], and a profile without any is device = []\n", 2,
@@ -53,7 +50,7 @@ static ROWS: [Row; 14] = [
         "pmb: profile: NotToml\n  line 1: key with no value, expected `=`\n\
          \x20 This looks like a capture or lines: a profile and a line %% come first, or --sample.\n", 2,
     ),
-    // What stands behind the line `%%` makes no difference.
+    // What stands after the line `%%` makes no difference.
     (
         "no TOML, and a capture", "[[device]]\naddress 0x58\n%%\nS 40 N P\n", "",
         "pmb: profile: NotToml\n  line 2: key with no value, expected `=`\n", 2,
@@ -97,55 +94,8 @@ static ROWS: [Row; 14] = [
 #[test]
 fn describes_each_row(rt: HostRuntime) {
     for &(name, input, printed, told, status) in &ROWS {
-        check_text(
-            &rt,
-            rt.alloc(),
-            &PROFILE,
-            name,
-            input,
-            (printed, told, status),
-        );
-    }
-}
-
-/// 15 bytes up to the line `%%` and with it, then 2 that are not read.
-const PROFILE_AND_CAPTURE: &str = "device = []\n%%\nP\n";
-
-static FAILURES: [Failure; 4] = [
-    Failure {
-        name: "the profile",
-        calls: Calls::Reads(0, 15),
-        printed: "",
-        told: "pmb: read failed\n",
-        status: 3,
-    },
-    Failure {
-        name: "what stands behind it",
-        calls: Calls::Reads(15, 17),
-        printed: "devices     0\n",
-        told: "",
-        status: 0,
-    },
-    Failure {
-        name: "no write",
-        calls: Calls::Writes(0, 1),
-        printed: "",
-        told: "pmb: write failed\n",
-        status: 3,
-    },
-    Failure {
-        name: "one write",
-        calls: Calls::Writes(1, 2),
-        printed: "devices     0\n",
-        told: "",
-        status: 0,
-    },
-];
-
-#[test]
-fn tells_each_call_that_fails(rt: HostRuntime) {
-    for row in &FAILURES {
-        check_failure(&rt, rt.alloc(), &PROFILE, PROFILE_AND_CAPTURE, row);
+        let ran = unlike_text(rt.alloc(), &PROFILE, input, (printed, told, status));
+        assert!(rt; ran.is_none(), "{name}: {ran:?}");
     }
 }
 
@@ -155,10 +105,13 @@ const FAULTY: &str = "[[device]]\naddress = 0x58\npec = \"of\"\n";
 #[test]
 fn explains_in_one_write(rt: HostRuntime) {
     let untold = run_untold(rt.alloc(), &PROFILE, &mut Io::new(FAULTY.as_bytes()));
-    untold.check(&rt, "a fault", "where nothing can be told", ("", "", 2));
+    assert!(rt;
+        untold.is(("", "", 2)),
+        "where nothing can be told: {untold:?}"
+    );
     let told = run_told(rt.alloc(), &PROFILE, &mut Io::new(FAULTY.as_bytes()), 1);
     let lines = "pmb: profile: BadValue in device 0\n  pec = \"of\": did you mean \"off\"?\n";
-    told.check(&rt, "a fault", "told by one write", ("", lines, 2));
+    assert!(rt; told.is(("", lines, 2)), "told by one write: {told:?}");
 }
 
 #[test]

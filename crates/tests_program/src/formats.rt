@@ -1,6 +1,6 @@
 //! FORMATs that name no format, and the words of `pmb encode` and `pmb decode`.
 
-use crate::run::{check_refused, run, unreadable};
+use program_runs::{run, unlike_refusal, unreadable};
 use std::alloc::Global;
 use std::process::Abort;
 
@@ -9,8 +9,8 @@ static FAULTS: [(&str, &str, &str); 38] = [
     ("nothing", "", "BadFormat"),
     ("a word cut short", "linear", "BadFormat"),
     ("upper case", "LINEAR11", "BadFormat"),
-    ("a colon behind it", "linear11:", "BadFormat"),
-    ("a blank behind it", "linear11 ", "BadFormat"),
+    ("a colon after it", "linear11:", "BadFormat"),
+    ("a blank after it", "linear11 ", "BadFormat"),
     ("no colon", "ulinear16", "BadFormat"),
     ("no exponent", "ulinear16:", "BadFormat"),
     ("a plus", "ulinear16:+1", "BadFormat"),
@@ -51,7 +51,10 @@ fn check_fault(rt: &impl Abort, alloc: Global, subcommand: &str, row: &(&str, &s
     let (name, format, fault) = *row;
     let told = format!(in alloc; "pmb: format: {fault}\n").expect(rt, "memory");
     let ran = run(alloc, &["pmb", subcommand, format], &mut unreadable());
-    ran.check(rt, name, subcommand, ("", told.as_str(), 2));
+    assert!(rt;
+        ran.is(("", told.as_str(), 2)),
+        "{name}, {subcommand}: {ran:?}"
+    );
 }
 
 #[test]
@@ -63,47 +66,21 @@ fn tells_what_is_wrong_with_a_format(rt: HostRuntime) {
 }
 
 /// A name, words that are refused, and what is told of them first.
+#[rattlefmt::skip]
 static REFUSED: [(&str, &[&str], &str); 7] = [
-    (
-        "no FORMAT",
-        &["pmb", "encode"],
-        "error: the following required arguments were not provided:\n  <FORMAT>\n",
-    ),
-    (
-        "a word more",
-        &["pmb", "decode", "linear11", "x"],
-        "error: unexpected argument 'x' found\n",
-    ),
-    (
-        "a flag of another subcommand",
-        &["pmb", "decode", "--sample", "linear11"],
-        "error: unexpected argument '--sample' found\n",
-    ),
-    (
-        "a FORMAT behind `--`",
-        &["pmb", "encode", "--", "-x"],
-        "pmb: format: BadFormat\n",
-    ),
-    (
-        "a number below 0",
-        &["pmb", "encode", "-1"],
-        "pmb: format: BadFormat\n",
-    ),
-    (
-        "a flag for FORMAT of encode",
-        &["pmb", "encode", "--x"],
-        "error: unexpected argument '--x' found\n",
-    ),
-    (
-        "a flag for FORMAT of decode",
-        &["pmb", "decode", "--x"],
-        "error: unexpected argument '--x' found\n",
-    ),
+    ("no FORMAT", &["pmb", "encode"], "error: the following required arguments were not provided:\n  <FORMAT>\n"),
+    ("a word more", &["pmb", "decode", "linear11", "x"], "error: unexpected argument 'x' found\n"),
+    ("a flag of another subcommand", &["pmb", "decode", "--sample", "linear11"], "error: unexpected argument '--sample' found\n"),
+    ("a FORMAT after `--`", &["pmb", "encode", "--", "-x"], "pmb: format: BadFormat\n"),
+    ("a number below 0", &["pmb", "encode", "-1"], "pmb: format: BadFormat\n"),
+    ("a flag for FORMAT of encode", &["pmb", "encode", "--x"], "error: unexpected argument '--x' found\n"),
+    ("a flag for FORMAT of decode", &["pmb", "decode", "--x"], "error: unexpected argument '--x' found\n"),
 ];
 
 #[test]
 fn refuses_words_without_a_format(rt: HostRuntime) {
     for (name, words, told) in &REFUSED {
-        check_refused(&rt, rt.alloc(), name, words, told);
+        let ran = unlike_refusal(rt.alloc(), words, told);
+        assert!(rt; ran.is_none(), "{name}: {ran:?}");
     }
 }

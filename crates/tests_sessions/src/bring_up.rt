@@ -1,7 +1,7 @@
 //! The requests of `examples/requests`, run on the board of `examples/sessions`.
 
-use crate::run::check_text;
 use crate::session::PROFILE;
+use program_runs::unlike_text;
 use std::test::Fail;
 
 /// The requests. Their comments work out what comes of each.
@@ -111,13 +111,7 @@ fn runs_the_bring_up(rt: HostRuntime) -> Result<(), Fail> {
         input.push_str(text)?;
     }
     let expected = (PRINTED, "", 1);
-    check_text(
-        &rt,
-        rt.alloc(),
-        &["pmb", "run"],
-        "the bring-up",
-        input.as_str(),
-        expected,
-    );
+    let ran = unlike_text(rt.alloc(), &["pmb", "run"], input.as_str(), expected);
+    assert!(rt; ran.is_none(), "the bring-up: {ran:?}");
     Ok(())
 }

@@ -7,6 +7,4 @@ mod bring_up;
 #[cfg(test)]
 mod rounds;
 #[cfg(test)]
-mod run;
-#[cfg(test)]
 mod session;

@@ -1,7 +1,7 @@
 //! `pmb build` of what `pmb show` printed of a capture: its canonical text.
 
-use crate::run::{Ran, check_text, run};
 use pmb_cli::Io;
+use program_runs::{Ran, run, unlike_text};
 use std::alloc::{AllocError, Global};
 use std::process::Abort;
 use std::test::Fail;
@@ -28,12 +28,12 @@ static ROWS: [Row<'static>; 18] = [
     ("a code refused", "S b0 A ff N P", "S b0 A ff N P\n"),
     ("a byte refused", "S b0 A 03 A 47 N P", "S b0 A 03 A 47 N P\n"),
     ("refused to be read", "S b0 A 21 A S b1 N P", "S b0 A 21 A S b1 N P\n"),
-    ("refused behind a part", "S b0 A 03 A S b2 A 21 A 00 N P", "S b0 A 03 A S b2 A 21 A 00 N P\n"),
+    ("refused after a part", "S b0 A 03 A S b2 A 21 A 00 N P", "S b0 A 03 A S b2 A 21 A 00 N P\n"),
     ("an alert with its code", "S 19 A b0 A f3 N P", "S 19 A b0 A f3 N P\n"),
     ("an alert, and then nobody", "S 19 A b0 N P S 19 N P", "S 19 A b0 N P\nS 19 N P\n"),
 ];
 
-/// Runs the program over a text behind a profile, or under the sample where there is none, to
+/// Runs the program over a text after a profile, or under the sample where there is none, to
 /// status 0.
 fn run_on(
     rt: &impl Abort,
@@ -135,10 +135,12 @@ fn builds_a_session_again_under_its_profile(rt: HostRuntime) -> Result<(), Fail>
     Ok(())
 }
 
-// A line that was shown, with another low byte: its note says what it said before, and is passed over.
+// A line that was shown, with another low byte: its note says what it said before, and is passed
+// over.
 #[test]
 fn builds_an_edited_line(rt: HostRuntime) {
     let line = "write 58 21 01 18 # VOUT_COMMAND 12\n";
     let expected = ("S b0 A 21 A 01 A 18 A P\n", "", 0);
-    check_text(&rt, rt.alloc(), &SAMPLED, "an edited line", line, expected);
+    let ran = unlike_text(rt.alloc(), &SAMPLED, line, expected);
+    assert!(rt; ran.is_none(), "an edited line: {ran:?}");
 }

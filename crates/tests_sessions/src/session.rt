@@ -1,7 +1,7 @@
-//! The session of `examples/sessions` and the tour of `examples/captures`: what each of their packets
-//! says, and the session's lines built again.
+//! The session of `examples/sessions` and the tour of `examples/captures`: what each of their
+//! packets says, and the session's lines built again.
 
-use crate::run::check_text;
+use program_runs::unlike_text;
 use std::alloc::{AllocError, Global};
 use std::process::Abort;
 use std::test::Fail;
@@ -258,80 +258,54 @@ alert b0 # device 58
 
 static PACKETS: &str = "packets 57 refusals 0\n";
 
-/// A text behind the profile and the line `%%`.
-fn behind_profile(alloc: Global, text: &[u8]) -> Result<Vec<u8>, AllocError> {
-    let mut bytes = Vec::from_slice(alloc, PROFILE.as_bytes())?;
-    bytes.extend_from_slice(b"%%\n")?;
-    bytes.extend_from_slice(text)?;
-    Ok(bytes)
-}
-
 /// The lines of a capture that are packets; of one with a packet a line its canonical text.
-fn packets(alloc: Global, capture: &str) -> Result<Vec<u8>, AllocError> {
-    let mut bytes = Vec::new(alloc);
-    for line in capture.as_bytes().split(|byte| *byte == b'\n') {
-        if line.starts_with(b"S ") {
-            bytes.extend_from_slice(line)?;
-            bytes.push(b'\n')?;
+fn packets(alloc: Global, capture: &str) -> Result<String, AllocError> {
+    let mut text = String::new(alloc);
+    for line in capture.split_inclusive('\n') {
+        if line.starts_with("S ") {
+            text.push_str(line)?;
         }
     }
-    Ok(bytes)
+    Ok(text)
 }
 
-/// Whether a task prints this of a text behind the profile, whole and byte by byte.
+/// Whether a task prints this of a text after the profile, whole and byte by byte.
 fn check_task(
     rt: &impl Abort,
     alloc: Global,
     task: &str,
-    text: &[u8],
-    printed: &[u8],
-) -> Result<(), Fail> {
-    let input = behind_profile(alloc, text)?;
-    let input = str::from_utf8(input.as_slice()).ok().ok_or("an input")?;
-    let printed = str::from_utf8(printed).ok().ok_or("an output")?;
-    let words = ["pmb", task];
-    check_text(rt, alloc, &words, task, input, (printed, "", 0));
+    text: &str,
+    printed: &str,
+) -> Result<(), AllocError> {
+    let mut input = String::from_str(alloc, PROFILE)?;
+    input.push_str("%%\n")?;
+    input.push_str(text)?;
+    let ran = unlike_text(alloc, &["pmb", task], input.as_str(), (printed, "", 0));
+    assert!(rt; ran.is_none(), "{task}: {ran:?}");
     Ok(())
 }
 
 #[test]
 fn shows_the_session(rt: HostRuntime) -> Result<(), Fail> {
-    check_task(
-        &rt,
-        rt.alloc(),
-        "show",
-        CAPTURE.as_bytes(),
-        SHOWN.as_bytes(),
-    )
+    Ok(check_task(&rt, rt.alloc(), "show", CAPTURE, SHOWN)?)
 }
 
 #[test]
 fn checks_the_session(rt: HostRuntime) -> Result<(), Fail> {
-    check_task(
-        &rt,
-        rt.alloc(),
-        "check",
-        CAPTURE.as_bytes(),
-        PACKETS.as_bytes(),
-    )
+    Ok(check_task(&rt, rt.alloc(), "check", CAPTURE, PACKETS)?)
 }
 
 /// A note is a comment of its line, so what is shown builds the packets again.
 #[test]
 fn builds_the_session_again(rt: HostRuntime) -> Result<(), Fail> {
     let packets = packets(rt.alloc(), CAPTURE)?;
-    check_task(
-        &rt,
-        rt.alloc(),
-        "build",
-        SHOWN.as_bytes(),
-        packets.as_slice(),
-    )
+    Ok(check_task(&rt, rt.alloc(), "build", SHOWN, packets.as_str())?)
 }
 
 #[test]
 fn shows_the_tour(rt: HostRuntime) {
     let words = ["pmb", "show", "--sample"];
     let expected = (TOUR_SHOWN, "", 0);
-    check_text(&rt, rt.alloc(), &words, "the tour", TOUR, expected);
+    let ran = unlike_text(rt.alloc(), &words, TOUR, expected);
+    assert!(rt; ran.is_none(), "the tour: {ran:?}");
 }
