@@ -4,4 +4,5 @@ pub mod FormLemmas
 pub mod NameLemmas
 pub mod RowLemmas
 pub mod StandardLemmas
+pub mod StatusLemmas
 pub mod WireLemmas

@@ -39,7 +39,7 @@ abbrev is_found_by_name : EntryParts → Bool
 is_found_by_name e = is_code e.code (option_map (λ x. x.code) (find (λ x. bytes_eq x.name e.name) standard_entries))
 
 -- what a test of the whole table says of each entry
-of_each : (test : EntryParts → Bool) → list_all test standard_entries ≡ true → (c : ℕ) (e : EntryParts) → standard_entry c ≡ Some e → test e ≡ true
+pub of_each : (test : EntryParts → Bool) → list_all test standard_entries ≡ true → (c : ℕ) (e : EntryParts) → standard_entry c ≡ Some e → test e ≡ true
 unfolding standard_entry
 of_each test every c e has = find_among (λ e. nat_eq e.code c) test standard_entries e every has
 

@@ -1,10 +1,13 @@
 -- What holds of the standard commands.
-use Rattle.std.specs.Prelude.{◌≡◌, ℕ, ◌<◌, Bool, true, false, Some, List}
+use Rattle.std.specs.Prelude.{◌≡◌, ℕ, ◌<◌, Bool, true, false, Option, None, Some, List, [], ◌∷◌, length, nat_eq}
+use Rattle.pmb_command.specs.declared.form.Form.{Form}
+use Rattle.pmb_command.specs.declared.form.Form.TheVariants.{Zero, One, Two, Four, Eight, Block}
 use Rattle.pmb_command.specs.declared.entry.Kind.{Kind}
 use Rattle.pmb_command.specs.declared.entry.Kind.TheVariants.{Raw, Linear11, Linear11Fixed, Vout, VoutSigned, Direct, Status}
 use Rattle.pmb_command.specs.Entry.{EntryParts}
 use Rattle.pmb_command.specs.Bus.{IsEntry}
-use Rattle.pmb_command.specs.Commands.{code_of_name, standard_entry}
+use Rattle.pmb_command.specs.Commands.{code_of_name, is_among, standard_entry}
+use Rattle.pmb_command.specs.StatusBits.{BitNames}
 
 -- whether a kind needs no number of a device's data sheet: DIRECT has coefficients, and LINEAR11 may
 -- have a fixed exponent
@@ -32,3 +35,26 @@ pub record IsNamed (name : List ℕ) (code : ℕ) : Type 0 where
   pub entry : EntryParts
   pub has : standard_entry code ≡ Some entry
   pub same_name : entry.name ≡ name
+
+-- ---- status commands
+
+-- STATUS_OTHER, STATUS_MFR_SPECIFIC and STATUS_FANS_3_4, whose bits have no names here
+abbrev pub without_bit_names : List ℕ
+without_bit_names = 0x7f ∷ 0x80 ∷ 0x82 ∷ []
+
+-- there is a name, or a gap, for each bit of data in a form: eight for each byte
+abbrev pub are_bits_of : Option Form → BitNames → Bool
+are_bits_of None names = false
+are_bits_of (Some Zero) names = false
+are_bits_of (Some One) names = nat_eq (length names) 8
+are_bits_of (Some Two) names = nat_eq (length names) 16
+are_bits_of (Some Four) names = nat_eq (length names) 32
+are_bits_of (Some Eight) names = nat_eq (length names) 64
+are_bits_of (Some Block) names = false
+
+-- The code is that of a standard status command, and not of one without names.
+pub record IsNamedStatus (code : ℕ) : Type 0 where
+  pub entry : EntryParts
+  pub has : standard_entry code ≡ Some entry
+  pub status : entry.kind ≡ Status
+  pub named : is_among without_bit_names code ≡ false
