@@ -12,34 +12,25 @@ use Rattle.pmb_scan.specs.Scan.{end_spans}
 use Rattle.pmb_spans.specs.Spans.{Span, ReadSpan, RefusedSpan, TruncatedSpan, SpansFrom, is_whole, outcome}
 use Rattle.pmb_spans.proofs.Outcomes.{spans_read}
 use Rattle.pmb_transaction.specs.declared.reason.Reason.{Reason}
-use Rattle.pmb_transaction.specs.Reason.{Place, BehindStart, BehindRestart, BehindAddress, BehindCode, FurtherOn, InReply, Nowhere, byte_reason, ack_reason, nack_reason, place_behind, IsReason}
-use Rattle.pmb_transaction.specs.Reading.{Outcome, Accepted, Refusal, BehindStop, Reading}
+use Rattle.pmb_transaction.specs.Reason.{read_first, bad_restart, bad_pec_sent, unknown_device, unknown_command, bad_pec_taken, too_long, too_short, IsReason}
+use Rattle.pmb_transaction.specs.Reading.{Outcome, Accepted, Refusal, Reading}
 use Rattle.pmb_capture.specs.Output.{but_truncation, is_end_inside}
 
 -- ---- no event's reason is an end inside a packet
 
-record NoEndAt (place : Place) : Type 0 where
-  byte : is_end_inside (byte_reason place) ≡ false
-  ack : is_end_inside (ack_reason place) ≡ false
-  nack : is_end_inside (nack_reason place) ≡ false
-
-no_end_at : (place : Place) → NoEndAt place
-no_end_at BehindStart = record { byte = refl; ack = refl; nack = refl }
-no_end_at BehindRestart = record { byte = refl; ack = refl; nack = refl }
-no_end_at BehindAddress = record { byte = refl; ack = refl; nack = refl }
-no_end_at BehindCode = record { byte = refl; ack = refl; nack = refl }
-no_end_at FurtherOn = record { byte = refl; ack = refl; nack = refl }
-no_end_at InReply = record { byte = refl; ack = refl; nack = refl }
-no_end_at Nowhere = record { byte = refl; ack = refl; nack = refl }
-
 module _ (profile : List DeviceParts) where
   reason_no_end : (events : List Event) (event : Event) (reason : Reason) → IsReason profile events event reason → is_end_inside reason ≡ false
   reason_no_end events Start reason is = ap is_end_inside is
-  reason_no_end events (Byte b) reason (inl so) = ap is_end_inside so.1 ∙ (no_end_at (place_behind events)).byte
+  reason_no_end events (Byte b) reason (inl (some, read_first at)) = refl
+  reason_no_end events (Byte b) reason (inl (some, bad_restart front others at)) = refl
+  reason_no_end events (Byte b) reason (inl (some, bad_pec_sent front at)) = refl
   reason_no_end events (Byte b) reason (inr other) = ap is_end_inside other.1
-  reason_no_end events Ack reason (inl so) = ap is_end_inside so.1 ∙ (no_end_at (place_behind events)).ack
+  reason_no_end events Ack reason (inl (alone, unknown_device front addr at)) = refl
+  reason_no_end events Ack reason (inl (alone, unknown_command front addr code at)) = refl
+  reason_no_end events Ack reason (inl (alone, bad_pec_taken front addr code bytes byte at)) = refl
+  reason_no_end events Ack reason (inl (alone, too_long front addr bytes byte at)) = refl
   reason_no_end events Ack reason (inr other) = ap is_end_inside other.1
-  reason_no_end events Nack reason (inl so) = ap is_end_inside so.1 ∙ (no_end_at (place_behind events)).nack
+  reason_no_end events Nack reason (inl (alone, too_short front addr bytes byte at)) = refl
   reason_no_end events Nack reason (inr other) = ap is_end_inside other.1
   reason_no_end events Stop reason is = ap is_end_inside is
 
@@ -49,17 +40,12 @@ module _ (profile : List DeviceParts) where
   abbrev LeavesOut : List Span → Type 0
   LeavesOut spans = but_truncation (map outcome spans) ≡ map outcome (filter is_whole spans)
 
-  left_out_behind : (more : List Span) (n : ℕ) (events : List Event) → ((k : ℕ) (rest : List Event) → SpansFrom profile k rest more → LeavesOut more)
-      → BehindStop (λ k behind. SpansFrom profile k behind more) (more ≡ []) n events → LeavesOut more
-  left_out_behind more n events later (inl none) = subst LeavesOut (sym none.1) refl
-  left_out_behind more n events later (inr one) = later (n + length one.0 + 1) one.1 one.4
-
   left_out : (spans : List Span) (n : ℕ) (events : List Event) → SpansFrom profile n events spans → LeavesOut spans
   left_out [] n events none = refl
   left_out (ReadSpan m front t ∷ more) n events w = ap (λ (os : List Outcome). Accepted t ∷ os) (left_out more (n + length front) w.1 w.4)
   left_out (RefusedSpan m front event refusal ∷ more) n events w =
       rw (reason_no_end front event refusal.reason w.3.reason)
-      (ap (λ (os : List Outcome). Refusal refusal ∷ os) (left_out_behind more (n + length front) (event ∷ w.1) (λ k rest. left_out more k rest) w.4))
+      (ap (λ (os : List Outcome). Refusal refusal ∷ os) (left_out more (n + length front + length w.4) w.5 w.7))
   left_out (TruncatedSpan m front refusal ∷ more) n events w =
       subst (λ (l : List Span). LeavesOut (TruncatedSpan m front refusal ∷ l)) (sym w.3) (rw w.2.reason refl)
 

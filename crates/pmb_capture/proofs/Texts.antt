@@ -40,10 +40,20 @@ noted line note waited lined marked said ended own mark says end =
     end ∙ (ap (λ l. l ++ codes "\n") so_far ∙ (append_assoc ((waited ++ line) ++ codes " # ") note (codes "\n")
     ∙ (append_assoc (waited ++ line) (codes " # ") last ∙ append_assoc waited line (codes " # " ++ last))))
 
+-- a piece, and what stands after it
+behind_one : (l0 l1 piece rest whole : List ℕ) → l1 ≡ l0 ++ piece → whole ≡ l1 ++ rest → whole ≡ l0 ++ (piece ++ rest)
+behind_one l0 l1 piece rest whole put same = same ∙ ap (λ l. l ++ rest) put ∙ append_assoc l0 piece rest
+
 -- pieces, each after those before it
-pub of_seven : (a b c d e f g l0 l1 l2 l3 l4 l5 l6 l7 : List ℕ) → l0 ≡ [] → l1 ≡ l0 ++ a → l2 ≡ l1 ++ b → l3 ≡ l2 ++ c → l4 ≡ l3 ++ d → l5 ≡ l4 ++ e → l6 ≡ l5 ++ f → l7 ≡ l6 ++ g
-    → l7 ≡ a ++ b ++ c ++ d ++ e ++ f ++ g
-of_seven a b c d e f g l0 l1 l2 l3 l4 l5 l6 l7 none first second third fourth fifth sixth seventh = cc
+pub behind_seven : (a b c d e f g l0 l1 l2 l3 l4 l5 l6 l7 : List ℕ) → l1 ≡ l0 ++ a → l2 ≡ l1 ++ b → l3 ≡ l2 ++ c → l4 ≡ l3 ++ d → l5 ≡ l4 ++ e → l6 ≡ l5 ++ f → l7 ≡ l6 ++ g
+    → l7 ≡ l0 ++ (a ++ b ++ c ++ d ++ e ++ f ++ g)
+behind_seven a b c d e f g l0 l1 l2 l3 l4 l5 l6 l7 first second third fourth fifth sixth seventh =
+    let two = behind_one l0 l1 a b l2 first second in
+    let three = behind_one l0 l2 (a ++ b) c l3 two third in
+    let four = behind_one l0 l3 (a ++ b ++ c) d l4 three fourth in
+    let five = behind_one l0 l4 (a ++ b ++ c ++ d) e l5 four fifth in
+    let six = behind_one l0 l5 (a ++ b ++ c ++ d ++ e) f l6 five sixth in
+    behind_one l0 l6 (a ++ b ++ c ++ d ++ e ++ f) g l7 six seventh
 
 -- ---- counts
 

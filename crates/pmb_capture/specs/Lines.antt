@@ -1,7 +1,7 @@
 -- The lines that go out.
 use Rattle.std.specs.Prelude.{ℕ, List, [], ◌∷◌, ◌++◌, codes, decimal}
 use Rattle.pmb_io.specs.declared.tally.Tally.{Tally}
-use Rattle.pmb_objects.specs.Names.{kind_names, reason_name}
+use Rattle.pmb_transaction.specs.Names.{kind_names, reason_name}
 use Rattle.pmb_transaction.specs.Reading.{RefusalData}
 
 -- ---- refusals

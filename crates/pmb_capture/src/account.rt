@@ -10,13 +10,16 @@ ghost use Rattle.pmb_spans.specs.Spans.{outcome};
 ghost use Rattle.pmb_capture.specs.Lines.{bad_token_line as bad_token_text, refusal_line as refusal_text};
 ghost use Rattle.pmb_capture.specs.machine.Account.{AccountStands};
 
-use crate::lines::{bad_token_line, refusal_line};
+use crate::lines::{append_refusal, bad_token_line};
 use crate::output::Output;
 use pmb_bus::{Event, LexFault};
-use pmb_io::{RunFault, Sink, Tally, Waiting, put};
+use pmb_io::{RunFault, Sink, Tally, Waiting, make_room, put};
 use pmb_reader::Refusal;
 use pmb_scan::Visitor;
 use pmb_transaction::Transaction;
+
+/// The most bytes of a refusal's line, with its LF.
+const MOST: usize = 128;
 
 /// The tally so far, and where the output stands.
 #[derive(Drop)]
@@ -57,8 +60,9 @@ impl<O: Output> Account<O> {
         ensures failed { WriterTells (W.told writer.old) (W.told writer.new) result }
     {
         self.tally.count_refusal();
-        let line = refusal_line(refusal);
-        put(waiting, line.as_slice(), writer)
+        make_room(waiting, MOST, writer)?;
+        append_refusal(waiting, refusal);
+        Ok(())
     }
 
     /// Counts a word that is no token, and puts out its line.

@@ -4,45 +4,55 @@ ghost use Rattle.std.specs.Prelude.{◌≡◌, ◌+◌, ◌≤◌, ℕ, List, Bo
 ghost use Rattle.pmb_bus.specs.Kinds.{bits};
 ghost use Rattle.pmb_reader.specs.Refusal.{refusal_data};
 ghost use Rattle.pmb_capture.specs.Lines.{bad_token_line as bad_token_text, joined_names, refusal_line as refusal_text, tally_line as tally_text};
-ghost use Rattle.pmb_objects.specs.Names.{kind_names, with_name};
+ghost use Rattle.pmb_transaction.specs.Names.{kind_names, with_name};
 
 use arrayvec::ArrayVec;
 use itoa::Buffer;
 use pmb_bus::Kinds;
-use pmb_io::Tally;
-use pmb_objects::reason_name;
+use pmb_io::{ROOM, Tally, Waiting};
 use pmb_reader::Refusal;
 
 /// A line with its LF.
 pub(crate) type Line = ArrayVec<u8, 128>;
 
-/// Appends a text, for which there must be room.
+/// Appends a text that its caller doesn't name, for which there must be room.
 #[inline]
-pub(crate) fn append<const N: usize>(line: &mut ArrayVec<u8, N>, text: &[u8])
+fn append_slice<const N: usize>(line: &mut ArrayVec<u8, N>, text: &[u8])
     requires { length line.old.items + length text.now ≤ N }
     ensures { line.new.items ≡ line.old.items ++ text.now }
 {
     let _ = line.try_extend_from_slice(text);
 }
 
-/// The line of a refusal.
-pub(crate) fn refusal_line(refusal: Refusal) -> Line
-    ensures { result.items ≡ refusal_text (refusal_data refusal) }
+/// Appends a short text, for which there must be room. Each caller names it, so that the compiler
+/// makes a move or two of the pushes.
+#[inline]
+pub(crate) fn append<const N: usize>(line: &mut ArrayVec<u8, N>, text: &[u8])
+    requires { length line.old.items + length text.now ≤ N }
+    ensures { line.new.items ≡ line.old.items ++ text.now }
 {
-    let mut line = Line::new();
-    append(&mut line, b"# refusal at ");
-    append(&mut line, Buffer::new().format(refusal.at).as_bytes());
-    append(&mut line, b": ");
-    append(&mut line, reason_name(refusal.reason));
-    append(&mut line, b", expected ");
-    append_kinds(&mut line, refusal.expected);
-    append(&mut line, b"\n");
-    line
+    for byte in text {
+        line.push(*byte);
+    }
+}
+
+/// Has the line of a refusal wait after what waits.
+pub(crate) fn append_refusal(line: &mut Waiting, refusal: Refusal)
+    requires { length line.old.items + 128 ≤ ROOM }
+    ensures { line.new.items ≡ line.old.items ++ refusal_text (refusal_data refusal) }
+{
+    append(line, b"# refusal at ");
+    append_slice(line, Buffer::new().format(refusal.at).as_bytes());
+    append(line, b": ");
+    append_slice(line, refusal.reason.name());
+    append(line, b", expected ");
+    append_kinds(line, refusal.expected);
+    append(line, b"\n");
 }
 
 /// Appends the names of kinds, with ` or ` between each two.
-fn append_kinds(line: &mut Line, kinds: Kinds)
-    requires { length line.old.items + 45 ≤ 128 }
+fn append_kinds(line: &mut Waiting, kinds: Kinds)
+    requires { length line.old.items + 45 ≤ ROOM }
     ensures names { line.new.items ≡ line.old.items ++ joined_names [] (kind_names kinds) }
     ensures short { length line.new.items ≤ length line.old.items + 45 }
 {
@@ -56,13 +66,13 @@ fn append_kinds(line: &mut Line, kinds: Kinds)
 /// Appends a mark and the name of a kind, where it is one of these kinds, and answers the mark
 /// before the next name.
 fn append_kind(
-    line: &mut Line,
+    line: &mut Waiting,
     mark: &'static [u8],
     kinds: Kinds,
     kind: Kinds,
     name: &[u8],
 ) -> &'static [u8]
-    requires room { length line.old.items + 9 ≤ 128 }
+    requires room { length line.old.items + 9 ≤ ROOM }
     requires mark { length mark.now ≤ 4 }
     requires name { length name.now ≤ 5 }
     ensures names { (rest : List (List ℕ))
@@ -84,7 +94,7 @@ pub(crate) fn bad_token_line(at: u64) -> Line
 {
     let mut line = Line::new();
     append(&mut line, b"# bad token at byte ");
-    append(&mut line, Buffer::new().format(at).as_bytes());
+    append_slice(&mut line, Buffer::new().format(at).as_bytes());
     append(&mut line, b"\n");
     line
 }
@@ -95,9 +105,9 @@ pub(crate) fn tally_line(tally: Tally) -> Line
 {
     let mut line = Line::new();
     append(&mut line, b"packets ");
-    append(&mut line, Buffer::new().format(tally.packets).as_bytes());
+    append_slice(&mut line, Buffer::new().format(tally.packets).as_bytes());
     append(&mut line, b" refusals ");
-    append(&mut line, Buffer::new().format(tally.refusals).as_bytes());
+    append_slice(&mut line, Buffer::new().format(tally.refusals).as_bytes());
     append(&mut line, b"\n");
     line
 }

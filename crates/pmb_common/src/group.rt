@@ -23,7 +23,7 @@ const PARTS: usize = 16;
 
 /// Keeps the part that a written leg of these bytes is, after others, and returns whether it is one
 /// that may stand there.
-#[inline(never)]
+#[inline(always)]
 fn keep_part(kept: &mut Kept, profile: &Profile, bytes: &[u8]) -> bool
     ensures adds { result ≡ true → AddsPart profile.now kept.old.parts kept.new.parts bytes.now }
     ensures found { (part : PartData) → OneWritten profile.now part.addr part.code part.bytes part.pec bytes.now

@@ -10,7 +10,9 @@ ghost use Rattle.pmb_transaction.specs.Reading.{Outcome, Refusal, RefusalData};
 ghost use Rattle.pmb_reader.specs.declared.reader.Reader.{Reader};
 ghost use Rattle.pmb_reader.specs.Reading.{HasRead, HeldEvent};
 
-use pmb_transaction::laws::{captures_read_as_written, each_list_has_a_reading};
+use pmb_transaction::laws::{
+    captures_read_as_written, each_list_has_a_reading, events_are_passed_over,
+};
 
 /// Inside the capture of transactions no reader refuses an event, under a profile that is accepted:
 /// none that has read a front of it holds a refusal of the next event.
@@ -21,4 +23,5 @@ pub fn captures_are_not_refused()
 {
     captures_read_as_written();
     each_list_has_a_reading();
+    events_are_passed_over();
 }

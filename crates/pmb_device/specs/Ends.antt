@@ -1,10 +1,10 @@
 -- What STOP does to a simulated device. Its registers and its page change at STOP alone, by its own
 -- legs of the packet: this project's own rule, for which PMBus Part I 1.3 section 5.2.3 asks in
 -- groups.
-use Rattle.std.specs.Prelude.{◌≡◌, ℕ, ◌⊎◌, Bool, true, false, List, [], ◌∷◌, ◌++◌}
+use Rattle.std.specs.Prelude.{◌≡◌, ℕ, Bool, true, false, List, [], ◌∷◌, ◌++◌}
 use Rattle.pmb_command.specs.Parts.{DeviceParts}
 use Rattle.pmb_bus.specs.Address.{write_address, read_address}
-use Rattle.pmb_transaction.specs.Body.{WriteBody, IsWriteBody, IsReadBody, IsCallBody}
+use Rattle.pmb_transaction.specs.Body.{WriteBody, IsWriteBody, IsRequest}
 use Rattle.pmb_transaction.specs.Reason.{Whether}
 use Rattle.pmb_registers.specs.State.{DeviceState}
 use Rattle.pmb_registers.specs.Answer.{answer}
@@ -34,10 +34,10 @@ module _ (device : DeviceParts) where
   -- Where it is read directly after the packet's first leg, in which it was asked, and refuses,
   -- that is noted in STATUS_CML.
   pub data NotesAnswer (earlier : List Leg) (bytes : List ℕ) (behind : List Leg) (before after : DeviceState) : Type 0 where
-    asked : earlier ≡ [] → IsReadBody device bytes ⊎ IsCallBody device bytes → (next : Leg) (more : List Leg) → behind ≡ next ∷ more
+    asked : earlier ≡ [] → IsRequest device bytes → (next : Leg) (more : List Leg) → behind ≡ next ∷ more
         → some_is_to (read_address device.address) (next ∷ []) ≡ true
         → after ≡ with_noted device (bit_of_answer (answer device before bytes)) before → NotesAnswer earlier bytes behind before after
-    not_asked : (earlier ≡ [] → IsReadBody device bytes ⊎ IsCallBody device bytes → (next : Leg) (more : List Leg) → behind ≡ next ∷ more
+    not_asked : (earlier ≡ [] → IsRequest device bytes → (next : Leg) (more : List Leg) → behind ≡ next ∷ more
         → some_is_to (read_address device.address) (next ∷ []) ≡ true → ⊥) → after ≡ before → NotesAnswer earlier bytes behind before after
 
   -- A byte was refused, after some that were taken: that is noted where some byte had a place

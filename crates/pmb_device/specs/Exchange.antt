@@ -9,7 +9,7 @@
 use Rattle.std.specs.Prelude.{◌≡◌, ℕ, ◌<◌, ◌≤◌, ◌⊎◌, Some, List, [], ◌∷◌, length}
 use Rattle.pmb_command.specs.declared.form.Form.{Form}
 use Rattle.pmb_command.specs.Parts.{DeviceParts}
-use Rattle.pmb_transaction.specs.Body.{ReadBody, CallBody, forms}
+use Rattle.pmb_transaction.specs.Body.{forms}
 use Rattle.pmb_command.specs.Wire.{Fits}
 use Rattle.pmb_registers.specs.State.{DeviceState}
 use Rattle.pmb_registers.specs.Answer.{all_pages}
@@ -24,11 +24,6 @@ use Rattle.pmb_device.specs.declared.exchange.Outcome.TheVariants.{Nothing, Writ
 use Rattle.pmb_device.specs.Legs.{Legs, with_signal}
 use Rattle.pmb_device.specs.Rules.{Answers}
 pub use Rattle.pmb_device.specs.machine.Standing.{StandsIn, IsAskedIn}
-
--- A body is answered in this form.
-abbrev pub IsFormOfRequest : DeviceParts → Form → List ℕ → Type 0
-IsFormOfRequest device form body =
-    ((code : ℕ) × ReadBody device code form body) ⊎ ((code : ℕ) × (content : List ℕ) × CallBody device code form content body)
 
 -- What one byte more comes to: the device answers it, or its registers have to be asked.
 abbrev pub Hears : DeviceParts → DeviceState → Legs → ℕ → Heard → Exchange → Type 0

@@ -9,7 +9,7 @@ use Rattle.pmb_command.specs.declared.pec_mode.PecMode.TheVariants.{Off, On, Opt
 use Rattle.pmb_command.specs.Parts.{DeviceParts}
 use Rattle.pmb_command.specs.Wire.{wire}
 use Rattle.pmb_bus.specs.Address.{write_address, read_address}
-use Rattle.pmb_transaction.specs.Body.{checked, IsProperPrefix, ReadBody, CallBody, IsWriteBody, IsReadBody, IsCallBody}
+use Rattle.pmb_transaction.specs.Body.{checked, IsProperPrefix, IsWriteBody, IsFormOfRequest, IsRequest}
 use Rattle.pmb_transaction.specs.Reason.{Whether}
 use Rattle.pmb_registers.specs.declared.cml_bit.CmlBit.{CmlBit}
 use Rattle.pmb_registers.specs.State.{DeviceState}
@@ -27,7 +27,7 @@ module _ (device : DeviceParts) where
 
   -- In the packet's first leg a body of each sort is allowed, in a later one a write body.
   abbrev pub AllowedAt : LegPlace → List ℕ → Type 0
-  AllowedAt First body = IsWriteBody device body ⊎ (IsReadBody device body ⊎ IsCallBody device body)
+  AllowedAt First body = IsWriteBody device body ⊎ IsRequest device body
   AllowedAt Later body = IsWriteBody device body
 
   -- bytes that begin a body that is allowed there
@@ -67,7 +67,7 @@ module _ (device : DeviceParts) where
     pub first : Leg
     pub alone : earlier ≡ first ∷ []
     pub own : sent first ≡ write_address device.address ∷ body
-    pub request : IsReadBody device body ⊎ IsCallBody device body
+    pub request : IsRequest device body
 
   -- The leg reads the device: it begins with the device's address for reading, directly after the
   -- packet's first leg, in which the device is asked.
@@ -86,7 +86,7 @@ module _ (device : DeviceParts) where
   -- the bytes of a reply: its wire, and that code
   pub record IsReplyTo (body : List ℕ) (reply : List ℕ) (bytes : List ℕ) : Type 0 where
     pub form : Form
-    pub asked : ((code : ℕ) × ReadBody device code form body) ⊎ ((code : ℕ) × (content : List ℕ) × CallBody device code form content body)
+    pub asked : IsFormOfRequest device form body
     pub spelled : bytes ≡ checked (carries_pec device.pec) (write_address device.address ∷ body ++ read_address device.address ∷ []) (wire form reply)
 
   -- the host ended the reply by NACK

@@ -4,11 +4,10 @@ ghost use Rattle.std.specs.Prelude.{◌≡◌, ◌≤◌, ◌∷◌, [], ◌++�
 ghost use Rattle.pmb_bus.specs.Pec.{pec};
 ghost use Rattle.pmb_command.specs.Parts.{DeviceParts};
 ghost use Rattle.pmb_bus.specs.Address.{read_address, write_address};
-ghost use Rattle.pmb_transaction.specs.Body.{checked, forms};
+ghost use Rattle.pmb_transaction.specs.Body.{checked, forms, IsFormOfRequest};
 ghost use Rattle.pmb_command.specs.Wire.{wire};
 ghost use Rattle.pmb_leg.specs.Leg.{IsRequest};
 ghost use Rattle.pmb_device.specs.Rules.{IsReplyTo, carries_pec};
-ghost use Rattle.pmb_device.specs.Exchange.{IsFormOfRequest};
 
 use arrayvec::ArrayVec;
 use pmb_bus::laws::worked_pecs;

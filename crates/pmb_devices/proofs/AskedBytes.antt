@@ -8,7 +8,6 @@ use Rattle.pmb_bus.specs.declared.event.Event.{Event}
 use Rattle.pmb_bus.specs.declared.event.Event.TheVariants as wire
 use Rattle.pmb_command.specs.Parts.{DeviceParts}
 use Rattle.pmb_transaction.specs.Packet.{nacked}
-use Rattle.pmb_transaction.specs.Reason.{has_start}
 use Rattle.pmb_registers.specs.State.{InState}
 use Rattle.pmb_device.specs.declared.signal.HostSignal.{HostSignal}
 use Rattle.pmb_device.specs.declared.signal.HostSignal.TheVariants.{Start, Byte, Ask, Ack, Nack, Stop}
@@ -18,7 +17,7 @@ use Rattle.pmb_device.specs.Legs.{Leg, Legs, Inside, sent, with_signal}
 use Rattle.pmb_device.specs.Rules.{byte_or_silent, given_behind, next_of, waits_behind}
 use Rattle.pmb_devices.specs.Bus.{AreAnswered, BusAnswers, AnsweredSignal, acknowledged, recorded_events, given, legs_after, recorded}
 use Rattle.pmb_devices.specs.Replies.{HasAddressAlone}
-use Rattle.pmb_devices.proofs.Parsing.{Stands, given_byte, no_start_behind, stays_in}
+use Rattle.pmb_devices.proofs.Parsing.{Stands, given_byte, has_start, no_start_behind, stays_in}
 use Rattle.pmb_devices.proofs.ReadLegs.{no_start_nacked}
 
 -- ---- how many bytes were given

@@ -1,11 +1,10 @@
 -- The signals from which events were recorded: START from START alone, and a byte after an address
 -- for writing from the host's byte alone.
-use Rattle.std.proofs.Common.{◌≡◌, ◌≢◌, ℕ, false, List, [], ◌∷◌, ◌++◌, refl, sym, ap, subst, ◌∙◌, append_assoc}
+use Rattle.std.proofs.Common.{◌≡◌, ◌≢◌, ℕ, Bool, true, false, List, [], ◌∷◌, ◌++◌, refl, sym, ap, subst, ◌∙◌, append_assoc}
 use Rattle.std.proofs.lemmas.List.{append-nil}
 use Rattle.pmb_bus.specs.declared.event.Event.{Event}
 use Rattle.pmb_bus.specs.declared.event.Event.TheVariants as wire
 use Rattle.pmb_bus.specs.Address.{read_address}
-use Rattle.pmb_transaction.specs.Reason.{has_start}
 use Rattle.pmb_registers.specs.State.{InState}
 use Rattle.pmb_device.specs.declared.signal.HostSignal.{HostSignal}
 use Rattle.pmb_device.specs.declared.signal.HostSignal.TheVariants.{Start, Byte, Ask, Ack, Nack, Stop}
@@ -43,6 +42,15 @@ acknowledged_is answers.Silent is = absurd (cc is)
 acknowledged_is answers.Ack is = refl
 acknowledged_is answers.Nack is = absurd (cc is)
 acknowledged_is (answers.Byte b) is = absurd (cc is)
+
+-- whether a START stands among events
+abbrev pub has_start : List Event → Bool
+has_start [] = false
+has_start (wire.Start ∷ events) = true
+has_start (wire.Byte b ∷ events) = has_start events
+has_start (wire.Ack ∷ events) = has_start events
+has_start (wire.Nack ∷ events) = has_start events
+has_start (wire.Stop ∷ events) = has_start events
 
 -- events after one of which none is START
 pub no_start_behind : (event : Event) (more : List Event) → has_start (event ∷ more) ≡ false → has_start more ≡ false

@@ -1,13 +1,12 @@
 -- Packets in which a device is read: after its own leg there is one that begins with its address
 -- for reading, or the Alert Response Address alone.
-use Rattle.std.proofs.Common.{◌≡◌, ℕ, ◌⊎◌, inl, inr, Bool, true, false, ◌||◌, Option, List, [], ◌∷◌, ◌++◌, nat_eq, refl, sym, ap, subst, ◌∙◌, append_assoc}
+use Rattle.std.proofs.Common.{◌≡◌, ℕ, inl, inr, Bool, true, false, ◌||◌, Option, List, [], ◌∷◌, ◌++◌, nat_eq, refl, sym, ap, subst, ◌∙◌, append_assoc}
 use Rattle.std.specs.List.{Contains}
 use Rattle.std.proofs.lemmas.Bool.{eqb-true, or_from}
 use Rattle.pmb_bus.specs.declared.event.Event.TheVariants as wire
 use Rattle.pmb_bus.specs.Address.{read_address, write_address, alert_address}
-use Rattle.pmb_transaction.specs.Body.{IsCallBody, IsReadBody, checked}
+use Rattle.pmb_transaction.specs.Body.{checked, IsRequest}
 use Rattle.pmb_transaction.specs.Packet.{answered, leg, nacked}
-use Rattle.pmb_transaction.specs.Reason.{has_start}
 use Rattle.pmb_registers.specs.declared.cml_bit.CmlBit.{CmlBit}
 use Rattle.pmb_registers.specs.State.{DeviceState, InState}
 use Rattle.pmb_registers.specs.Answer.{answer}
@@ -19,7 +18,7 @@ use Rattle.pmb_device.specs.Ends.{LegsEnd, NotesAnswer, ReadOrActs, asked, not_a
 use Rattle.pmb_devices.specs.Bus.{BusAnswers}
 use Rattle.pmb_devices.proofs.Givers.{Acked, no_read_address, read_taken, run_address, run_leg, took_all}
 use Rattle.pmb_devices.proofs.OwnLegs.{byte_leg, ends_at, ends_without, is_to_first, is_to_other, sent_bytes}
-use Rattle.pmb_devices.proofs.Parsing.{Stands, acknowledged_is, at_stop, closed, stays_in}
+use Rattle.pmb_devices.proofs.Parsing.{Stands, acknowledged_is, at_stop, closed, has_start, stays_in}
 use Rattle.pmb_devices.proofs.Writes.{by_test, other_written}
 
 -- none of the bytes of a reply is START
@@ -43,7 +42,7 @@ module _ (members : List InState) (member : InState) (in_bus : Contains members 
 
   -- the answer of the member that is read is noted
   own_noted : (body : List ℕ) (next : Leg) (bytes : List ℕ) (after : DeviceState) → sent next ≡ read_address member.device.address ∷ bytes
-      → IsReadBody member.device body ⊎ IsCallBody member.device body
+      → IsRequest member.device body
       → NotesAnswer member.device [] body (next ∷ []) member.state after
       → after ≡ with_noted member.device (bit_of_answer (answer member.device member.state body)) member.state
   own_noted body next bytes after is request (asked first body_is behind more split read same) = same
@@ -53,7 +52,7 @@ module _ (members : List InState) (member : InState) (in_bus : Contains members 
 
   -- its own leg was the first one
   own_two : (body : List ℕ) (next : Leg) (bytes : List ℕ) (after : DeviceState) → sent next ≡ read_address member.device.address ∷ bytes
-      → IsReadBody member.device body ⊎ IsCallBody member.device body → Acked members [] (write_address member.device.address ∷ []) body
+      → IsRequest member.device body → Acked members [] (write_address member.device.address ∷ []) body
       → LegsEnd member.device (byte_leg (write_address member.device.address ∷ body) ∷ next ∷ []) member.state after
       → after ≡ with_noted member.device (bit_of_answer (answer member.device member.state body)) member.state
   own_two body next bytes after is request acks ends =
@@ -73,7 +72,7 @@ module _ (members : List InState) (member : InState) (in_bus : Contains members 
 
   -- the member that is written to and then read, and another one
   pub two_legs : (addr : ℕ) (body : List ℕ) (next : Leg) (bytes : List ℕ) (after : DeviceState) → sent next ≡ read_address addr ∷ bytes
-      → (addr ≡ member.device.address → IsReadBody member.device body ⊎ IsCallBody member.device body)
+      → (addr ≡ member.device.address → IsRequest member.device body)
       → Acked members [] (write_address addr ∷ []) body
       → LegsEnd member.device (byte_leg (write_address addr ∷ body) ∷ next ∷ []) member.state after → TwoLegsEnd addr body after
   two_legs addr body next bytes after is request acks ends =
@@ -106,7 +105,7 @@ module _ (members : List InState) (member : InState) (in_bus : Contains members 
 
   -- A member that gave ACK to be read notes nothing.
   pub answered_changes_nothing : (final : Legs) (addr : ℕ) (body reply : List ℕ) (with_pec : Bool) (after : DeviceState)
-      → (addr ≡ member.device.address → IsReadBody member.device body ⊎ IsCallBody member.device body)
+      → (addr ≡ member.device.address → IsRequest member.device body)
       → Stands members final Outside (answered addr body reply with_pec) → LegsEnd member.device (closed final) member.state after
       → after ≡ member.state
   answered_changes_nothing final addr body reply with_pec after request stands ends =

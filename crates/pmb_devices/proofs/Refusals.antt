@@ -9,7 +9,7 @@ use Rattle.pmb_bus.specs.declared.event.Event.TheVariants as wire
 use Rattle.pmb_command.specs.Parts.{DeviceParts, IsNew, device_with}
 use Rattle.pmb_leg.specs.declared.place.LegPlace.{LegPlace}
 use Rattle.pmb_bus.specs.Address.{read_address, write_address}
-use Rattle.pmb_transaction.specs.Body.{Allowed, IsCallBody, IsProperPrefix, IsReadBody, WriteBody}
+use Rattle.pmb_transaction.specs.Body.{Allowed, IsProperPrefix, WriteBody, IsRequest}
 use Rattle.pmb_command.specs.Wire as form
 use Rattle.pmb_transaction.specs.Packet.{AddressRefused, ByteRefused, ReadRefused, acked, addresses, leg, nacked}
 use Rattle.pmb_transaction.specs.Transaction.{PartData}
@@ -260,7 +260,7 @@ module _ (profile : List DeviceParts) (members : List InState) (member : InState
       two_legs members member in_bus addr bytes next [] after refl
       (
       λ addr_is.
-      subst (λ (e : DeviceParts). IsReadBody e bytes ⊎ IsCallBody e bytes)
+      subst (λ (e : DeviceParts). IsRequest e bytes)
       (the_own refused.device (subst (λ (a : ℕ). device_with a profile ≡ Some refused.device) addr_is refused.known)) refused.body
       ) ran.acked_are (subst (λ (ls : List Leg). LegsEnd d ls s after) (ap closed (sym is)) ends) in
       elim two [

@@ -10,12 +10,11 @@ use Rattle.pmb_command.specs.Bus.{IsDevice}
 use Rattle.pmb_command.specs.Fitting.{calls_fit, is_kept, reads_data, register_form, same_form}
 use Rattle.pmb_command.specs.Parts.{CommandParts, DeviceParts, command_with}
 use Rattle.pmb_command.specs.Wire.{Fits, Takes, wire}
-use Rattle.pmb_transaction.specs.Body.{forms}
+use Rattle.pmb_transaction.specs.Body.{IsFormOfRequest, forms}
 use Rattle.pmb_registers.specs.declared.cml_bit.CmlBit.{CmlBit}
 use Rattle.pmb_registers.specs.declared.cml_bit.CmlBit.TheVariants.{BadCommand, BadValue}
 use Rattle.pmb_registers.specs.Answer.{all_pages, answer, answer_coefficients, coefficient_bytes, coefficients_of, coefficients_reply, is_paged}
 use Rattle.pmb_registers.specs.State.{DeviceState, held}
-use Rattle.pmb_device.specs.Exchange.{IsFormOfRequest}
 use Rattle.pmb_devices.specs.Replies.{IsState}
 use Rattle.pmb_devices.proofs.Commands.{coefficients_kept, command_code, command_is, command_of, kept_at, kept_is, read_register}
 

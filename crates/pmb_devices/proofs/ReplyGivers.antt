@@ -1,6 +1,6 @@
 -- The bytes that are recorded of Asks are given by the one device that is read, and are a front of
 -- its answer.
-use Rattle.std.proofs.Common.{◌≡◌, ℕ, ◌<◌, ◌⊎◌, zero, suc, Bool, None, Result, Ok, Err, List, [], ◌∷◌, ◌++◌, length, map, get_or, nat_eq, refl, sym, ap, subst, ◌∙◌, append_assoc, arith}
+use Rattle.std.proofs.Common.{◌≡◌, ℕ, ◌<◌, zero, suc, Bool, None, Result, Ok, Err, List, [], ◌∷◌, ◌++◌, length, map, get_or, nat_eq, refl, sym, ap, subst, ◌∙◌, append_assoc, arith}
 use Rattle.std.specs.List.{Contains, IsDistinct}
 use Rattle.std.proofs.lemmas.Bool.{eqb-false}
 use Rattle.pmb_bus.specs.declared.event.Event.TheVariants as event
@@ -9,7 +9,7 @@ use Rattle.pmb_command.specs.declared.form.Form.{Form}
 use Rattle.pmb_command.specs.Bus.{IsBus}
 use Rattle.pmb_command.specs.Parts.{DeviceParts}
 use Rattle.pmb_command.specs.Wire as form_of
-use Rattle.pmb_transaction.specs.Body.{IsCallBody, IsReadBody, checked}
+use Rattle.pmb_transaction.specs.Body.{checked, IsFormOfRequest, IsRequest}
 use Rattle.pmb_transaction.specs.Packet.{answered, leg, nacked}
 use Rattle.pmb_transaction.proofs.Data.{checked_is, code_behind}
 use Rattle.pmb_registers.specs.declared.cml_bit.CmlBit.{CmlBit}
@@ -20,7 +20,6 @@ use Rattle.pmb_device.specs.declared.signal.HostSignal.TheVariants.{Byte, Ask}
 use Rattle.pmb_device.specs.declared.signal.DeviceSignal.TheVariants as answers
 use Rattle.pmb_device.specs.Legs.{Leg, Legs, Outside, Inside, sent}
 use Rattle.pmb_device.specs.Rules.{AnswersAsk, IsRead, IsReplyTo, carries_pec, next_of, not_read, replies}
-use Rattle.pmb_device.specs.Exchange.{IsFormOfRequest}
 use Rattle.pmb_devices.specs.Bus.{BusAnswers}
 use Rattle.pmb_devices.specs.Replies.{HasAddressAlone}
 use Rattle.pmb_devices.proofs.AskedBytes.{reply_front}
@@ -125,7 +124,7 @@ module _ (members : List InState) (member : InState) (same : (m : InState) → C
   -- ---- a packet
 
   module _ (in_bus : Contains members member) (final : Legs) (alone : HasAddressAlone final)
-      (request : IsReadBody member.device body ⊎ IsCallBody member.device body) where
+      (request : IsRequest member.device body) where
     -- The member gave ACK to be read, and these bytes were recorded after that.
     pub record Turned (bytes : List ℕ) : Type 0 where
       pub ok : bit_of_answer (answer member.device member.state body) ≡ None

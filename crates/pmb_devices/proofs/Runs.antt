@@ -13,7 +13,7 @@ use Rattle.pmb_transaction.specs.declared.reason.Reason.TheVariants.{Truncated}
 use Rattle.pmb_transaction.specs.Capture.{EndsAtStop, HasNoStop}
 use Rattle.pmb_transaction.specs.Packet.{Packet}
 use Rattle.pmb_transaction.specs.Reading.{Accepted, IsUnderWay, Outcome, ReadsFrom, Refusal, RefusalData}
-use Rattle.pmb_transaction.specs.Reason.{IsReason, Place, BehindStart, BehindRestart, BehindAddress, BehindCode, FurtherOn, InReply, Nowhere, ack_reason, byte_reason, nack_reason, place_behind}
+use Rattle.pmb_transaction.specs.Reason.{IsReason}
 use Rattle.pmb_transaction.specs.Transaction.{TransactionData}
 use Rattle.pmb_registers.specs.State.{DeviceState, InState, first_state}
 use Rattle.pmb_registers.specs.Apply.{apply, apply_all}
@@ -99,58 +99,16 @@ one_then_others : (t : TransactionData) (ts : List TransactionData) (members : L
 one_then_others t ts members =
     map-map (λ (member : InState). record { device = member.device; state = apply_all member.device ts member.state }) (after_one t) members
 
--- ---- why events are refused
-
--- no reason of a refused byte is that the events end inside a packet
-byte_not_truncated : (place : Place) → byte_reason place ≡ Truncated → ⊥
-byte_not_truncated BehindStart is = cc is
-byte_not_truncated BehindRestart is = cc is
-byte_not_truncated BehindAddress is = cc is
-byte_not_truncated BehindCode is = cc is
-byte_not_truncated FurtherOn is = cc is
-byte_not_truncated InReply is = cc is
-byte_not_truncated Nowhere is = cc is
-
--- nor of an ACK
-ack_not_truncated : (place : Place) → ack_reason place ≡ Truncated → ⊥
-ack_not_truncated BehindStart is = cc is
-ack_not_truncated BehindRestart is = cc is
-ack_not_truncated BehindAddress is = cc is
-ack_not_truncated BehindCode is = cc is
-ack_not_truncated FurtherOn is = cc is
-ack_not_truncated InReply is = cc is
-ack_not_truncated Nowhere is = cc is
-
--- nor of a NACK
-nack_not_truncated : (place : Place) → nack_reason place ≡ Truncated → ⊥
-nack_not_truncated BehindStart is = cc is
-nack_not_truncated BehindRestart is = cc is
-nack_not_truncated BehindAddress is = cc is
-nack_not_truncated BehindCode is = cc is
-nack_not_truncated FurtherOn is = cc is
-nack_not_truncated InReply is = cc is
-nack_not_truncated Nowhere is = cc is
-
 module _ (profile : List DeviceParts) where
-  -- nor of any event
-  event_not_truncated : (front : List Event) (event : Event) (reason : Reason) → IsReason profile front event reason → reason ≡ Truncated → ⊥
-  event_not_truncated front wire.Start reason why is = cc (why, is)
-  event_not_truncated front wire.Stop reason why is = cc (why, is)
-  event_not_truncated front (wire.Byte b) reason (inl w) is = byte_not_truncated (place_behind front) (sym w.1 ∙ is)
-  event_not_truncated front (wire.Byte b) reason (inr w) is = cc (w.1, is)
-  event_not_truncated front wire.Ack reason (inl w) is = ack_not_truncated (place_behind front) (sym w.1 ∙ is)
-  event_not_truncated front wire.Ack reason (inr w) is = cc (w.1, is)
-  event_not_truncated front wire.Nack reason (inl w) is = nack_not_truncated (place_behind front) (sym w.1 ∙ is)
-  event_not_truncated front wire.Nack reason (inr w) is = cc (w.1, is)
-
   module _ (bus : IsBus profile) (stops : (t : TransactionData) (events : List Event) → Packet profile t events → EndsAtStop events)
-      (going : (events : List Event) → IsUnderWay profile events → HasNoStop events) where
+      (going : (events : List Event) → IsUnderWay profile events → HasNoStop events)
+      (other : (events : List Event) (event : Event) (reason : Reason) → IsReason profile events event reason → reason ≢ Truncated) where
     -- ---- what is read
 
     -- Events that a refusal ends inside a packet hold no STOP.
     truncated_no_stop : (n : ℕ) (events : List Event) (refusal : RefusalData) → refusal.reason ≡ Truncated
         → ReadsFrom profile n events (Refusal refusal ∷ []) → HasNoStop events
-    truncated_no_stop n events refusal is (inl w) = absurd (event_not_truncated w.0 w.1 refusal.reason w.4.reason is)
+    truncated_no_stop n events refusal is (inl w) = absurd (other w.0 w.1 refusal.reason w.4.reason is)
     truncated_no_stop n events refusal is (inr w) = going events w.0.under_way
 
     -- So where no transaction is read, and nothing is refused but such an end, there is none.

@@ -6,7 +6,7 @@ use Rattle.pmb_bus.specs.declared.event.Event.TheVariants.{Stop}
 use Rattle.pmb_command.specs.Parts.{DeviceParts}
 use Rattle.pmb_transaction.specs.Capture.{EndsAtStop, HasNoStop}
 use Rattle.pmb_transaction.specs.Packet.{Packet}
-use Rattle.pmb_transaction.specs.Reading.{Accepted, IsUnderWay, Outcome, ReadsFrom, Refusal}
+use Rattle.pmb_transaction.specs.Reading.{Accepted, IsUnderWay, Outcome, ReadsFrom, Refusal, to_first_stop, to_the_end}
 use Rattle.pmb_transaction.specs.Transaction.{TransactionData}
 use Rattle.pmb_devices.specs.Runs.{AreStopped}
 
@@ -165,19 +165,23 @@ module _ (profile : List DeviceParts) where
           goes_on m more t since taken.front before reads.1 taken.no_stop stopped nor (sym taken.split ∙ split) reads.4
           (λ left still rest_is. ends_at_one_stop more m left since reads.1 t still nor rest_is reads.4)
       ends_at_one_stop (Refusal refusal ∷ more) n before since events t stopped nor split (inl w) =
-          elim (w.5) [
-            | inl none ↦ absurd (nothing_behind more (Accepted t) none.1)
-            | inr left ↦
+          let m = n + length w.0 + length w.5 in
+          let left = w.6 in
+          elim (w.7) [
+            | to_the_end all none nothing ↦
+                absurd (none_is_read m more t (subst (λ (es : List Event). ReadsFrom profile m es (more ++ Accepted t ∷ [])) nothing w.8))
+            | to_first_stop over ends ↦
                 (
-                let m = n + length w.0 + length left.0 + 1 in
-                let a = w.0 ++ left.0 in
-                let spelled : a ++ Stop ∷ left.1 ≡ before ++ (since ++ Stop ∷ []) =
-                append_assoc w.0 left.0 (Stop ∷ left.1)
-                ∙ ap (λ (es : List Event). w.0 ++ es) (sym left.3)
+                let a = w.0 ++ ends.front in
+                let at_stop : w.1 ∷ w.2 ≡ ends.front ++ Stop ∷ left =
+                over ∙ ap (λ (es : List Event). es ++ left) ends.split ∙ append_assoc ends.front (Stop ∷ []) left in
+                let spelled : a ++ Stop ∷ left ≡ before ++ (since ++ Stop ∷ []) =
+                append_assoc w.0 ends.front (Stop ∷ left)
+                ∙ ap (λ (es : List Event). w.0 ++ es) (sym at_stop)
                 ∙ sym w.3
                 ∙ split in
-                goes_on m more t since a before left.1 (no_stop-append w.0 left.0 (going w.0 w.4.under_way) left.2) stopped nor spelled left.4
-                (λ rest still rest_is. ends_at_one_stop more m rest since left.1 t still nor rest_is left.4)
+                goes_on m more t since a before left (no_stop-append w.0 ends.front (going w.0 w.4.under_way) ends.no_stop) stopped nor spelled w.8
+                (λ rest still rest_is. ends_at_one_stop more m rest since left t still nor rest_is w.8)
                 )
           ]
       ends_at_one_stop (Refusal refusal ∷ more) n before since events t stopped nor split (inr w) = absurd (nothing_behind more (Accepted t) w.1)

@@ -18,7 +18,9 @@ ghost use Rattle.pmb_device.specs.Ends.{Ends};
 ghost use Rattle.pmb_devices.specs.Bus.{AreAnswered, AnsweredSignal, recorded_events, legs_after};
 ghost use Rattle.pmb_devices.specs.Runs.{AreStopped, IsTruncation, Runs, all_after, first_members, run_events};
 
-use pmb_transaction::laws::{packet_ends_with_stop, packets_under_way};
+use pmb_transaction::laws::{
+    packet_ends_with_stop, packets_under_way, refused_events_have_a_reason,
+};
 
 /// Where what is recorded since the last STOP is, with STOP, the packet of a transaction, STOP makes of
 /// each device what the transaction makes of it.
@@ -52,4 +54,5 @@ pub fn transactions_are_applied_in_turn()
 {
     packet_ends_with_stop();
     packets_under_way();
+    refused_events_have_a_reason();
 }

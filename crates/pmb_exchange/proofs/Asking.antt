@@ -1,6 +1,6 @@
 -- A run whose task is a read or a call: it ends with the device's own reply, or where the device
 -- refuses to be read.
-use Rattle.std.proofs.Common.{◌≡◌, ℕ, ◌+◌, ◌<◌, ◌≤◌, ◌⊎◌, Bool, true, false, if◌then◌else◌, Option, Some, Result, Ok, Err, List, [], ◌∷◌, ◌++◌, length, map, flat_map, nat_eq, refl, sym, ap, subst, ◌∙◌, append_assoc, arith}
+use Rattle.std.proofs.Common.{◌≡◌, ℕ, ◌+◌, ◌<◌, ◌≤◌, Bool, true, false, if◌then◌else◌, Option, Some, Result, Ok, Err, List, [], ◌∷◌, ◌++◌, length, map, flat_map, nat_eq, refl, sym, ap, subst, ◌∙◌, append_assoc, arith}
 use Rattle.std.specs.List.{AllByRecursion, Contains, IsDistinct}
 use Rattle.std.proofs.lemmas.List.{append-nil}
 use Rattle.std.proofs.lemmas.Grind.{flat_map-append}
@@ -14,7 +14,7 @@ use Rattle.pmb_command.specs.Bus.{IsDevice}
 use Rattle.pmb_command.specs.Parts.{DeviceParts, device_with}
 use Rattle.pmb_command.specs.PecMode.{AllowsPec}
 use Rattle.pmb_command.specs.Wire.{Fits, Takes, wire}
-use Rattle.pmb_transaction.specs.Body.{IsCallBody, IsReadBody}
+use Rattle.pmb_transaction.specs.Body.{IsFormOfRequest, IsRequest}
 use Rattle.pmb_transaction.specs.Packet.{Packet, ReadRefused, RefusedLeg, addresses, leg}
 use Rattle.pmb_transaction.specs.Transaction.{Refused}
 use Rattle.pmb_transaction.proofs.Data.{checked_is, code_behind}
@@ -27,7 +27,6 @@ use Rattle.pmb_device.specs.declared.signal.HostSignal.{HostSignal}
 use Rattle.pmb_device.specs.declared.signal.HostSignal.TheVariants.{Start, Byte, Ask, Stop}
 use Rattle.pmb_device.specs.declared.signal.DeviceSignal.{DeviceSignal}
 use Rattle.pmb_device.specs.declared.signal.DeviceSignal.TheVariants as answers
-use Rattle.pmb_device.specs.Exchange.{IsFormOfRequest}
 use Rattle.pmb_device.specs.Legs.{Legs, Outside, Inside}
 use Rattle.pmb_device.specs.Rules.{TakesAll, carries_pec, taken_or_not}
 use Rattle.pmb_devices.specs.Bus.{AreAnswered, AnsweredSignal, BusAnswers, recorded_events}
@@ -53,7 +52,7 @@ pub record Asking (job : Job) (members : List InState) (body : List ℕ) (form :
   pub same : (m : InState) → Contains members m → m.device.address ≡ member.device.address → m ≡ member
   pub accepted : IsDevice member.device
   pub known : device_with member.device.address job.profile ≡ Some member.device
-  pub request : IsReadBody member.device body ⊎ IsCallBody member.device body
+  pub request : IsRequest member.device body
   pub only : (f : Form) → IsFormOfRequest member.device f body → f ≡ form
   pub takes : (reply : List ℕ) → answer member.device member.state body ≡ Ok reply → Takes form (length reply)
   pub mode : AllowsPec member.device.pec with_pec

@@ -9,7 +9,7 @@ use Rattle.pmb_command.specs.declared.form.Form.{Form}
 use Rattle.pmb_command.specs.declared.form.Form.TheVariants.{Zero, One, Two, Four, Eight, Block}
 use Rattle.pmb_command.specs.Parts.{DeviceParts}
 use Rattle.pmb_command.specs.Wire.{Takes, wire}
-use Rattle.pmb_transaction.specs.Body.{IsCallBody, IsReadBody}
+use Rattle.pmb_transaction.specs.Body.{IsFormOfRequest, IsRequest}
 use Rattle.pmb_registers.specs.declared.cml_bit.CmlBit.{CmlBit}
 use Rattle.pmb_registers.specs.Answer.{answer}
 use Rattle.pmb_registers.specs.State.{InState}
@@ -17,7 +17,6 @@ use Rattle.pmb_device.specs.declared.signal.HostSignal.{HostSignal}
 use Rattle.pmb_device.specs.declared.signal.HostSignal.TheVariants.{Start, Byte, Ask, Ack, Nack, Stop}
 use Rattle.pmb_device.specs.declared.signal.DeviceSignal.{DeviceSignal}
 use Rattle.pmb_device.specs.declared.signal.DeviceSignal.TheVariants as answers
-use Rattle.pmb_device.specs.Exchange.{IsFormOfRequest}
 use Rattle.pmb_device.specs.Legs.{Leg, Legs, Inside, sent, with_signal}
 use Rattle.pmb_device.specs.Rules.{AnswersAddress, AnswersAsk, IsRead, IsReplyTo, byte_or_silent, given_behind, is_ended, next_of, taken_or_not, waits_behind, written, read, others, replies, not_read}
 use Rattle.pmb_devices.specs.Bus.{AreAnswered, AnsweredSignal, BusAnswers}
@@ -89,7 +88,7 @@ byte_at (b ∷ all) (suc n) small = byte_at all n (omega (arith, small))
 
 module _ (members : List InState) (member : InState) (in_bus : Contains members member)
     (same : (m : InState) → Contains members m → m.device.address ≡ member.device.address → m ≡ member) (body : List ℕ) (form : Form)
-    (only : (f : Form) → IsFormOfRequest member.device f body → f ≡ form) (request : IsReadBody member.device body ⊎ IsCallBody member.device body) where
+    (only : (f : Form) → IsFormOfRequest member.device f body → f ≡ form) (request : IsRequest member.device body) where
   -- the leg in which it is asked
   abbrev pub asking_leg : Leg
   asking_leg = byte_leg (write_address member.device.address ∷ body)

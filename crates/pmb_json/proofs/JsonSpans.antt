@@ -1,5 +1,5 @@
 -- The objects of spans are JSON.
-use Rattle.std.proofs.Common.{ℕ, ◌+◌, ◌-◌, inl, inr, Option, Some, None, List, [], ◌∷◌, ◌++◌, length, sym, subst, arith}
+use Rattle.std.proofs.Common.{ℕ, ◌+◌, ◌-◌, Option, Some, None, List, [], ◌∷◌, ◌++◌, length, sym, subst, arith}
 use Rattle.std.specs.Prelude.{IfSome}
 use Rattle.std.specs.List.{AllByRecursion}
 use Rattle.pmb_bus.specs.declared.event.Event.{Event}
@@ -78,10 +78,7 @@ module _ (profile : List DeviceParts) where
   spans_say_packets n events [] reads = tt
   spans_say_packets n events (ReadSpan m front t ∷ more) reads = (reads.3, spans_say_packets (n + length front) reads.1 more reads.4)
   spans_say_packets n events (RefusedSpan m front event refusal ∷ more) reads =
-      elim reads.4 [
-        | inl none ↦ (tt, subst AllSayPackets (sym none.1) tt)
-        | inr there ↦ (tt, spans_say_packets (n + length front + length there.0 + 1) there.1 more there.4)
-      ]
+      (tt, spans_say_packets (n + length front + length reads.4) reads.5 more reads.7)
   spans_say_packets n events (TruncatedSpan m front refusal ∷ more) reads = (tt, subst AllSayPackets (sym reads.3) tt)
 
   pub spans_tell_bytes : (spans : List Span) → AllSayPackets spans → AllTellBytes (transactions_in spans)

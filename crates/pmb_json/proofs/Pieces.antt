@@ -24,10 +24,11 @@ use Rattle.pmb_places.specs.declared.places.Place.{Place}
 use Rattle.pmb_said.specs.Said.{reply, said_device, sent, written_to}
 use Rattle.pmb_spans.specs.Spans.{Span, ReadSpan, RefusedSpan, TruncatedSpan, moved_spans}
 use Rattle.pmb_transaction.specs.declared.reason.Reason.{Reason}
+use Rattle.pmb_transaction.specs.Names.{kind_names, reason_name}
 use Rattle.pmb_transaction.specs.Transaction.{PartData, ReadData, CallData, RefusedData, AlertData, TransactionData, Write, Read, Call, Refused, Alert, NoAlert}
 use Rattle.pmb_stream.specs.Choice.{ChoiceData}
 use Rattle.pmb_objects.specs.Members.{code_member, command_members, device_member, entry_members, head_members, page_member, page_value, part_members, sent_command}
-use Rattle.pmb_objects.specs.Names.{got_value, kind_names, reason_name}
+use Rattle.pmb_objects.specs.Names.{got_value}
 use Rattle.pmb_objects.specs.Object.{Object}
 use Rattle.pmb_objects.specs.Packets.{alert_object, call_object, data_of, data_of_entry, no_alert_object, packet_objects, read_object, refused_check, refused_name, refused_object, refused_objects, said_of, starts, write_object, write_objects}
 use Rattle.pmb_json.specs.Pieces.{EachSaysNoMore, IsNumber, IsUnknown, IsWhere, SayNoMore, SaysNoMore}

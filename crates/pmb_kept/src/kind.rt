@@ -25,6 +25,7 @@ pub enum Kind {
 #[inline]
 pub fn make_write(transaction: &mut Transaction)
     ensures kind { IsWrite transaction.new }
+    ensures same { IsWrite transaction.old → transaction.new ≡ transaction.old }
     ensures parts { parts_of transaction.new ≡ parts_of transaction.old }
 {
     if let Transaction::Write { .. } = transaction {
@@ -38,7 +39,8 @@ pub fn make_write(transaction: &mut Transaction)
 /// Makes a transaction a read, unless it is one.
 #[inline]
 pub fn make_read(transaction: &mut Transaction)
-    ensures { IsRead transaction.new }
+    ensures kind { IsRead transaction.new }
+    ensures same { IsRead transaction.old → transaction.new ≡ transaction.old }
 {
     if let Transaction::Read { .. } = transaction {
         return;
@@ -54,7 +56,8 @@ pub fn make_read(transaction: &mut Transaction)
 /// Makes a transaction a call, unless it is one.
 #[inline]
 pub fn make_call(transaction: &mut Transaction)
-    ensures { IsCall transaction.new }
+    ensures kind { IsCall transaction.new }
+    ensures same { IsCall transaction.old → transaction.new ≡ transaction.old }
 {
     if let Transaction::Call { .. } = transaction {
         return;
@@ -71,7 +74,8 @@ pub fn make_call(transaction: &mut Transaction)
 /// Makes a transaction a refused one, unless it is one.
 #[inline]
 pub fn make_refused(transaction: &mut Transaction)
-    ensures { IsRefused transaction.new }
+    ensures kind { IsRefused transaction.new }
+    ensures same { IsRefused transaction.old → transaction.new ≡ transaction.old }
 {
     if let Transaction::Refused { .. } = transaction {
         return;
@@ -87,7 +91,8 @@ pub fn make_refused(transaction: &mut Transaction)
 /// Makes a transaction an answer at the Alert Response Address, unless it is one.
 #[inline]
 pub fn make_alert(transaction: &mut Transaction)
-    ensures { IsAlert transaction.new }
+    ensures kind { IsAlert transaction.new }
+    ensures same { IsAlert transaction.old → transaction.new ≡ transaction.old }
 {
     if let Transaction::Alert { .. } = transaction {
         return;

@@ -19,7 +19,7 @@ use Rattle.pmb_line.proofs.Partials.{append-nil}
 use Rattle.pmb_line.proofs.Steps.{ran}
 use Rattle.pmb_line.proofs.Faults.{begins, fits, has_room, passed, ran_plus}
 use Rattle.pmb_line.proofs.OneWordsFault.{IsOfWhole, IsRoom, Kind, blank, stop, whole, bad, long, no_stop_fault, one_fault}
-use Rattle.pmb_line.proofs.PacketsWithin.{packet_within}
+use Rattle.pmb_line.proofs.PacketsWithin.{BodiesAreShort, packet_within}
 use Rattle.pmb_line.proofs.Uniqueness.{one_transaction}
 use Rattle.pmb_writer.proofs.Packets.{packet_keeps}
 use Rattle.pmb_writer.proofs.Rules.{not_both, one_broken}
@@ -114,14 +114,14 @@ one_line_fault profile line a b one other =
 
 -- ---- no fault where a line parses
 
-no_parse : (profile : List DeviceParts) (line : List ℕ) (f : LineFault) (t : TransactionData) → IsBus profile → KindOfLine profile line f → Parses profile line t → ⊥
-no_parse profile line f t bus (blank is none) parses = spelled_some (line_words line) t parses.spells none
-no_parse profile line f t bus (stop one) parses =
-    no_stop_fault BeginsLine HasRoom is_room line word_fault f one (room_for line t parses.spells (packet_within profile t parses.packet.0 parses.packet.1))
-no_parse profile line f t bus (whole (short at is cut)) parses = cut.unfinished t parses.spells
-no_parse profile line f t bus (whole (invalid why is of)) parses =
+no_parse : BodiesAreShort → (profile : List DeviceParts) (line : List ℕ) (f : LineFault) (t : TransactionData) → IsBus profile → KindOfLine profile line f → Parses profile line t → ⊥
+no_parse bodies profile line f t bus (blank is none) parses = spelled_some (line_words line) t parses.spells none
+no_parse bodies profile line f t bus (stop one) parses =
+    no_stop_fault BeginsLine HasRoom is_room line word_fault f one (room_for line t parses.spells (packet_within bodies profile t parses.packet.0 parses.packet.1))
+no_parse bodies profile line f t bus (whole (short at is cut)) parses = cut.unfinished t parses.spells
+no_parse bodies profile line f t bus (whole (invalid why is of)) parses =
     let t_is = one_transaction (texts (line_words line)) of.t t of.spells parses.spells in
     not_both (transaction_rules profile t) why (packet_keeps profile t bus.devices parses.packet) (subst (λ u. IsFirstFault profile u why) t_is of.first)
 
-pub no_parse_with_a_fault : (profile : List DeviceParts) (line : List ℕ) (f : LineFault) (t : TransactionData) → IsBus profile → IsLineFault profile line f → Parses profile line t → ⊥
-no_parse_with_a_fault profile line f t bus is parses = no_parse profile line f t bus (kind profile line f is) parses
+pub no_parse_with_a_fault : BodiesAreShort → (profile : List DeviceParts) (line : List ℕ) (f : LineFault) (t : TransactionData) → IsBus profile → IsLineFault profile line f → Parses profile line t → ⊥
+no_parse_with_a_fault bodies profile line f t bus is parses = no_parse bodies profile line f t bus (kind profile line f is) parses

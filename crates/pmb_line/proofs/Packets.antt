@@ -1,5 +1,5 @@
 -- A transaction that has a packet has a line.
-use Rattle.std.proofs.Common.{◌≡◌, ◌≢◌, ℕ, ◌<◌, ◌≤◌, Bool, true, false, Some, List, [], ◌∷◌, length, refl, sym, subst, ◌⊎◌, inl, inr, arith}
+use Rattle.std.proofs.Common.{◌≡◌, ◌≢◌, ℕ, ◌<◌, ◌≤◌, Bool, true, false, Some, List, [], ◌∷◌, length, refl, sym, subst, inl, inr, arith}
 use Rattle.std.specs.List.{AllByRecursion}
 use Rattle.pmb_bus.specs.declared.event.Event.{Event}
 use Rattle.pmb_command.specs.declared.form.Form.{Form}
@@ -10,7 +10,7 @@ use Rattle.pmb_command.specs.Parts.{DeviceParts, device_with}
 use Rattle.pmb_command.specs.Wire.{AreByteValues, Fits, wire}
 use Rattle.pmb_transaction.specs.Transaction.{PartData, TransactionData}
 use Rattle.pmb_transaction.specs.Transaction as says
-use Rattle.pmb_transaction.specs.Body.{IsReadBody, IsCallBody}
+use Rattle.pmb_transaction.specs.Body.{IsRequest}
 use Rattle.pmb_transaction.specs.Packet.{Packet, PartsEvents, RefusedLeg}
 use Rattle.pmb_transaction.proofs.Known.{code_is_byte, device_is}
 use Rattle.pmb_line.specs.Spelling.{ArePartBytes, HasBytes, HasLine}
@@ -37,7 +37,7 @@ module _ (profile : List DeviceParts) (bus : IsBus profile) where
   wire_small Eight bs fits = fits.small
   wire_small Block bs fits = (omega (arith, fits.taken), fits.small)
 
-  sent_small : (addr : ℕ) (device : DeviceParts) (sent : List ℕ) → device_with addr profile ≡ Some device → IsReadBody device sent ⊎ IsCallBody device sent → AreByteValues sent
+  sent_small : (addr : ℕ) (device : DeviceParts) (sent : List ℕ) → device_with addr profile ≡ Some device → IsRequest device sent → AreByteValues sent
   sent_small addr device sent known (inl read) =
       let is = device_is profile addr device bus known in
       subst AreByteValues (sym read.2.spelled) (code_is_byte (λ (s : Shape). s.read) device read.0 read.1 refl is.0 read.2.read, tt)

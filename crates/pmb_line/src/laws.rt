@@ -13,6 +13,7 @@ ghost use Rattle.pmb_line.specs.LineFault.{IsLineFault, Parses};
 ghost use Rattle.pmb_line.specs.Words.{texts, line_words};
 ghost use Rattle.pmb_line.specs.Spelling.{HasBytes, HasLine, SpellsTransaction, line};
 
+use pmb_transaction::laws::bodies_are_short;
 use pmb_writer::laws::packet_or_fault;
 
 /// Words spell one transaction at most.
@@ -45,7 +46,9 @@ pub fn comments_say_nothing()
 pub fn lines_are_short()
     ensures one { (t : TransactionData) → All (λ b. b ≢ character "\n") (line t) }
     ensures short { (profile : List DeviceParts) (t : TransactionData) (events : List Event) → Packet profile t events → length (line t) ≤ 12544 }
-{}
+{
+    bodies_are_short();
+}
 
 /// A line has one fault at most, under any profile.
 pub fn one_line_fault()
@@ -56,7 +59,9 @@ pub fn one_line_fault()
 pub fn no_parse_with_a_fault()
     ensures { (profile : List DeviceParts) (line : List ℕ) (fault : LineFault) (t : TransactionData) → IsBus profile → IsLineFault profile line fault
         → Parses profile line t → ⊥ }
-{}
+{
+    bodies_are_short();
+}
 
 /// A line spells a transaction that has a packet, or has a first fault, under any profile.
 pub fn parse_or_fault()

@@ -44,6 +44,7 @@ impl<'p> Context<'p> {
     }
 
     /// Takes the next transaction.
+    #[inline(always)]
     pub fn observe(&mut self, transaction: &Transaction)
         ensures { (profile : List DeviceParts) (ts : List TransactionData) → HasSeen self.old profile ts
             → HasSeen self.new profile (ts ++ transaction_data transaction.now ∷ []) }
@@ -114,7 +115,8 @@ fn first_paging(profile: &Profile, address: u8) -> Paging
     }
 }
 
-// Takes what a transaction tells.
+// Takes what a transaction tells. Few tell anything, so that the look at its kind stands in the caller.
+#[inline(always)]
 fn take_transaction(profile: &Profile, pagings: &mut [Paging], transaction: &Transaction)
     ensures { (now : DeviceParts → PagingData) → Keeps pagings.old profile.now now
         → Keeps pagings.new profile.now (λ device. after_transaction device (now device) (transaction_data transaction.now)) }

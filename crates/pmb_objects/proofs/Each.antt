@@ -25,12 +25,13 @@ use Rattle.pmb_places.specs.declared.places.Place.{Place}
 use Rattle.pmb_said.specs.Said.{but_last, reply, said_device, sent, written_to}
 use Rattle.pmb_transaction.specs.declared.reason.Reason.{Reason}
 use Rattle.pmb_transaction.specs.declared.reason.Reason.TheVariants.{ReadFirst, BadRestart, BadPec, UnknownDevice, UnknownCommand, TooLong, TooShort, WrongEvent, Truncated}
+use Rattle.pmb_transaction.specs.Names.{kind_names, reason_name, with_name}
 use Rattle.pmb_transaction.specs.Transaction.{AlertData, CallData, PartData, ReadData}
 use Rattle.pmb_objects.specs.BadToken.{bad_token_object}
 use Rattle.pmb_objects.specs.Counts.{DeviceData, counts_object, end_object}
 use Rattle.pmb_objects.specs.Laws.{IsCount, IsData, IsJsonObject, IsPlace, IsSeen, object_keys}
 use Rattle.pmb_objects.specs.Members.{command_members, device_member, head_members, part_members, sent_command}
-use Rattle.pmb_objects.specs.Names.{got_value, kind_names, reason_name, with_name}
+use Rattle.pmb_objects.specs.Names.{got_value}
 use Rattle.pmb_objects.specs.Packets.{alert_object, call_object, checked_members, data_of, data_of_entry, is_whole_write, last_byte, no_alert_object, read_object, refused_check, refused_name, refused_object, right_members, said_of, write_object}
 use Rattle.pmb_objects.specs.Refusals.{due_pec, refusal_object, reply_members, right_pec_members, said_device_member, written_members}
 use Rattle.pmb_objects.specs.Seen.{SeenData, entry_of, mode_at}

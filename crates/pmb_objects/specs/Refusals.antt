@@ -7,8 +7,9 @@ use Rattle.pmb_object.specs.Member.{Member, named, array_of, digits}
 use Rattle.pmb_places.specs.declared.places.Place.{Place}
 use Rattle.pmb_said.specs.Said.{reply, right_pec, said_device, sent, written_to}
 use Rattle.pmb_transaction.specs.declared.reason.Reason.{Reason}
+use Rattle.pmb_transaction.specs.Names.{kind_names, reason_name}
 use Rattle.pmb_objects.specs.Members.{device_member, head_members, sent_command}
-use Rattle.pmb_objects.specs.Names.{got_value, kind_names, reason_name}
+use Rattle.pmb_objects.specs.Names.{got_value}
 use Rattle.pmb_objects.specs.Object.{Object}
 use Rattle.pmb_objects.specs.Seen.{SeenData}
 

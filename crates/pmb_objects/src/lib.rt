@@ -34,7 +34,6 @@ mod wanted;
 pub use bad_token::{WORD, bad_token_line};
 pub use counts::{Counts, DeviceCounts};
 pub use last::{device_line, end_line};
-pub use names::reason_name;
 pub use packet::{alert_line, call_line, no_alert_line, read_line, write_line};
 pub use refusal::refusal_line;
 pub use refused::refused_line;

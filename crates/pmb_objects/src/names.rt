@@ -1,11 +1,12 @@
-//! The names of reasons and of events.
+//! The kinds that were expected, and the refused event, by their names.
 
 ghost use Rattle.std.specs.Prelude.{◌≡◌, ◌==◌, ◌+◌, ◌*◌, ◌≤◌, ◌++◌, ◌∷◌, [], List, ℕ, bit_and, codes, length, map};
 ghost use Rattle.pmb_bus.specs.Kinds.{bits};
 ghost use Rattle.pmb_object.specs.Json.{string};
 ghost use Rattle.pmb_object.specs.declared.place.Place.TheVariants.{Later};
 ghost use Rattle.pmb_object.specs.Member.{array_of, items_text, members_text, named};
-ghost use Rattle.pmb_objects.specs.Names.{got_value, kind_names, reason_name as reason_text, with_name};
+ghost use Rattle.pmb_transaction.specs.Names.{kind_names, with_name};
+ghost use Rattle.pmb_objects.specs.Names.{got_value};
 
 use crate::members::append_byte;
 use arrayvec::ArrayVec;
@@ -14,31 +15,12 @@ use pmb_object::{
     ARRAY_MEMBER, NULL_MEMBER, Place as MemberPlace, TEXT_ITEM, TEXT_MEMBER, begin_array,
     end_array, null_member, text_item, text_member,
 };
-use pmb_transaction::Reason;
 
 /// The most bytes of the names of kinds.
 pub(crate) const KINDS_MEMBER: usize = ARRAY_MEMBER + 5 * (TEXT_ITEM + 6 * 5) + 1;
 
 /// The most bytes of the refused event.
 pub(crate) const GOT_MEMBER: usize = TEXT_MEMBER + 6 * 5;
-
-/// The name of a reason, as it is printed.
-pub fn reason_name(reason: Reason) -> &'static [u8]
-    ensures name { result.now ≡ reason_text reason }
-    ensures short { length result.now ≤ 14 }
-{
-    match reason {
-        Reason::ReadFirst => b"ReadFirst",
-        Reason::BadRestart => b"BadRestart",
-        Reason::BadPec => b"BadPec",
-        Reason::UnknownDevice => b"UnknownDevice",
-        Reason::UnknownCommand => b"UnknownCommand",
-        Reason::TooLong => b"TooLong",
-        Reason::TooShort => b"TooShort",
-        Reason::WrongEvent => b"WrongEvent",
-        Reason::Truncated => b"Truncated",
-    }
-}
 
 /// Appends the names of the kinds that were expected.
 pub(crate) fn append_kinds<const N: usize>(out: &mut ArrayVec<u8, N>, kinds: Kinds)

@@ -16,7 +16,7 @@ use crate::OBJECT;
 use crate::members::{
     BYTE_MEMBER, COMMAND_MEMBERS, append_byte, append_sent_command, begin_object,
 };
-use crate::names::{append_got, append_kinds, reason_name};
+use crate::names::{append_got, append_kinds};
 use crate::seen::Seen;
 use arrayvec::ArrayVec;
 use pmb_bus::{Event, Kinds};
@@ -49,7 +49,7 @@ pub fn refusal_line<const N: usize>(
     ensures short { length out.new.items ≤ length out.old.items + OBJECT }
 {
     begin_object(out, at, place, b"refusal");
-    text_member(out, MemberPlace::Later, "reason", reason_name(reason));
+    text_member(out, MemberPlace::Later, "reason", reason.name());
     append_kinds(out, expected);
     append_got(out, event);
     append_said_device(out, said.device());

@@ -7,7 +7,7 @@ use Rattle.pmb_command.specs.Parts.{DeviceParts}
 use Rattle.pmb_transaction.specs.Transaction.{TransactionData}
 use Rattle.pmb_transaction.specs.Packet.{Packet}
 use Rattle.pmb_transaction.specs.Capture.{Capture, HasNoStop}
-use Rattle.pmb_transaction.specs.Reading.{Accepted, BehindStop, Outcome, ReadsFrom, Refusal, RefusalData, RefusedAt, TruncatedAt}
+use Rattle.pmb_transaction.specs.Reading.{Accepted, Outcome, PassedOver, ReadsAfterStop, ReadsFrom, Refusal, RefusalData, RefusedAt, TruncatedAt, to_first_stop, to_the_end}
 use Rattle.pmb_reader.specs.declared.reader.Reader.{Reader}
 use Rattle.pmb_reader.specs.declared.reader.Took.TheVariants as took
 use Rattle.pmb_reader.specs.declared.refusal.Refusal as answered
@@ -15,50 +15,45 @@ use Rattle.pmb_reader.specs.Refusal.{refusal_data}
 use Rattle.pmb_reader.specs.Reader.{Standing, Open, Held, Passing, ReaderStandsAt, ReaderFinishes, ReaderTakes, behind_passed, last_read}
 use Rattle.pmb_reader.specs.Feed.{AnswersAgain, EndsPacket, Leads, ReaderNeedsMore, ReaderRefuses}
 use Rattle.pmb_reader.specs.Reading.{AnyEvent, Due, HasRead, HeldEvent, IsDue, IsDueAt, IsNotHeld, PassedEvent, Remains}
-use Rattle.pmb_reader.proofs.Stopless.{no_stop_in_none}
+use Rattle.pmb_reader.proofs.Stopless.{in_tail, no_stop_in_none}
 
 -- ---- what is passed over
 
--- an event in front that is no STOP
-no_stop_behind : (event : Event) (events : List Event) → event ≢ Stop → HasNoStop events → HasNoStop (event ∷ events)
-no_stop_behind event events other none [] after split = other (cc split)
-no_stop_behind event events other none (e ∷ before) after split = none before after (cc split)
+-- An event that is no STOP is passed over, with what is passed over after it.
+abbrev pub OthersPass : Type 0
+OthersPass =
+    (event : Event) (events passed left : List Event) → event ≢ Stop → PassedOver events passed left
+    → PassedOver (event ∷ events) (event ∷ passed) left
 
-no_stop_in_tail : (event : Event) (events : List Event) → HasNoStop (event ∷ events) → HasNoStop events
-no_stop_in_tail event events none before after split = none (event ∷ before) after (ap (λ (es : List Event). event ∷ es) split)
+module _ (profile : List DeviceParts) (outcomes : List Outcome) where
+  after_stop : (n : ℕ) (more : List Event) → ReadsFrom profile (n + 1) more outcomes → ReadsAfterStop profile n (Stop ∷ more) outcomes
+  after_stop n more reads =
+      (Stop ∷ [], more, to_first_stop refl (record { front = []; no_stop = no_stop_in_none; split = refl }), reads)
 
-module _ (Holds : ℕ → List Event → Type 0) (HoldsOfNone : Type 0) where
-  behind_one : (n : ℕ) (event : Event) (more : List Event) → event ≢ Stop → BehindStop Holds HoldsOfNone (n + 1) more
-      → BehindStop Holds HoldsOfNone n (event ∷ more)
-  behind_one n event more other (inl w) = inl (no_stop_behind event more other w.0, w.1)
-  behind_one n event more other (inr w) =
-      let count : n + 1 + length w.0 + 1 ≡ n + length (event ∷ w.0) + 1 = omega arith in
-      inr (
-        event ∷ w.0,
-        w.1,
-        no_stop_behind event w.0 other w.2,
-        ap (λ (es : List Event). event ∷ es) w.3,
-        subst (λ (m : ℕ). Holds m w.1) count w.4,
-      )
+  module _ (others_pass : OthersPass) where
+    after_one : (n : ℕ) (event : Event) (more : List Event) → event ≢ Stop → ReadsAfterStop profile (n + 1) more outcomes
+        → ReadsAfterStop profile n (event ∷ more) outcomes
+    after_one n event more other w =
+        let count : n + 1 + length w.0 ≡ n + length (event ∷ w.0) = omega arith in (
+          event ∷ w.0,
+          w.1,
+          others_pass event more w.0 w.1 other w.2,
+          subst (λ (m : ℕ). ReadsFrom profile m w.1 outcomes) count w.3,
+        )
 
-  behind_stop : (n : ℕ) (more : List Event) → Holds (n + 1) more → BehindStop Holds HoldsOfNone n (Stop ∷ more)
-  behind_stop n more holds =
-      let count : n + 1 ≡ n + 0 + 1 = omega arith in
-      inr ([], more, no_stop_in_none, refl, subst (λ (m : ℕ). Holds m more) count holds)
-
-  -- events without a STOP
-  behind_piece : (n : ℕ) (piece more : List Event) → HasNoStop piece → BehindStop Holds HoldsOfNone (n + length piece) more
-      → BehindStop Holds HoldsOfNone n (piece ++ more)
-  behind_piece n [] more none holds =
-      let count : n + 0 ≡ n = omega arith in
-      subst (λ (m : ℕ). BehindStop Holds HoldsOfNone m more) count holds
-  behind_piece n (event ∷ piece) more none holds =
-      let count : n + length (event ∷ piece) ≡ n + 1 + length piece = omega arith in
-      behind_one n event (piece ++ more) (λ is. none [] piece (ap (λ (e : Event). e ∷ piece) is))
-      (
-      behind_piece (n + 1) piece more (no_stop_in_tail event piece none)
-      (subst (λ (m : ℕ). BehindStop Holds HoldsOfNone m more) count holds)
-      )
+    -- events without a STOP
+    after_piece : (n : ℕ) (piece more : List Event) → HasNoStop piece → ReadsAfterStop profile (n + length piece) more outcomes
+        → ReadsAfterStop profile n (piece ++ more) outcomes
+    after_piece n [] more none reads =
+        let count : n + 0 ≡ n = omega arith in
+        subst (λ (m : ℕ). ReadsAfterStop profile m more outcomes) count reads
+    after_piece n (event ∷ piece) more none reads =
+        let count : n + length (event ∷ piece) ≡ n + 1 + length piece = omega arith in
+        after_one n event (piece ++ more) (λ is. none [] piece (ap (λ (e : Event). e ∷ piece) is))
+        (
+        after_piece (n + 1) piece more (in_tail event piece none)
+        (subst (λ (m : ℕ). ReadsAfterStop profile m more outcomes) count reads)
+        )
 
 -- ---- accounts
 
@@ -102,13 +97,13 @@ module _ (profile : List DeviceParts) where
   passed_at n Nack = tt
   passed_at n Stop = tt
 
-  passed_remains : (n : ℕ) (event : Event) (more : List Event) (later : List Outcome) → Remains profile (behind_passed n event) more later
+  passed_remains : OthersPass → (n : ℕ) (event : Event) (more : List Event) (later : List Outcome) → Remains profile (behind_passed n event) more later
       → Remains profile (Passing n) (event ∷ more) later
-  passed_remains n Start more later remains = behind_one (λ m behind. ReadsFrom profile m behind later) (later ≡ []) n Start more (λ is. cc is) remains
-  passed_remains n (Byte b) more later remains = behind_one (λ m behind. ReadsFrom profile m behind later) (later ≡ []) n (Byte b) more (λ is. cc is) remains
-  passed_remains n Ack more later remains = behind_one (λ m behind. ReadsFrom profile m behind later) (later ≡ []) n Ack more (λ is. cc is) remains
-  passed_remains n Nack more later remains = behind_one (λ m behind. ReadsFrom profile m behind later) (later ≡ []) n Nack more (λ is. cc is) remains
-  passed_remains n Stop more later remains = behind_stop (λ m behind. ReadsFrom profile m behind later) (later ≡ []) n more remains
+  passed_remains others_pass n Start more later remains = after_one profile later others_pass n Start more (λ is. cc is) remains
+  passed_remains others_pass n (Byte b) more later remains = after_one profile later others_pass n (Byte b) more (λ is. cc is) remains
+  passed_remains others_pass n Ack more later remains = after_one profile later others_pass n Ack more (λ is. cc is) remains
+  passed_remains others_pass n Nack more later remains = after_one profile later others_pass n Nack more (λ is. cc is) remains
+  passed_remains others_pass n Stop more later remains = after_stop profile later n more remains
 
   open_goes_on : (events : List Event) (due : Due) (outcomes : List Outcome) (n : ℕ) (front piece : List Event)
       → Account events due outcomes (Open n front) → Account (events ++ piece) AnyEvent outcomes (Open n (front ++ piece))
@@ -125,35 +120,35 @@ module _ (profile : List DeviceParts) where
   open_goes_on events (HeldEvent first) outcomes n front piece account = absurd account.at
   open_goes_on events (PassedEvent first) outcomes n front piece account = absurd account.at
 
-  passing_goes_on : (events : List Event) (due : Due) (outcomes : List Outcome) (n : ℕ) (event : Event) → IsDue due (event ∷ [])
+  passing_goes_on : OthersPass → (events : List Event) (due : Due) (outcomes : List Outcome) (n : ℕ) (event : Event) → IsDue due (event ∷ [])
       → Account events due outcomes (Passing n) → Account (events ++ event ∷ []) AnyEvent outcomes (behind_passed n event)
-  passing_goes_on events due outcomes n event is account = record {
+  passing_goes_on others_pass events due outcomes n event is account = record {
     at = passed_at n event;
     reads =
         λ more later any remains.
         further events (event ∷ []) more (outcomes ++ later)
         (
-        account.reads (event ∷ more) later (due_in_front due (event ∷ []) more is) (passed_remains n event more later remains)
+        account.reads (event ∷ more) later (due_in_front due (event ∷ []) more is) (passed_remains others_pass n event more later remains)
         );
   }
 
-  goes_on_at : (after : Reader) (events : List Event) (due : Due) (outcomes : List Outcome) (event : Event) (standing : Standing)
+  goes_on_at : OthersPass → (after : Reader) (events : List Event) (due : Due) (outcomes : List Outcome) (event : Event) (standing : Standing)
       → IsDue due (event ∷ []) → Account events due outcomes standing → ReaderTakes profile standing event took.More after
       → HasRead profile after (events ++ event ∷ []) AnyEvent outcomes
-  goes_on_at after events due outcomes event (Open n front) is account takes =
+  goes_on_at others_pass after events due outcomes event (Open n front) is account takes =
       has_read after (events ++ event ∷ []) AnyEvent outcomes (Open n (front ++ event ∷ [])) takes.1
       (open_goes_on events due outcomes n front (event ∷ []) account)
-  goes_on_at after events due outcomes event (Held n refusal) is account takes = absurd takes
-  goes_on_at after events due outcomes event (Passing n) is account takes =
+  goes_on_at others_pass after events due outcomes event (Held n refusal) is account takes = absurd takes
+  goes_on_at others_pass after events due outcomes event (Passing n) is account takes =
       has_read after (events ++ event ∷ []) AnyEvent outcomes (behind_passed n event) takes
-      (passing_goes_on events due outcomes n event is account)
+      (passing_goes_on others_pass events due outcomes n event is account)
 
-  pub goes_on : (before after : Reader) (events : List Event) (due : Due) (outcomes : List Outcome) (event : Event)
+  pub goes_on : OthersPass → (before after : Reader) (events : List Event) (due : Due) (outcomes : List Outcome) (event : Event)
       → HasRead profile before events due outcomes → IsDue due (event ∷ [])
       → ((standing : Standing) → ReaderStandsAt profile before standing → ReaderTakes profile standing event took.More after)
       → HasRead profile after (events ++ event ∷ []) AnyEvent outcomes
-  goes_on before after events due outcomes event read is takes =
-      goes_on_at after events due outcomes event read.standing is (account_of before events due outcomes read) (takes read.standing read.stands)
+  goes_on others_pass before after events due outcomes event read is takes =
+      goes_on_at others_pass after events due outcomes event read.standing is (account_of before events due outcomes read) (takes read.standing read.stands)
 
   -- a packet
   accepts : (events : List Event) (due : Due) (outcomes : List Outcome) (n : ℕ) (front : List Event) (event : Event) (t : TransactionData)
@@ -205,12 +200,12 @@ module _ (profile : List DeviceParts) where
     at = tt;
     reads =
         λ more later is remains.
-        let again : BehindStop (λ m behind. ReadsFrom profile m behind later) (later ≡ []) (n + length front) (event ∷ is.0) =
-        subst (λ (es : List Event). BehindStop (λ m behind. ReadsFrom profile m behind later) (later ≡ []) (n + length front) es) is.1 remains in
+        let again : ReadsAfterStop profile (n + length front) (event ∷ is.0) later =
+        subst (λ (es : List Event). ReadsAfterStop profile (n + length front) es later) is.1 remains in
         with_one (events ++ more) outcomes (Refusal refusal) later
         (
         account.reads more (Refusal refusal ∷ later) tt
-        (inl (front, event, is.0, ap (λ (es : List Event). front ++ es) is.1, refused, again))
+        (inl (front, event, is.0, ap (λ (es : List Event). front ++ es) is.1, refused, again.0, again.1, again.2, again.3))
         );
   }
   refuses events (HeldEvent first) outcomes n front event refusal refused account = absurd account.at
@@ -251,50 +246,49 @@ module _ (profile : List DeviceParts) where
       (front, ap (λ (x : Event). x ∷ front) same)
 
   -- where a piece leads
-  passed_piece : (events : List Event) (due : Due) (outcomes : List Outcome) (n : ℕ) (piece : List Event) → HasNoStop piece → IsDue due piece
+  passed_piece : OthersPass → (events : List Event) (due : Due) (outcomes : List Outcome) (n : ℕ) (piece : List Event) → HasNoStop piece → IsDue due piece
       → Account events due outcomes (Passing n) → Account (events ++ piece) AnyEvent outcomes (Passing (n + length piece))
-  passed_piece events due outcomes n piece none is account = record {
+  passed_piece others_pass events due outcomes n piece none is account = record {
     at = tt;
     reads =
         λ more later any remains.
         further events piece more (outcomes ++ later)
         (
         account.reads (piece ++ more) later (due_in_front due piece more is)
-        (behind_piece (λ m behind. ReadsFrom profile m behind later) (later ≡ []) n piece more none remains)
+        (after_piece profile later others_pass n piece more none remains)
         );
   }
 
   passed_to_stop : (events : List Event) (due : Due) (outcomes : List Outcome) (n : ℕ) (piece passed rest : List Event) → HasNoStop passed
       → piece ≡ passed ++ Stop ∷ rest → IsDue due piece → Account events due outcomes (Passing n)
       → Account (events ++ piece) AnyEvent outcomes (Open (n + length passed + 1) rest)
-  passed_to_stop events due outcomes n piece passed rest none split is account = record {
-    at = tt;
-    reads =
-        λ more later any remains.
-        further events piece more (outcomes ++ later)
-        (
-        account.reads (piece ++ more) later (due_in_front due piece more is)
-        (
-        inr (
-          passed,
-          rest ++ more,
-          none,
-          ap (λ (es : List Event). es ++ more) split ∙ append_assoc passed (Stop ∷ rest) more,
-          remains,
-        )
-        )
-        );
-  }
+  passed_to_stop events due outcomes n piece passed rest none split is account =
+      let count : n + length passed + 1 ≡ n + length (passed ++ Stop ∷ []) = omega (arith, length-append passed (Stop ∷ [])) in
+      let through : piece ≡ (passed ++ Stop ∷ []) ++ rest = split ∙ sym (append_assoc passed (Stop ∷ []) rest) in record {
+        at = tt;
+        reads =
+            λ more later any remains.
+            further events piece more (outcomes ++ later)
+            (
+            account.reads (piece ++ more) later (due_in_front due piece more is) (
+              passed ++ Stop ∷ [],
+              rest ++ more,
+              to_first_stop (ap (λ (es : List Event). es ++ more) through ∙ append_assoc (passed ++ Stop ∷ []) rest more)
+                  (record { front = passed; no_stop = none; split = refl }),
+              subst (λ (m : ℕ). ReadsFrom profile m (rest ++ more) later) count remains,
+            )
+            );
+      }
 
-  led : (events : List Event) (due : Due) (outcomes : List Outcome) (standing : Standing) (piece : List Event) (behind : Standing)
+  led : OthersPass → (events : List Event) (due : Due) (outcomes : List Outcome) (standing : Standing) (piece : List Event) (behind : Standing)
       → ((n : ℕ) (refusal : RefusalData) → standing ≡ Held n refusal → ⊥) → IsDue due piece → Leads standing piece behind
       → Account events due outcomes standing → Account (events ++ piece) AnyEvent outcomes behind
-  led events due outcomes (Open n front) piece behind held is leads account =
+  led others_pass events due outcomes (Open n front) piece behind held is leads account =
       subst (Account (events ++ piece) AnyEvent outcomes) (sym leads) (open_goes_on events due outcomes n front piece account)
-  led events due outcomes (Held n refusal) piece behind held is leads account = absurd (held n refusal refl)
-  led events due outcomes (Passing n) piece behind held is (inl leads) account =
-      subst (Account (events ++ piece) AnyEvent outcomes) (sym leads.1) (passed_piece events due outcomes n piece leads.0 is account)
-  led events due outcomes (Passing n) piece behind held is (inr leads) account =
+  led others_pass events due outcomes (Held n refusal) piece behind held is leads account = absurd (held n refusal refl)
+  led others_pass events due outcomes (Passing n) piece behind held is (inl leads) account =
+      subst (Account (events ++ piece) AnyEvent outcomes) (sym leads.1) (passed_piece others_pass events due outcomes n piece leads.0 is account)
+  led others_pass events due outcomes (Passing n) piece behind held is (inr leads) account =
       subst (Account (events ++ piece) AnyEvent outcomes) (sym leads.4)
       (passed_to_stop events due outcomes n piece leads.0 leads.1 leads.2 leads.3 is account)
 
@@ -305,14 +299,14 @@ module _ (profile : List DeviceParts) where
   no_leads (Held k first) piece n events leads m refusal is = cc (leads.1)
   no_leads (Passing k) piece n events leads m refusal is = cc is
 
-  pub piece_goes_on : (before after : Reader) (events : List Event) (due : Due) (outcomes : List Outcome) (piece : List Event) (used : ℕ)
+  pub piece_goes_on : OthersPass → (before after : Reader) (events : List Event) (due : Due) (outcomes : List Outcome) (piece : List Event) (used : ℕ)
       → HasRead profile before events due outcomes → IsDue due piece
       → ((standing : Standing) → ReaderStandsAt profile before standing → ReaderNeedsMore profile standing piece used after)
       → HasRead profile after (events ++ piece) AnyEvent outcomes
-  piece_goes_on before after events due outcomes piece used read is feeds =
+  piece_goes_on others_pass before after events due outcomes piece used read is feeds =
       let w = feeds read.standing read.stands in
       has_read after (events ++ piece) AnyEvent outcomes w.behind w.stands
-      (led events due outcomes read.standing piece w.behind w.not_held is w.leads (account_of before events due outcomes read))
+      (led others_pass events due outcomes read.standing piece w.behind w.not_held is w.leads (account_of before events due outcomes read))
 
   -- no events lead nowhere
   led_nowhere : (standing behind : Standing) → Leads standing [] behind → behind ≡ standing
@@ -340,16 +334,16 @@ module _ (profile : List DeviceParts) where
       let whole : piece ≡ (front ++ event ∷ []) ++ rest = split ∙ sym (append_assoc front (event ∷ []) rest) in
       sym (ap (take used) whole ∙ take_at (front ++ event ∷ []) rest used long)
 
-  pub piece_is_accepted : (before after : Reader) (events : List Event) (due : Due) (outcomes : List Outcome) (piece : List Event) (used : ℕ)
+  pub piece_is_accepted : OthersPass → (before after : Reader) (events : List Event) (due : Due) (outcomes : List Outcome) (piece : List Event) (used : ℕ)
       → (t : TransactionData) → HasRead profile before events due outcomes → IsDue due piece
       → ((standing : Standing) → ReaderStandsAt profile before standing → EndsPacket profile standing piece used after t)
       → HasRead profile after (events ++ take used piece) AnyEvent (outcomes ++ Accepted t ∷ [])
-  piece_is_accepted before after events due outcomes piece used t read is feeds =
+  piece_is_accepted others_pass before after events due outcomes piece used t read is feeds =
       let w = feeds read.standing read.stands in
       let due_front =
       due_first due read.standing w.front w.event w.rest w.n w.events read.at (subst (IsDue due) w.split is) w.leads in
       let to_packet =
-      led events due outcomes read.standing w.front (Open w.n w.events) (no_leads read.standing w.front w.n w.events w.leads) due_front w.leads
+      led others_pass events due outcomes read.standing w.front (Open w.n w.events) (no_leads read.standing w.front w.n w.events w.leads) due_front w.leads
       (account_of before events due outcomes read) in
       let with_packet = accepts (events ++ w.front) AnyEvent outcomes w.n w.events w.event t w.packet to_packet in
       let same : (events ++ w.front) ++ w.event ∷ [] ≡ events ++ take used piece =
@@ -372,15 +366,15 @@ module _ (profile : List DeviceParts) where
       (event : Event) × (rest : List Event) × (piece ≡ take used piece ++ event ∷ rest)
       × HasRead profile after (events ++ take used piece) (HeldEvent event) (outcomes ++ Refusal refusal ∷ [])
 
-  refused_in : (before after : Reader) (events : List Event) (due : Due) (outcomes : List Outcome) (piece : List Event) (used : ℕ)
+  refused_in : OthersPass → (before after : Reader) (events : List Event) (due : Due) (outcomes : List Outcome) (piece : List Event) (used : ℕ)
       → (refusal : RefusalData) → (read : HasRead profile before events due outcomes) → IsNotHeld due → IsDue due piece
       → ReaderRefuses profile read.standing piece used after refusal ⊎ AnswersAgain profile read.standing used after refusal
       → Stopped after events outcomes piece used refusal
-  refused_in before after events due outcomes piece used refusal read free is (inl w) =
+  refused_in others_pass before after events due outcomes piece used refusal read free is (inl w) =
       let due_front =
       due_first due read.standing w.front w.event w.rest w.n w.events read.at (subst (IsDue due) w.split is) w.leads in
       let to_event =
-      led events due outcomes read.standing w.front (Open w.n w.events) (no_leads read.standing w.front w.n w.events w.leads) due_front w.leads
+      led others_pass events due outcomes read.standing w.front (Open w.n w.events) (no_leads read.standing w.front w.n w.events w.leads) due_front w.leads
       (account_of before events due outcomes read) in
       let account = refuses (events ++ w.front) AnyEvent outcomes w.n w.events w.event refusal w.refused to_event in
       let front : w.front ≡ take used piece = sym (ap (take used) w.split ∙ take_at w.front (w.event ∷ w.rest) used (sym w.up_to)) in
@@ -390,16 +384,16 @@ module _ (profile : List DeviceParts) where
         w.split ∙ ap (λ (es : List Event). es ++ w.event ∷ w.rest) front,
         subst (λ (es : List Event). HasRead profile after (events ++ es) (HeldEvent w.event) (outcomes ++ Refusal refusal ∷ [])) front read_so,
       )
-  refused_in before after events due outcomes piece used refusal read free is (inr w) =
+  refused_in others_pass before after events due outcomes piece used refusal read free is (inr w) =
       absurd (held_nowhere due w.n refusal free (subst (IsDueAt due) w.held read.at))
 
-  pub piece_is_refused : (before after : Reader) (events : List Event) (due : Due) (outcomes : List Outcome) (piece : List Event) (used : ℕ)
+  pub piece_is_refused : OthersPass → (before after : Reader) (events : List Event) (due : Due) (outcomes : List Outcome) (piece : List Event) (used : ℕ)
       → (refusal : RefusalData) → HasRead profile before events due outcomes → IsNotHeld due → IsDue due piece
       → ((standing : Standing) → ReaderStandsAt profile before standing
       → ReaderRefuses profile standing piece used after refusal ⊎ AnswersAgain profile standing used after refusal)
       → Stopped after events outcomes piece used refusal
-  piece_is_refused before after events due outcomes piece used refusal read free is feeds =
-      refused_in before after events due outcomes piece used refusal read free is (feeds read.standing read.stands)
+  piece_is_refused others_pass before after events due outcomes piece used refusal read free is feeds =
+      refused_in others_pass before after events due outcomes piece used refusal read free is (feeds read.standing read.stands)
 
   -- ---- the end
 
@@ -414,7 +408,7 @@ module _ (profile : List DeviceParts) where
   ends_at events outcomes (Held n refusal) account finishes = absurd finishes
   ends_at events outcomes (Passing n) account finishes =
       whole_reading events outcomes
-      (subst (ReadsFrom profile 0 (events ++ [])) (append-nil outcomes) (account.reads [] [] tt (inl (no_stop_in_none, refl))))
+      (subst (ReadsFrom profile 0 (events ++ [])) (append-nil outcomes) (account.reads [] [] tt ([], [], to_the_end refl no_stop_in_none refl, refl)))
 
   pub all_is_read : (reader : Reader) (events : List Event) (outcomes : List Outcome) → HasRead profile reader events AnyEvent outcomes
       → ((standing : Standing) → ReaderStandsAt profile reader standing → ReaderFinishes profile standing (Ok tt)) → ReadsFrom profile 0 events outcomes

@@ -8,7 +8,8 @@ pub no_stop_in_none : HasNoStop []
 no_stop_in_none [] after split = cc split
 no_stop_in_none (e ∷ before) after split = cc split
 
-in_tail : (first : Event) (events : List Event) → HasNoStop (first ∷ events) → HasNoStop events
+-- nor is a STOP among those after the first
+pub in_tail : (first : Event) (events : List Event) → HasNoStop (first ∷ events) → HasNoStop events
 in_tail first events none before after split = none (first ∷ before) after (ap (λ (es : List Event). first ∷ es) split)
 
 -- one event more that is none

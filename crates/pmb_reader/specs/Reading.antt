@@ -1,8 +1,8 @@
 -- What a reader has read of the events of a capture.
-use Rattle.std.specs.Prelude.{◌≡◌, List, [], ◌∷◌, ◌++◌}
+use Rattle.std.specs.Prelude.{◌≡◌, List, ◌∷◌, ◌++◌}
 use Rattle.pmb_bus.specs.declared.event.Event.{Event}
 use Rattle.pmb_command.specs.Parts.{DeviceParts}
-use Rattle.pmb_transaction.specs.Reading.{BehindStop, Outcome, ReadsFrom}
+use Rattle.pmb_transaction.specs.Reading.{Outcome, ReadsAfterStop, ReadsFrom}
 use Rattle.pmb_reader.specs.declared.reader.Reader.{Reader}
 use Rattle.pmb_reader.specs.Reader.{Standing, Open, Held, Passing, ReaderStandsAt}
 
@@ -48,8 +48,8 @@ module _ (profile : List DeviceParts) where
   -- and what follows it, or what follows the next STOP.
   abbrev pub Remains : Standing → List Event → List Outcome → Type 0
   Remains (Open n events) more outcomes = ReadsFrom profile n (events ++ more) outcomes
-  Remains (Held n refusal) more outcomes = BehindStop (λ m behind. ReadsFrom profile m behind outcomes) (outcomes ≡ []) n more
-  Remains (Passing n) more outcomes = BehindStop (λ m behind. ReadsFrom profile m behind outcomes) (outcomes ≡ []) n more
+  Remains (Held n refusal) more outcomes = ReadsAfterStop profile n more outcomes
+  Remains (Passing n) more outcomes = ReadsAfterStop profile n more outcomes
 
   -- A reader that used the events of a capture up to here answered the outcomes, and stands where
   -- it does: whatever comes, the capture reads as these outcomes and what remains.

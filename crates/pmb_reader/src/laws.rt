@@ -20,7 +20,7 @@ ghost use Rattle.pmb_reader.specs.Reader.{Standing, Open, ReaderStandsAt, Reader
 ghost use Rattle.pmb_reader.specs.Feed.{ReaderFeeds};
 ghost use Rattle.pmb_reader.specs.Reading.{Due, AnyEvent, HeldEvent, HasRead, IsDue, IsNotHeld, due_behind_resync};
 
-use pmb_transaction::laws::captures_read_as_written;
+use pmb_transaction::laws::{captures_read_as_written, passing_goes_on};
 use pmb_under_way::laws::some_packet_is_under_way;
 
 // ---- the packet under way
@@ -51,7 +51,9 @@ pub fn reading_goes_on()
         → IsDue due (event ∷ [])
         → ((standing : Standing) → ReaderStandsAt profile before standing → ReaderTakes profile standing event took.More after)
         → HasRead profile after (events ++ event ∷ []) AnyEvent outcomes }
-{}
+{
+    passing_goes_on();
+}
 
 /// With an event that `take` uses and that ends a packet its transaction is read.
 pub fn reading_accepts()
@@ -94,7 +96,9 @@ pub fn pieces_go_on()
         → IsDue due piece
         → ((standing : Standing) → ReaderStandsAt profile before standing → ReaderFeeds profile standing piece used fed.More after)
         → HasRead profile after (events ++ piece) AnyEvent outcomes }
-{}
+{
+    passing_goes_on();
+}
 
 /// With a piece of no events nothing more is read, and what is due stays so.
 pub fn empty_pieces_read_nothing()
@@ -111,7 +115,9 @@ pub fn pieces_are_accepted()
         → IsDue due piece
         → ((standing : Standing) → ReaderStandsAt profile before standing → ReaderFeeds profile standing piece used (fed.Packet t) after)
         → HasRead profile after (events ++ take used piece) AnyEvent (outcomes ++ Accepted (transaction_data t) ∷ []) }
-{}
+{
+    passing_goes_on();
+}
 
 /// With a piece in which an event is refused, up to that, the refusal is read, and the event comes
 /// again.
@@ -122,7 +128,9 @@ pub fn pieces_are_refused()
         → ((standing : Standing) → ReaderStandsAt profile before standing → ReaderFeeds profile standing piece used (fed.Refused refusal) after)
         → ((event : Event) × (rest : List Event) × (piece ≡ take used piece ++ event ∷ rest)
         × HasRead profile after (events ++ take used piece) (HeldEvent event) (outcomes ++ refused_as (refusal_data refusal) ∷ [])) }
-{}
+{
+    passing_goes_on();
+}
 
 /// While a refusal is held `feed` reads nothing more.
 pub fn pieces_are_held()

@@ -12,7 +12,7 @@ use Rattle.pmb_command.specs.Fitting.{register_form}
 use Rattle.pmb_command.specs.Parts.{CommandParts, DeviceParts, HaveOwnCodes, command_with}
 use Rattle.pmb_registers.specs.declared.register.Register.{Register}
 use Rattle.pmb_registers.specs.declared.place.Place.{Place}
-use Rattle.pmb_registers.specs.State.{RegisterData, first_bytes, own_pages, registers_in, registers_of, zeros}
+use Rattle.pmb_registers.specs.State.{RegisterData, first_bytes, first_bytes_of_none, own_pages, registers_in, registers_of, zeros}
 use Rattle.pmb_registers.specs.machine.Registers.{register_data}
 use Rattle.pmb_registers.specs.machine.Places.{NoneHas, IsPlaceOf, ArePlaces, registers_of_some}
 
@@ -46,6 +46,13 @@ module _ (device : DeviceParts) (code : ℕ) (command : CommandParts) (form : Fo
       let apart : nat_eq command.entry.code 0x20 ≡ false = ne_eqb command.entry.code 0x20 (λ same. other (sym (found_code code device.commands command is) ∙ same)) in
       let not_given : command.initial ≡ None = sym (none ∙ ap (option_and_then (λ (c : CommandParts). c.initial)) is) in
       rw apart (ap (λ (initial : Option (List ℕ)). unwrap_or initial (zeros form)) not_given)
+
+-- of a code that the device lacks
+pub lacking_has_mode : (device : DeviceParts) (code : ℕ) (form : Form) → code ≡ 0x20 → first_bytes_of_none device code form ≡ device.vout_mode ∷ []
+lacking_has_mode device code form same = rw (eq-eqb code 0x20 same) refl
+
+pub lacking_has_zeros : (device : DeviceParts) (code : ℕ) (form : Form) → (code ≡ 0x20 → ⊥) → first_bytes_of_none device code form ≡ zeros form
+lacking_has_zeros device code form other = rw (ne_eqb code 0x20 other) refl
 
 -- ---- the registers of one command
 

@@ -55,6 +55,10 @@ abbrev pub first_bytes : DeviceParts → CommandParts → Form → List ℕ
 first_bytes device command form =
     if nat_eq command.entry.code 0x20 then device.vout_mode ∷ [] else unwrap_or command.initial (zeros form)
 
+-- what is returned in place of them for a code that the device lacks
+abbrev pub first_bytes_of_none : DeviceParts → ℕ → Form → List ℕ
+first_bytes_of_none device code form = if nat_eq code 0x20 then device.vout_mode ∷ [] else zeros form
+
 -- the pages for which a command has registers
 abbrev pub own_pages : ℕ → Bool → List (Option ℕ)
 own_pages pages paged = if paged then map Some (range_with_len 0 pages) else None ∷ []

@@ -1,6 +1,6 @@
 -- The transaction that a request comes to on devices in good states: it has a packet, the host has an
 -- end to tell, and the devices are in good states after it.
-use Rattle.std.proofs.Common.{◌≡◌, ℕ, ◌+◌, ◌*◌, ◌%◌, ◌/◌, ◌⊎◌, inl, inr, Option, Some, None, Result, Ok, Err, List, [], ◌∷◌, ◌++◌, length, length-append, map, nat_eq, true, false, refl, sym, ap, subst, ◌∙◌, arith}
+use Rattle.std.proofs.Common.{◌≡◌, ℕ, ◌+◌, ◌*◌, ◌%◌, ◌/◌, inl, inr, Option, Some, None, Result, Ok, Err, List, [], ◌∷◌, ◌++◌, length, length-append, map, nat_eq, true, false, refl, sym, ap, subst, ◌∙◌, arith}
 use Rattle.std.specs.Prelude.{IfSome}
 use Rattle.std.specs.List.{AllByRecursion, IsDistinct}
 use Rattle.std.proofs.lemmas.Option.{same_Some}
@@ -12,7 +12,7 @@ use Rattle.pmb_command.specs.declared.form.Shape.{Shape}
 use Rattle.pmb_command.specs.Bus.{IsBus}
 use Rattle.pmb_command.specs.Parts.{DeviceParts, device_with}
 use Rattle.pmb_command.specs.Wire.{AreByteValues, Fits, Takes, wire}
-use Rattle.pmb_transaction.specs.Body.{Allowed, IsCallBody, IsReadBody, IsWriteBody, forms}
+use Rattle.pmb_transaction.specs.Body.{Allowed, IsRequest, IsWriteBody, forms}
 use Rattle.pmb_transaction.specs.Packet.{leg, nacked}
 use Rattle.pmb_transaction.specs.Transaction.{CallData, PartData, ReadData, RefusedData, TransactionData, Write, Read, Call, Refused, Alert, NoAlert}
 use Rattle.pmb_registers.specs.declared.cml_bit.CmlBit.{CmlBit}
@@ -178,7 +178,7 @@ module _ (profile : List DeviceParts) (members : List InState) (bus : IsBus prof
 
   -- a device that is asked refuses to be read
   refused_ends : (address : ℕ) (device : DeviceParts) → device_with address profile ≡ Some device → (code : ℕ) (behind : List ℕ)
-      → IsReadBody device (code ∷ behind) ⊎ IsCallBody device (code ∷ behind)
+      → IsRequest device (code ∷ behind)
       → Ending (Refused (record { parts = []; addr = address; sent = code ∷ behind; at_read = true }))
   refused_ends address device known code behind body =
       let t : RefusedData = record { parts = []; addr = address; sent = code ∷ behind; at_read = true } in

@@ -1,47 +1,40 @@
 -- What a scan has read comes to something, whatever follows.
-use Rattle.std.proofs.Common.{◌≡◌, ℕ, ◌+◌, List, [], ◌∷◌, ◌++◌, filter, inl, inr, refl, sym, ap, ◌∙◌, subst, append_assoc, append-nil}
+use Rattle.std.proofs.Common.{◌≡◌, ℕ, ◌+◌, List, [], ◌∷◌, ◌++◌, filter, length, inl, inr, refl, sym, ap, ◌∙◌, subst, append_assoc, append-nil}
 use Rattle.pmb_bus.specs.declared.event.Event.{Event}
-use Rattle.pmb_bus.specs.declared.event.Event.TheVariants.{Start, Byte, Ack, Nack, Stop}
 use Rattle.pmb_command.specs.Parts.{DeviceParts}
 use Rattle.pmb_reader.specs.Reader.{Standing, Open, Held, Passing}
 use Rattle.pmb_transaction.specs.Capture.{IsPacket, Viable}
-use Rattle.pmb_transaction.specs.Reading.{IsUnderWay}
+use Rattle.pmb_transaction.specs.Reading.{IsUnderWay, PassedOver}
 use Rattle.pmb_spans.specs.Spans.{Span, ReadSpan, RefusedSpan, TruncatedSpan, Spans, SpansFrom, is_whole}
 use Rattle.pmb_scan.specs.Reached.{Reached, EndsWith, IsReading, LeadsOn, SpansBehind}
-use Rattle.pmb_scan.proofs.Passing.{behind_event, behind_stop, no_stop_none}
+use Rattle.pmb_scan.proofs.Passing.{after_none}
 use Rattle.pmb_scan.proofs.Reporting.{ends_so}
 
 -- events have some spans, however many came before
 abbrev pub HaveSpans : List DeviceParts → Type 0
 HaveSpans profile = (n : ℕ) (events : List Event) → (spans : List Span) × SpansFrom profile n events spans
 
+-- and of each list some are passed over
+abbrev pub SomePass : Type 0
+SomePass = (events : List Event) → (passed : List Event) × (left : List Event) × PassedOver events passed left
+
 -- ---- whatever follows
 
-module _ (profile : List DeviceParts) (some : HaveSpans profile) where
-  -- an event more that is passed over
-  passed_one : (n : ℕ) (event : Event) (rest : List Event) → ((others : List Span) × SpansBehind profile (Passing (n + 1)) rest others)
-      → (others : List Span) × SpansBehind profile (Passing n) (event ∷ rest) others
-  passed_one n Start rest x = (x.0, behind_event (λ m behind. SpansFrom profile m behind x.0) (x.0 ≡ []) n Start rest (λ is. cc) x.1)
-  passed_one n (Byte b) rest x = (x.0, behind_event (λ m behind. SpansFrom profile m behind x.0) (x.0 ≡ []) n (Byte b) rest (λ is. cc) x.1)
-  passed_one n Ack rest x = (x.0, behind_event (λ m behind. SpansFrom profile m behind x.0) (x.0 ≡ []) n Ack rest (λ is. cc) x.1)
-  passed_one n Nack rest x = (x.0, behind_event (λ m behind. SpansFrom profile m behind x.0) (x.0 ≡ []) n Nack rest (λ is. cc) x.1)
-  passed_one n Stop rest x =
-      let found = some (n + 1) rest in
-      (found.0, behind_stop (λ m behind. SpansFrom profile m behind found.0) (found.0 ≡ []) n rest found.1)
-
+module _ (some_pass : SomePass) (profile : List DeviceParts) (some : HaveSpans profile) where
   passed_over : (n : ℕ) (rest : List Event) → (others : List Span) × SpansBehind profile (Passing n) rest others
-  passed_over n [] = ([], inl (no_stop_none, refl))
-  passed_over n (event ∷ rest) = passed_one n event rest (passed_over (n + 1) rest)
+  passed_over n rest =
+      let over = some_pass rest in
+      let found = some (n + length over.0) over.1 in (found.0, (over.0, over.1, over.2, found.1))
 
   some_others : (standing : Standing) (rest : List Event) → IsReading standing → (others : List Span) × SpansBehind profile standing rest others
   some_others (Open n events) rest reading = some n (events ++ rest)
   some_others (Held n refusal) rest reading = absurd reading
   some_others (Passing n) rest reading = passed_over n rest
 
-pub follows : (reached : Reached) (rest : List Event) → HaveSpans reached.profile → LeadsOn reached
+pub follows : SomePass → (reached : Reached) (rest : List Event) → HaveSpans reached.profile → LeadsOn reached
     → (others : List Span) × Spans reached.profile (reached.events ++ rest) (reached.spans ++ others)
-follows reached rest some on =
-    let found = some_others reached.profile some reached.standing rest on.reading in
+follows some_pass reached rest some on =
+    let found = some_others some_pass reached.profile some reached.standing rest on.reading in
     (found.0, on.leads rest found.0 found.1)
 
 -- ---- nothing follows
@@ -81,7 +74,7 @@ ends_at reached (Open n events) same some on begun =
     )
 ends_at reached (Held n refusal) same some on begun = absurd (subst IsReading same on.reading)
 ends_at reached (Passing n) same some on begun =
-    ([], ends_so reached [] on (subst (λ (s : Standing). SpansBehind reached.profile s [] []) (sym same) (inl (no_stop_none, refl))) refl)
+    ([], ends_so reached [] on (subst (λ (s : Standing). SpansBehind reached.profile s [] []) (sym same) (after_none reached.profile n)) refl)
 
 pub ends : (reached : Reached) → HaveSpans reached.profile → LeadsOn reached
     → ((n : ℕ) (events : List Event) → reached.standing ≡ Open n events → IsUnderWay reached.profile events) → (last : List Span) × EndsWith reached last

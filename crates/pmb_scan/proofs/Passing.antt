@@ -1,29 +1,41 @@
 -- Passing over events, up to and with the first STOP.
-use Rattle.std.proofs.Common.{◌≡◌, ◌≢◌, ℕ, ◌+◌, List, [], ◌∷◌, length, inl, inr, refl, ap, subst, arith}
+use Rattle.std.proofs.Common.{◌≡◌, ◌≢◌, ℕ, ◌+◌, List, [], ◌∷◌, length, refl, subst, arith}
 use Rattle.pmb_bus.specs.declared.event.Event.{Event}
 use Rattle.pmb_bus.specs.declared.event.Event.TheVariants.{Stop}
+use Rattle.pmb_command.specs.Parts.{DeviceParts}
 use Rattle.pmb_transaction.specs.Capture.{HasNoStop}
-use Rattle.pmb_transaction.specs.Reading.{BehindStop}
+use Rattle.pmb_transaction.specs.Reading.{PassedOver, to_first_stop, to_the_end}
+use Rattle.pmb_spans.specs.Spans.{Span, SpansAfterStop, SpansFrom}
+
+-- An event that is no STOP is passed over, with what is passed over after it.
+abbrev pub OthersPass : Type 0
+OthersPass =
+    (event : Event) (events passed left : List Event) → event ≢ Stop → PassedOver events passed left
+    → PassedOver (event ∷ events) (event ∷ passed) left
 
 -- no STOP is among no events
-pub no_stop_none : HasNoStop []
+no_stop_none : HasNoStop []
 no_stop_none [] after same = cc
 no_stop_none (event ∷ before) after same = cc
 
--- nor after an event that is none, where none follows
-pub no_stop_behind : (event : Event) (events : List Event) → event ≢ Stop → HasNoStop events → HasNoStop (event ∷ events)
-no_stop_behind event events other no_stop [] after same = other cc
-no_stop_behind event events other no_stop (x ∷ before) after same = no_stop before after cc
+module _ (profile : List DeviceParts) where
+  -- no events have no spans
+  pub after_none : (n : ℕ) → SpansAfterStop profile n [] []
+  after_none n = ([], [], to_the_end refl no_stop_none refl, refl)
 
--- an event more in front, which is no STOP
-pub behind_event : (Holds : ℕ → List Event → Type 0) (HoldsOfNone : Type 0) (n : ℕ) (event : Event) (events : List Event) → event ≢ Stop →
-    BehindStop Holds HoldsOfNone (n + 1) events → BehindStop Holds HoldsOfNone n (event ∷ events)
-behind_event Holds HoldsOfNone n event events other (inl none) = inl (no_stop_behind event events other none.0, none.1)
-behind_event Holds HoldsOfNone n event events other (inr one) =
-    let count : n + 1 + length one.0 + 1 ≡ n + length (event ∷ one.0) + 1 = omega arith in
-    inr (event ∷ one.0, one.1, no_stop_behind event one.0 other one.2, ap (λ (es : List Event). event ∷ es) one.3, subst (λ k. Holds k one.1) count one.4)
+  -- a STOP more in front
+  pub after_stop : (n : ℕ) (events : List Event) (spans : List Span) → SpansFrom profile (n + 1) events spans
+      → SpansAfterStop profile n (Stop ∷ events) spans
+  after_stop n events spans reads =
+      (Stop ∷ [], events, to_first_stop refl (record { front = []; no_stop = no_stop_none; split = refl }), reads)
 
--- a STOP more in front
-pub behind_stop : (Holds : ℕ → List Event → Type 0) (HoldsOfNone : Type 0) (n : ℕ) (events : List Event) → Holds (n + 1) events →
-    BehindStop Holds HoldsOfNone n (Stop ∷ events)
-behind_stop Holds HoldsOfNone n events holds = inr ([], events, no_stop_none, refl, subst (λ k. Holds k events) (omega arith) holds)
+  -- an event more in front, which is no STOP
+  pub after_one : OthersPass → (n : ℕ) (event : Event) (events : List Event) (spans : List Span) → event ≢ Stop
+      → SpansAfterStop profile (n + 1) events spans → SpansAfterStop profile n (event ∷ events) spans
+  after_one others_pass n event events spans other w =
+      let count : n + 1 + length w.0 ≡ n + length (event ∷ w.0) = omega arith in (
+        event ∷ w.0,
+        w.1,
+        others_pass event events w.0 w.1 other w.2,
+        subst (λ (k : ℕ). SpansFrom profile k w.1 spans) count w.3,
+      )

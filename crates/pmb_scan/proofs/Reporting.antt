@@ -1,5 +1,5 @@
 -- What one event more comes to, from what a reader answers to it where it stands.
-use Rattle.std.proofs.Common.{◌≡◌, ℕ, ◌+◌, Result, Ok, Err, List, [], ◌∷◌, ◌++◌, filter, length, inl, refl, sym, ap, ◌∙◌, subst, arith, append_assoc, append-nil}
+use Rattle.std.proofs.Common.{◌≡◌, ℕ, ◌+◌, Result, Ok, Err, List, [], ◌∷◌, ◌++◌, filter, length, refl, sym, ap, ◌∙◌, subst, arith, append_assoc, append-nil}
 use Rattle.std.specs.Result.{result_err}
 use Rattle.std.proofs.lemmas.List.{length_push}
 use Rattle.std.proofs.lemmas.List.Elements.{filter-append}
@@ -20,17 +20,17 @@ use Rattle.pmb_scan.specs.Reached.{Reached, IsReading, LeadsOn, EndsWith, SpansB
 use Rattle.pmb_scan.specs.Scan.{end_spans}
 use Rattle.pmb_scan.specs.machine.Standing.{ReaderReached}
 use Rattle.pmb_scan.specs.machine.Reported.{ReportsAs, EndsPacket, IsRefused}
-use Rattle.pmb_scan.proofs.Passing.{behind_event as passed_event, behind_stop, no_stop_none}
+use Rattle.pmb_scan.proofs.Passing.{OthersPass, after_none, after_one, after_stop}
 
 -- ---- events that are passed over
 
-passed_leads : (profile : List DeviceParts) (n : ℕ) (event : Event) (rest : List Event) (others : List Span) → SpansBehind profile (behind_passed n event) rest others
+passed_leads : OthersPass → (profile : List DeviceParts) (n : ℕ) (event : Event) (rest : List Event) (others : List Span) → SpansBehind profile (behind_passed n event) rest others
     → SpansBehind profile (Passing n) (event ∷ rest) others
-passed_leads profile n Start rest others reads = passed_event (λ m behind. SpansFrom profile m behind others) (others ≡ []) n Start rest (λ is. cc) reads
-passed_leads profile n (Byte b) rest others reads = passed_event (λ m behind. SpansFrom profile m behind others) (others ≡ []) n (Byte b) rest (λ is. cc) reads
-passed_leads profile n Ack rest others reads = passed_event (λ m behind. SpansFrom profile m behind others) (others ≡ []) n Ack rest (λ is. cc) reads
-passed_leads profile n Nack rest others reads = passed_event (λ m behind. SpansFrom profile m behind others) (others ≡ []) n Nack rest (λ is. cc) reads
-passed_leads profile n Stop rest others reads = behind_stop (λ m behind. SpansFrom profile m behind others) (others ≡ []) n rest reads
+passed_leads others_pass profile n Start rest others reads = after_one profile others_pass n Start rest others (λ is. cc) reads
+passed_leads others_pass profile n (Byte b) rest others reads = after_one profile others_pass n (Byte b) rest others (λ is. cc) reads
+passed_leads others_pass profile n Ack rest others reads = after_one profile others_pass n Ack rest others (λ is. cc) reads
+passed_leads others_pass profile n Nack rest others reads = after_one profile others_pass n Nack rest others (λ is. cc) reads
+passed_leads others_pass profile n Stop rest others reads = after_stop profile n rest others reads
 
 passed_reading : (n : ℕ) (event : Event) → IsReading (behind_passed n event)
 passed_reading n Start = tt
@@ -61,19 +61,19 @@ spans_then profile events rest event spans others span reads =
 -- ---- an event more
 
 -- it goes on
-reads_more : (reached : Reached) (standing : Standing) (event : Event) (after : Reader) → reached.standing ≡ standing → LeadsOn reached
+reads_more : OthersPass → (reached : Reached) (standing : Standing) (event : Event) (after : Reader) → reached.standing ≡ standing → LeadsOn reached
     → ReaderTakes reached.profile standing event answers.More after
     → ReaderStandsAt reached.profile after (stands_behind standing event) × IsReading (stands_behind standing event)
     × ((rest : List Event) (others : List Span) → SpansBehind reached.profile (stands_behind standing event) rest others → SpansBehind reached.profile standing (event ∷ rest) others)
-reads_more reached (Open n events) event after same on takes =
+reads_more others_pass reached (Open n events) event after same on takes =
     (takes.1, tt, λ rest others reads. subst (λ (es : List Event). SpansFrom reached.profile n es others) (append_assoc events (event ∷ []) rest) reads)
-reads_more reached (Held n refusal) event after same on takes = absurd takes
-reads_more reached (Passing n) event after same on takes = (takes, passed_reading n event, passed_leads reached.profile n event)
+reads_more others_pass reached (Held n refusal) event after same on takes = absurd takes
+reads_more others_pass reached (Passing n) event after same on takes = (takes, passed_reading n event, passed_leads others_pass reached.profile n event)
 
-reports_more : (reached : Reached) (event : Event) (after : Reader) → LeadsOn reached → ReaderTakes reached.profile reached.standing event answers.More after
+reports_more : OthersPass → (reached : Reached) (event : Event) (after : Reader) → LeadsOn reached → ReaderTakes reached.profile reached.standing event answers.More after
     → ReaderReached after (behind_event reached event)
-reports_more reached event after on takes =
-    let step = reads_more reached reached.standing event after refl on takes in record {
+reports_more others_pass reached event after on takes =
+    let step = reads_more others_pass reached reached.standing event after refl on takes in record {
       stands = step.0;
       reads = record {
         reading = step.1;
@@ -108,11 +108,11 @@ reports_packet reached (Held n refusal) event after same on takes = absurd takes
 reports_packet reached (Passing n) event after same on takes = absurd takes
 
 -- It is refused, and then passed over.
-pub reports_refusal : (reached : Reached) (standing : Standing) (event : Event) (refusal : Refusal) (held after : Reader) → reached.standing ≡ standing → LeadsOn reached
+pub reports_refusal : OthersPass → (reached : Reached) (standing : Standing) (event : Event) (refusal : Refusal) (held after : Reader) → reached.standing ≡ standing → LeadsOn reached
     → ReaderTakes reached.profile standing event (answers.Refused refusal) held
     → ((n : ℕ) (kept : RefusalData) → ReaderStandsAt reached.profile held (Held n kept) → ReaderStandsAt reached.profile after (behind_passed n event))
     → IsRefused reached event (refusal_data refusal) after
-reports_refusal reached (Open n events) event refusal held after same on takes passes =
+reports_refusal others_pass reached (Open n events) event refusal held after same on takes passes =
     let m = n + length events in
     let span = RefusedSpan n events event (refusal_data refusal) in record {
       n = n;
@@ -123,23 +123,25 @@ reports_refusal reached (Open n events) event refusal held after same on takes p
         stands = passes m (refusal_data refusal) takes.1;
         reads = record {
           reading = passed_reading m event;
-          leads = λ rest others reads. spans_then reached.profile reached.events rest event reached.spans others span
+          leads = λ rest others reads.
+              let over = passed_leads others_pass reached.profile m event rest others reads in
+              spans_then reached.profile reached.events rest event reached.spans others span
               (on.leads (event ∷ rest) (span ∷ others)
               (subst (λ (s : Standing). SpansBehind reached.profile s (event ∷ rest) (span ∷ others)) (sym same)
-              (refl, rest, refl, takes.0, passed_leads reached.profile m event rest others reads)));
+              (refl, rest, refl, takes.0, over.0, over.1, over.2, over.3)));
           whole = whole_more reached.spans span on.whole refl;
         };
       };
     }
-reports_refusal reached (Held n kept) event refusal held after same on takes passes = absurd (subst IsReading same on.reading)
-reports_refusal reached (Passing n) event refusal held after same on takes passes = absurd takes
+reports_refusal others_pass reached (Held n kept) event refusal held after same on takes passes = absurd (subst IsReading same on.reading)
+reports_refusal others_pass reached (Passing n) event refusal held after same on takes passes = absurd takes
 
 -- It is used, whichever it does.
-pub reports_used : (reached : Reached) (event : Event) (took : Took) (after : Reader) → LeadsOn reached → ((refusal : Refusal) → took ≡ answers.Refused refusal → ⊥)
+pub reports_used : OthersPass → (reached : Reached) (event : Event) (took : Took) (after : Reader) → LeadsOn reached → ((refusal : Refusal) → took ≡ answers.Refused refusal → ⊥)
     → ReaderTakes reached.profile reached.standing event took after → ReportsAs reached event took after
-reports_used reached event answers.More after on used takes = reports_more reached event after on takes
-reports_used reached event answers.Packet after on used takes = reports_packet reached reached.standing event after refl on takes
-reports_used reached event (answers.Refused refusal) after on used takes = absurd (used refusal refl)
+reports_used others_pass reached event answers.More after on used takes = reports_more others_pass reached event after on takes
+reports_used others_pass reached event answers.Packet after on used takes = reports_packet reached reached.standing event after refl on takes
+reports_used others_pass reached event (answers.Refused refusal) after on used takes = absurd (used refusal refl)
 
 -- ---- a whole packet at once
 
@@ -179,7 +181,7 @@ ends reached (Open n events) (Err refusal) same on finishes =
     ends_so reached (span ∷ []) on (subst (λ (s : Standing). SpansBehind reached.profile s [] (span ∷ [])) (sym same) (refl, append-nil events, finishes, refl)) refl
 ends reached (Held n kept) result same on finishes = absurd (subst IsReading same on.reading)
 ends reached (Passing n) (Ok done) same on finishes =
-    ends_so reached [] on (subst (λ (s : Standing). SpansBehind reached.profile s [] []) (sym same) (inl (no_stop_none, refl))) refl
+    ends_so reached [] on (subst (λ (s : Standing). SpansBehind reached.profile s [] []) (sym same) (after_none reached.profile n)) refl
 ends reached (Passing n) (Err refusal) same on finishes = absurd finishes
 
 -- ---- bytes more

@@ -5,9 +5,9 @@ use Rattle.pmb_bus.specs.Event.{canonical_text}
 use Rattle.pmb_command.specs.Parts.{DeviceParts}
 use Rattle.pmb_common.specs.Common.{IsCommon}
 use Rattle.pmb_reader.specs.Reader.{Standing, Open, Held, Passing, behind_passed}
-use Rattle.pmb_spans.specs.Spans.{Span, ReadSpan, RefusedSpan, Spans, SpansFrom, is_whole}
+use Rattle.pmb_spans.specs.Spans.{Span, ReadSpan, RefusedSpan, Spans, SpansAfterStop, SpansFrom, is_whole}
 use Rattle.pmb_transaction.specs.Packet.{Packet}
-use Rattle.pmb_transaction.specs.Reading.{BehindStop, RefusalData}
+use Rattle.pmb_transaction.specs.Reading.{RefusalData}
 use Rattle.pmb_transaction.specs.Transaction.{TransactionData}
 
 -- Under a profile these bytes were used, the words that have ended in them are the tokens of these
@@ -86,7 +86,7 @@ module _ (profile : List DeviceParts) where
   abbrev pub SpansBehind : Standing → List Event → List Span → Type 0
   SpansBehind (Open n events) rest spans = SpansFrom profile n (events ++ rest) spans
   SpansBehind (Held n refusal) rest spans = ⊥
-  SpansBehind (Passing n) rest spans = BehindStop (λ m behind. SpansFrom profile m behind spans) (spans ≡ []) n rest
+  SpansBehind (Passing n) rest spans = SpansAfterStop profile n rest spans
 
 -- What was reached is a front of what the capture reads as: whatever follows, its spans are those
 -- reached, and then those of what follows. None of those reached is an end inside a packet.

@@ -10,6 +10,7 @@ ghost use Rattle.pmb_spans.specs.Spans.{Span, Spans};
 
 use pmb_reader::laws::some_packet_is_read;
 use pmb_spans::laws::each_list_has_spans;
+use pmb_transaction::laws::events_are_passed_over;
 
 /// Whatever events follow those that a scan has read, under a profile that is accepted all of them
 /// read as the spans reached and then some others. If none follows, these are an end inside a packet
@@ -22,4 +23,5 @@ pub fn scans_lead_on()
 {
     some_packet_is_read();
     each_list_has_spans();
+    events_are_passed_over();
 }

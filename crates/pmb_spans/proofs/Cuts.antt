@@ -8,8 +8,7 @@ use Rattle.pmb_bus.specs.declared.event.Event.TheVariants.{Stop}
 use Rattle.pmb_command.specs.Parts.{DeviceParts}
 use Rattle.pmb_transaction.specs.Capture.{HasNoStop, Viable}
 use Rattle.pmb_transaction.specs.Cut.{EndsWithStop}
-use Rattle.pmb_transaction.specs.Reading.{BehindStop, IsUnderWay, RefusalData, RefusedAt, TruncatedAt}
-use Rattle.pmb_transaction.proofs.AfterStop.{moved_on}
+use Rattle.pmb_transaction.specs.Reading.{IsUnderWay, PassedOver, RefusalData, RefusedAt, TruncatedAt}
 use Rattle.pmb_transaction.proofs.Fronts.{Beyond, Within, cut}
 use Rattle.pmb_spans.specs.Spans.{ReadSpan, RefusedSpan, Span, SpansFrom, TruncatedSpan, is_whole, moved_refusal, moved_spans}
 
@@ -46,24 +45,9 @@ rest_ends_on : (front rest events : List Event) → EndsOn events → events ≡
 rest_ends_on front rest events ends split before last other none =
     ends (front ++ before) last (split ∙ ap (λ (es : List Event). front ++ es) other ∙ sym (append_assoc front before last)) none
 
--- also after the STOP up to which events are passed over
-passed_ends_on : (front passed rest events behind : List Event) → EndsOn events → events ≡ front ++ behind → behind ≡ passed ++ Stop ∷ rest
-    → EndsOn rest
-passed_ends_on front passed rest events behind ends split other =
-    rest_ends_on (passed ++ Stop ∷ []) rest behind (rest_ends_on front behind events ends split)
-    (other ∙ sym (append_assoc passed (Stop ∷ []) rest))
-
 -- ---- further on
 
 module _ (profile : List DeviceParts) where
-  moved_behind : (n m : ℕ) (more : List Span) (events : List Event)
-      → ((k : ℕ) (rest : List Event) → SpansFrom profile k rest more → SpansFrom profile (n + k) rest (moved_spans n more))
-      → BehindStop (λ k behind. SpansFrom profile k behind more) (more ≡ []) m events
-      → BehindStop (λ k behind. SpansFrom profile k behind (moved_spans n more)) (moved_spans n more ≡ []) (n + m) events
-  moved_behind n m more events later w =
-      moved_on (λ k behind. SpansFrom profile k behind more) (λ k behind. SpansFrom profile k behind (moved_spans n more)) (more ≡ []) (moved_spans n more ≡ []) n m events later
-      (λ none. ap (moved_spans n) none) w
-
   module _ (refused_moves : (n m : ℕ) (front : List Event) (event : Event) (refusal : RefusalData) → RefusedAt profile m front event refusal → RefusedAt profile (n + m) front event (moved_refusal n refusal))
       (truncated_moves : (n m : ℕ) (events : List Event) (refusal : RefusalData) → TruncatedAt profile m events refusal → TruncatedAt profile (n + m) events (moved_refusal n refusal)) where
     -- after n more events the spans are the same, moved
@@ -80,35 +64,30 @@ module _ (profile : List DeviceParts) where
           subst (λ (k : ℕ). SpansFrom profile k w.1 (moved_spans n more)) counted later,
         )
     spans_move n (RefusedSpan i front event refusal ∷ more) m events w =
-        let counted : n + (m + length front) ≡ (n + m) + length front = omega arith in
-        let behind = moved_behind n (m + length front) more (event ∷ w.1) (λ k rest. spans_move n more k rest) w.4 in (
+        let counted : n + (m + length front + length w.4) ≡ (n + m) + length front + length w.4 = omega arith in
+        let later = spans_move n more (m + length front + length w.4) w.5 w.7 in (
           ap (λ (k : ℕ). n + k) w.0,
           w.1,
           w.2,
           refused_moves n m front event refusal w.3,
-          subst
-              (λ (k : ℕ). BehindStop (λ j behind. SpansFrom profile j behind (moved_spans n more)) (moved_spans n more ≡ []) k (event ∷ w.1))
-              counted behind,
+          w.4,
+          w.5,
+          w.6,
+          subst (λ (k : ℕ). SpansFrom profile k w.5 (moved_spans n more)) counted later,
         )
     spans_move n (TruncatedSpan i front refusal ∷ more) m events w =
         (ap (λ (k : ℕ). n + k) w.0, w.1, truncated_moves n m front refusal w.2, ap (moved_spans n) w.3)
 
   -- ---- no truncation
 
-  -- a packet under way has no STOP
-  module _ (under_way : (events : List Event) → Viable profile events → IsUnderWay profile events ↔ HasNoStop events) where
+  -- a packet under way has no STOP, and events are what is passed over and what is left
+  module _ (under_way : (events : List Event) → Viable profile events → IsUnderWay profile events ↔ HasNoStop events)
+      (parts : (events passed left : List Event) → PassedOver events passed left → events ≡ passed ++ left) where
     not_truncated : (n : ℕ) (events front : List Event) (refusal : RefusalData) → EndsOn events → events ≡ front
         → TruncatedAt profile n front refusal → ⊥
     not_truncated n events front refusal ends same truncated =
         let going = truncated.under_way in
         truncated.some (ends [] front same ((under_way front going.viable).0 going))
-
-    whole_behind : (more : List Span) (n : ℕ) (events : List Event) → EndsOn events
-        → ((k : ℕ) (rest : List Event) → EndsOn rest → SpansFrom profile k rest more → All IsWhole more)
-        → BehindStop (λ k behind. SpansFrom profile k behind more) (more ≡ []) n events → All IsWhole more
-    whole_behind more n events ends later (inl w) = subst (All IsWhole) (sym w.1) (All-nil IsWhole)
-    whole_behind more n events ends later (inr w) =
-        later (n + length w.0 + 1) w.1 (passed_ends_on [] w.0 w.1 events events ends refl w.3) w.4
 
     whole_from : (spans : List Span) (n : ℕ) (events : List Event) → EndsOn events → SpansFrom profile n events spans → All IsWhole spans
     whole_from [] n events ends w = All-nil IsWhole
@@ -118,8 +97,8 @@ module _ (profile : List DeviceParts) where
     whole_from (RefusedSpan m front event refusal ∷ more) n events ends w =
         All-cons IsWhole (RefusedSpan m front event refusal) more refl
         (
-        whole_behind more (n + length front) (event ∷ w.1) (rest_ends_on front (event ∷ w.1) events ends w.2)
-        (λ k rest. whole_from more k rest) w.4
+        whole_from more (n + length front + length w.4) w.5
+        (rest_ends_on w.4 w.5 (event ∷ w.1) (rest_ends_on front (event ∷ w.1) events ends w.2) (parts (event ∷ w.1) w.4 w.5 w.6)) w.7
         )
     whole_from (TruncatedSpan m front refusal ∷ more) n events ends w = absurd (not_truncated n events front refusal ends w.1 w.2)
 
@@ -128,82 +107,66 @@ module _ (profile : List DeviceParts) where
 
     -- ---- both
 
-    joined_behind : (more others : List Span) (n : ℕ) (event : Event) (events second : List Event) → EndsOn (event ∷ events)
-        → ((k : ℕ) (rest : List Event) → EndsOn rest → SpansFrom profile k rest more → SpansFrom profile (k + length rest) second others
-        → SpansFrom profile k (rest ++ second) (more ++ others))
-        → BehindStop (λ k behind. SpansFrom profile k behind more) (more ≡ []) n (event ∷ events)
-        → SpansFrom profile (n + length (event ∷ events)) second others
-        → BehindStop (λ k behind. SpansFrom profile k behind (more ++ others)) (more ++ others ≡ []) n (event ∷ events ++ second)
-    joined_behind more others n event events second ends later (inl w) w2 = absurd (cc (ends [] (event ∷ events) refl w.0))
-    joined_behind more others n event events second ends later (inr w) w2 =
-        let all = event ∷ events in
-        let passed = w.0 in
-        let rest = w.1 in
-        let split : all ≡ passed ++ Stop ∷ rest = w.3 in
-        let lengths : length all ≡ length passed + length (Stop ∷ rest) = ap length split ∙ length-append passed (Stop ∷ rest) in
-        let counted : n + length all ≡ (n + length passed + 1) + length rest = omega (arith, lengths) in
-        inr (
-          passed,
-          rest ++ second,
-          w.2,
-          ap (λ (es : List Event). es ++ second) split ∙ append_assoc passed (Stop ∷ rest) second,
-          later (n + length passed + 1) rest (passed_ends_on [] passed rest all all ends refl split) w.4
-              (subst (λ (k : ℕ). SpansFrom profile k second others) counted w2),
-        )
+    -- where some STOP is among events, more of them are left where more follow
+    module _ (more_left : (events more passed left : List Event) → (HasNoStop events → ⊥) → PassedOver events passed left → PassedOver (events ++ more) passed (left ++ more)) where
+      joined_from : (spans others : List Span) (n : ℕ) (first second : List Event) → EndsOn first → SpansFrom profile n first spans
+          → SpansFrom profile (n + length first) second others → SpansFrom profile n (first ++ second) (spans ++ others)
+      joined_from [] others n first second ends none behind =
+          let nothing : n + length {A = Event} [] ≡ n = omega arith in
+          let counted : n + length first ≡ n = ap (λ (es : List Event). n + length es) none ∙ nothing in
+          subst (λ (es : List Event). SpansFrom profile n (es ++ second) others) (sym none)
+          (subst (λ (k : ℕ). SpansFrom profile k second others) counted behind)
+      joined_from (ReadSpan m front t ∷ more) others n first second ends w behind =
+          let split : first ≡ front ++ w.1 = w.2 in
+          let lengths : length first ≡ length front + length w.1 = ap length split ∙ length-append front w.1 in
+          let counted : n + length first ≡ (n + length front) + length w.1 = omega (arith, lengths) in (
+            w.0,
+            w.1 ++ second,
+            ap (λ (es : List Event). es ++ second) split ∙ append_assoc front w.1 second,
+            w.3,
+            joined_from more others (n + length front) w.1 second (rest_ends_on front w.1 first ends split) w.4
+                (subst (λ (k : ℕ). SpansFrom profile k second others) counted behind),
+          )
+      joined_from (RefusedSpan m front event refusal ∷ more) others n first second ends w behind =
+          let onwards = event ∷ w.1 in
+          let split : first ≡ front ++ onwards = w.2 in
+          let lengths : length first ≡ length front + length onwards = ap length split ∙ length-append front onwards in
+          let onwards_end : EndsOn onwards = rest_ends_on front onwards first ends split in
+          let over : onwards ≡ w.4 ++ w.5 = parts onwards w.4 w.5 w.6 in
+          let over_lengths : length onwards ≡ length w.4 + length w.5 = ap length over ∙ length-append w.4 w.5 in
+          let counted : n + length first ≡ (n + length front + length w.4) + length w.5 = omega (arith, lengths, over_lengths) in (
+            w.0,
+            w.1 ++ second,
+            ap (λ (es : List Event). es ++ second) split ∙ append_assoc front onwards second,
+            w.3,
+            w.4,
+            w.5 ++ second,
+            more_left onwards second w.4 w.5 (λ none. cc (onwards_end [] onwards refl none)) w.6,
+            joined_from more others (n + length front + length w.4) w.5 second (rest_ends_on w.4 w.5 onwards onwards_end over) w.7
+                (subst (λ (k : ℕ). SpansFrom profile k second others) counted behind),
+          )
+      joined_from (TruncatedSpan m front refusal ∷ more) others n first second ends w behind =
+          absurd (not_truncated n first front refusal ends w.1 w.2)
 
-    joined_from : (spans others : List Span) (n : ℕ) (first second : List Event) → EndsOn first → SpansFrom profile n first spans
-        → SpansFrom profile (n + length first) second others → SpansFrom profile n (first ++ second) (spans ++ others)
-    joined_from [] others n first second ends none behind =
-        let nothing : n + length {A = Event} [] ≡ n = omega arith in
-        let counted : n + length first ≡ n = ap (λ (es : List Event). n + length es) none ∙ nothing in
-        subst (λ (es : List Event). SpansFrom profile n (es ++ second) others) (sym none)
-        (subst (λ (k : ℕ). SpansFrom profile k second others) counted behind)
-    joined_from (ReadSpan m front t ∷ more) others n first second ends w behind =
-        let split : first ≡ front ++ w.1 = w.2 in
-        let lengths : length first ≡ length front + length w.1 = ap length split ∙ length-append front w.1 in
-        let counted : n + length first ≡ (n + length front) + length w.1 = omega (arith, lengths) in (
-          w.0,
-          w.1 ++ second,
-          ap (λ (es : List Event). es ++ second) split ∙ append_assoc front w.1 second,
-          w.3,
-          joined_from more others (n + length front) w.1 second (rest_ends_on front w.1 first ends split) w.4
-              (subst (λ (k : ℕ). SpansFrom profile k second others) counted behind),
-        )
-    joined_from (RefusedSpan m front event refusal ∷ more) others n first second ends w behind =
-        let onwards = event ∷ w.1 in
-        let split : first ≡ front ++ onwards = w.2 in
-        let lengths : length first ≡ length front + length onwards = ap length split ∙ length-append front onwards in
-        let counted : n + length first ≡ (n + length front) + length onwards = omega (arith, lengths) in (
-          w.0,
-          w.1 ++ second,
-          ap (λ (es : List Event). es ++ second) split ∙ append_assoc front onwards second,
-          w.3,
-          joined_behind more others (n + length front) event w.1 second (rest_ends_on front onwards first ends split)
-              (λ k rest. joined_from more others k rest second) w.4
-              (subst (λ (k : ℕ). SpansFrom profile k second others) counted behind),
-        )
-    joined_from (TruncatedSpan m front refusal ∷ more) others n first second ends w behind =
-        absurd (not_truncated n first front refusal ends w.1 w.2)
+      -- the law `spans_move`
+      module _ (moves : (n m : ℕ) (events : List Event) (spans : List Span) → SpansFrom profile m events spans → SpansFrom profile (n + m) events (moved_spans n spans)) where
+        pub joined : (first second : List Event) (spans others : List Span) → EndsWithStop first → SpansFrom profile 0 first spans
+            → SpansFrom profile 0 second others → SpansFrom profile 0 (first ++ second) (spans ++ moved_spans (length first) others)
+        joined first second spans others ends w behind =
+            let n = length first in
+            let counted : n + 0 ≡ 0 + n = omega arith in
+            joined_from spans (moved_spans n others) 0 first second (ends_on first ends) w
+            (subst (λ (k : ℕ). SpansFrom profile k second (moved_spans n others)) counted (moves n 0 second others behind))
 
-    -- the law `spans_move`
-    module _ (moves : (n m : ℕ) (events : List Event) (spans : List Span) → SpansFrom profile m events spans → SpansFrom profile (n + m) events (moved_spans n spans)) where
-      pub joined : (first second : List Event) (spans others : List Span) → EndsWithStop first → SpansFrom profile 0 first spans
-          → SpansFrom profile 0 second others → SpansFrom profile 0 (first ++ second) (spans ++ moved_spans (length first) others)
-      joined first second spans others ends w behind =
-          let n = length first in
-          let counted : n + 0 ≡ 0 + n = omega arith in
-          joined_from spans (moved_spans n others) 0 first second (ends_on first ends) w
-          (subst (λ (k : ℕ). SpansFrom profile k second (moved_spans n others)) counted (moves n 0 second others behind))
+        -- ---- in pieces
 
-      -- ---- in pieces
-
-      module _ (some_spans : (n : ℕ) (events : List Event) → (spans : List Span) × SpansFrom profile n events spans)
-          (one_list : (n : ℕ) (events : List Event) (a b : List Span) → SpansFrom profile n events a → SpansFrom profile n events b → a ≡ b) where
-        pub in_pieces : (first second : List Event) (both : List Span) → EndsWithStop first → SpansFrom profile 0 (first ++ second) both
-            → (spans : List Span) × (others : List Span) × SpansFrom profile 0 first spans × SpansFrom profile 0 second others
-            × (both ≡ spans ++ moved_spans (length first) others)
-        in_pieces first second both ends w =
-            let a = some_spans 0 first in
-            let b = some_spans 0 second in
-            let all = a.0 ++ moved_spans (length first) b.0 in
-            (a.0, b.0, a.1, b.1, one_list 0 (first ++ second) both all w (joined first second a.0 b.0 ends a.1 b.1))
+        module _ (some_spans : (n : ℕ) (events : List Event) → (spans : List Span) × SpansFrom profile n events spans)
+            (one_list : (n : ℕ) (events : List Event) (a b : List Span) → SpansFrom profile n events a → SpansFrom profile n events b → a ≡ b) where
+          pub in_pieces : (first second : List Event) (both : List Span) → EndsWithStop first → SpansFrom profile 0 (first ++ second) both
+              → (spans : List Span) × (others : List Span) × SpansFrom profile 0 first spans × SpansFrom profile 0 second others
+              × (both ≡ spans ++ moved_spans (length first) others)
+          in_pieces first second both ends w =
+              let a = some_spans 0 first in
+              let b = some_spans 0 second in
+              let all = a.0 ++ moved_spans (length first) b.0 in
+              (a.0, b.0, a.1, b.1, one_list 0 (first ++ second) both all w (joined first second a.0 b.0 ends a.1 b.1))

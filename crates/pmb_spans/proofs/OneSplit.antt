@@ -7,16 +7,16 @@ use Rattle.pmb_bus.specs.declared.kinds.Kinds.{Kinds}
 use Rattle.pmb_command.specs.Bus.{IsBus}
 use Rattle.pmb_command.specs.Parts.{DeviceParts}
 use Rattle.pmb_transaction.specs.Capture.{Viable}
-use Rattle.pmb_transaction.specs.Reading.{BehindStop, RefusalData, RefusedAt, TruncatedAt}
+use Rattle.pmb_transaction.specs.Reading.{PassedOver, RefusalData, RefusedAt, TruncatedAt}
 use Rattle.pmb_transaction.proofs.Captures.{same_first_packet}
 use Rattle.pmb_transaction.proofs.Fronts.{Beyond, Within, cut}
 use Rattle.pmb_transaction.proofs.Readings.{one_reading_from}
-use Rattle.pmb_transaction.proofs.AfterStop.{of_one_rest}
 use Rattle.pmb_spans.specs.Spans.{ReadSpan, RefusedSpan, Span, SpansFrom, TruncatedSpan, outcome}
 use Rattle.pmb_spans.proofs.Outcomes.{spans_read}
 
--- What begins viable events is viable.
-module _ (profile : List DeviceParts) (fronts : (a b : List Event) → Viable profile (a ++ b) → Viable profile a) where
+-- What begins viable events is viable, and events are passed over in one way.
+module _ (profile : List DeviceParts) (fronts : (a b : List Event) → Viable profile (a ++ b) → Viable profile a)
+    (one_way : (events passed left others rest : List Event) → PassedOver events passed left → PassedOver events others rest → (passed ≡ others) × (left ≡ rest)) where
   -- ---- one place
 
   -- no refused event stands in viable events
@@ -53,14 +53,6 @@ module _ (profile : List DeviceParts) (fronts : (a b : List Event) → Viable pr
 
   -- ---- one list of spans
 
-  one_behind : (a b : List Span) (n : ℕ) (events : List Event)
-      → ((k : ℕ) (rest : List Event) → SpansFrom profile k rest a → SpansFrom profile k rest b → a ≡ b)
-      → BehindStop (λ k behind. SpansFrom profile k behind a) (a ≡ []) n events
-      → BehindStop (λ k behind. SpansFrom profile k behind b) (b ≡ []) n events → a ≡ b
-  one_behind a b n events one first second =
-      of_one_rest (λ k behind. SpansFrom profile k behind a) (λ k behind. SpansFrom profile k behind b) (a ≡ []) (b ≡ []) (a ≡ b) n events one
-      (λ first_none second_none. first_none ∙ sym second_none) first second
-
   -- spans of the same outcomes are the same
   one_split : (a b : List Span) (n : ℕ) (events : List Event) → map outcome a ≡ map outcome b → SpansFrom profile n events a
       → SpansFrom profile n events b → a ≡ b
@@ -87,14 +79,16 @@ module _ (profile : List DeviceParts) (fronts : (a b : List Event) → Viable pr
       let front : f ≡ g = same_place n f g d e first.1 second.1 r s first.3 second.3 onwards in
       let tails : d ∷ first.1 ≡ e ∷ second.1 =
       append_cancel_left g (d ∷ first.1) (e ∷ second.1) (ap (λ (es : List Event). es ++ d ∷ first.1) (sym front) ∙ onwards) in
-      let counted =
-      subst (λ (es : List Event). BehindStop (λ k behind. SpansFrom profile k behind more) (more ≡ []) (n + length es) (d ∷ first.1)) front
-      first.4 in
-      let behind =
-      subst (λ (es : List Event). BehindStop (λ k behind. SpansFrom profile k behind more) (more ≡ []) (n + length g) es) tails counted in
+      let over =
+      one_way (e ∷ second.1) first.4 first.5 second.4 second.5 (subst (λ (es : List Event). PassedOver es first.4 first.5) tails first.6)
+      second.6 in
+      let counted : SpansFrom profile (n + length g + length second.4) first.5 more =
+      subst (λ (passed : List Event). SpansFrom profile (n + length g + length passed) first.5 more) over.0
+      (subst (λ (es : List Event). SpansFrom profile (n + length es + length first.4) first.5 more) front first.7) in
       let outcomes : map outcome more ≡ map outcome others = cc same in
       let later : more ≡ others =
-      one_behind more others (n + length g) (e ∷ second.1) (λ k rest. one_split more others k rest outcomes) behind second.4 in
+      one_split more others (n + length g + length second.4) second.5 outcomes
+      (subst (λ (left : List Event). SpansFrom profile (n + length g + length second.4) left more) over.1 counted) second.7 in
       let place : i ≡ j = first.0 ∙ sym second.0 in
       let event : d ≡ e = cc tails in
       let refusal : r ≡ s = cc same in

@@ -3,16 +3,8 @@ use Rattle.std.proofs.Common.{◌≡◌, ℕ, ◌+◌, inl, inr, List, [], ◌�
 use Rattle.pmb_bus.specs.declared.event.Event.{Event}
 use Rattle.pmb_command.specs.Bus.{IsBus}
 use Rattle.pmb_command.specs.Parts.{DeviceParts}
-use Rattle.pmb_transaction.specs.Reading.{Accepted, BehindStop, Outcome, ReadsFrom, Refusal, TruncatedAt}
+use Rattle.pmb_transaction.specs.Reading.{Accepted, Outcome, ReadsFrom, Refusal, TruncatedAt}
 use Rattle.pmb_spans.specs.Spans.{ReadSpan, RefusedSpan, Span, SpansFrom, TruncatedSpan, outcome}
-
--- what is passed over stays so, where something else holds after it
-pub with_behind : (Holds Then : ℕ → List Event → Type 0) (AtEnd ThenAtEnd : Type 0) (n : ℕ) (events : List Event)
-    → ((k : ℕ) (rest : List Event) → Holds k rest → Then k rest) → (AtEnd → ThenAtEnd) → BehindStop Holds AtEnd n events
-    → BehindStop Then ThenAtEnd n events
-with_behind Holds Then AtEnd ThenAtEnd n events later none (inl w) = inl (w.0, none w.1)
-with_behind Holds Then AtEnd ThenAtEnd n events later none (inr w) =
-    inr (w.0, w.1, w.2, w.3, later (n + length w.0 + 1) w.1 w.4)
 
 module _ (profile : List DeviceParts) where
   -- events read as the outcomes of their spans
@@ -22,25 +14,13 @@ module _ (profile : List DeviceParts) where
   spans_read (ReadSpan m front t ∷ more) n events w =
       (front, w.1, w.2, w.3, spans_read more (n + length front) w.1 w.4)
   spans_read (RefusedSpan m front event refusal ∷ more) n events w =
-      let behind =
-      with_behind (λ k rest. SpansFrom profile k rest more) (λ k rest. ReadsFrom profile k rest (map outcome more)) (more ≡ [])
-      (map outcome more ≡ []) (n + length front) (event ∷ w.1) (λ k rest. spans_read more k rest)
-      (λ (none : more ≡ []). ap (map outcome) none) w.4 in
-      inl (front, event, w.1, w.2, w.3, behind)
+      inl (front, event, w.1, w.2, w.3, w.4, w.5, w.6, spans_read more (n + length front + length w.4) w.5 w.7)
   spans_read (TruncatedSpan m front refusal ∷ more) n events w =
       inr (subst (λ (es : List Event). TruncatedAt profile n es refusal) (sym w.1) w.2, ap (map outcome) w.3)
 
   -- spans of these outcomes
   abbrev HaveSpans : (n : ℕ) (events : List Event) (outcomes : List Outcome) → Type 0
   HaveSpans n events outcomes = (spans : List Span) × SpansFrom profile n events spans × (map outcome spans ≡ outcomes)
-
-  spans_behind : (more : List Outcome) (n : ℕ) (events : List Event)
-      → ((k : ℕ) (rest : List Event) → ReadsFrom profile k rest more → HaveSpans k rest more)
-      → BehindStop (λ k behind. ReadsFrom profile k behind more) (more ≡ []) n events
-      → (spans : List Span) × BehindStop (λ k behind. SpansFrom profile k behind spans) (spans ≡ []) n events × (map outcome spans ≡ more)
-  spans_behind more n events later (inl w) = ([], inl (w.0, refl), sym w.1)
-  spans_behind more n events later (inr w) =
-      let have = later (n + length w.0 + 1) w.1 w.4 in (have.0, inr (w.0, w.1, w.2, w.3, have.1), have.2)
 
   -- what events read as are the outcomes of some spans
   pub readings_have_spans : (outcomes : List Outcome) (n : ℕ) (events : List Event) → ReadsFrom profile n events outcomes
@@ -50,9 +30,9 @@ module _ (profile : List DeviceParts) where
       let have = readings_have_spans more (n + length w.0) w.1 w.4 in
       (ReadSpan n w.0 t ∷ have.0, (refl, w.1, w.2, w.3, have.1), ap (λ (os : List Outcome). Accepted t ∷ os) have.2)
   readings_have_spans (Refusal refusal ∷ more) n events (inl w) =
-      let have = spans_behind more (n + length w.0) (w.1 ∷ w.2) (λ k rest. readings_have_spans more k rest) w.5 in (
+      let have = readings_have_spans more (n + length w.0 + length w.5) w.6 w.8 in (
         RefusedSpan n w.0 w.1 refusal ∷ have.0,
-        (refl, w.2, w.3, w.4, have.1),
+        (refl, w.2, w.3, w.4, w.5, w.6, w.7, have.1),
         ap (λ (os : List Outcome). Refusal refusal ∷ os) have.2,
       )
   readings_have_spans (Refusal refusal ∷ more) n events (inr w) =

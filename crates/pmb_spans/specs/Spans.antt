@@ -3,7 +3,7 @@ use Rattle.std.specs.Prelude.{◌≡◌, ℕ, ◌+◌, Bool, true, false, List, 
 use Rattle.pmb_bus.specs.declared.event.Event.{Event}
 use Rattle.pmb_command.specs.Parts.{DeviceParts}
 use Rattle.pmb_transaction.specs.Packet.{Packet}
-use Rattle.pmb_transaction.specs.Reading.{Outcome, Accepted, Refusal, BehindStop, RefusalData, RefusedAt, TruncatedAt}
+use Rattle.pmb_transaction.specs.Reading.{Outcome, Accepted, Refusal, PassedOver, RefusalData, RefusedAt, TruncatedAt}
 use Rattle.pmb_transaction.specs.Transaction.{TransactionData}
 pub use Rattle.pmb_transaction.specs.Cut.{moved_refusal}
 
@@ -46,9 +46,15 @@ module _ (profile : List DeviceParts) where
       (m ≡ n) × (rest : List Event) × (events ≡ front ++ rest) × Packet profile t front × SpansFrom (n + length front) rest more
   SpansFrom n events (RefusedSpan m front event refusal ∷ more) =
       (m ≡ n) × (rest : List Event) × (events ≡ front ++ event ∷ rest) × RefusedAt profile n front event refusal
-      × BehindStop (λ k behind. SpansFrom k behind more) (more ≡ []) (n + length front) (event ∷ rest)
+      × (passed : List Event) × (left : List Event) × PassedOver (event ∷ rest) passed left
+      × SpansFrom (n + length front + length passed) left more
   SpansFrom n events (TruncatedSpan m front refusal ∷ more) =
       (m ≡ n) × (events ≡ front) × TruncatedAt profile n front refusal × (more ≡ [])
+
+  -- The spans of what is left after the first STOP of events, as `ReadsAfterStop` has its outcomes.
+  abbrev pub SpansAfterStop : ℕ → List Event → List Span → Type 0
+  SpansAfterStop n events spans =
+      (passed : List Event) × (left : List Event) × PassedOver events passed left × SpansFrom (n + length passed) left spans
 
   -- the spans of a whole list of events
   abbrev pub Spans : List Event → List Span → Type 0

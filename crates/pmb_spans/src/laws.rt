@@ -11,7 +11,8 @@ ghost use Rattle.pmb_spans.specs.Spans.{Span, Spans, SpansFrom, is_whole, moved_
 
 use pmb_bus::laws::kinds_are_told_by_events;
 use pmb_transaction::laws::{
-    each_list_has_a_reading, fronts_are_viable, packets_under_way, refusals_move,
+    each_list_has_a_reading, events_are_passed_over, fronts_are_viable, packets_under_way,
+    refusals_move,
 };
 
 /// Events read as the outcomes of their spans, however many events came before them.
@@ -41,6 +42,7 @@ pub fn one_list_of_spans()
     ensures { (profile : List DeviceParts) (n : ℕ) (events : List Event) (a b : List Span) → IsBus profile
         → SpansFrom profile n events a → SpansFrom profile n events b → a ≡ b }
 {
+    events_are_passed_over();
     fronts_are_viable();
     kinds_are_told_by_events();
 }
@@ -69,6 +71,7 @@ pub fn spans_may_be_cut()
         → EndsWithStop first → Spans profile first spans → All (λ span. is_whole span ≡ true) spans }
 {
     each_list_has_a_reading();
+    events_are_passed_over();
     fronts_are_viable();
     kinds_are_told_by_events();
     packets_under_way();

@@ -1,5 +1,5 @@
 -- Where events end.
-use Rattle.std.proofs.Common.{◌≡◌, ◌≢◌, ℕ, ◌+◌, Some, None, inl, inr, List, [], ◌∷◌, ◌++◌, codes, length, append-nil, refl, sym, ap, ◌∙◌, subst, arith}
+use Rattle.std.proofs.Common.{◌≡◌, ◌≢◌, ℕ, ◌+◌, Some, None, List, [], ◌∷◌, ◌++◌, codes, length, append-nil, refl, sym, ap, ◌∙◌, subst, arith}
 use Rattle.pmb_bus.specs.declared.event.Event.{Event}
 use Rattle.pmb_bus.specs.Text.{EndsBetween, Spells}
 use Rattle.pmb_command.specs.Parts.{DeviceParts}
@@ -20,7 +20,7 @@ use Rattle.pmb_scan.specs.Reached.{Reached}
 use Rattle.pmb_scan.specs.Scan.{Truncates, end_spans}
 use Rattle.pmb_spans.specs.Spans.{Span, ReadSpan, RefusedSpan, TruncatedSpan, SpansFrom, moved_spans}
 use Rattle.pmb_transaction.specs.Capture.{Viable}
-use Rattle.pmb_transaction.specs.Reading.{BehindStop, RefusalData, TruncatedAt}
+use Rattle.pmb_transaction.specs.Reading.{RefusalData, TruncatedAt}
 use Rattle.pmb_stream.specs.Before.{Before}
 use Rattle.pmb_stream.specs.Choice.{ChoiceData}
 use Rattle.pmb_stream.specs.Spans.{after_spans, event_place, seen_behind, span_objects, transactions_in}
@@ -37,18 +37,12 @@ module _ (profile : List DeviceParts) where
   abbrev IsEnd : List Event → RefusalData → Type 0
   IsEnd front refusal = (k : ℕ) × TruncatedAt profile k front refusal
 
-  last_behind : (more : List Span) (last : Span) (n : ℕ) (events front : List Event) (refusal : RefusalData)
-      → ((k : ℕ) (rest : List Event) → SpansFrom profile k rest (more ++ last ∷ []) → IsEnd front refusal)
-      → BehindStop (λ k behind. SpansFrom profile k behind (more ++ last ∷ [])) (more ++ last ∷ [] ≡ []) n events → IsEnd front refusal
-  last_behind more last n events front refusal later (inl w) = absurd (not_none more last w.1)
-  last_behind more last n events front refusal later (inr w) = later (n + length w.0 + 1) w.1 w.4
-
   last_is_end : (spans : List Span) (n : ℕ) (events : List Event) (m : ℕ) (front : List Event) (refusal : RefusalData) → SpansFrom profile n events (spans ++ TruncatedSpan m front refusal ∷ [])
       → IsEnd front refusal
   last_is_end [] n events m front refusal w = (n, w.2)
   last_is_end (ReadSpan i own t ∷ spans) n events m front refusal w = last_is_end spans (n + length own) w.1 m front refusal w.4
   last_is_end (RefusedSpan i own event other ∷ spans) n events m front refusal w =
-      last_behind spans (TruncatedSpan m front refusal) (n + length own) (event ∷ w.1) front refusal (λ k rest. last_is_end spans k rest m front refusal) w.4
+      last_is_end spans (n + length own + length w.4) w.5 m front refusal w.7
   last_is_end (TruncatedSpan i own other ∷ spans) n events m front refusal w = absurd (not_none spans (TruncatedSpan m front refusal) w.3)
 
 -- Events that end inside a packet: those of the packet are viable.

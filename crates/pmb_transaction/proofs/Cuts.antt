@@ -7,18 +7,17 @@ use Rattle.pmb_bus.specs.Count.{capped}
 use Rattle.pmb_bus.specs.Kinds.{bits, holds}
 use Rattle.pmb_bus.specs.Pec.{pec}
 use Rattle.pmb_bus.specs.declared.event.Event.{Event}
-use Rattle.pmb_bus.specs.declared.event.Event.TheVariants.{Start, Byte, Ack, Nack, Stop}
+use Rattle.pmb_bus.specs.declared.event.Event.TheVariants.{Stop}
 use Rattle.pmb_bus.specs.declared.kinds.Kinds.{Kinds}
 use Rattle.pmb_command.specs.Bus.{IsBus}
 use Rattle.pmb_command.specs.Parts.{DeviceParts}
-use Rattle.pmb_transaction.specs.declared.reason.Reason.TheVariants.{Truncated}
-use Rattle.pmb_transaction.specs.Capture.{Viable}
-use Rattle.pmb_transaction.specs.Reason.{BehindAddress, BehindCode, BehindRestart, BehindStart, FurtherOn, InReply, IsReason, Nowhere, Place, ack_reason, byte_reason, nack_reason, place_behind}
-use Rattle.pmb_transaction.specs.Reading.{Accepted, BehindStop, Outcome, ReadsFrom, Refusal, RefusalData, RefusedAt, TruncatedAt}
+use Rattle.pmb_transaction.specs.Capture.{HasNoStop, Viable}
+use Rattle.pmb_transaction.specs.Reading.{Accepted, Outcome, ReadsFrom, Refusal, RefusalData, RefusedAt, TruncatedAt}
 use Rattle.pmb_transaction.specs.Cut.{EndsWithStop, IsNotTruncated, moved, moved_refusal}
 use Rattle.pmb_transaction.proofs.Ends.{packet_with_stop}
-use Rattle.pmb_transaction.proofs.AfterStop.{moved_on}
+use Rattle.pmb_transaction.proofs.PassedOver.{more_left, passed_then_left}
 use Rattle.pmb_transaction.proofs.Fronts.{Beyond, Within, cut}
+use Rattle.pmb_transaction.proofs.OneReason.{no_truncation}
 use Rattle.pmb_transaction.proofs.Readings.{one_reading_from}
 use Rattle.pmb_transaction.proofs.SomeReading.{each_list_has_a_reading}
 
@@ -53,51 +52,12 @@ rest_ends front rest events (inl none) split = inl (none_behind front rest (sym 
 rest_ends front rest events (inr ends) split =
     rest_at ends.front front rest (cut ends.front (Stop ∷ []) front rest (sym ends.split ∙ split))
 
--- events that end on are none, or one of them is STOP
-some_ends : (event : Event) (events : List Event) → EndsOn (event ∷ events) → EndsWithStop (event ∷ events)
-some_ends event events (inl none) = absurd (cc none)
-some_ends event events (inr ends) = ends
-
--- ---- no reason is a truncation
-
-no_byte_reason : (place : Place) → Truncated ≡ byte_reason place → ⊥
-no_byte_reason BehindStart is = cc is
-no_byte_reason BehindRestart is = cc is
-no_byte_reason BehindAddress is = cc is
-no_byte_reason BehindCode is = cc is
-no_byte_reason FurtherOn is = cc is
-no_byte_reason InReply is = cc is
-no_byte_reason Nowhere is = cc is
-
-no_ack_reason : (place : Place) → Truncated ≡ ack_reason place → ⊥
-no_ack_reason BehindStart is = cc is
-no_ack_reason BehindRestart is = cc is
-no_ack_reason BehindAddress is = cc is
-no_ack_reason BehindCode is = cc is
-no_ack_reason FurtherOn is = cc is
-no_ack_reason InReply is = cc is
-no_ack_reason Nowhere is = cc is
-
-no_nack_reason : (place : Place) → Truncated ≡ nack_reason place → ⊥
-no_nack_reason BehindStart is = cc is
-no_nack_reason BehindRestart is = cc is
-no_nack_reason BehindAddress is = cc is
-no_nack_reason BehindCode is = cc is
-no_nack_reason FurtherOn is = cc is
-no_nack_reason InReply is = cc is
-no_nack_reason Nowhere is = cc is
+-- where there are some, one of them is STOP
+some_stop : (event : Event) (events : List Event) → EndsOn (event ∷ events) → HasNoStop (event ∷ events) → ⊥
+some_stop event events (inl none) no_stop = cc none
+some_stop event events (inr ends) no_stop = no_stop ends.front [] ends.split
 
 module _ (profile : List DeviceParts) where
-  no_reason : (front : List Event) (event : Event) → IsReason profile front event Truncated → ⊥
-  no_reason front Start is = cc is
-  no_reason front Stop is = cc is
-  no_reason front (Byte b) (inl w) = no_byte_reason (place_behind front) w.1
-  no_reason front (Byte b) (inr w) = cc (w.1)
-  no_reason front Ack (inl w) = no_ack_reason (place_behind front) w.1
-  no_reason front Ack (inr w) = cc (w.1)
-  no_reason front Nack (inl w) = no_nack_reason (place_behind front) w.1
-  no_reason front Nack (inr w) = cc (w.1)
-
   -- ---- further on
 
   pub refused_moved : (n m : ℕ) (front : List Event) (event : Event) (refusal : RefusalData) → RefusedAt profile m front event refusal
@@ -122,14 +82,6 @@ module _ (profile : List DeviceParts) where
         expected = truncated.expected;
       }
 
-  behind_moved : (n m : ℕ) (more : List Outcome) (events : List Event)
-      → ((k : ℕ) (rest : List Event) → ReadsFrom profile k rest more → ReadsFrom profile (n + k) rest (moved n more))
-      → BehindStop (λ k behind. ReadsFrom profile k behind more) (more ≡ []) m events
-      → BehindStop (λ k behind. ReadsFrom profile k behind (moved n more)) (moved n more ≡ []) (n + m) events
-  behind_moved n m more events later w =
-      moved_on (λ k behind. ReadsFrom profile k behind more) (λ k behind. ReadsFrom profile k behind (moved n more)) (more ≡ []) (moved n more ≡ []) n m events later
-      (λ none. ap (moved n) none) w
-
   -- events after n more read as the same, moved
   reads_moved : (n : ℕ) (outcomes : List Outcome) (m : ℕ) (events : List Event) → ReadsFrom profile m events outcomes
       → ReadsFrom profile (n + m) events (moved n outcomes)
@@ -139,17 +91,18 @@ module _ (profile : List DeviceParts) where
       let later = reads_moved n more (m + length reads.0) reads.1 reads.4 in
       (reads.0, reads.1, reads.2, reads.3, subst (λ (k : ℕ). ReadsFrom profile k reads.1 (moved n more)) counted later)
   reads_moved n (Refusal refusal ∷ more) m events (inl reads) =
-      let counted : n + (m + length reads.0) ≡ (n + m) + length reads.0 = omega arith in
-      let behind = behind_moved n (m + length reads.0) more (reads.1 ∷ reads.2) (λ k rest. reads_moved n more k rest) reads.5 in
+      let counted : n + (m + length reads.0 + length reads.5) ≡ (n + m) + length reads.0 + length reads.5 = omega arith in
+      let later = reads_moved n more (m + length reads.0 + length reads.5) reads.6 reads.8 in
       inl (
         reads.0,
         reads.1,
         reads.2,
         reads.3,
         refused_moved n m reads.0 reads.1 refusal reads.4,
-        subst
-            (λ (k : ℕ). BehindStop (λ j behind. ReadsFrom profile j behind (moved n more)) (moved n more ≡ []) k (reads.1 ∷ reads.2))
-            counted behind,
+        reads.5,
+        reads.6,
+        reads.7,
+        subst (λ (k : ℕ). ReadsFrom profile k reads.6 (moved n more)) counted later,
       )
   reads_moved n (Refusal refusal ∷ more) m events (inr reads) =
       inr (truncated_moved n m events refusal reads.0, ap (moved n) reads.1)
@@ -164,29 +117,6 @@ module _ (profile : List DeviceParts) where
       let all = ends.front ++ Stop ∷ [] in
       going.no_packet all [] (ends.split ∙ sym (append-nil all))
       (packet_with_stop profile ends.front (subst (Viable profile) ends.split going.viable))
-
-  joined_behind : (more others : List Outcome) (n : ℕ) (events second : List Event) → EndsWithStop events
-      → ((k : ℕ) (rest : List Event) → EndsOn rest → ReadsFrom profile k rest more → ReadsFrom profile (k + length rest) second others
-      → ReadsFrom profile k (rest ++ second) (more ++ others))
-      → BehindStop (λ k behind. ReadsFrom profile k behind more) (more ≡ []) n events
-      → ReadsFrom profile (n + length events) second others
-      → BehindStop (λ k behind. ReadsFrom profile k behind (more ++ others)) (more ++ others ≡ []) n (events ++ second)
-  joined_behind more others n events second ends later (inl w) reads = absurd (w.0 ends.front [] ends.split)
-  joined_behind more others n events second ends later (inr w) reads =
-      let passed = w.0 in
-      let rest = w.1 in
-      let split : events ≡ passed ++ Stop ∷ rest = w.3 in
-      let through : events ≡ (passed ++ Stop ∷ []) ++ rest = split ∙ sym (append_assoc passed (Stop ∷ []) rest) in
-      let all : length events ≡ length passed + length (Stop ∷ rest) = ap length split ∙ length-append passed (Stop ∷ rest) in
-      let counted : n + length events ≡ (n + length passed + 1) + length rest = omega (arith, all) in
-      inr (
-        passed,
-        rest ++ second,
-        w.2,
-        ap (λ (es : List Event). es ++ second) split ∙ append_assoc passed (Stop ∷ rest) second,
-        later (n + length passed + 1) rest (rest_ends (passed ++ Stop ∷ []) rest events (inr ends) through) w.4
-            (subst (λ (k : ℕ). ReadsFrom profile k second others) counted reads),
-      )
 
   joined_from : (outcomes others : List Outcome) (n : ℕ) (first second : List Event) → EndsOn first → ReadsFrom profile n first outcomes
       → ReadsFrom profile (n + length first) second others → ReadsFrom profile n (first ++ second) (outcomes ++ others)
@@ -207,18 +137,23 @@ module _ (profile : List DeviceParts) where
             (subst (λ (k : ℕ). ReadsFrom profile k second others) counted reads),
       )
   joined_from (Refusal refusal ∷ more) others n first second ends (inl w) reads =
-      let behind = w.1 ∷ w.2 in
-      let split : first ≡ w.0 ++ behind = w.3 in
-      let all : length first ≡ length w.0 + length behind = ap length split ∙ length-append w.0 behind in
-      let counted : n + length first ≡ (n + length w.0) + length behind = omega (arith, all) in
+      let refused = w.1 ∷ w.2 in
+      let split : first ≡ w.0 ++ refused = w.3 in
+      let over : refused ≡ w.5 ++ w.6 = passed_then_left refused w.5 w.6 w.7 in
+      let refused_ends : EndsOn refused = rest_ends w.0 refused first ends split in
+      let all : length first ≡ length w.0 + length refused = ap length split ∙ length-append w.0 refused in
+      let refused_all : length refused ≡ length w.5 + length w.6 = ap length over ∙ length-append w.5 w.6 in
+      let counted : n + length first ≡ (n + length w.0 + length w.5) + length w.6 = omega (arith, all, refused_all) in
       inl (
         w.0,
         w.1,
         w.2 ++ second,
-        ap (λ (es : List Event). es ++ second) split ∙ append_assoc w.0 behind second,
+        ap (λ (es : List Event). es ++ second) split ∙ append_assoc w.0 refused second,
         w.4,
-        joined_behind more others (n + length w.0) behind second (some_ends w.1 w.2 (rest_ends w.0 behind first ends split))
-            (λ k rest. joined_from more others k rest second) w.5
+        w.5,
+        w.6 ++ second,
+        more_left refused second w.5 w.6 (some_stop w.1 w.2 refused_ends) w.7,
+        joined_from more others (n + length w.0 + length w.5) w.6 second (rest_ends w.5 w.6 refused refused_ends over) w.8
             (subst (λ (k : ℕ). ReadsFrom profile k second others) counted reads),
       )
   joined_from (Refusal refusal ∷ more) others n first second ends (inr w) reads = absurd (not_truncated n first refusal ends w.0)
@@ -233,19 +168,11 @@ module _ (profile : List DeviceParts) where
 
   -- ---- no truncation
 
-  whole_behind : (more : List Outcome) (n : ℕ) (events : List Event) → EndsOn events
-      → ((k : ℕ) (rest : List Event) → EndsOn rest → ReadsFrom profile k rest more → All IsNotTruncated more)
-      → BehindStop (λ k behind. ReadsFrom profile k behind more) (more ≡ []) n events → All IsNotTruncated more
-  whole_behind more n events ends later (inl w) = subst (All IsNotTruncated) (sym w.1) (All-nil IsNotTruncated)
-  whole_behind more n events ends later (inr w) =
-      let through : events ≡ (w.0 ++ Stop ∷ []) ++ w.1 = w.3 ∙ sym (append_assoc w.0 (Stop ∷ []) w.1) in
-      later (n + length w.0 + 1) w.1 (rest_ends (w.0 ++ Stop ∷ []) w.1 events ends through) w.4
-
   not_at : (n : ℕ) (front : List Event) (event : Event) (refusal : RefusalData) → RefusedAt profile n front event refusal
       → IsNotTruncated (Refusal refusal)
   not_at n front event refusal refused other same truncated =
       let one : refusal ≡ other = cc same in
-      no_reason front event (subst (IsReason profile front event) (ap (λ (r : RefusalData). r.reason) one ∙ truncated) refused.reason)
+      no_truncation profile front event refusal.reason refused.reason (ap (λ (r : RefusalData). r.reason) one ∙ truncated)
 
   whole_from : (outcomes : List Outcome) (n : ℕ) (events : List Event) → EndsOn events → ReadsFrom profile n events outcomes
       → All IsNotTruncated outcomes
@@ -254,9 +181,10 @@ module _ (profile : List DeviceParts) where
       All-cons IsNotTruncated (Accepted t) more (λ refusal same truncated. cc same)
       (whole_from more (n + length w.0) w.1 (rest_ends w.0 w.1 events ends w.2) w.4)
   whole_from (Refusal refusal ∷ more) n events ends (inl w) =
-      let behind = w.1 ∷ w.2 in
+      let refused = w.1 ∷ w.2 in
+      let over : refused ≡ w.5 ++ w.6 = passed_then_left refused w.5 w.6 w.7 in
       All-cons IsNotTruncated (Refusal refusal) more (not_at n w.0 w.1 refusal w.4)
-      (whole_behind more (n + length w.0) behind (rest_ends w.0 behind events ends w.3) (λ k rest. whole_from more k rest) w.5)
+      (whole_from more (n + length w.0 + length w.5) w.6 (rest_ends w.5 w.6 refused (rest_ends w.0 refused events ends w.3) over) w.8)
   whole_from (Refusal refusal ∷ more) n events ends (inr w) = absurd (not_truncated n events refusal ends w.0)
 
   pub whole : (first : List Event) (outcomes : List Outcome) → EndsWithStop first → ReadsFrom profile 0 first outcomes

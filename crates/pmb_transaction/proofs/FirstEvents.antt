@@ -78,7 +78,7 @@ module _ (profile : List DeviceParts) where
       ) packet.spelled
   start_of_packet NoAlert events packet = record { rest = Byte (read_address alert_address) ∷ Nack ∷ Stop ∷ []; split = packet }
 
-  first_is_start : (event : Event) → MayFollow profile [] event → event ≡ Start
+  pub first_is_start : (event : Event) → MayFollow profile [] event → event ≡ Start
   first_is_start event (inl none) = cc none
   first_is_start event (inr w) =
       let first = start_of_packet w.1.0 (event ∷ w.0) w.1.1 in

@@ -11,7 +11,6 @@ use Rattle.pmb_transaction.specs.Transaction.{PartData, TransactionData, Write, 
 use Rattle.pmb_transaction.specs.Body.{checked, IsRequest}
 use Rattle.pmb_transaction.specs.Packet.{Packet, PartEvents, PartsEvents, RefusedLeg, acked, addresses, leg, nacked}
 use Rattle.pmb_transaction.specs.Capture.{IsPacket}
-use Rattle.pmb_transaction.specs.Reason.{has_start}
 use Rattle.pmb_transaction.specs.Turns.{is_stop, stands_behind}
 use Rattle.pmb_transaction.specs.Viable.{IsAnswer, AnswerBegins, answer_taken, answer_sent, AlertBegins, ReadBegins, LegBegins, IsBeginning, at_alert, alert_answer, read_start, read_address_sent, read_answer, leg_start, leg_address, leg_taken, leg_sent, whole, before_stop, written, read, alert}
 use Rattle.pmb_transaction.specs.Following.{IsAlertAnswer}
@@ -20,7 +19,7 @@ use Rattle.pmb_transaction.proofs.Ends.{ends_behind, ends_with}
 use Rattle.pmb_transaction.proofs.Fronts.{no_end}
 use Rattle.pmb_transaction.proofs.Legs.{one_row_of_legs}
 use Rattle.pmb_transaction.proofs.OneTransaction.{tell_parts}
-use Rattle.pmb_transaction.proofs.Starts.{no_start-acked, no_start-answer, no_start-nacked, no_start-sent, not_both, same_last_start}
+use Rattle.pmb_transaction.proofs.Starts.{has_start, no_start-acked, no_start-answer, no_start-nacked, no_start-sent, not_both, same_last_start}
 use Rattle.pmb_transaction.proofs.Telling.{part_told}
 
 -- events that begin with their only START

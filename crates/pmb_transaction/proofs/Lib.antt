@@ -1,5 +1,5 @@
 pub mod Stops
-pub mod AfterStop
+pub mod PassedOver
 pub mod OnePacket
 pub mod Known
 pub mod Lengths
@@ -15,6 +15,7 @@ pub mod Addresses
 pub mod Beginnings
 pub mod Completions
 pub mod WorkedRows
+pub mod OneReason
 pub mod Readings
 pub mod Turns
 pub mod Ends
@@ -30,13 +31,13 @@ pub mod Alerts
 pub mod BytesAlone
 pub mod FirstEvents
 pub mod Packets
-pub mod Places
 pub mod Decided
 pub mod Finite
 pub mod DecidedBodies
 pub mod DecidedPackets
 pub mod FinitePackets
 pub mod KindSets
+pub mod SomeReason
 pub mod SomeReading
 pub mod ReadFronts
 pub mod Onwards

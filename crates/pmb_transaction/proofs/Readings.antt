@@ -11,12 +11,12 @@ use Rattle.pmb_transaction.specs.declared.reason.Reason.{Reason}
 use Rattle.pmb_transaction.specs.Transaction.{TransactionData}
 use Rattle.pmb_transaction.specs.Packet.{Packet}
 use Rattle.pmb_transaction.specs.Capture.{Capture, IsPacket, MayFollow, Viable}
-use Rattle.pmb_transaction.specs.Reason.{IsReason, Whether}
-use Rattle.pmb_transaction.specs.Reading.{Outcome, Accepted, Refusal, RefusalData, BehindStop, ReadsFrom, RefusedAt, TruncatedAt}
+use Rattle.pmb_transaction.specs.Reading.{Outcome, Accepted, Refusal, RefusalData, PassedOver, ReadsFrom, RefusedAt, TruncatedAt}
 use Rattle.pmb_transaction.proofs.Captures.{not_none, same_first_packet}
 use Rattle.pmb_transaction.proofs.Fronts.{Beyond, Within, cut, no_end, no_front}
+use Rattle.pmb_transaction.proofs.OneReason.{one_reason}
 use Rattle.pmb_transaction.proofs.OneTransaction.{one_transaction}
-use Rattle.pmb_transaction.proofs.AfterStop.{of_one_rest}
+use Rattle.pmb_transaction.proofs.PassedOver.{one_way}
 
 -- ---- one set of kinds
 
@@ -69,22 +69,7 @@ module _ (told_by_events : (a b : Kinds) → bits a < 32 → bits b < 32 → ((e
       (λ event.
       same_test (holds a event) (holds b event) (also_holds events a b first second event) (also_holds events b a second first event))
 
--- ---- one reason
-
-one_of_two : (Holds : Type 0) (r s x y : Reason) → Whether Holds (r ≡ x) (r ≡ y) → Whether Holds (s ≡ x) (s ≡ y) → r ≡ s
-one_of_two Holds r s x y (inl a) (inl b) = a.1 ∙ sym b.1
-one_of_two Holds r s x y (inl a) (inr b) = absurd (b.0 a.0)
-one_of_two Holds r s x y (inr a) (inl b) = absurd (a.0 b.0)
-one_of_two Holds r s x y (inr a) (inr b) = a.1 ∙ sym b.1
-
 module _ (profile : List DeviceParts) where
-  one_reason : (events : List Event) (event : Event) (r s : Reason) → IsReason profile events event r → IsReason profile events event s → r ≡ s
-  one_reason events Start r s first second = first ∙ sym second
-  one_reason events Stop r s first second = first ∙ sym second
-  one_reason events (Byte b) r s first second = one_of_two _ r s _ _ first second
-  one_reason events Ack r s first second = one_of_two _ r s _ _ first second
-  one_reason events Nack r s first second = one_of_two _ r s _ _ first second
-
   -- ---- fronts
 
   -- what begins viable events is viable
@@ -163,19 +148,18 @@ module _ (profile : List DeviceParts) where
   reads_capture (t ∷ ts) n events capture =
       (capture.0, capture.1, capture.2, capture.3, reads_capture ts (n + length capture.0) capture.1 capture.4)
 
-  one_behind : (a b : List Outcome) (n : ℕ) (events : List Event)
-      → ((m : ℕ) (rest : List Event) → ReadsFrom profile m rest a → ReadsFrom profile m rest b → a ≡ b)
-      → BehindStop (λ m behind. ReadsFrom profile m behind a) (a ≡ []) n events
-      → BehindStop (λ m behind. ReadsFrom profile m behind b) (b ≡ []) n events → a ≡ b
-  one_behind a b n events one first second =
-      of_one_rest (λ m behind. ReadsFrom profile m behind a) (λ m behind. ReadsFrom profile m behind b) (a ≡ []) (b ≡ []) (a ≡ b) n events one
-      (λ first_none second_none. first_none ∙ sym second_none) first second
+  -- no events read as nothing
+  pub none_read : (n : ℕ) (outcomes : List Outcome) → ReadsFrom profile n [] outcomes → outcomes ≡ []
+  none_read n [] reads = refl
+  none_read n (Accepted t ∷ more) reads = absurd (not_none profile t reads.0 reads.1 reads.3 reads.2)
+  none_read n (Refusal refusal ∷ more) (inl reads) = absurd (no_end reads.0 reads.1 reads.2 (sym reads.3))
+  none_read n (Refusal refusal ∷ more) (inr reads) = absurd (reads.0.some refl)
 
   module _ (told_by_events : (a b : Kinds) → bits a < 32 → bits b < 32 → ((event : Event) → holds a event ≡ holds b event) → a ≡ b) (bus : IsBus profile) where
     one_refused : (n : ℕ) (front : List Event) (event : Event) (r s : RefusalData) → RefusedAt profile n front event r → RefusedAt profile n front event s
         → r ≡ s
     one_refused n front event r s first second =
-        same_refusal r s (first.at ∙ sym second.at) (one_reason front event r.reason s.reason first.reason second.reason)
+        same_refusal r s (first.at ∙ sym second.at) (one_reason profile front event r.reason s.reason first.reason second.reason)
         (one_set told_by_events (MayFollow profile front) r.expected s.expected first.expected second.expected)
 
     one_truncated : (n : ℕ) (events : List Event) (r s : RefusalData) → TruncatedAt profile n events r → TruncatedAt profile n events s → r ≡ s
@@ -218,13 +202,14 @@ module _ (profile : List DeviceParts) where
         let event : a.1 ≡ b.1 = cc tails in
         let refused : RefusedAt profile n b.0 b.1 r =
         subst (λ (e : Event). RefusedAt profile n b.0 e r) event (subst (λ (es : List Event). RefusedAt profile n es a.1 r) front a.4) in
-        let counted =
-        subst (λ (es : List Event). BehindStop (λ m behind. ReadsFrom profile m behind more) (more ≡ []) (n + length es) (a.1 ∷ a.2)) front a.5 in
-        let behind =
-        subst (λ (es : List Event). BehindStop (λ m behind. ReadsFrom profile m behind more) (more ≡ []) (n + length b.0) es) tails counted in
+        let over = one_way (b.1 ∷ b.2) a.5 a.6 b.5 b.6 (subst (λ (es : List Event). PassedOver es a.5 a.6) tails a.7) b.7 in
+        let counted : ReadsFrom profile (n + length b.0 + length b.5) a.6 more =
+        subst (λ (passed : List Event). ReadsFrom profile (n + length b.0 + length passed) a.6 more) over.0
+        (subst (λ (es : List Event). ReadsFrom profile (n + length es + length a.5) a.6 more) front a.8) in
         let first : r ≡ s = one_refused n b.0 b.1 r s refused b.4 in
         let later : more ≡ others =
-        one_behind more others (n + length b.0) (b.1 ∷ b.2) (λ m rest x y. one_reading_from more others m rest x y) behind b.5 in
+        one_reading_from more others (n + length b.0 + length b.5) b.6
+        (subst (λ (left : List Event). ReadsFrom profile (n + length b.0 + length b.5) left more) over.1 counted) b.8 in
         cc (first, later)
     one_reading_from (Refusal r ∷ more) (Refusal s ∷ others) n events (inl a) (inr b) =
         absurd (not_refused_in n a.0 a.1 r a.2 events a.4 a.3 b.0.under_way.viable)

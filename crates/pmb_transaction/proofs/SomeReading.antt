@@ -1,5 +1,5 @@
 -- Each list of events reads as some outcomes.
-use Rattle.std.proofs.Common.{◌≡◌, ◌≢◌, ℕ, ◌+◌, ◌<◌, inl, inr, List, [], ◌∷◌, ◌++◌, length, refl, sym, ap, subst, append_assoc, arith}
+use Rattle.std.proofs.Common.{◌≡◌, ◌≢◌, ℕ, ◌+◌, ◌<◌, inl, inr, List, [], ◌∷◌, ◌++◌, length, refl, sym, subst, append_assoc, arith}
 use Rattle.std.proofs.lemmas.List.{append-nil}
 use Rattle.pmb_bus.specs.Count.{capped}
 use Rattle.pmb_bus.specs.Kinds.{AreKindsOf}
@@ -10,43 +10,38 @@ use Rattle.pmb_bus.specs.declared.kinds.Kinds.{Kinds}
 use Rattle.pmb_command.specs.Bus.{IsBus}
 use Rattle.pmb_command.specs.Parts.{DeviceParts}
 use Rattle.pmb_transaction.specs.declared.reason.Reason.{Reason}
-use Rattle.pmb_transaction.specs.declared.reason.Reason.TheVariants.{Truncated, WrongEvent}
-use Rattle.pmb_transaction.specs.Capture.{HasNoStop, MayFollow}
-use Rattle.pmb_transaction.specs.Reason.{IsReason, Whether, SomeByteMayFollow, FollowsAlone, ack_reason, byte_reason, nack_reason, place_behind}
-use Rattle.pmb_transaction.specs.Reading.{BehindStop, IsUnderWay, Outcome, Accepted, ReadsFrom, Refusal, RefusalData, RefusedAt, TruncatedAt}
+use Rattle.pmb_transaction.specs.declared.reason.Reason.TheVariants.{TooShort, Truncated, WrongEvent}
+use Rattle.pmb_transaction.specs.Capture.{MayFollow}
+use Rattle.pmb_transaction.specs.Reason.{AckReason, ByteReason, IsReason, NackReason, Whether, SomeByteMayFollow, FollowsAlone}
+use Rattle.pmb_transaction.specs.Reading.{IsUnderWay, Outcome, Accepted, ReadsAfterStop, ReadsFrom, Refusal, RefusalData, RefusedAt, TruncatedAt}
 use Rattle.pmb_transaction.proofs.Captures.{not_none}
 use Rattle.pmb_transaction.proofs.Decided.{Decided}
 use Rattle.pmb_transaction.proofs.DecidedPackets.{same_event}
 use Rattle.pmb_transaction.proofs.Ends.{packet_with_stop, packets_go_on}
 use Rattle.pmb_transaction.proofs.FinitePackets.{follows_alone, may_follow, some_byte}
 use Rattle.pmb_transaction.proofs.KindSets.{set_of_kinds}
-
--- ---- events without STOP
-
-none_without : HasNoStop []
-none_without [] after same = cc same
-none_without (x ∷ before) after same = cc same
-
-none_with_one : (event : Event) (events : List Event) → (event ≡ Stop → ⊥) → HasNoStop events → HasNoStop (event ∷ events)
-none_with_one event events other none [] after same = other (cc same)
-none_with_one event events other none (x ∷ before) after same = none before after (cc same)
+use Rattle.pmb_transaction.proofs.PassedOver.{none_passed, other_passed, stop_passed}
+use Rattle.pmb_transaction.proofs.SomeReason.{ack_has_reason, byte_has_reason, nack_has_reason}
 
 -- ---- reasons
 
-one_of_both : (Holds : Type 0) (x y : Reason) → Decided Holds → (reason : Reason) × Whether Holds (reason ≡ x) (reason ≡ y)
-one_of_both Holds x y (inl holds) = (x, inl (holds, refl))
-one_of_both Holds x y (inr fails) = (y, inr (fails, refl))
+one_of_both : (Holds : Type 0) (Told : Reason → Type 0) → (Holds → (reason : Reason) × Told reason) → Decided Holds
+    → (reason : Reason) × Whether Holds (Told reason) (reason ≡ WrongEvent)
+one_of_both Holds Told some (inl holds) = let told = some holds in (told.0, inl (holds, told.1))
+one_of_both Holds Told some (inr fails) = (WrongEvent, inr (fails, refl))
 
 module _ (pec_is_byte : (bytes : List ℕ) → pec bytes < 256) (profile : List DeviceParts) (bus : IsBus profile) where
   some_reason : (events : List Event) (event : Event) → (reason : Reason) × IsReason profile events event reason
   some_reason events Start = (WrongEvent, refl)
   some_reason events Stop = (WrongEvent, refl)
   some_reason events (Byte b) =
-      one_of_both (SomeByteMayFollow profile events) (byte_reason (place_behind events)) WrongEvent (some_byte pec_is_byte profile bus events)
+      one_of_both (SomeByteMayFollow profile events) (ByteReason events) (byte_has_reason profile events) (some_byte pec_is_byte profile bus events)
   some_reason events Ack =
-      one_of_both (FollowsAlone profile events Nack) (ack_reason (place_behind events)) WrongEvent (follows_alone pec_is_byte profile bus events Nack)
+      one_of_both (FollowsAlone profile events Nack) (AckReason events) (ack_has_reason pec_is_byte profile bus events)
+      (follows_alone pec_is_byte profile bus events Nack)
   some_reason events Nack =
-      one_of_both (FollowsAlone profile events Ack) (nack_reason (place_behind events)) WrongEvent (follows_alone pec_is_byte profile bus events Ack)
+      one_of_both (FollowsAlone profile events Ack) (NackReason events) (λ alone. (TooShort, nack_has_reason pec_is_byte profile bus events alone))
+      (follows_alone pec_is_byte profile bus events Ack)
 
   some_kinds : (events : List Event) → (kinds : Kinds) × AreKindsOf (MayFollow profile events) kinds
   some_kinds events =
@@ -69,8 +64,7 @@ module _ (pec_is_byte : (bytes : List ℕ) → pec bytes < 256) (profile : List 
       (n : ℕ) (front : List Event) → IsUnderWay profile front → (outcomes : List Outcome) × ReadsFrom profile n (front ++ rest) outcomes
 
   abbrev PassesOn : List Event → Type 0
-  PassesOn rest =
-      (n : ℕ) → (outcomes : List Outcome) × BehindStop (λ m behind. ReadsFrom profile m behind outcomes) (outcomes ≡ []) n rest
+  PassesOn rest = (n : ℕ) → (outcomes : List Outcome) × ReadsAfterStop profile n rest outcomes
 
   -- the refusal of events that end inside a packet
   pub truncation : (n : ℕ) (front : List Event) → front ≢ [] → IsUnderWay profile front → (refusal : RefusalData) × TruncatedAt profile n front refusal
@@ -90,26 +84,24 @@ module _ (pec_is_byte : (bytes : List ℕ) → pec bytes < 256) (profile : List 
       )
 
   passes_end : PassesOn []
-  passes_end n = ([], inl (none_without, refl))
+  passes_end n = ([], ([], [], none_passed, refl))
 
   passes_one : (event : Event) (rest : List Event) → ReadsOn rest → PassesOn rest → Decided (event ≡ Stop) → PassesOn (event ∷ rest)
   passes_one event rest reads passes (inl stop) n =
-      let behind = reads (n + length {A = Event} [] + 1) [] nothing_under_way in
-      (behind.0, inr ([], rest, none_without, ap (λ e. e ∷ rest) stop, behind.1))
-  passes_one event rest reads passes (inr other) n = let behind = passes (n + 1) in (behind.0, passed behind.0 behind.1)
-    where
-      passed : (outcomes : List Outcome) → BehindStop (λ m behind. ReadsFrom profile m behind outcomes) (outcomes ≡ []) (n + 1) rest
-          → BehindStop (λ m behind. ReadsFrom profile m behind outcomes) (outcomes ≡ []) n (event ∷ rest)
-      passed outcomes (inl w) = inl (none_with_one event rest other w.0, w.1)
-      passed outcomes (inr w) =
-          let counted : (n + 1) + length w.0 + 1 ≡ n + length (event ∷ w.0) + 1 = omega arith in
-          inr (
-            event ∷ w.0,
-            w.1,
-            none_with_one event w.0 other w.2,
-            ap (λ es. event ∷ es) w.3,
-            subst (λ m. ReadsFrom profile m w.1 outcomes) counted w.4,
-          )
+      let later = reads (n + length (Stop ∷ [])) [] nothing_under_way in
+      (later.0, subst (λ e. ReadsAfterStop profile n (e ∷ rest) later.0) (sym stop) (Stop ∷ [], rest, stop_passed rest, later.1))
+  passes_one event rest reads passes (inr other) n =
+      let later = passes (n + 1) in
+      let over = later.1 in
+      let counted : (n + 1) + length over.0 ≡ n + length (event ∷ over.0) = omega arith in (
+        later.0,
+        (
+          event ∷ over.0,
+          over.1,
+          other_passed event rest over.0 over.1 other over.2,
+          subst (λ m. ReadsFrom profile m over.1 later.0) counted over.3,
+        ),
+      )
 
   -- an event that may follow, or is refused
   accepts : (rest : List Event) → ReadsOn rest → (n : ℕ) (front : List Event) → MayFollow profile front Stop
@@ -134,8 +126,9 @@ module _ (pec_is_byte : (bytes : List ℕ) → pec bytes < 256) (profile : List 
       let refusal : RefusalData = record { at = capped (n + length front); reason = reason.0; expected = kinds.0 } in
       let at_event : RefusedAt profile n front event refusal =
       record { under_way = going; refused = refused; at = refl; reason = reason.1; expected = kinds.1 } in
-      let behind = passes (n + length front) in
-      (Refusal refusal ∷ behind.0, inl (front, event, rest, refl, at_event, behind.1))
+      let later = passes (n + length front) in
+      let over = later.1 in
+      (Refusal refusal ∷ later.0, inl (front, event, rest, refl, at_event, over.0, over.1, over.2, over.3))
 
   reads_one : (event : Event) (rest : List Event) → ReadsOn rest → PassesOn (event ∷ rest) → Decided (event ≡ Stop) → (n : ℕ) (front : List Event)
       → IsUnderWay profile front → Decided (MayFollow profile front event)

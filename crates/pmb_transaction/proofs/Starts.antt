@@ -1,14 +1,22 @@
 -- The last START of events, after which their last leg stands, and bytes that were taken or
 -- refused in it.
-use Rattle.std.proofs.Common.{◌≡◌, ℕ, ◌+◌, ◌*◌, true, false, List, [], ◌∷◌, ◌++◌, refl, sym, ap, arith}
+use Rattle.std.proofs.Common.{◌≡◌, ℕ, ◌+◌, ◌*◌, Bool, true, false, List, [], ◌∷◌, ◌++◌, refl, sym, ap, arith}
 use Rattle.pmb_bus.specs.declared.event.Event.{Event}
 use Rattle.pmb_bus.specs.declared.event.Event.TheVariants.{Start, Byte, Ack, Nack, Stop}
 use Rattle.pmb_bus.specs.Address.{write_address, read_address}
 use Rattle.pmb_transaction.specs.Packet.{acked, nacked}
-use Rattle.pmb_transaction.specs.Reason.{has_start}
 use Rattle.pmb_transaction.specs.Viable.{AnswerBegins, answer_taken, answer_sent}
 
 -- ---- the last START
+
+-- whether a START stands among the events
+abbrev pub has_start : List Event → Bool
+has_start [] = false
+has_start (Start ∷ events) = true
+has_start (Byte b ∷ events) = has_start events
+has_start (Ack ∷ events) = has_start events
+has_start (Nack ∷ events) = has_start events
+has_start (Stop ∷ events) = has_start events
 
 pub starts : (a b : List Event) → has_start (a ++ Start ∷ b) ≡ true
 starts [] b = refl

@@ -21,6 +21,7 @@ use Rattle.pmb_transaction.specs.declared.reason.Reason.TheVariants.{ReadFirst, 
 use Rattle.pmb_transaction.specs.Following.{BeginsAnswer, IsFirstAddress, IsInsideAnswer, IsNextAddress, IsAlertAnswer, alert_first, next_leg, reply_leg, written_first}
 use Rattle.pmb_transaction.specs.Packet.{PartsEvents, addresses, leg}
 use Rattle.pmb_transaction.specs.Reason.{FollowsAlone, SomeByteMayFollow}
+use Rattle.pmb_transaction.specs.Reason as reasons
 use Rattle.pmb_transaction.specs.Rows.{AckAloneFollows, IsOutOfPlace, NackAloneFollows, OtherByteFollows, capability, clear_faults, command, device_58h, device_59h, read_vin, worked_bus}
 use Rattle.pmb_transaction.specs.Transaction.{PartData}
 use Rattle.pmb_transaction.specs.Turns.{stands_behind}
@@ -408,7 +409,7 @@ module _ (pec_is_byte : (bytes : List ℕ) → pec bytes < 256) where
   read_first =
       let other : SomeByteMayFollow worked_bus (Start ∷ []) =
       (0xb0, (first_follows pec_is_byte worked_bus bus 0xb0).1 (written_first 0x58 (omega arith) refl)) in
-      record { other = other; refused = λ follows. not_first ((first_follows pec_is_byte worked_bus bus 0xb1).0 follows); told = inl (other, refl) }
+      record { other = other; refused = λ follows. not_first ((first_follows pec_is_byte worked_bus bus 0xb1).0 follows); told = inl (other, reasons.read_first refl) }
 
   -- which address byte may follow the START after the first leg
   address_follows : (bytes : List ℕ) (byte : ℕ)
@@ -422,13 +423,13 @@ module _ (pec_is_byte : (bytes : List ℕ) → pec bytes < 256) where
         0x40,
         (address_follows (0x03 ∷ []) 0x40).1 (next_leg 0x20 (0x03, [], false, clear_written) (omega arith) (omega arith) refl refl),
       ) in
-      record { other = other; refused = λ follows. not_again ((address_follows (0x03 ∷ []) 0xb0).0 follows); told = inl (other, refl) }
+      record { other = other; refused = λ follows. not_again ((address_follows (0x03 ∷ []) 0xb0).0 follows); told = inl (other, reasons.bad_restart (leg (0xb0 ∷ 0x03 ∷ [])) (λ none. cc none) refl) }
 
   pub another_is_read : OtherByteFollows (leg (0xb0 ∷ 0x88 ∷ []) ++ Start ∷ []) 0x40 BadRestart
   another_is_read =
       let other : SomeByteMayFollow worked_bus (leg (0xb0 ∷ 0x88 ∷ []) ++ Start ∷ []) =
       (0xb1, (address_follows (0x88 ∷ []) 0xb1).1 (reply_leg refl (inl vin_read) refl)) in
-      record { other = other; refused = λ follows. not_another ((address_follows (0x88 ∷ []) 0x40).0 follows); told = inl (other, refl) }
+      record { other = other; refused = λ follows. not_another ((address_follows (0x88 ∷ []) 0x40).0 follows); told = inl (other, reasons.bad_restart (leg (0xb0 ∷ 0x88 ∷ [])) (λ none. cc none) refl) }
 
   abbrev vin_leg : List Event
   vin_leg = leg (0xb0 ∷ 0x88 ∷ [])
@@ -458,7 +459,7 @@ module _ (pec_is_byte : (bytes : List ℕ) → pec bytes < 256) where
       record {
         other = other;
         refused = λ follows. let begins = (reply_follows 0xf7).0 follows in wrong_word begins.1 begins.0 (one_word begins.0 begins.2) begins.3;
-        told = inl (other, refl);
+        told = inl (other, reasons.bad_pec_sent (vin_leg ++ Start ∷ Byte 0xb1 ∷ Ack ∷ Byte 0x00 ∷ Ack ∷ Byte 0xd3 ∷ []) refl);
       }
 
   alert_follows : (byte : ℕ)
@@ -482,7 +483,7 @@ module _ (pec_is_byte : (bytes : List ℕ) → pec bytes < 256) where
             let begins = (alert_follows 0xf2).0 follows in
             let is = begins.2 in
             wrong_alert is.with_pec is.byte begins.1 (sym is.spelled ∙ begins.3);
-        told = inl (other, refl);
+        told = inl (other, reasons.bad_pec_sent (Start ∷ Byte 0x19 ∷ Ack ∷ Byte 0xb0 ∷ []) refl);
       }
 
   -- ---- NACK alone
@@ -508,13 +509,13 @@ module _ (pec_is_byte : (bytes : List ℕ) → pec bytes < 256) where
   pub nobody_there : NackAloneFollows (Start ∷ Byte 0x40 ∷ []) UnknownDevice
   nobody_there =
       let alone = nobody [] [] (omega arith) distinct_none refl refl in
-      record { alone = alone; told = inl (alone, refl) }
+      record { alone = alone; told = inl (alone, reasons.unknown_device [] 0x20 refl) }
 
   pub nobody_in_a_group : NackAloneFollows (leg (0xb0 ∷ 0x03 ∷ []) ++ Start ∷ Byte 0x40 ∷ []) UnknownDevice
   unfolding clear_part
   nobody_in_a_group =
       let alone = nobody (clear_part ∷ []) clear_leg (omega arith) clear_own clear_leg_is refl in
-      record { alone = alone; told = inl (alone, refl) }
+      record { alone = alone; told = inl (alone, reasons.unknown_device (leg (0xb0 ∷ 0x03 ∷ [])) 0x20 refl) }
 
   -- a byte after others in the first leg, that is refused and not taken
   wrong_byte : (bytes : List ℕ) (byte : ℕ) → IsInsideBody device_58h [] bytes → byte < 256 → ¬ (BeginsBody device_58h [] (bytes ++ byte ∷ []))
@@ -534,7 +535,7 @@ module _ (pec_is_byte : (bytes : List ℕ) → pec bytes < 256) where
   pub no_such_command : NackAloneFollows (leg (0xb0 ∷ []) ++ Byte 0xc8 ∷ []) UnknownCommand
   no_such_command =
       let alone = wrong_byte [] 0xc8 (inl refl) (omega arith) not_c8 in
-      record { alone = alone; told = inl (alone, refl) }
+      record { alone = alone; told = inl (alone, reasons.unknown_command [] 0x58 0xc8 refl) }
 
   not_47 : ¬ (BeginsBody device_58h [] (0x03 ∷ 0x47 ∷ []))
   not_47 (inl none) = cc none
@@ -545,7 +546,7 @@ module _ (pec_is_byte : (bytes : List ℕ) → pec bytes < 256) where
       let inside : IsInsideBody device_58h [] (0x03 ∷ []) =
       inr (0x03 ∷ pec_of_clear ∷ [], inl (0x03, [], true, clear_coded), record { next = pec_of_clear; rest = []; split = refl }) in
       let alone = wrong_byte (0x03 ∷ []) 0x47 inside (omega arith) not_47 in
-      record { alone = alone; told = inl (alone, refl) }
+      record { alone = alone; told = inl (alone, reasons.bad_pec_taken [] 0x58 0x03 [] 0x47 refl) }
 
   abbrev capability_leg : List Event
   capability_leg = leg (0xb2 ∷ 0x19 ∷ [])
@@ -580,7 +581,7 @@ module _ (pec_is_byte : (bytes : List ℕ) → pec bytes < 256) where
       let only = one_byte inside.0 inside.1 in
       cc (sym only.1 ∙ inside.2.split)
       ) in
-      record { alone = alone; told = inl (alone, refl) }
+      record { alone = alone; told = inl (alone, reasons.too_long capability_leg 0x59 [] 0xb0 refl) }
 
   pub alert_too_long : NackAloneFollows (leg (0x19 ∷ 0xb0 ∷ []) ++ Byte 0xf3 ∷ []) TooLong
   alert_too_long =
@@ -594,7 +595,7 @@ module _ (pec_is_byte : (bytes : List ℕ) → pec bytes < 256) where
       let is = inside.1 in
       long_alert is.with_pec is.byte inside.2.next inside.2.rest (sym is.spelled ∙ inside.2.split)
       ) in
-      record { alone = alone; told = inl (alone, refl) }
+      record { alone = alone; told = inl (alone, reasons.too_long [] 0x0c (0xb0 ∷ []) 0xf3 refl) }
 
   -- ---- ACK alone
 
@@ -609,7 +610,7 @@ module _ (pec_is_byte : (bytes : List ℕ) → pec bytes < 256) where
       short_word
       (one_word (0x00 ∷ []) ((byte_refused pec_is_byte worked_bus bus vin_leg 0x58 VinAnswer vin_is_read [] 0x00).0 follows))
       ) in
-      record { alone = alone; told = inl (alone, refl) }
+      record { alone = alone; told = inl (alone, reasons.too_short vin_leg 0x58 [] 0x00 refl) }
 
   -- ---- out of place
 

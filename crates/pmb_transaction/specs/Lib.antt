@@ -1,4 +1,5 @@
 pub mod Transaction
+pub mod Names
 pub mod Body
 pub mod Packet
 pub mod Capture

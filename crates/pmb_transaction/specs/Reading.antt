@@ -1,7 +1,6 @@
 -- What a list of events reads as.
 use Rattle.std.specs.Prelude.{◌≡◌, ◌≢◌, ℕ, ◌+◌, ◌⊎◌, List, [], ◌∷◌, ◌++◌, length, map}
 use Rattle.pmb_bus.specs.declared.event.Event.{Event}
-use Rattle.pmb_bus.specs.declared.event.Event.TheVariants.{Stop}
 use Rattle.pmb_bus.specs.declared.kinds.Kinds.{Kinds}
 use Rattle.pmb_bus.specs.Count.{capped}
 use Rattle.pmb_bus.specs.Kinds.{AreKindsOf}
@@ -10,7 +9,7 @@ use Rattle.pmb_transaction.specs.declared.reason.Reason.{Reason}
 use Rattle.pmb_transaction.specs.declared.reason.Reason.TheVariants.{Truncated}
 use Rattle.pmb_transaction.specs.Transaction.{TransactionData}
 use Rattle.pmb_transaction.specs.Packet.{Packet}
-use Rattle.pmb_transaction.specs.Capture.{Capture, HasNoStop, IsPacket, Viable, MayFollow}
+use Rattle.pmb_transaction.specs.Capture.{Capture, EndsAtStop, HasNoStop, IsPacket, Viable, MayFollow}
 use Rattle.pmb_transaction.specs.Reason.{IsReason}
 
 -- A refusal: its place, which stays at the greatest u64, why, and the kinds of the events that
@@ -25,12 +24,16 @@ pub data Outcome : Type 0 where
   Accepted : TransactionData → Outcome
   Refusal : RefusalData → Outcome
 
--- Events, before which n came, are passed over up to and with the first STOP, and this holds of how
--- many came before the rest, and of the rest. Without a STOP all are passed over, and that holds.
-abbrev pub BehindStop : (ℕ → List Event → Type 0) → Type 0 → ℕ → List Event → Type 0
-BehindStop Holds HoldsOfNone n events =
-    (HasNoStop events × HoldsOfNone)
-    ⊎ ((passed : List Event) × (rest : List Event) × HasNoStop passed × (events ≡ passed ++ Stop ∷ rest) × Holds (n + length passed + 1) rest)
+-- After a refusal some events are passed over, and others are left.
+pub data PassedOver (events passed left : List Event) : Type 0 where
+  -- They are passed over up to and with the first STOP.
+  --     event event .. STOP   event event ..
+  --     ----- passed ------   ---- left ----
+  to_first_stop : events ≡ passed ++ left → EndsAtStop passed → PassedOver events passed left
+  -- Where there is no STOP, all are passed over, and none are left.
+  --     event event .. event
+  --     ------ passed ------
+  to_the_end : events ≡ passed → HasNoStop passed → left ≡ [] → PassedOver events passed left
 
 module _ (profile : List DeviceParts) where
   -- A packet under way: some packet begins with the events, and they hold no whole one.
@@ -56,16 +59,23 @@ module _ (profile : List DeviceParts) where
 
   -- The outcomes that events read as, where n events came before them. A packet at their front is
   -- read, then the rest. Else, with the first event that no packet goes on with, they are refused;
-  -- that event and those after it are passed over up to and with the first STOP, and what follows
-  -- is read. Else, where some are left, they are truncated.
+  -- that event and those after it are passed over, and what is left is read. Else, where there are
+  -- some, they are truncated.
   abbrev pub ReadsFrom : ℕ → List Event → List Outcome → Type 0
   ReadsFrom n events [] = events ≡ []
   ReadsFrom n events (Accepted t ∷ more) =
       (front : List Event) × (rest : List Event) × (events ≡ front ++ rest) × Packet profile t front × ReadsFrom (n + length front) rest more
   ReadsFrom n events (Refusal refusal ∷ more) =
       ((front : List Event) × (event : Event) × (rest : List Event) × (events ≡ front ++ event ∷ rest) × RefusedAt n front event refusal
-      × BehindStop (λ m behind. ReadsFrom m behind more) (more ≡ []) (n + length front) (event ∷ rest))
+      × (passed : List Event) × (left : List Event) × PassedOver (event ∷ rest) passed left
+      × ReadsFrom (n + length front + length passed) left more)
       ⊎ (TruncatedAt n events refusal × (more ≡ []))
+
+  -- The outcomes of what is left after the first STOP of events, where n events came before them.
+  -- Without a STOP none are left, and there is no outcome.
+  abbrev pub ReadsAfterStop : ℕ → List Event → List Outcome → Type 0
+  ReadsAfterStop n events outcomes =
+      (passed : List Event) × (left : List Event) × PassedOver events passed left × ReadsFrom (n + length passed) left outcomes
 
   -- the reading of a whole list of events
   abbrev pub Reading : List Event → List Outcome → Type 0

@@ -1,99 +1,65 @@
 -- Why a list of events that some packet begins with doesn't go on with an event.
-use Rattle.std.specs.Prelude.{◌≡◌, ℕ, ◌%◌, ◌==◌, ◌⊎◌, Bool, true, false, not, if◌then◌else◌, List, [], ◌∷◌}
+--
+-- The drawings are those of `Packet`. `..` at the front stands for any events, and the last event is
+-- the one that is refused.
+use Rattle.std.specs.Prelude.{◌≡◌, ◌≢◌, ℕ, ◌⊎◌, List, [], ◌∷◌, ◌++◌}
 use Rattle.pmb_bus.specs.declared.event.Event.{Event}
 use Rattle.pmb_bus.specs.declared.event.Event.TheVariants.{Start, Byte, Ack, Nack, Stop}
+use Rattle.pmb_bus.specs.Address.{write_address, read_address}
 use Rattle.pmb_command.specs.Parts.{DeviceParts}
 use Rattle.pmb_transaction.specs.declared.reason.Reason.{Reason}
 use Rattle.pmb_transaction.specs.declared.reason.Reason.TheVariants.{ReadFirst, BadRestart, BadPec, UnknownDevice, UnknownCommand, TooLong, TooShort, WrongEvent}
+use Rattle.pmb_transaction.specs.Packet.{leg}
 use Rattle.pmb_transaction.specs.Capture.{MayFollow}
-
--- ---- where a list of events ends
-
--- a place after events with which a packet begins
-pub data Place : Type 0 where
-  -- after the first START, and after a later one
-  BehindStart : Place
-  BehindRestart : Place
-  -- after the byte that addresses a device
-  BehindAddress : Place
-  -- in a written leg: after its code byte, and further on
-  BehindCode : Place
-  FurtherOn : Place
-  -- in a leg that is read, after its address
-  InReply : Place
-  -- elsewhere, as after the ACK of an address for writing
-  Nowhere : Place
-
--- whether a START stands among the events
-abbrev pub has_start : List Event → Bool
-has_start [] = false
-has_start (Start ∷ events) = true
-has_start (Byte b ∷ events) = has_start events
-has_start (Ack ∷ events) = has_start events
-has_start (Nack ∷ events) = has_start events
-has_start (Stop ∷ events) = has_start events
-
--- the events after the last START; where there is none, all but the first
-abbrev pub last_leg : List Event → List Event
-last_leg [] = []
-last_leg (event ∷ events) = if has_start events then last_leg events else events
-
--- whether no START stands after the first event, which in a packet is one
-abbrev pub is_first_leg : List Event → Bool
-is_first_leg [] = true
-is_first_leg (event ∷ events) = not (has_start events)
-
--- the place in a written leg, by the events after the answer to its address
-abbrev pub place_written : List Event → Place
-place_written [] = Nowhere
-place_written (event ∷ []) = BehindCode
-place_written (event ∷ next ∷ events) = FurtherOn
-
--- the place after the events of the last leg, which is the first or a later one
-abbrev pub place_in : Bool → List Event → Place
-place_in true [] = BehindStart
-place_in false [] = BehindRestart
-place_in first (Byte b ∷ []) = BehindAddress
-place_in first (Byte b ∷ event ∷ events) = if b % 2 == 0 then place_written events else InReply
-place_in first (Start ∷ events) = Nowhere
-place_in first (Ack ∷ events) = Nowhere
-place_in first (Nack ∷ events) = Nowhere
-place_in first (Stop ∷ events) = Nowhere
-
-abbrev pub place_behind : List Event → Place
-place_behind events = place_in (is_first_leg events) (last_leg events)
 
 -- ---- reasons
 
--- a byte where another byte may follow
-abbrev pub byte_reason : Place → Reason
-byte_reason BehindStart = ReadFirst
-byte_reason BehindRestart = BadRestart
-byte_reason BehindAddress = BadPec
-byte_reason BehindCode = BadPec
-byte_reason FurtherOn = BadPec
-byte_reason InReply = BadPec
-byte_reason Nowhere = BadPec
+-- Why a byte is refused after events that some other byte may follow.
+pub data ByteReason (events : List Event) : Reason → Type 0 where
+  -- It is the packet's first.
+  --
+  -- S byte
+  read_first : events ≡ Start ∷ [] → ByteReason events ReadFirst
+  -- It comes after a repeated START.
+  --
+  -- .. S byte
+  bad_restart : (front : List Event) → front ≢ [] → events ≡ front ++ Start ∷ [] → ByteReason events BadRestart
+  -- It comes after an ACK. There any byte may follow where one may, except for the packet error code
+  -- of a reply, which has one value.
+  --
+  -- .. A byte
+  bad_pec_sent : (front : List Event) → events ≡ front ++ Ack ∷ [] → ByteReason events BadPec
 
--- an ACK where NACK alone may follow
-abbrev pub ack_reason : Place → Reason
-ack_reason BehindStart = WrongEvent
-ack_reason BehindRestart = WrongEvent
-ack_reason BehindAddress = UnknownDevice
-ack_reason BehindCode = UnknownCommand
-ack_reason FurtherOn = BadPec
-ack_reason InReply = TooLong
-ack_reason Nowhere = WrongEvent
+-- Why an ACK is refused after events that NACK alone may follow.
+pub data AckReason (events : List Event) : Reason → Type 0 where
+  -- It takes an address for writing: no device has it.
+  --
+  -- .. S addr+W A
+  unknown_device : (front : List Event) → (addr : ℕ) → events ≡ front ++ Start ∷ Byte (write_address addr) ∷ [] → AckReason events UnknownDevice
+  -- It takes the first byte of a body: no body that is allowed there begins with it.
+  --
+  -- .. S addr+W A code A
+  unknown_command : (front : List Event) → (addr : ℕ) → (code : ℕ) → events ≡ front ++ leg (write_address addr ∷ []) ++ Byte code ∷ []
+      → AckReason events UnknownCommand
+  -- It takes a later byte of a body.
+  --
+  -- .. S addr+W A code A bytes A .. byte A
+  bad_pec_taken : (front : List Event) → (addr : ℕ) → (code : ℕ) → (bytes : List ℕ) → (byte : ℕ)
+      → events ≡ front ++ leg (write_address addr ∷ code ∷ bytes) ++ Byte byte ∷ [] → AckReason events BadPec
+  -- It takes a byte of a reply: that was the last.
+  --
+  -- .. S addr+R A bytes A .. byte A
+  too_long : (front : List Event) → (addr : ℕ) → (bytes : List ℕ) → (byte : ℕ) → events ≡ front ++ leg (read_address addr ∷ bytes) ++ Byte byte ∷ []
+      → AckReason events TooLong
 
--- a NACK where ACK alone may follow
-abbrev pub nack_reason : Place → Reason
-nack_reason BehindStart = WrongEvent
-nack_reason BehindRestart = WrongEvent
-nack_reason BehindAddress = WrongEvent
-nack_reason BehindCode = WrongEvent
-nack_reason FurtherOn = WrongEvent
-nack_reason InReply = TooShort
-nack_reason Nowhere = WrongEvent
+-- Why a NACK is refused after events that ACK alone may follow.
+pub data NackReason (events : List Event) : Reason → Type 0 where
+  -- It refuses a byte of a reply: that was not the last. After any byte but those of a reply NACK may
+  -- follow.
+  --
+  -- .. S addr+R A bytes A .. byte N
+  too_short : (front : List Event) → (addr : ℕ) → (bytes : List ℕ) → (byte : ℕ) → events ≡ front ++ leg (read_address addr ∷ bytes) ++ Byte byte ∷ []
+      → NackReason events TooShort
 
 -- One thing is said where something holds, and another where it doesn't.
 abbrev pub Whether : Type 0 → Type 0 → Type 0 → Type 0
@@ -111,8 +77,8 @@ module _ (profile : List DeviceParts) where
 
   -- The reason why the events, some packet's beginning, don't go on with an event.
   abbrev pub IsReason : List Event → Event → Reason → Type 0
-  IsReason events (Byte b) reason = Whether (SomeByteMayFollow events) (reason ≡ byte_reason (place_behind events)) (reason ≡ WrongEvent)
-  IsReason events Ack reason = Whether (FollowsAlone events Nack) (reason ≡ ack_reason (place_behind events)) (reason ≡ WrongEvent)
-  IsReason events Nack reason = Whether (FollowsAlone events Ack) (reason ≡ nack_reason (place_behind events)) (reason ≡ WrongEvent)
+  IsReason events (Byte b) reason = Whether (SomeByteMayFollow events) (ByteReason events reason) (reason ≡ WrongEvent)
+  IsReason events Ack reason = Whether (FollowsAlone events Nack) (AckReason events reason) (reason ≡ WrongEvent)
+  IsReason events Nack reason = Whether (FollowsAlone events Ack) (NackReason events reason) (reason ≡ WrongEvent)
   IsReason events Start reason = reason ≡ WrongEvent
   IsReason events Stop reason = reason ≡ WrongEvent

@@ -1,24 +1,25 @@
-//! Laws on the packets that events make with their last one, and on the places after events: each
-//! function is its contract, and does nothing.
+//! Laws on the packets that events make with their last one, and on the reasons of events that may
+//! not follow: each function is its contract, and does nothing.
 
 ghost use Rattle.std.specs.Prelude.{◌≡◌, ◌≢◌, ℕ, ◌<◌, ◌≤◌, Bool, true, false, Some, List, [], ◌∷◌, ◌++◌, length, nat_eq};
 ghost use Rattle.std.specs.List.{IsDistinct};
 ghost use Rattle.pmb_bus.specs.declared.event.Event.{Event};
-ghost use Rattle.pmb_bus.specs.declared.event.Event.TheVariants.{Start, Byte, Nack, Stop};
+ghost use Rattle.pmb_bus.specs.declared.event.Event.TheVariants.{Start, Byte, Ack, Nack, Stop};
 ghost use Rattle.pmb_bus.specs.Address.{write_address, read_address, alert_address};
 ghost use Rattle.pmb_command.specs.declared.form.Form.{Form};
 ghost use Rattle.pmb_command.specs.Parts.{DeviceParts, IsNew, device_with};
 ghost use Rattle.pmb_command.specs.Bus.{IsBus};
 ghost use Rattle.pmb_command.specs.PecMode.{AllowsPec};
 ghost use Rattle.pmb_command.specs.Wire.{IsByte, Fits, wire};
-ghost use Rattle.pmb_transaction.specs.declared.reason.Reason.TheVariants.{BadPec};
+ghost use Rattle.pmb_transaction.specs.declared.reason.Reason.{Reason};
+ghost use Rattle.pmb_transaction.specs.declared.reason.Reason.TheVariants.{TooShort, Truncated};
 ghost use Rattle.pmb_transaction.specs.Transaction.{PartData, Write, Read, Call, Refused, Alert};
 ghost use Rattle.pmb_transaction.specs.Body.{checked, WriteBody, ReadBody, CallBody, IsRequest, IsFormOfRequest};
 ghost use Rattle.pmb_transaction.specs.Packet.{Packet, PartsEvents, addresses, leg};
 ghost use Rattle.pmb_transaction.specs.Capture.{MayFollow};
 ghost use Rattle.pmb_transaction.specs.Viable.{IsInsideBody};
 ghost use Rattle.pmb_transaction.specs.Reading.{IsUnderWay};
-ghost use Rattle.pmb_transaction.specs.Reason.{BehindAddress, BehindCode, BehindRestart, FurtherOn, InReply, byte_reason, place_behind};
+ghost use Rattle.pmb_transaction.specs.Reason.{AckReason, ByteReason, FollowsAlone, IsReason, NackReason, SomeByteMayFollow};
 
 use pmb_bus::laws::pec_is_a_byte;
 
@@ -120,22 +121,22 @@ pub fn alerts_are_packets()
 
 // ---- after events
 
-/// The places after events that end inside a leg or after a START.
-pub fn places_of_events()
-    ensures address { (front : List Event) (byte : ℕ) → place_behind (front ++ Start ∷ Byte byte ∷ []) ≡ BehindAddress }
-    ensures code { (front : List Event) (addr byte : ℕ)
-        → place_behind (front ++ leg (write_address addr ∷ []) ++ Byte byte ∷ []) ≡ BehindCode }
-    ensures further { (front : List Event) (addr code : ℕ) (bytes : List ℕ) (byte : ℕ)
-        → place_behind (front ++ leg (write_address addr ∷ code ∷ bytes) ++ Byte byte ∷ []) ≡ FurtherOn }
-    ensures reply { (front : List Event) (addr : ℕ) (bytes : List ℕ) (byte : ℕ)
-        → place_behind (front ++ leg (read_address addr ∷ bytes) ++ Byte byte ∷ []) ≡ InReply }
-    ensures restart { (front : List Event) (bytes : List ℕ) → place_behind (front ++ leg bytes ++ Start ∷ []) ≡ BehindRestart }
-
-    // Where another event than START ends two or more, the reason of a byte is that of a wrong
-    // packet error code.
-    ensures wrong_code { (front : List Event) (event : Event) → front ≢ [] → event ≢ Start
-        → byte_reason (place_behind (front ++ event ∷ [])) ≡ BadPec }
-{}
+/// Where some byte, or NACK alone, or ACK alone may follow, the events end as a reason is drawn. So an
+/// event that may not follow has one reason, and it is no truncation.
+pub fn refused_events_have_a_reason()
+    ensures byte { (profile : List DeviceParts) (events : List Event) → SomeByteMayFollow profile events
+        → ((reason : Reason) × ByteReason events reason) }
+    ensures ack { (profile : List DeviceParts) (events : List Event) → IsBus profile → FollowsAlone profile events Nack
+        → ((reason : Reason) × AckReason events reason) }
+    ensures nack { (profile : List DeviceParts) (events : List Event) → IsBus profile → FollowsAlone profile events Ack
+        → NackReason events TooShort }
+    ensures one { (profile : List DeviceParts) (events : List Event) (event : Event) (a b : Reason)
+        → IsReason profile events event a → IsReason profile events event b → a ≡ b }
+    ensures other { (profile : List DeviceParts) (events : List Event) (event : Event) (reason : Reason)
+        → IsReason profile events event reason → reason ≢ Truncated }
+{
+    pec_is_a_byte();
+}
 
 /// Some event may follow those of a packet under way.
 pub fn something_follows()

@@ -13,9 +13,9 @@ ghost use Rattle.pmb_transaction.specs.Packet.{Packet};
 ghost use Rattle.pmb_transaction.specs.Capture.{Capture, EndsAtStop};
 
 pub use crate::endings::{
-    alerts_are_packets, calls_are_packets, one_part_more, places_of_events, reads_are_packets,
-    refused_addresses_are_packets, refused_bytes_are_packets, refused_reads_are_packets,
-    something_follows, writes_are_packets,
+    alerts_are_packets, calls_are_packets, one_part_more, reads_are_packets,
+    refused_addresses_are_packets, refused_bytes_are_packets, refused_events_have_a_reason,
+    refused_reads_are_packets, something_follows, writes_are_packets,
 };
 pub use crate::following::{
     addresses_may_be_refused, addresses_taken_are_known, alerts_end, alerts_go_on,
@@ -27,7 +27,8 @@ pub use crate::following::{
 };
 pub use crate::reading::{
     captures_go_on, captures_may_be_cut_behind_stop, captures_read_as_written,
-    each_list_has_a_reading, fronts_read_as_fronts, one_reading, refusals_move,
+    each_list_has_a_reading, events_are_passed_over, fronts_read_as_fronts,
+    nothing_is_read_of_no_events, one_reading, passing_goes_on, refusals_move,
 };
 pub use crate::rows::reasons_of_rows;
 pub use crate::viability::{

@@ -1,13 +1,14 @@
 //! Laws on what events read as: each function is its contract, and does nothing.
 
-ghost use Rattle.std.specs.Prelude.{◌≡◌, ◌↔◌, ℕ, ◌+◌, List, ◌∷◌, ◌++◌, length, map};
+ghost use Rattle.std.specs.Prelude.{◌≡◌, ◌≢◌, ◌↔◌, ℕ, ◌+◌, List, [], ◌∷◌, ◌++◌, length, map};
 ghost use Rattle.std.specs.List.{All};
 ghost use Rattle.pmb_bus.specs.declared.event.Event.{Event};
+ghost use Rattle.pmb_bus.specs.declared.event.Event.TheVariants.{Stop};
 ghost use Rattle.pmb_command.specs.Parts.{DeviceParts};
 ghost use Rattle.pmb_command.specs.Bus.{IsBus};
 ghost use Rattle.pmb_transaction.specs.Transaction.{TransactionData};
-ghost use Rattle.pmb_transaction.specs.Capture.{Capture, MayFollow};
-ghost use Rattle.pmb_transaction.specs.Reading.{Accepted, IsUnderWay, Outcome, Reading, ReadsAsFront, ReadsFrom, RefusalData, RefusedAt, TruncatedAt};
+ghost use Rattle.pmb_transaction.specs.Capture.{Capture, HasNoStop, MayFollow};
+ghost use Rattle.pmb_transaction.specs.Reading.{Accepted, IsUnderWay, Outcome, PassedOver, Reading, ReadsAsFront, ReadsFrom, RefusalData, RefusedAt, TruncatedAt};
 ghost use Rattle.pmb_transaction.specs.Cut.{EndsWithStop, IsNotTruncated, moved, moved_refusal};
 
 use pmb_bus::laws::{kinds_are_told_by_events, pec_is_a_byte};
@@ -37,6 +38,32 @@ pub fn each_list_has_a_reading()
 {
     pec_is_a_byte();
 }
+
+/// No events read as no outcomes, however many events came before.
+pub fn nothing_is_read_of_no_events()
+    ensures { (profile : List DeviceParts) (n : ℕ) (outcomes : List Outcome) → ReadsFrom profile n [] outcomes
+        → outcomes ≡ [] }
+{}
+
+/// What is passed over, event by event: STOP is the last, and any other event is passed over with
+/// what is passed over after it.
+pub fn passing_goes_on()
+    ensures none { PassedOver [] [] [] }
+    ensures stop { (rest : List Event) → PassedOver (Stop ∷ rest) (Stop ∷ []) rest }
+    ensures other { (event : Event) (events passed left : List Event) → event ≢ Stop → PassedOver events passed left
+        → PassedOver (event ∷ events) (event ∷ passed) left }
+{}
+
+/// Each list of events is passed over in one way, and is what is passed over, then what is left.
+/// Where it has a STOP, events after it are left too.
+pub fn events_are_passed_over()
+    ensures some { (events : List Event) → ((passed : List Event) × (left : List Event) × PassedOver events passed left) }
+    ensures one_way { (events passed left others rest : List Event) → PassedOver events passed left
+        → PassedOver events others rest → (passed ≡ others) × (left ≡ rest) }
+    ensures split { (events passed left : List Event) → PassedOver events passed left → events ≡ passed ++ left }
+    ensures more { (events more passed left : List Event) → (HasNoStop events → ⊥) → PassedOver events passed left
+        → PassedOver (events ++ more) passed (left ++ more) }
+{}
 
 /// What begins the capture of transactions reads as the first of these, under a profile that is
 /// accepted: nothing is refused, but that the packet under way at its end, if one is, is truncated.

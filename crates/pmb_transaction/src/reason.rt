@@ -1,3 +1,8 @@
+//! Reasons, and their names.
+
+ghost use Rattle.std.specs.Prelude.{◌≡◌, ◌≤◌, length};
+ghost use Rattle.pmb_transaction.specs.Names.{reason_name};
+
 /// Why no packet goes on with an event, or that the events ended inside one.
 #[derive(Clone, Copy, Debug, PartialEq, Eq)]
 pub enum Reason {
@@ -19,4 +24,24 @@ pub enum Reason {
     WrongEvent,
     /// The events ended inside a packet.
     Truncated,
+}
+
+impl Reason {
+    /// The name, as it is printed.
+    pub fn name(self) -> &'static [u8]
+        ensures name { result.now ≡ reason_name self }
+        ensures short { length result.now ≤ 14 }
+    {
+        match self {
+            Reason::ReadFirst => b"ReadFirst",
+            Reason::BadRestart => b"BadRestart",
+            Reason::BadPec => b"BadPec",
+            Reason::UnknownDevice => b"UnknownDevice",
+            Reason::UnknownCommand => b"UnknownCommand",
+            Reason::TooLong => b"TooLong",
+            Reason::TooShort => b"TooShort",
+            Reason::WrongEvent => b"WrongEvent",
+            Reason::Truncated => b"Truncated",
+        }
+    }
 }

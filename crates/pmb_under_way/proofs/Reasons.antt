@@ -1,5 +1,6 @@
 -- Why an event may not come, by the place where the events end.
 use Rattle.std.proofs.Common.{◌≡◌, ◌≢◌, ℕ, ◌<◌, ◌≤◌, ◌⊎◌, inl, inr, Bool, true, false, Some, List, [], ◌∷◌, ◌++◌, length, refl, sym, ap, subst, ◌∙◌, arith, append_assoc, bit_and, ◌==◌}
+use Rattle.std.proofs.lemmas.List.{same_from_push}
 use Rattle.pmb_bus.specs.declared.event.Event.{Event}
 use Rattle.pmb_bus.specs.declared.event.Event.TheVariants.{Byte, Ack, Nack, Stop}
 use Rattle.pmb_bus.specs.declared.event.Event.TheVariants as events_are
@@ -8,21 +9,20 @@ use Rattle.pmb_bus.specs.Kinds.{AreKindsOf, bits, holds, kind_of}
 use Rattle.pmb_bus.specs.Address.{write_address, read_address, alert_address}
 use Rattle.pmb_command.specs.Bus.{IsBus}
 use Rattle.pmb_command.specs.Parts.{DeviceParts, device_with}
-use Rattle.pmb_transaction.specs.declared.reason.Reason.TheVariants.{BadPec, WrongEvent}
-use Rattle.pmb_transaction.specs.Body.{IsReadBody, IsCallBody}
+use Rattle.pmb_transaction.specs.declared.reason.Reason.{Reason}
+use Rattle.pmb_transaction.specs.declared.reason.Reason.TheVariants.{BadPec, BadRestart, UnknownCommand}
+use Rattle.pmb_transaction.specs.Body.{IsRequest}
 use Rattle.pmb_transaction.specs.Packet.{leg}
-use Rattle.pmb_transaction.specs.Capture.{MayFollow, Viable}
-use Rattle.pmb_transaction.specs.Reason.{FollowsAlone, SomeByteMayFollow, BehindAddress, BehindCode, FurtherOn, InReply, ack_reason, byte_reason, nack_reason, place_behind}
-use Rattle.pmb_transaction.specs.Reason as behind
-use Rattle.pmb_transaction.specs.Turns.{is_byte, is_no_answer, is_stop}
+use Rattle.pmb_transaction.specs.Capture.{MayFollow}
+use Rattle.pmb_transaction.specs.Reason.{FollowsAlone, SomeByteMayFollow, ByteReason, read_first, bad_restart, bad_pec_sent, AckReason, unknown_command, bad_pec_taken}
 use Rattle.pmb_under_way.specs.declared.under_way.Place.{Place}
 use Rattle.pmb_under_way.specs.declared.under_way.Place.TheVariants.{Between, Start, Address, Leg, LegByte, Restart, ReadAddress, Answer, AnswerByte, End}
 use Rattle.pmb_under_way.specs.declared.under_way.Source.{Source}
 use Rattle.pmb_under_way.specs.declared.under_way.Source.TheVariants as sources
 use Rattle.pmb_under_way.specs.declared.under_way.UnderWay.{UnderWay}
-use Rattle.pmb_under_way.specs.machine.UnderWay.{AtReadAddress, BehindByte, IsPacketPlace}
+use Rattle.pmb_under_way.specs.machine.UnderWay.{AtReadAddress, BehindByte, BehindStart, IsPacketPlace}
 use Rattle.pmb_under_way.proofs.Steps.{EndsWith, TakeTurns, not_its_turn}
-use Rattle.pmb_under_way.proofs.WrittenLegs.{in_leg_ends, start_ends}
+use Rattle.pmb_under_way.proofs.WrittenLegs.{byte_ends, in_leg_ends, start_ends}
 use Rattle.pmb_under_way.proofs.AnsweredLegs.{asked_with, in_answer_ends}
 
 -- ---- which place it is
@@ -51,140 +51,68 @@ late_here place (inr (inr (inr (inr (inl is))))) = ap late is.1
 late_here place (inr (inr (inr (inr (inr (inl is)))))) = ap late is.1
 late_here place (inr (inr (inr (inr (inr (inr is)))))) = ap late is
 
--- ---- a wrong packet error code
+-- ---- a byte
+
+-- events that end with another one than START
+record EndsElsewhere (events : List Event) : Type 0 where
+  pub last : Event
+  pub other : last ≢ events_are.Start
+  pub ends : EndsWith events last
+
+-- So they end after the first byte of a leg.
+ends_late : (profile : List DeviceParts) (u : UnderWay) (place : Place) (events : List Event) → late place ≡ true → IsPacketPlace place profile u events
+    → EndsElsewhere events
+ends_late profile u Between events is here = absurd (cc is)
+ends_late profile u Start events is here = absurd (cc is)
+ends_late profile u Restart events is here = absurd (cc is)
+ends_late profile u (Address addr) events is here = record {
+  last = Byte (write_address addr);
+  other = λ same. cc same;
+  ends = record { front = here.legs ++ events_are.Start ∷ []; split = here.spelled ∙ sym (append_assoc here.legs (events_are.Start ∷ []) (Byte (write_address addr) ∷ [])) };
+}
+ends_late profile u Leg events is here =
+    record { last = Ack; other = λ same. cc same; ends = in_leg_ends profile u.kept here.written here.parts events here.leg }
+ends_late profile u (LegByte byte) events is here =
+    record { last = Byte byte; other = λ same. cc same; ends = byte_ends profile u byte events here }
+ends_late profile u (ReadAddress source) events is here = record {
+  last = Byte (read_address here.addr);
+  other = λ same. cc same;
+  ends =
+      record { front = here.front ++ events_are.Start ∷ []; split = here.spelled ∙ sym (append_assoc here.front (events_are.Start ∷ []) (Byte (read_address here.addr) ∷ [])) };
+}
+ends_late profile u (Answer source) events is here =
+    record { last = Ack; other = λ same. cc same; ends = in_answer_ends profile u source events here }
+ends_late profile u (AnswerByte source) events is here =
+    record { last = Byte here.byte; other = λ same. cc same; ends = record { front = here.front ++ leg (read_address here.addr ∷ here.bytes); split = here.spelled } }
+ends_late profile u End events is here =
+    record { last = Nack; other = λ same. cc same; ends = record { front = here.front; split = here.spelled } }
+
+-- Where they do, the reason of a byte tells no START.
+no_start : (events : List Event) (reason : Reason) → EndsElsewhere events → ByteReason events reason → ByteReason events BadPec
+no_start events reason end (read_first is) =
+    absurd (end.other (same_from_push end.ends.front [] end.last events_are.Start (sym end.ends.split ∙ is)).1)
+no_start events reason end (bad_restart front some is) =
+    absurd (end.other (same_from_push end.ends.front front end.last events_are.Start (sym end.ends.split ∙ is)).1)
+no_start events reason end (bad_pec_sent front is) = bad_pec_sent front is
+
+-- A byte that has a reason there is a wrong packet error code.
+pub bad_pec_late : (profile : List DeviceParts) (u : UnderWay) (place : Place) (events : List Event) → late place ≡ true → IsPacketPlace place profile u events
+    → (reason : Reason) × ByteReason events reason → ByteReason events BadPec
+bad_pec_late profile u place events is here told = no_start events told.0 (ends_late profile u place events is here) told.1
+
+-- Between packets none may follow.
+pub none_between : (profile : List DeviceParts) (events : List Event) → ((event : Event) → MayFollow profile [] event → event ≡ events_are.Start) → events ≡ []
+    → SomeByteMayFollow profile events → ⊥
+none_between profile events begins is some = cc (begins (Byte some.0) (subst (λ (es : List Event). MayFollow profile es (Byte some.0)) is some.1))
 
 not_nothing : (front : List Event) (event : Event) (rest : List Event) → front ++ event ∷ rest ≢ []
 not_nothing [] event rest same = cc same
 not_nothing (e ∷ front) event rest same = cc same
 
-two_at_least : (a : List Event) (x y : Event) (b : List Event) (front : List Event) (e : Event) → a ++ x ∷ y ∷ b ≡ front ++ e ∷ [] → front ≢ []
-two_at_least [] x y b [] e same none = cc same
-two_at_least [] x y b (f ∷ front) e same none = cc none
-two_at_least (z ∷ a) x y b [] e same none = not_nothing a x (y ∷ b) (cc same)
-two_at_least (z ∷ a) x y b (f ∷ front) e same none = cc none
-
--- the law on it
-abbrev WrongCode : Type 0
-WrongCode = (front : List Event) (event : Event) → front ≢ [] → event ≢ events_are.Start → byte_reason (place_behind (front ++ event ∷ [])) ≡ BadPec
-
-with_last : WrongCode → (events : List Event) (last : Event) → (ends : EndsWith events last) → ends.front ≢ [] → last ≢ events_are.Start
-    → BadPec ≡ byte_reason (place_behind events)
-with_last law events last ends some other =
-    sym (subst (λ (es : List Event). byte_reason (place_behind es) ≡ BadPec) (sym ends.split) (law ends.front last some other))
-
-pub wrong_code_at : WrongCode → (profile : List DeviceParts) → (Viable profile (Nack ∷ []) → ⊥) → (u : UnderWay) (place : Place) (events : List Event)
-    → late place ≡ true → Viable profile events → IsPacketPlace place profile u events → BadPec ≡ byte_reason (place_behind events)
-wrong_code_at law profile nothing u Between events is viable here = absurd (cc is)
-wrong_code_at law profile nothing u Start events is viable here = absurd (cc is)
-wrong_code_at law profile nothing u Restart events is viable here = absurd (cc is)
-wrong_code_at law profile nothing u (Address addr) events is viable here =
-    let ends : EndsWith events (Byte (write_address addr)) = record { front = here.legs ++ events_are.Start ∷ []; split = here.spelled ∙ sym (append_assoc here.legs (events_are.Start ∷ []) (Byte (write_address addr) ∷ [])) } in
-    with_last law events (Byte (write_address addr)) ends (not_nothing here.legs events_are.Start []) (λ same. cc same)
-wrong_code_at law profile nothing u Leg events is viable here =
-    let ends = in_leg_ends profile u.kept here.written here.parts events here.leg in
-    with_last law events Ack ends (two_at_least here.leg.legs _ _ _ ends.front Ack (sym here.leg.spelled ∙ ends.split)) (λ same. cc same)
-wrong_code_at law profile nothing u (LegByte byte) events is viable here =
-    with_last law events (Byte byte) (record { front = here.front; split = here.spelled }) (λ none. not_nothing here.leg.legs _ _ (sym here.leg.spelled ∙ none)) (λ same. cc same)
-wrong_code_at law profile nothing u (ReadAddress source) events is viable here =
-    let ends : EndsWith events (Byte (read_address here.addr)) = record { front = here.front ++ events_are.Start ∷ []; split = here.spelled ∙ sym (append_assoc here.front (events_are.Start ∷ []) (Byte (read_address here.addr) ∷ [])) } in
-    with_last law events (Byte (read_address here.addr)) ends (not_nothing here.front events_are.Start []) (λ same. cc same)
-wrong_code_at law profile nothing u (Answer source) events is viable here =
-    let ends = in_answer_ends profile u source events here in
-    with_last law events Ack ends (two_at_least here.front _ _ _ ends.front Ack (sym here.spelled ∙ ends.split)) (λ same. cc same)
-wrong_code_at law profile nothing u (AnswerByte source) events is viable here =
-    with_last law events (Byte here.byte) (record { front = here.front ++ leg (read_address here.addr ∷ here.bytes); split = here.spelled }) (not_nothing here.front _ _) (λ same. cc same)
-wrong_code_at law profile nothing u End events is viable here =
-    with_last law events Nack (record { front = here.front; split = here.spelled })
-    (λ none. nothing (subst (Viable profile) (here.spelled ∙ ap (λ (es : List Event). es ++ Nack ∷ []) none) viable)) (λ same. cc same)
-
--- ---- places where no answer comes
-
-module _ (turns : TakeTurns) (profile : List DeviceParts) (begins : (event : Event) → MayFollow profile [] event → event ≡ events_are.Start) (u : UnderWay) (event : Event) (byte : is_byte event ≡ false) (turn : is_no_answer event ≡ false) (stop : is_stop event ≡ false) (start : event ≢ events_are.Start) where
-  abbrev Quiet : Place → List Event → Type 0
-  Quiet place events = IsPacketPlace place profile u events → MayFollow profile events event → ⊥
-
-  pub none_between : (events : List Event) → Quiet Between events
-  none_between events here follows = start (begins event (subst (λ (es : List Event). MayFollow profile es event) here follows))
-
-  pub none_at_start : (events : List Event) → Quiet Start events
-  none_at_start events here = not_its_turn turns profile events events_are.Start event (record { front = []; split = here.0 }) byte
-
-  pub none_in_leg : (events : List Event) → Quiet Leg events
-  none_in_leg events here = not_its_turn turns profile events Ack event (in_leg_ends profile u.kept here.written here.parts events here.leg) turn
-
-  pub none_at_restart : (events : List Event) → Quiet Restart events
-  none_at_restart events here = not_its_turn turns profile events events_are.Start event (start_ends profile u events here) byte
-
-  pub none_in_answer : (source : Source) (events : List Event) → Quiet (Answer source) events
-  none_in_answer source events here = not_its_turn turns profile events Ack event (in_answer_ends profile u source events here) turn
-
-  pub none_at_end : (events : List Event) → Quiet End events
-  none_at_end events here = not_its_turn turns profile events Nack event (record { front = here.front; split = here.spelled }) stop
-
--- ---- the places of events
-
-pub address_place : ((front : List Event) (byte : ℕ) → place_behind (front ++ events_are.Start ∷ Byte byte ∷ []) ≡ BehindAddress)
-    → (events front : List Event) (byte : ℕ) → events ≡ front ++ events_are.Start ∷ Byte byte ∷ [] → place_behind events ≡ BehindAddress
-address_place law events front byte is = ap place_behind is ∙ law front byte
-
-abbrev code_place : List ℕ → behind.Place
-code_place [] = BehindCode
-code_place (code ∷ bytes) = FurtherOn
-
-pub byte_place : ((front : List Event) (addr byte : ℕ) → place_behind ((front ++ leg (write_address addr ∷ [])) ++ Byte byte ∷ []) ≡ BehindCode)
-    → ((front : List Event) (addr code : ℕ) (bytes : List ℕ) (byte : ℕ) → place_behind ((front ++ leg (write_address addr ∷ code ∷ bytes)) ++ Byte byte ∷ []) ≡ FurtherOn)
-    → (events legs : List Event) (addr : ℕ) (bytes : List ℕ) (byte : ℕ) → events ≡ (legs ++ leg (write_address addr ∷ bytes)) ++ Byte byte ∷ []
-    → place_behind events ≡ code_place bytes
-byte_place code further events legs addr [] byte is = ap place_behind is ∙ code legs addr byte
-byte_place code further events legs addr (c ∷ bytes) byte is = ap place_behind is ∙ further legs addr c bytes byte
-
-pub kept_byte_place : ((front : List Event) (addr byte : ℕ) → place_behind ((front ++ leg (write_address addr ∷ [])) ++ Byte byte ∷ []) ≡ BehindCode)
-    → ((front : List Event) (addr code : ℕ) (bytes : List ℕ) (byte : ℕ) → place_behind ((front ++ leg (write_address addr ∷ code ∷ bytes)) ++ Byte byte ∷ []) ≡ FurtherOn)
-    → (profile : List DeviceParts) (u : UnderWay) (byte : ℕ) (events : List Event) (at : BehindByte profile u byte events)
-    → place_behind events ≡ code_place at.written.bytes
-kept_byte_place code further profile u byte events at =
-    byte_place code further events at.leg.legs at.written.device.address at.written.bytes byte
-    (at.spelled ∙ ap (λ (es : List Event). es ++ Byte byte ∷ []) at.leg.spelled)
-
-nack_at_code : (bytes : List ℕ) → nack_reason (code_place bytes) ≡ WrongEvent
-nack_at_code [] = refl
-nack_at_code (c ∷ bytes) = refl
-
-pub ack_at_code : (bytes : List ℕ) → length bytes ≤ 0 → ack_reason (code_place bytes) ≡ ack_reason BehindCode
-ack_at_code [] none = refl
-ack_at_code (c ∷ bytes) none = absurd (omega (arith, none))
-
-pub ack_further : (bytes : List ℕ) → 0 < length bytes → ack_reason (code_place bytes) ≡ BadPec
-ack_further [] some = absurd (omega (arith, some))
-ack_further (c ∷ bytes) some = refl
-
--- ---- NACK
-
-pub nack_elsewhere : (turns : TakeTurns) (profile : List DeviceParts) (begins : (event : Event) → MayFollow profile [] event → event ≡ events_are.Start)
-    → ((front : List Event) (byte : ℕ) → place_behind (front ++ events_are.Start ∷ Byte byte ∷ []) ≡ BehindAddress)
-    → ((front : List Event) (addr byte : ℕ) → place_behind ((front ++ leg (write_address addr ∷ [])) ++ Byte byte ∷ []) ≡ BehindCode)
-    → ((front : List Event) (addr code : ℕ) (bytes : List ℕ) (byte : ℕ) → place_behind ((front ++ leg (write_address addr ∷ code ∷ bytes)) ++ Byte byte ∷ []) ≡ FurtherOn)
-    → (u : UnderWay) (place : Place) (events : List Event) → ((source : Source) → place ≡ AnswerByte source → ⊥) → IsPacketPlace place profile u events
-    → FollowsAlone profile events Ack → WrongEvent ≡ nack_reason (place_behind events)
-nack_elsewhere turns profile begins address code further u Between events other here alone =
-    absurd (none_between turns profile begins u Ack refl refl refl (λ same. cc same) events here alone.follows)
-nack_elsewhere turns profile begins address code further u Start events other here alone =
-    absurd (none_at_start turns profile begins u Ack refl refl refl (λ same. cc same) events here alone.follows)
-nack_elsewhere turns profile begins address code further u (Address addr) events other here alone =
-    sym (ap nack_reason (address_place address events here.legs (write_address addr) here.spelled))
-nack_elsewhere turns profile begins address code further u Leg events other here alone =
-    absurd (none_in_leg turns profile begins u Ack refl refl refl (λ same. cc same) events here alone.follows)
-nack_elsewhere turns profile begins address code further u (LegByte byte) events other here alone =
-    sym (ap nack_reason (kept_byte_place code further profile u byte events here) ∙ nack_at_code here.written.bytes)
-nack_elsewhere turns profile begins address code further u Restart events other here alone =
-    absurd (none_at_restart turns profile begins u Ack refl refl refl (λ same. cc same) events here alone.follows)
-nack_elsewhere turns profile begins address code further u (ReadAddress source) events other here alone =
-    sym (ap nack_reason (address_place address events here.front (read_address here.addr) here.spelled))
-nack_elsewhere turns profile begins address code further u (Answer source) events other here alone =
-    absurd (none_in_answer turns profile begins u Ack refl refl refl (λ same. cc same) source events here alone.follows)
-nack_elsewhere turns profile begins address code further u (AnswerByte source) events other here alone = absurd (other source refl)
-nack_elsewhere turns profile begins address code further u End events other here alone =
-    absurd (none_at_end turns profile begins u Ack refl refl refl (λ same. cc same) events here alone.follows)
+-- After a written leg and START it is a bad restart.
+pub restart_is_bad : (profile : List DeviceParts) (u : UnderWay) (events : List Event) → BehindStart profile u events → ByteReason events BadRestart
+restart_is_bad profile u events at =
+    bad_restart at.front (λ none. not_nothing at.leg.legs events_are.Start _ (sym at.leg.spelled ∙ none)) at.spelled
 
 -- ---- ACK
 
@@ -213,7 +141,7 @@ plain_here place (inr (inr (inr (inr (inr (inr is)))))) = ap plain is
 
 -- where a device is to be read ACK may follow, and NACK
 pub read_may_be_answered : (answer : Event) (profile : List DeviceParts) → IsBus profile → (u : UnderWay) (source : Source) (events : List Event)
-    → ((addr : ℕ) (device : DeviceParts) (body : List ℕ) → IsBus profile → device_with addr profile ≡ Some device → IsReadBody device body ⊎ IsCallBody device body
+    → ((addr : ℕ) (device : DeviceParts) (body : List ℕ) → IsBus profile → device_with addr profile ≡ Some device → IsRequest device body
     → MayFollow profile (leg (write_address addr ∷ body) ++ events_are.Start ∷ Byte (read_address addr) ∷ []) answer)
     → MayFollow profile (events_are.Start ∷ Byte (read_address alert_address) ∷ []) answer
     → AtReadAddress profile u source events → MayFollow profile events answer
@@ -226,27 +154,54 @@ read_may_be_answered answer profile bus u sources.Alert events device alert here
 
 pub ack_elsewhere : (turns : TakeTurns) (profile : List DeviceParts) (begins : (event : Event) → MayFollow profile [] event → event ≡ events_are.Start)
     → IsBus profile
-    → ((addr : ℕ) (device : DeviceParts) (body : List ℕ) → IsBus profile → device_with addr profile ≡ Some device → IsReadBody device body ⊎ IsCallBody device body
+    → ((addr : ℕ) (device : DeviceParts) (body : List ℕ) → IsBus profile → device_with addr profile ≡ Some device → IsRequest device body
     → MayFollow profile (leg (write_address addr ∷ body) ++ events_are.Start ∷ Byte (read_address addr) ∷ []) Ack)
     → MayFollow profile (events_are.Start ∷ Byte (read_address alert_address) ∷ []) Ack
     → (u : UnderWay) (place : Place) (events : List Event) → plain place ≡ true → IsPacketPlace place profile u events → FollowsAlone profile events Nack → ⊥
 ack_elsewhere turns profile begins bus device alert u Between events is here alone =
-    none_between turns profile begins u Nack refl refl refl (λ same. cc same) events here alone.follows
+    cc (begins Nack (subst (λ (es : List Event). MayFollow profile es Nack) here alone.follows))
 ack_elsewhere turns profile begins bus device alert u Start events is here alone =
-    none_at_start turns profile begins u Nack refl refl refl (λ same. cc same) events here alone.follows
+    not_its_turn turns profile events events_are.Start Nack (record { front = []; split = here.0 }) refl alone.follows
 ack_elsewhere turns profile begins bus device alert u (Address addr) events is here alone = cc is
 ack_elsewhere turns profile begins bus device alert u Leg events is here alone =
-    none_in_leg turns profile begins u Nack refl refl refl (λ same. cc same) events here alone.follows
+    not_its_turn turns profile events Ack Nack (in_leg_ends profile u.kept here.written here.parts events here.leg) refl alone.follows
 ack_elsewhere turns profile begins bus device alert u (LegByte byte) events is here alone = cc is
 ack_elsewhere turns profile begins bus device alert u Restart events is here alone =
-    none_at_restart turns profile begins u Nack refl refl refl (λ same. cc same) events here alone.follows
+    not_its_turn turns profile events events_are.Start Nack (start_ends profile u events here) refl alone.follows
 ack_elsewhere turns profile begins bus device alert u (ReadAddress source) events is here alone =
     cc (alone.alone Ack (read_may_be_answered Ack profile bus u source events device alert here))
 ack_elsewhere turns profile begins bus device alert u (Answer source) events is here alone =
-    none_in_answer turns profile begins u Nack refl refl refl (λ same. cc same) source events here alone.follows
+    not_its_turn turns profile events Ack Nack (in_answer_ends profile u source events here) refl alone.follows
 ack_elsewhere turns profile begins bus device alert u (AnswerByte source) events is here alone = cc is
 ack_elsewhere turns profile begins bus device alert u End events is here alone =
-    none_at_end turns profile begins u Nack refl refl refl (λ same. cc same) events here alone.follows
+    not_its_turn turns profile events Nack Nack (record { front = here.front; split = here.spelled }) refl alone.follows
+
+-- ---- ACK of a byte of a written leg
+
+-- the first after the address
+at_code : (events legs : List Event) (addr : ℕ) (bytes : List ℕ) (byte : ℕ) → events ≡ (legs ++ leg (write_address addr ∷ bytes)) ++ Byte byte ∷ [] → length bytes ≤ 0
+    → AckReason events UnknownCommand
+at_code events legs addr [] byte is none = unknown_command legs addr byte is
+at_code events legs addr (c ∷ bytes) byte is none = absurd (omega (arith, none))
+
+-- a later one
+further_on : (events legs : List Event) (addr : ℕ) (bytes : List ℕ) (byte : ℕ) → events ≡ (legs ++ leg (write_address addr ∷ bytes)) ++ Byte byte ∷ [] → 0 < length bytes
+    → AckReason events BadPec
+further_on events legs addr [] byte is some = absurd (omega (arith, some))
+further_on events legs addr (c ∷ bytes) byte is some = bad_pec_taken legs addr c bytes byte is
+
+-- the events that end with it, by what is kept
+byte_of_leg : (profile : List DeviceParts) (u : UnderWay) (byte : ℕ) (events : List Event) (at : BehindByte profile u byte events)
+    → events ≡ (at.leg.legs ++ leg (write_address at.written.device.address ∷ at.written.bytes)) ++ Byte byte ∷ []
+byte_of_leg profile u byte events at = at.spelled ∙ ap (λ (es : List Event). es ++ Byte byte ∷ []) at.leg.spelled
+
+pub code_is_unknown : (profile : List DeviceParts) (u : UnderWay) (byte : ℕ) (events : List Event) (at : BehindByte profile u byte events)
+    → length at.written.bytes ≤ 0 → AckReason events UnknownCommand
+code_is_unknown profile u byte events at = at_code events at.leg.legs at.written.device.address at.written.bytes byte (byte_of_leg profile u byte events at)
+
+pub pec_is_wrong : (profile : List DeviceParts) (u : UnderWay) (byte : ℕ) (events : List Event) (at : BehindByte profile u byte events)
+    → 0 < length at.written.bytes → AckReason events BadPec
+pec_is_wrong profile u byte events at = further_on events at.leg.legs at.written.device.address at.written.bytes byte (byte_of_leg profile u byte events at)
 
 -- ---- kinds tell reasons
 

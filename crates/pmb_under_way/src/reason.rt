@@ -3,7 +3,7 @@
 ghost use Rattle.std.specs.Prelude.{◌≡◌, List};
 ghost use Rattle.pmb_bus.specs.declared.event.Event.{Event as BusEvent};
 ghost use Rattle.pmb_command.specs.Parts.{DeviceParts};
-ghost use Rattle.pmb_transaction.specs.Reason.{FollowsAlone, IsReason, ack_reason, byte_reason, nack_reason, place_behind};
+ghost use Rattle.pmb_transaction.specs.Reason.{AckReason, ByteReason, FollowsAlone, IsReason, SomeByteMayFollow};
 ghost use Rattle.pmb_under_way.specs.UnderWay.{StandsIn};
 
 use crate::under_way::{Place, UnderWay};
@@ -11,8 +11,8 @@ use pmb_bus::laws::kinds_are_told_by_events;
 use pmb_bus::{Event, Kinds};
 use pmb_transaction::Reason;
 use pmb_transaction::laws::{
-    alerts_may_be_taken, events_take_turns, packets_begin_with_start, places_of_events,
-    reads_may_be_taken,
+    alerts_may_be_taken, events_take_turns, packets_begin_with_start, reads_may_be_taken,
+    refused_events_have_a_reason,
 };
 
 /// The bits of the set of ACK alone, and of NACK alone.
@@ -64,9 +64,11 @@ impl<'p> UnderWay<'p> {
             → IsReason profile events BusEvent.Nack result }
     {
         kinds_are_told_by_events();
+        refused_events_have_a_reason();
         let kinds = self.expected();
         if kinds.bits() == ACK_ALONE {
-            self.nack_reason()
+            // After any byte but those of an answer NACK may follow.
+            Reason::TooShort
         } else {
             Reason::WrongEvent
         }
@@ -75,10 +77,10 @@ impl<'p> UnderWay<'p> {
     // Why a byte may not come where another may.
     fn byte_reason(&self) -> Reason
         ensures { (profile : List DeviceParts) (events : List BusEvent) → StandsIn profile self.now events
-            → result ≡ byte_reason (place_behind events) }
+            → SomeByteMayFollow profile events → ByteReason events result }
     {
         packets_begin_with_start();
-        places_of_events();
+        refused_events_have_a_reason();
         match self.place {
             Place::Between | Place::Start => Reason::ReadFirst,
             Place::Restart => Reason::BadRestart,
@@ -95,13 +97,12 @@ impl<'p> UnderWay<'p> {
     // Why ACK may not come where NACK alone may.
     fn ack_reason(&self) -> Reason
         ensures { (profile : List DeviceParts) (events : List BusEvent) → StandsIn profile self.now events
-            → FollowsAlone profile events BusEvent.Nack → result ≡ ack_reason (place_behind events) }
+            → FollowsAlone profile events BusEvent.Nack → AckReason events result }
     {
         packets_begin_with_start();
         events_take_turns();
         reads_may_be_taken();
         alerts_may_be_taken();
-        places_of_events();
         match self.place {
             Place::Address(_) => Reason::UnknownDevice,
             Place::LegByte(byte) => self.taken_reason(byte),
@@ -119,9 +120,8 @@ impl<'p> UnderWay<'p> {
     // Why a byte of a written leg may not be taken.
     fn taken_reason(&self, byte: u8) -> Reason
         ensures { (profile : List DeviceParts) (events : List BusEvent) → self.now.place ≡ Place.LegByte byte
-            → StandsIn profile self.now events → result ≡ ack_reason (place_behind events) }
+            → StandsIn profile self.now events → AckReason events result }
     {
-        places_of_events();
         let Some(leg) = &self.leg else {
             return Reason::BadPec;
         };
@@ -130,19 +130,5 @@ impl<'p> UnderWay<'p> {
         } else {
             Reason::UnknownCommand
         }
-    }
-
-    // Why NACK may not come where ACK alone may.
-    fn nack_reason(&self) -> Reason
-        ensures { (profile : List DeviceParts) (events : List BusEvent) → StandsIn profile self.now events
-            → FollowsAlone profile events BusEvent.Ack → result ≡ nack_reason (place_behind events) }
-    {
-        packets_begin_with_start();
-        events_take_turns();
-        places_of_events();
-        let Place::AnswerByte(_) = self.place else {
-            return Reason::WrongEvent;
-        };
-        Reason::TooShort
     }
 }

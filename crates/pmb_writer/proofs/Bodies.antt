@@ -14,7 +14,7 @@ use Rattle.pmb_command.specs.PecMode.{AllowsPec}
 use Rattle.pmb_command.specs.Wire.{AreByteValues, Fits, wire, wire_length}
 use Rattle.pmb_transaction.specs.declared.part.Part.{Part}
 use Rattle.pmb_transaction.specs.Transaction.{PartData, part_data}
-use Rattle.pmb_transaction.specs.Body.{forms, checked, IsProperPrefix, IsWriteBody, IsReadBody, IsCallBody, Allowed}
+use Rattle.pmb_transaction.specs.Body.{forms, checked, IsProperPrefix, IsWriteBody, IsReadBody, IsCallBody, Allowed, IsRequest}
 use Rattle.pmb_writer.specs.Invalid.{MayBegin, MayGoOn}
 use Rattle.pmb_writer.specs.machine.Lengths.{pec_length, leaves_room, is_whole_wire, may_go_on, is_request, may_begin}
 
@@ -364,7 +364,7 @@ module _ (device : DeviceParts) (code : ℕ) where
       cc (room_for_more parts bytes prefix.rest prefix.next body allowed begun)
 
   -- a code and bytes are the body of a read or a call
-  pub requests : (bytes : List ℕ) → AreByteValues bytes → is_request (forms device code) bytes ≡ true → IsReadBody device (code ∷ bytes) ⊎ IsCallBody device (code ∷ bytes)
+  pub requests : (bytes : List ℕ) → AreByteValues bytes → is_request (forms device code) bytes ≡ true → IsRequest device (code ∷ bytes)
   requests bytes small passes =
       elim (either (is_some (forms device code).read && nat_eq (length bytes) 0) (is_whole_wire (forms device code).call bytes) passes) [
         | inl r ↦ let parts : (is_some (forms device code).read ≡ true) × (nat_eq (length bytes) 0 ≡ true) = both (is_some (forms device code).read) (nat_eq (length bytes) 0) r in
@@ -377,7 +377,7 @@ module _ (device : DeviceParts) (code : ℕ) where
             inr (code, exact.0, done.whole, record { called = exact.1; fits = done.fits; spelled = ap (λ w. code ∷ w) (sym all) })
       ]
 
-  pub requests_not : (bytes : List ℕ) → is_request (forms device code) bytes ≡ false → IsReadBody device (code ∷ bytes) ⊎ IsCallBody device (code ∷ bytes) → ⊥
+  pub requests_not : (bytes : List ℕ) → is_request (forms device code) bytes ≡ false → IsRequest device (code ∷ bytes) → ⊥
   requests_not bytes fails (inl (c, form, asked)) =
       let spelled : code ∷ bytes ≡ c ∷ [] = asked.spelled in
       let same : c ≡ code = cc in

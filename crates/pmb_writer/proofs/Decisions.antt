@@ -12,7 +12,7 @@ use Rattle.pmb_command.specs.Parts.{DeviceParts, device_with}
 use Rattle.pmb_command.specs.PecMode.{AllowsPec}
 use Rattle.pmb_command.specs.Wire.{AreByteValues, Fits, Takes}
 use Rattle.pmb_transaction.specs.Transaction.{PartData, ReadData, CallData, RefusedData, TransactionData, Write, Read, Call, Refused, Alert, NoAlert}
-use Rattle.pmb_transaction.specs.Body.{forms, IsReadBody, IsCallBody}
+use Rattle.pmb_transaction.specs.Body.{forms, IsRequest}
 use Rattle.pmb_transaction.specs.Packet.{addresses}
 use Rattle.pmb_writer.specs.declared.invalid.Invalid.{Invalid}
 use Rattle.pmb_writer.specs.Invalid.{AreKept, CanBeAsked, HasPacket, IsFirstBroken, IsFirstFault, MayBegin, MayGoOn, OfDevice, Rule, command_at, forms_at, call_rules, part_rules, parts_rules, read_rules, refused_address_rules, refused_leg_rules, refused_rules, transaction_rules, write_rules}
@@ -107,7 +107,7 @@ goes_on_or_not parts code taken last small device =
       | inr fails ↦ inr (goes_on_not device code parts taken fails last)
     ]
 
-requests_or_not : (code : ℕ) (bytes : List ℕ) → AreByteValues bytes → (device : DeviceParts) → IsDecided (IsReadBody device (code ∷ bytes) ⊎ IsCallBody device (code ∷ bytes))
+requests_or_not : (code : ℕ) (bytes : List ℕ) → AreByteValues bytes → (device : DeviceParts) → IsDecided (IsRequest device (code ∷ bytes))
 requests_or_not code bytes small device =
     elim (cases_Bool (is_request (forms device code) bytes)) [
       | inl passes ↦ inl (requests device code bytes small passes)
@@ -241,7 +241,7 @@ module _ (profile : List DeviceParts) where
         is_there (command_at profile addr code),
         (
           can_be_asked (forms_at profile addr code),
-          (of_device addr (λ device. IsReadBody device (code ∷ bytes) ⊎ IsCallBody device (code ∷ bytes)) (requests_or_not code bytes small.1), tt),
+          (of_device addr (λ device. IsRequest device (code ∷ bytes)) (requests_or_not code bytes small.1), tt),
         ),
       ),
     ),

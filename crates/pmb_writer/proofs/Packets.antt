@@ -19,7 +19,7 @@ use Rattle.pmb_command.specs.Parts.{CommandParts, DeviceParts, IsNew, command_wi
 use Rattle.pmb_command.specs.PecMode.{AllowsPec}
 use Rattle.pmb_command.specs.Wire.{AreByteValues, Fits, wire}
 use Rattle.pmb_transaction.specs.Transaction.{PartData, ReadData, CallData, RefusedData, TransactionData, Write, Read, Call, Refused, Alert, NoAlert}
-use Rattle.pmb_transaction.specs.Body.{shape_of, forms, checked, Allowed, IsWriteBody, IsReadBody, IsCallBody, IsProperPrefix}
+use Rattle.pmb_transaction.specs.Body.{shape_of, forms, checked, Allowed, IsWriteBody, IsReadBody, IsCallBody, IsProperPrefix, IsRequest}
 use Rattle.pmb_transaction.specs.Packet.{addresses, leg, nacked, answered, PartEvents, PartsEvents, WritePacket, ReadPacket, CallPacket, ByteRefused, ReadRefused, RefusedLeg, RefusedPacket}
 use Rattle.pmb_writer.specs.Invalid.{AreKept, IsFirstBroken, CanBeAsked, HasPacket, command_at, forms_at, part_rules, parts_rules, write_rules, read_rules, call_rules, refused_leg_rules, refused_address_rules, refused_rules, transaction_rules}
 
@@ -84,7 +84,7 @@ start_of_write device code rest (c, whole, true, write) =
     let same : c ≡ code = cc in
     (write.form, subst (λ k. (forms device k).write ≡ Some write.form) same write.written)
 
-body_is_asked : (device : DeviceParts) (code : ℕ) (rest : List ℕ) → IsReadBody device (code ∷ rest) ⊎ IsCallBody device (code ∷ rest) → CanBeAsked (forms device code)
+body_is_asked : (device : DeviceParts) (code : ℕ) (rest : List ℕ) → IsRequest device (code ∷ rest) → CanBeAsked (forms device code)
 body_is_asked device code rest (inl (c, form, asked)) =
     let spelled : code ∷ rest ≡ c ∷ [] = asked.spelled in
     let same : c ≡ code = cc in
@@ -104,7 +104,7 @@ asked_command device code (inr some) =
     let form : (f : Form) × ((forms device code).call ≡ Some f) = the_one (forms device code).call some in
     called_command device code form.0 form.1
 
-body_command : (device : DeviceParts) (code : ℕ) (rest : List ℕ) → IsWriteBody device (code ∷ rest) ⊎ (IsReadBody device (code ∷ rest) ⊎ IsCallBody device (code ∷ rest)) → IsSome (command_with code device.commands)
+body_command : (device : DeviceParts) (code : ℕ) (rest : List ℕ) → IsWriteBody device (code ∷ rest) ⊎ IsRequest device (code ∷ rest) → IsSome (command_with code device.commands)
 body_command device code rest (inl write) =
     let form : (f : Form) × ((forms device code).write ≡ Some f) = start_of_write device code rest write in
     written_command device code form.0 form.1

@@ -1,10 +1,10 @@
 -- The leg that is refused, by the tests of the code.
-use Rattle.std.proofs.Common.{◌≡◌, ℕ, suc, ◌<◌, get_or, ◌⊎◌, Bool, true, false, Some, IsSome, is_some, List, [], ◌∷◌, ◌++◌, refl, sym, ap, subst, ◌∙◌, inl, inr}
+use Rattle.std.proofs.Common.{◌≡◌, ℕ, suc, ◌<◌, get_or, Bool, true, false, Some, IsSome, is_some, List, [], ◌∷◌, ◌++◌, refl, sym, ap, subst, ◌∙◌, inl, inr}
 use Rattle.pmb_command.specs.declared.form.Shape.{Shape}
 use Rattle.pmb_command.specs.declared.pec_mode.PecMode.{PecMode}
 use Rattle.pmb_command.specs.Parts.{DeviceParts, command_with, device_with}
 use Rattle.pmb_transaction.specs.Transaction.{PartData}
-use Rattle.pmb_transaction.specs.Body.{forms, shape_of, IsReadBody, IsCallBody}
+use Rattle.pmb_transaction.specs.Body.{forms, shape_of, IsRequest}
 use Rattle.std.specs.Option.{option_and_then}
 use Rattle.pmb_command.specs.Wire.{AreByteValues}
 use Rattle.pmb_writer.specs.declared.invalid.Invalid.TheVariants.{WrongLength, NotAllowed}
@@ -137,7 +137,7 @@ module _ (profile : List DeviceParts) (parts : List PartData) (addr code : ℕ) 
             has_its_command,
             inr (
               asked is,
-              inl (the_device (λ d. IsReadBody d (code ∷ bytes) ⊎ IsCallBody d (code ∷ bytes)) (requests_not device code bytes (subst (λ s. is_request s bytes ≡ false) found.shape_is fails)), refl),
+              inl (the_device (λ d. IsRequest d (code ∷ bytes)) (requests_not device code bytes (subst (λ s. is_request s bytes ≡ false) found.shape_is fails)), refl),
             ),
           ),
         ),

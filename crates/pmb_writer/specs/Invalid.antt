@@ -9,7 +9,7 @@ use Rattle.pmb_command.specs.Parts.{CommandParts, DeviceParts, IsNew, command_wi
 use Rattle.pmb_command.specs.PecMode.{AllowsPec}
 use Rattle.pmb_command.specs.Wire.{Fits}
 use Rattle.pmb_transaction.specs.Transaction.{PartData, ReadData, CallData, RefusedData, TransactionData, Write, Read, Call, Refused, Alert, NoAlert}
-use Rattle.pmb_transaction.specs.Body.{shape_of, IsProperPrefix, IsReadBody, IsCallBody, Allowed}
+use Rattle.pmb_transaction.specs.Body.{shape_of, IsProperPrefix, Allowed, IsRequest}
 use Rattle.pmb_transaction.specs.Packet.{addresses, Packet}
 use Rattle.pmb_writer.specs.declared.invalid.Invalid.{Invalid}
 use Rattle.pmb_writer.specs.declared.invalid.Invalid.TheVariants.{NoParts, UnknownDevice, AddressTwice, UnknownCommand, NotAllowed, WrongLength, PecMode}
@@ -148,7 +148,7 @@ module _ (profile : List DeviceParts) where
       ∷ rule_unless NotAllowed (parts ≡ [])
       ∷ has_command addr code
       ∷ rule_unless NotAllowed (CanBeAsked (forms_at addr code))
-      ∷ rule_unless WrongLength (OfDevice addr (λ device. IsReadBody device (code ∷ bytes) ⊎ IsCallBody device (code ∷ bytes)))
+      ∷ rule_unless WrongLength (OfDevice addr (λ device. IsRequest device (code ∷ bytes)))
       ∷ []
 
   -- those of its address, which has seven bits and is none of the parts, and of its leg

@@ -11,5 +11,5 @@ returns-in-Some-clause-text c = λ command is same.
     let device = c.args.device.now in
     let formed : register_form command.entry.shape ≡ Some c.in-Some.form = ap register_form same ∙ (sym c.register_form.ensures ∙ c.in-Some.is) in
     c.append_bytes.ensures.text
-    ∙ ap (λ (bytes : List ℕ). row ++ bytes_word bytes) (c.as_slice.ensures.value ∙ c.first_bytes.ensures command is)
+    ∙ ap (λ (bytes : List ℕ). row ++ bytes_word bytes) (c.as_slice.ensures.value ∙ c.first_bytes.ensures.command command is)
     ∙ ap (λ (form : Option Form). row ++ first_word device command form) (sym formed)

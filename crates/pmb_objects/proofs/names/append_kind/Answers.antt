@@ -2,7 +2,7 @@
 use Rattle.std.proofs.Common.{map, ◌++◌, sym, ap, ◌∙◌}
 use Rattle.pmb_object.specs.Json.{string}
 use Rattle.pmb_object.specs.Member.{items_text}
-use Rattle.pmb_objects.specs.Names.{with_name}
+use Rattle.pmb_transaction.specs.Names.{with_name}
 use Rattle.pmb_objects.proofs.Lists.{item_before}
 use Rattle.pmb_objects.proofs.names.append_kind.Goals as goal
 

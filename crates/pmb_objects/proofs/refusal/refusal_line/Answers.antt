@@ -9,7 +9,7 @@ use Rattle.pmb_objects.proofs.refusal.refusal_line.Goals as goal
 
 pub returns-clause-line : goal.returns-clause-line
 returns-clause-line g c = λ known profile front sees viable stands.
-    let reason = c.text_member.ensures.member ∙ ap (λ t. c.begin_object.new.out.items ++ members_text Later (named (codes "reason") (string t) ∷ [])) c.reason_name.ensures.name in
+    let reason = c.text_member.ensures.member ∙ ap (λ t. c.begin_object.new.out.items ++ members_text Later (named (codes "reason") (string t) ∷ [])) c.name.ensures.name in
     let device = c.append_said_device.ensures.members ∙ ap (λ d. c.append_got.new.out.items ++ members_text Later (said_device_member d)) (c.device.ensures front stands) in
     let right = c.append_right_pec.ensures.members ∙ ap (λ r. c.append_reply.new.out.items ++ members_text Later (right_pec_members r)) (c.right_pec.ensures front stands) in
     let written = c.append_written.ensures.members known profile front sees viable stands in

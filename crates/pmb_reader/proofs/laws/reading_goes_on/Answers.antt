@@ -2,4 +2,4 @@ use Rattle.pmb_reader.proofs.Accounts.{goes_on}
 use Rattle.pmb_reader.proofs.laws.reading_goes_on.Goals as goal
 
 pub returns : goal.returns
-returns c = goes_on
+returns c = λ profile. goes_on profile c.passing_goes_on.ensures.other

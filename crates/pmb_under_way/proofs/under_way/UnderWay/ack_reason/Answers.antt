@@ -1,5 +1,18 @@
+use Rattle.pmb_transaction.specs.Reason.{too_long, unknown_device}
+use Rattle.pmb_under_way.specs.declared.under_way.Place.TheVariants as places
 use Rattle.pmb_under_way.proofs.Reasons.{ack_elsewhere, plain_here}
+use Rattle.pmb_under_way.proofs.Steps.{at_place}
 use Rattle.pmb_under_way.proofs.under_way.UnderWay.ack_reason.Goals as goal
+
+pub returns-in-Address : goal.returns-in-Address
+returns-in-Address c = λ profile events stands alone.
+    let here = at_place profile c.args.self.now events (places.Address _) c.in-Address.is stands in
+    unknown_device here.legs _ here.spelled
+
+pub returns-in-AnswerByte : goal.returns-in-AnswerByte
+returns-in-AnswerByte c = λ profile events stands alone.
+    let here = at_place profile c.args.self.now events (places.AnswerByte _) c.in-AnswerByte.is stands in
+    too_long here.front here.addr here.bytes here.byte here.spelled
 
 pub returns-in-Between : goal.returns-in-Between
 returns-in-Between c = λ profile events stands alone.

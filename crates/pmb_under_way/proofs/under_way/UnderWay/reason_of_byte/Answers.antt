@@ -7,7 +7,8 @@ use Rattle.pmb_under_way.proofs.under_way.UnderWay.reason_of_byte.Goals as goal
 pub returns-then-contains : goal.returns-then-contains
 returns-then-contains c = λ profile events stands.
     let held : holds c.expected.result (Byte c.args.byte) ≡ true = sym c.contains.ensures ∙ c.if-contains.true in
-    inl (some_byte profile events c.expected.result (c.expected.ensures profile events stands) c.args.byte held, c.byte_reason.ensures profile events stands)
+    let some = some_byte profile events c.expected.result (c.expected.ensures profile events stands) c.args.byte held in
+    inl (some, c.byte_reason.ensures profile events stands some)
 
 pub returns-else-contains : goal.returns-else-contains
 returns-else-contains c = λ profile events stands.

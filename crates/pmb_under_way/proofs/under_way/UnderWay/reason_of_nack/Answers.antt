@@ -5,7 +5,7 @@ use Rattle.pmb_under_way.proofs.under_way.UnderWay.reason_of_nack.Goals as goal
 pub returns-then-bits-eq-ACK_ALONE : goal.returns-then-bits-eq-ACK_ALONE
 returns-then-bits-eq-ACK_ALONE c = λ profile events stands.
     let alone = ack_alone profile events c.expected-kinds.result (c.expected-kinds.ensures profile events stands) (sym c.bits.ensures ∙ c.if-bits-eq-ACK_ALONE.true) in
-    inl (alone, c.nack_reason.ensures profile events stands alone)
+    inl (alone, c.refused_events_have_a_reason.ensures.nack profile events stands.bus alone)
 
 pub returns-else-bits-eq-ACK_ALONE : goal.returns-else-bits-eq-ACK_ALONE
 returns-else-bits-eq-ACK_ALONE c = λ profile events stands.

@@ -1,9 +1,8 @@
 use Rattle.std.proofs.Common.{ℕ, List, length, ap, sym, arith, ◌∙◌}
-use Rattle.pmb_transaction.specs.Reason.{ack_reason}
 use Rattle.pmb_leg.specs.Leg.{Written}
 use Rattle.pmb_under_way.specs.declared.under_way.Place.TheVariants as places
 use Rattle.pmb_under_way.proofs.Steps.{at_place}
-use Rattle.pmb_under_way.proofs.Reasons.{ack_at_code, ack_further, kept_byte_place}
+use Rattle.pmb_under_way.proofs.Reasons.{code_is_unknown, pec_is_wrong}
 use Rattle.pmb_under_way.proofs.WrittenLegs.{same_leg}
 use Rattle.pmb_under_way.proofs.under_way.UnderWay.taken_reason.Goals as goal
 
@@ -12,11 +11,11 @@ returns-then-bytes-gt0 c = λ profile events at stands.
     let here = at_place profile c.args.self.now events (places.LegByte c.args.byte) at stands in
     let same = same_leg c.args.self.now here.written c.in-Some.leg here.is c.in-Some.is in
     let count = ap (λ (bs : List ℕ). length bs) (c.bytes.ensures.value ∙ ap (λ (w : Written). w.bytes) (sym same)) in
-    sym (ap ack_reason (kept_byte_place c.places_of_events.ensures.code c.places_of_events.ensures.further profile c.args.self.now c.args.byte events here) ∙ ack_further here.written.bytes (omega (arith, count, c.if-bytes-gt0.true)))
+    pec_is_wrong profile c.args.self.now c.args.byte events here (omega (arith, count, c.if-bytes-gt0.true))
 
 pub returns-else-bytes-gt0 : goal.returns-else-bytes-gt0
 returns-else-bytes-gt0 c = λ profile events at stands.
     let here = at_place profile c.args.self.now events (places.LegByte c.args.byte) at stands in
     let same = same_leg c.args.self.now here.written c.in-Some.leg here.is c.in-Some.is in
     let count = ap (λ (bs : List ℕ). length bs) (c.bytes.ensures.value ∙ ap (λ (w : Written). w.bytes) (sym same)) in
-    sym (ap ack_reason (kept_byte_place c.places_of_events.ensures.code c.places_of_events.ensures.further profile c.args.self.now c.args.byte events here) ∙ ack_at_code here.written.bytes (omega (arith, count, c.if-bytes-gt0.false)))
+    code_is_unknown profile c.args.self.now c.args.byte events here (omega (arith, count, c.if-bytes-gt0.false))
