@@ -73,6 +73,16 @@ is_raw VoutSigned = false
 is_raw (Direct d) = false
 is_raw Status = false
 
+-- the data are status bits
+abbrev pub is_status_kind : Kind → Bool
+is_status_kind Raw = false
+is_status_kind Linear11 = false
+is_status_kind (Linear11Fixed exponent) = false
+is_status_kind Vout = false
+is_status_kind VoutSigned = false
+is_status_kind (Direct d) = false
+is_status_kind Status = true
+
 -- the form of a command's value: in which it is read, or else written
 abbrev pub value_form : Shape → Option Form
 value_form s = if is_some s.read then s.read else s.write

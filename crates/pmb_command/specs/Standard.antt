@@ -53,7 +53,7 @@ are_bits_of (Some Eight) names = nat_eq (length names) 64
 are_bits_of (Some Block) names = false
 
 -- The code is that of a standard status command, and not of one without names.
-pub record IsNamedStatus (code : ℕ) : Type 0 where
+pub record HasNamedBits (code : ℕ) : Type 0 where
   pub entry : EntryParts
   pub has : standard_entry code ≡ Some entry
   pub status : entry.kind ≡ Status

@@ -6,7 +6,7 @@ ghost use Rattle.pmb_command.specs.declared.form.Form.{Form};
 ghost use Rattle.pmb_command.specs.Entry.{EntryParts};
 ghost use Rattle.pmb_command.specs.Fitting.{same_form, value_form};
 ghost use Rattle.pmb_command.specs.Commands.{code_of_name, standard_entry};
-ghost use Rattle.pmb_command.specs.Standard.{IsNamed, IsNamedStatus, IsStandardAt, are_bits_of};
+ghost use Rattle.pmb_command.specs.Standard.{IsNamed, HasNamedBits, IsStandardAt, are_bits_of};
 ghost use Rattle.pmb_command.specs.StatusBits.{status_bits};
 
 /// The standard entry of a code has that code and a name of its own, of at most 32 bytes, and its
@@ -28,6 +28,6 @@ pub fn forms_are_told_apart()
 /// Each standard status command has a name, or a gap, for each of its 8 or 16 bits, but for the three
 /// whose bits have no names here; and no other code has names of bits.
 pub fn status_commands_have_names()
-    ensures each { (code : ℕ) (status : IsNamedStatus code) → are_bits_of (value_form status.entry.shape) (status_bits code) ≡ true }
-    ensures only { (code : ℕ) → status_bits code ≢ [] → IsNamedStatus code }
+    ensures each { (code : ℕ) (status : HasNamedBits code) → are_bits_of (value_form status.entry.shape) (status_bits code) ≡ true }
+    ensures only { (code : ℕ) → status_bits code ≢ [] → HasNamedBits code }
 {}
