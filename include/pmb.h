@@ -179,8 +179,9 @@ typedef struct pmb_lexer {
     uint8_t second; /* its second byte */
 } pmb_lexer;
 
-/* Reads the next piece of a text, up to and with the byte that ends its next event, or all of it.
- * used is told how many bytes were read; those after them are to be given again, before what follows.
+/* Reads the next piece of a text, up to and including the byte that ends its next event, or all of
+ * it. used is told how many bytes were read; those after them are to be given again, before what
+ * follows.
  * A text may be cut anywhere: its events are the same.
  * Returns PMB_OK, and writes the event; or PMB_NO_EVENT, where all is used; or PMB_BAD_TOKEN, where
  * a word is no token: lexer->at is the offset in the text of its first byte, and each further call

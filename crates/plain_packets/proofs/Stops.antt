@@ -4,7 +4,7 @@ use Rattle.std.specs.List.{All, Contains}
 use Rattle.std.proofs.lemmas.List.Elements.{All-contains, All-push, Contains-append_right}
 use Rattle.pmb_bus.specs.declared.event.Event.{Event}
 use Rattle.pmb_bus.specs.declared.event.Event.TheVariants.{Stop}
-use Rattle.pmb_transaction.specs.Capture.{EndsAtStop, HasNoStop}
+use Rattle.pmb_transaction.specs.Capture.{EndsAtFirstStop, HasNoStop}
 use Rattle.plain_packets.specs.Stops.{NoneStops}
 
 -- one event more that is none
@@ -18,5 +18,5 @@ no_stop events none before after split =
     All-contains (λ (event : Event). event ≢ Stop) events Stop none (subst (λ (all : List Event). Contains all Stop) (sym split) stands) refl
 
 -- one STOP after such events ends them
-pub ends : (front : List Event) → NoneStops front → EndsAtStop (front ++ Stop ∷ [])
+pub ends : (front : List Event) → NoneStops front → EndsAtFirstStop (front ++ Stop ∷ [])
 ends front none = record { front = front; no_stop = no_stop front none; split = refl }

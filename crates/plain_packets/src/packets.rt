@@ -1,7 +1,7 @@
 //! The events of a transaction, built rule by rule.
 
 ghost use Rattle.std.specs.Prelude.{IfOk};
-ghost use Rattle.pmb_transaction.specs.Capture.{EndsAtStop};
+ghost use Rattle.pmb_transaction.specs.Capture.{EndsAtFirstStop};
 ghost use Rattle.plain_packets.specs.Stops.{NoneStops};
 
 use crate::legs::{
@@ -43,7 +43,7 @@ fn parts_events(alloc: Global, profile: &Profile, parts: &[Part]) -> Result<Vec<
 
 #[tactic(auto, using(crate::proofs::Stops::ends))]
 fn write_events(alloc: Global, profile: &Profile, parts: &[Part]) -> Result<Vec<Event>, NoPacket>
-    ensures { IfOk result (λ events. EndsAtStop events.items) }
+    ensures { IfOk result (λ events. EndsAtFirstStop events.items) }
 {
     require(!parts.is_empty())?;
     let mut group = parts_events(alloc, profile, parts)?;
@@ -55,7 +55,7 @@ fn write_events(alloc: Global, profile: &Profile, parts: &[Part]) -> Result<Vec<
 #[tactic(auto, using(crate::proofs::Stops::ends))]
 fn end_with(mut events: Vec<Event>, bytes: &[u8]) -> Result<Vec<Event>, NoPacket>
     requires { NoneStops events.items }
-    ensures { IfOk result (λ events. EndsAtStop events.items) }
+    ensures { IfOk result (λ events. EndsAtFirstStop events.items) }
 {
     push_leg(&mut events, bytes, Event::Nack)?;
     events.push(Event::Stop)?;
@@ -72,7 +72,7 @@ fn answered(
     reply: &[u8],
     pec: bool,
 ) -> Result<Vec<Event>, NoPacket>
-    ensures { IfOk result (λ events. EndsAtStop events.items) }
+    ensures { IfOk result (λ events. EndsAtFirstStop events.items) }
 {
     require(allows(device.pec(), pec))?;
     let mut answer = Vec::new(alloc);
@@ -97,7 +97,7 @@ fn refused_byte_events(
     addr: u8,
     sent: &[u8],
 ) -> Result<Vec<Event>, NoPacket>
-    ensures { IfOk result (λ events. EndsAtStop events.items) }
+    ensures { IfOk result (λ events. EndsAtFirstStop events.items) }
 {
     require(!has_address(parts, addr))?;
     let events = parts_events(alloc, profile, parts)?;
@@ -124,7 +124,7 @@ fn refused_read_events(
     addr: u8,
     sent: &[u8],
 ) -> Result<Vec<Event>, NoPacket>
-    ensures { IfOk result (λ events. EndsAtStop events.items) }
+    ensures { IfOk result (λ events. EndsAtFirstStop events.items) }
 {
     require(parts.is_empty())?;
     let device = device(profile, addr)?;
@@ -140,7 +140,7 @@ fn refused_read_events(
 /// The answer at the Alert Response Address, read: none, a byte, or a byte and its packet error
 /// code.
 fn alert_events(alloc: Global, answer: &[u8]) -> Result<Vec<Event>, NoPacket>
-    ensures { IfOk result (λ events. EndsAtStop events.items) }
+    ensures { IfOk result (λ events. EndsAtFirstStop events.items) }
 {
     let mut bytes = Vec::new(alloc);
     bytes.push(0x19)?;
@@ -154,7 +154,7 @@ pub fn packet(
     profile: &Profile,
     transaction: &Transaction,
 ) -> Result<Vec<Event>, NoPacket>
-    ensures { IfOk result (λ events. EndsAtStop events.items) }
+    ensures { IfOk result (λ events. EndsAtFirstStop events.items) }
 {
     match transaction {
         Transaction::Write { parts } => write_events(alloc, profile, parts.as_slice()),

@@ -12,7 +12,7 @@ use pmb_reader::laws::{reading_accepts, reading_goes_on, reading_refuses, readin
 use pmb_reader::{Reader, Took};
 
 /// Hands an event to a reader that holds no refusal, and continues after a refusal: the refused event
-/// is passed over, and those after it up to and with the next STOP will be.
+/// is passed over, and those after it up to and including the next STOP will be.
 pub(crate) fn take_on(reader: &mut Reader, event: Event) -> Took
     ensures { (profile : List DeviceParts) (events : List BusEvent) (outcomes : List Outcome)
         → HasRead profile reader.old events AnyEvent outcomes

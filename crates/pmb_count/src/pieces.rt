@@ -28,7 +28,7 @@ pub(crate) struct Fed {
     pub(crate) took: Took,
 }
 
-/// Hands a piece to a reader that holds no refusal, up to and with a STOP that ends a packet, or an
+/// Hands a piece to a reader that holds no refusal, up to and including a STOP that ends a packet, or an
 /// event that is refused. Reading continues after that, which is passed over.
 pub(crate) fn feed_on(reader: &mut Reader, piece: &[Event]) -> Fed
     requires { HasReadSome reader.old }

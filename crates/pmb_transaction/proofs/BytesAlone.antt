@@ -9,7 +9,7 @@ use Rattle.pmb_command.specs.Parts.{DeviceParts}
 use Rattle.pmb_transaction.specs.Transaction.{PartData}
 use Rattle.pmb_transaction.specs.Packet.{PartsEvents, acked, nacked}
 use Rattle.pmb_transaction.specs.Capture.{MayFollow}
-use Rattle.pmb_transaction.specs.Turns.{is_byte, stands_behind}
+use Rattle.pmb_transaction.specs.Turns.{is_byte, follows_in_turn}
 use Rattle.pmb_transaction.proofs.Alerts.{alert_has_byte}
 use Rattle.pmb_transaction.proofs.Answers.{answer_has_byte, no_end_taken}
 use Rattle.pmb_transaction.proofs.Beginnings.{viable_is_beginning}
@@ -57,7 +57,7 @@ module _ (pec_is_byte : (bytes : List ℕ) → pec bytes < 256) (profile : List 
       no_end_taken answer bytes (alert_has_byte answer answers) rest
 
   -- the leg ends with ACK
-  behind_ack : (event : Event) → MayFollow profile all_legs event → stands_behind Ack event ≡ true
+  behind_ack : (event : Event) → MayFollow profile all_legs event → follows_in_turn Ack event ≡ true
   behind_ack event follows =
       let taken = ends_taken (read_address addr) bytes in
       let same : all_legs ≡ (front ++ Start ∷ taken.0) ++ Ack ∷ [] =

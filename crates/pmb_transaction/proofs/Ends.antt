@@ -6,7 +6,7 @@ use Rattle.pmb_bus.specs.declared.event.Event.TheVariants.{Start, Byte, Ack, Nac
 use Rattle.pmb_command.specs.Parts.{DeviceParts}
 use Rattle.pmb_transaction.specs.Capture.{HasNoStop, IsPacket, MayFollow, Viable}
 use Rattle.pmb_transaction.specs.Reading.{IsUnderWay}
-use Rattle.pmb_transaction.specs.Turns.{is_stop, stands_behind}
+use Rattle.pmb_transaction.specs.Turns.{is_stop, follows_in_turn}
 use Rattle.pmb_transaction.proofs.Fronts.{no_end, no_front}
 use Rattle.pmb_transaction.proofs.Stops.{packet_ends_with_stop}
 use Rattle.pmb_transaction.proofs.Turns.{events_take_turns}
@@ -25,7 +25,7 @@ last_stop (e ∷ front) (f ∷ before) after none same =
     last_stop front before after (λ x y split. none (e ∷ x) y (ap (λ (es : List Event). e ∷ es) split)) rest
 
 -- the event after NACK, where it is STOP and nothing else
-only_stop : (event : Event) → stands_behind Nack event ≡ true → event ≡ Stop
+only_stop : (event : Event) → follows_in_turn Nack event ≡ true → event ≡ Stop
 only_stop Start turns = cc turns
 only_stop (Byte b) turns = cc turns
 only_stop Ack turns = cc turns
@@ -76,7 +76,7 @@ module _ (profile : List DeviceParts) where
       cc (other, ap is_stop is)
 
   -- nor with STOP after an event that STOP does not stand after
-  pub ends_behind : (events : List Event) (event : Event) → stands_behind event Stop ≡ false
+  pub ends_behind : (events : List Event) (event : Event) → follows_in_turn event Stop ≡ false
       → IsPacket profile ((events ++ event ∷ []) ++ Stop ∷ []) → ⊥
   ends_behind events event other packet =
       let turns = events_take_turns profile events event Stop (packet_is_viable ((events ++ event ∷ []) ++ Stop ∷ []) packet) in

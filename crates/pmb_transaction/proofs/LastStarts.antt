@@ -11,7 +11,7 @@ use Rattle.pmb_transaction.specs.Transaction.{PartData, TransactionData, Write, 
 use Rattle.pmb_transaction.specs.Body.{checked, IsRequest}
 use Rattle.pmb_transaction.specs.Packet.{Packet, PartEvents, PartsEvents, RefusedLeg, acked, addresses, leg, nacked}
 use Rattle.pmb_transaction.specs.Capture.{IsPacket}
-use Rattle.pmb_transaction.specs.Turns.{is_stop, stands_behind}
+use Rattle.pmb_transaction.specs.Turns.{is_stop, follows_in_turn}
 use Rattle.pmb_transaction.specs.Viable.{IsAnswer, AnswerBegins, answer_taken, answer_sent, AlertBegins, ReadBegins, LegBegins, IsBeginning, at_alert, alert_answer, read_start, read_address_sent, read_answer, leg_start, leg_address, leg_taken, leg_sent, whole, before_stop, written, read, alert}
 use Rattle.pmb_transaction.specs.Following.{IsAlertAnswer}
 use Rattle.pmb_transaction.proofs.Beginnings.{call_answers, read_answers, same_before_stop}
@@ -201,14 +201,14 @@ module _ (profile : List DeviceParts) where
       inr (in_alert (sym cut.0) (subst AlertBegins cut.1 begins))
 
   -- after an event that neither ends a packet nor has STOP after it, the latter
-  by_open_leg_at : (events : List Event) (event : Event) (front own : List Event) → is_stop event ≡ false → stands_behind event Stop ≡ false
+  by_open_leg_at : (events : List Event) (event : Event) (front own : List Event) → is_stop event ≡ false → follows_in_turn event Stop ≡ false
       → (IsPacket profile (events ++ event ∷ []) ⊎ IsPacket profile ((events ++ event ∷ []) ++ Stop ∷ [])) ⊎ InLastLeg front own
       → InLastLeg front own
   by_open_leg_at events event front own other stays (inl (inl packet)) = absurd (ends_with profile events event other packet)
   by_open_leg_at events event front own other stays (inl (inr packet)) = absurd (ends_behind profile events event stays packet)
   by_open_leg_at events event front own other stays (inr w) = w
 
-  pub by_open_leg : (events : List Event) (event : Event) (front own : List Event) → is_stop event ≡ false → stands_behind event Stop ≡ false
+  pub by_open_leg : (events : List Event) (event : Event) (front own : List Event) → is_stop event ≡ false → follows_in_turn event Stop ≡ false
       → has_start own ≡ false → events ++ event ∷ [] ≡ front ++ Start ∷ own → IsBeginning profile (events ++ event ∷ []) → InLastLeg front own
   by_open_leg events event front own other stays none spelled begins =
       by_open_leg_at events event front own other stays (by_last_leg front own (events ++ event ∷ []) none spelled begins)

@@ -3,7 +3,7 @@ use Rattle.std.proofs.Common.{◌≡◌, ◌≢◌, List, [], ◌∷◌, ◌++�
 use Rattle.std.proofs.lemmas.List.{append-nil}
 use Rattle.pmb_bus.specs.declared.event.Event.{Event}
 use Rattle.pmb_bus.specs.declared.event.Event.TheVariants.{Stop}
-use Rattle.pmb_transaction.specs.Capture.{EndsAtStop, HasNoStop}
+use Rattle.pmb_transaction.specs.Capture.{EndsAtFirstStop, HasNoStop}
 use Rattle.pmb_transaction.specs.Reading.{PassedOver, to_first_stop, to_the_end}
 use Rattle.pmb_transaction.proofs.Decided.{Decided}
 use Rattle.pmb_transaction.proofs.DecidedPackets.{same_event}
@@ -62,7 +62,7 @@ passed_then_left events passed left (to_the_end all none nothing) =
     all ∙ sym (append-nil passed) ∙ ap (λ (es : List Event). passed ++ es) (sym nothing)
 
 -- the STOP, and what is left
-at_stop : (events passed left : List Event) → events ≡ passed ++ left → (ends : EndsAtStop passed) → events ≡ ends.front ++ Stop ∷ left
+at_stop : (events passed left : List Event) → events ≡ passed ++ left → (ends : EndsAtFirstStop passed) → events ≡ ends.front ++ Stop ∷ left
 at_stop events passed left split ends =
     split ∙ ap (λ (es : List Event). es ++ left) ends.split ∙ append_assoc ends.front (Stop ∷ []) left
 

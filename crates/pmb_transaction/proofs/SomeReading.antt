@@ -31,7 +31,7 @@ one_of_both Holds Told some (inl holds) = let told = some holds in (told.0, inl 
 one_of_both Holds Told some (inr fails) = (WrongEvent, inr (fails, refl))
 
 module _ (pec_is_byte : (bytes : List ℕ) → pec bytes < 256) (profile : List DeviceParts) (bus : IsBus profile) where
-  some_reason : (events : List Event) (event : Event) → (reason : Reason) × IsReason profile events event reason
+  pub some_reason : (events : List Event) (event : Event) → (reason : Reason) × IsReason profile events event reason
   some_reason events Start = (WrongEvent, refl)
   some_reason events Stop = (WrongEvent, refl)
   some_reason events (Byte b) =

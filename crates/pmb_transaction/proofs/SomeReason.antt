@@ -12,7 +12,7 @@ use Rattle.pmb_transaction.specs.declared.reason.Reason.TheVariants.{ReadFirst, 
 use Rattle.pmb_transaction.specs.Packet.{leg}
 use Rattle.pmb_transaction.specs.Capture.{IsPacket, MayFollow}
 use Rattle.pmb_transaction.specs.Reason.{ByteReason, read_first, bad_restart, bad_pec_sent, AckReason, unknown_device, unknown_command, bad_pec_taken, too_long, NackReason, too_short, FollowsAlone, SomeByteMayFollow}
-use Rattle.pmb_transaction.specs.Turns.{stands_behind}
+use Rattle.pmb_transaction.specs.Turns.{follows_in_turn}
 use Rattle.pmb_transaction.specs.Viable.{AlertBegins, AnswerBegins, IsBeginning, LegBegins, PartsAndLeg, ReadBegins, alert, alert_answer, answer_sent, answer_taken, at_alert, before_stop, leg_address, leg_sent, leg_start, leg_taken, read, read_address_sent, read_answer, read_start, whole, written}
 use Rattle.pmb_transaction.proofs.AddressBytes.{nack_follows}
 use Rattle.pmb_transaction.proofs.Alerts as alerts
@@ -55,7 +55,7 @@ reason_after_start : (front : List Event) → (reason : Reason) × ByteReason (f
 reason_after_start [] = (ReadFirst, read_first refl)
 reason_after_start (event ∷ front) = (BadRestart, bad_restart (event ∷ front) (λ none. cc none) refl)
 
-reason_after : (front : List Event) (last : Event) (b : ℕ) → stands_behind last (Byte b) ≡ true → (reason : Reason) × ByteReason (front ++ last ∷ []) reason
+reason_after : (front : List Event) (last : Event) (b : ℕ) → follows_in_turn last (Byte b) ≡ true → (reason : Reason) × ByteReason (front ++ last ∷ []) reason
 reason_after front Start b turns = reason_after_start front
 reason_after front (Byte other) b turns = absurd (cc turns)
 reason_after front Ack b turns = (BadPec, bad_pec_sent front refl)
@@ -64,14 +64,14 @@ reason_after front Stop b turns = absurd (cc turns)
 
 -- ---- its answer
 
-byte_stands : (last : Event) → stands_behind last Ack ≡ true → (b : ℕ) × (last ≡ Byte b)
+byte_stands : (last : Event) → follows_in_turn last Ack ≡ true → (b : ℕ) × (last ≡ Byte b)
 byte_stands Start turns = absurd (cc turns)
 byte_stands (Byte b) turns = (b, refl)
 byte_stands Ack turns = absurd (cc turns)
 byte_stands Nack turns = absurd (cc turns)
 byte_stands Stop turns = absurd (cc turns)
 
-same_turn : (last : Event) → stands_behind last Nack ≡ stands_behind last Ack
+same_turn : (last : Event) → follows_in_turn last Nack ≡ follows_in_turn last Ack
 same_turn Start = refl
 same_turn (Byte b) = refl
 same_turn Ack = refl
@@ -171,7 +171,7 @@ module _ (pec_is_byte : (bytes : List ℕ) → pec bytes < 256) (profile : List 
     after_byte (read begins) = in_read begins
     after_byte (alert begins) = in_alert begins
 
-  before_answer : (events : List Event) (answer : Event) → ((last : Event) → stands_behind last answer ≡ stands_behind last Ack) → answer ≢ Start
+  before_answer : (events : List Event) (answer : Event) → ((last : Event) → follows_in_turn last answer ≡ follows_in_turn last Ack) → answer ≢ Start
       → MayFollow profile events answer → AfterByte profile events
   before_answer [] answer turn other follows = absurd (other (first_is_start profile answer follows))
   before_answer (event ∷ events) answer turn other follows =

@@ -11,7 +11,7 @@ use Rattle.pmb_command.specs.Wire.{wire}
 use Rattle.pmb_transaction.specs.Body.{checked}
 use Rattle.pmb_transaction.specs.Transaction.{PartData, TransactionData, Write, Read, Call, Refused, Alert, NoAlert}
 use Rattle.pmb_transaction.specs.Packet.{Packet, PartsEvents, RefusedLeg, acked, answered, leg, nacked}
-use Rattle.pmb_transaction.specs.Capture.{EndsAtStop, HasNoStop}
+use Rattle.pmb_transaction.specs.Capture.{EndsAtFirstStop, HasNoStop}
 
 -- an event other than STOP
 abbrev pub is_other : Event → Bool
@@ -70,11 +70,11 @@ not_empty [] same = cc same
 not_empty (e ∷ front) same = cc same
 
 -- where a STOP ends what has none
-ends : (events front : List Event) → has_no_stop front ≡ true → events ≡ front ++ Stop ∷ [] → EndsAtStop events
+ends : (events front : List Event) → has_no_stop front ≡ true → events ≡ front ++ Stop ∷ [] → EndsAtFirstStop events
 ends events front none split = record { front = front; no_stop = HasNoStop-from front none; split = split }
 
 -- the packet of a read or a call
-ends-answered : (events : List Event) (addr : ℕ) (body reply : List ℕ) (with_pec : Bool) → events ≡ answered addr body reply with_pec → EndsAtStop events
+ends-answered : (events : List Event) (addr : ℕ) (body reply : List ℕ) (with_pec : Bool) → events ≡ answered addr body reply with_pec → EndsAtFirstStop events
 ends-answered events addr body reply with_pec spelled =
     let written = leg (write_address addr ∷ body) in
     let bytes = checked with_pec (write_address addr ∷ body ++ read_address addr ∷ []) reply in
@@ -100,7 +100,7 @@ module _ (profile : List DeviceParts) where
       ap has_no_stop refused.spelled
       ∙ no_stop-append (leg (write_address addr ∷ b ∷ bytes)) (Start ∷ Byte (read_address addr) ∷ Nack ∷ []) (no_stop-acked bytes) refl
 
-  pub packet_ends_with_stop : (t : TransactionData) (events : List Event) → Packet profile t events → EndsAtStop events
+  pub packet_ends_with_stop : (t : TransactionData) (events : List Event) → Packet profile t events → EndsAtFirstStop events
   packet_ends_with_stop (Write parts) events packet = ends events packet.legs (no_stop-parts parts packet.legs packet.each) packet.spelled
   packet_ends_with_stop (Read t) events packet =
       ends-answered events t.addr (t.code ∷ []) (wire packet.form t.reply) t.pec packet.spelled

@@ -10,27 +10,27 @@ use Rattle.pmb_transaction.specs.Transaction.{PartData, TransactionData, Write, 
 use Rattle.pmb_transaction.specs.Body.{checked}
 use Rattle.pmb_transaction.specs.Packet.{Packet, PartsEvents, RefusedLeg, acked, answered, leg, nacked}
 use Rattle.pmb_transaction.specs.Capture.{IsPacket, MayFollow}
-use Rattle.pmb_transaction.specs.Turns.{stands_behind}
+use Rattle.pmb_transaction.specs.Turns.{follows_in_turn}
 use Rattle.pmb_transaction.proofs.Fronts.{no_end}
 use Rattle.pmb_transaction.proofs.Stops.{no_packet_begins_another}
 
 -- whether events take turns after one
 abbrev pub take_turns : Event → List Event → Bool
 take_turns before [] = true
-take_turns before (event ∷ events) = stands_behind before event && take_turns event events
+take_turns before (event ∷ events) = follows_in_turn before event && take_turns event events
 
 -- two of them that stand side by side
 side_by_side : (before : Event) (front : List Event) (d e : Event) (rest : List Event) → take_turns before (front ++ d ∷ e ∷ rest) ≡ true
-    → stands_behind d e ≡ true
+    → follows_in_turn d e ≡ true
 side_by_side before [] d e rest turns =
-    let later = (and_parts (stands_behind before d) (take_turns d (e ∷ rest)) turns).1 in
-    (and_parts (stands_behind d e) (take_turns e rest) later).0
+    let later = (and_parts (follows_in_turn before d) (take_turns d (e ∷ rest)) turns).1 in
+    (and_parts (follows_in_turn d e) (take_turns e rest) later).0
 side_by_side before (f ∷ front) d e rest turns =
-    side_by_side f front d e rest (and_parts (stands_behind before f) (take_turns f (front ++ d ∷ e ∷ rest)) turns).1
+    side_by_side f front d e rest (and_parts (follows_in_turn before f) (take_turns f (front ++ d ∷ e ∷ rest)) turns).1
 
 -- the first of them
-first_stands : (before event : Event) (events : List Event) → take_turns before (event ∷ events) ≡ true → stands_behind before event ≡ true
-first_stands before event events turns = (and_parts (stands_behind before event) (take_turns event events) turns).0
+first_stands : (before event : Event) (events : List Event) → take_turns before (event ∷ events) ≡ true → follows_in_turn before event ≡ true
+first_stands before event events turns = (and_parts (follows_in_turn before event) (take_turns event events) turns).0
 
 -- ---- the parts of packets, each after an ACK or at the front
 
@@ -100,7 +100,7 @@ module _ (profile : List DeviceParts) where
 
   -- an event that follows another one takes its turn
   pub events_take_turns : (events : List Event) (before event : Event) → MayFollow profile (events ++ before ∷ []) event
-      → stands_behind before event ≡ true
+      → follows_in_turn before event ≡ true
   events_take_turns events before event (inl none) = absurd (no_end (events ++ before ∷ []) event [] none)
   events_take_turns events before event (inr w) =
       let same : ((events ++ before ∷ []) ++ event ∷ []) ++ w.0 ≡ events ++ before ∷ event ∷ w.0 =

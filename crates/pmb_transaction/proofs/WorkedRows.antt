@@ -24,7 +24,7 @@ use Rattle.pmb_transaction.specs.Reason.{FollowsAlone, SomeByteMayFollow}
 use Rattle.pmb_transaction.specs.Reason as reasons
 use Rattle.pmb_transaction.specs.Rows.{AckAloneFollows, IsOutOfPlace, NackAloneFollows, OtherByteFollows, capability, clear_faults, command, device_58h, device_59h, read_vin, worked_bus}
 use Rattle.pmb_transaction.specs.Transaction.{PartData}
-use Rattle.pmb_transaction.specs.Turns.{stands_behind}
+use Rattle.pmb_transaction.specs.Turns.{follows_in_turn}
 use Rattle.pmb_transaction.specs.Viable.{BeginsBody, IsAnswer, IsInsideBody}
 use Rattle.pmb_transaction.proofs.Addresses.{distinct_none}
 use Rattle.pmb_transaction.proofs.AddressBytes.{ack_follows, first_follows, nack_follows}
@@ -224,7 +224,7 @@ one_byte answer is =
 
 -- ---- what is no answer to a byte
 
-answers_alone : (other : Event) → stands_behind (Byte 0) other ≡ true → (other ≡ Ack) ⊎ (other ≡ Nack)
+answers_alone : (other : Event) → follows_in_turn (Byte 0) other ≡ true → (other ≡ Ack) ⊎ (other ≡ Nack)
 answers_alone Start turns = absurd (cc turns)
 answers_alone (Byte b) turns = absurd (cc turns)
 answers_alone Ack turns = inl refl

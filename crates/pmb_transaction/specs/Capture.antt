@@ -11,7 +11,7 @@ abbrev pub HasNoStop : List Event → Type 0
 HasNoStop events = (before : List Event) (after : List Event) → events ≡ before ++ Stop ∷ after → ⊥
 
 -- The last of the events is STOP, and no other one is.
-pub record EndsAtStop (events : List Event) : Type 0 where
+pub record EndsAtFirstStop (events : List Event) : Type 0 where
   pub front : List Event
   pub no_stop : HasNoStop front
   pub split : events ≡ front ++ Stop ∷ []

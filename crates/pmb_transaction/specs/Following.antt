@@ -33,7 +33,7 @@ pub data IsNextAddress (device : DeviceParts) (parts : List PartData) (addr : �
 
 -- Why START may follow there.
 pub data LegMayFollow (device : DeviceParts) (parts : List PartData) (bytes : List ℕ) : Type 0 where
-  -- the leg was one more part, and they are less than 16
+  -- the leg was one more part, and they are fewer than 16
   leg_of_group : IsWriteBody device bytes → length parts < 15 → LegMayFollow device parts bytes
   -- the device was asked, in the packet's first leg
   leg_of_reply : parts ≡ [] → IsRequest device bytes → LegMayFollow device parts bytes

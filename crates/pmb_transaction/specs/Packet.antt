@@ -2,7 +2,7 @@
 --
 -- The drawings are those of SMBus 3.0 section 6.5: S is START, P is STOP, A is ACK, N is NACK, and
 -- what stands between them is a byte; addr+W and addr+R are the address bytes for writing and for
--- reading. In brackets stands what may be left out, and what `..` follows comes any number of
+-- reading. In brackets stands what may be left out, and what stands before `..` comes any number of
 -- times, or not at all.
 use Rattle.std.specs.Prelude.{◌≡◌, ℕ, ◌<◌, ◌≤◌, Bool, true, false, Some, List, [], ◌∷◌, ◌++◌, length, map, nat_eq}
 use Rattle.std.specs.List.{IsDistinct}
@@ -108,8 +108,8 @@ module _ (profile : List DeviceParts) where
     pub seven : addr < 128
     pub spelled : events ≡ Start ∷ Byte (write_address addr) ∷ Nack ∷ []
 
-  -- Bytes sent to a known device after some parts, of which it refused the last, whatever its
-  -- value: it is the only one, or a body that is allowed there begins with those before it and goes
+  -- Bytes sent to a known device after some parts. It refused the last of the bytes, whatever its
+  -- value: that is the only one, or a body that is allowed there begins with those before it and goes
   -- on.
   --
   -- S addr+W A sent A .. sent N

@@ -9,7 +9,7 @@ use Rattle.pmb_transaction.specs.declared.reason.Reason.{Reason}
 use Rattle.pmb_transaction.specs.declared.reason.Reason.TheVariants.{Truncated}
 use Rattle.pmb_transaction.specs.Transaction.{TransactionData}
 use Rattle.pmb_transaction.specs.Packet.{Packet}
-use Rattle.pmb_transaction.specs.Capture.{Capture, EndsAtStop, HasNoStop, IsPacket, Viable, MayFollow}
+use Rattle.pmb_transaction.specs.Capture.{Capture, EndsAtFirstStop, HasNoStop, IsPacket, Viable, MayFollow}
 use Rattle.pmb_transaction.specs.Reason.{IsReason}
 
 -- A refusal: its place, which stays at the greatest u64, why, and the kinds of the events that
@@ -26,10 +26,10 @@ pub data Outcome : Type 0 where
 
 -- After a refusal some events are passed over, and others are left.
 pub data PassedOver (events passed left : List Event) : Type 0 where
-  -- They are passed over up to and with the first STOP.
+  -- They are passed over up to and including the first STOP.
   --     event event .. STOP   event event ..
   --     ----- passed ------   ---- left ----
-  to_first_stop : events ≡ passed ++ left → EndsAtStop passed → PassedOver events passed left
+  to_first_stop : events ≡ passed ++ left → EndsAtFirstStop passed → PassedOver events passed left
   -- Where there is no STOP, all are passed over, and none are left.
   --     event event .. event
   --     ------ passed ------
@@ -58,9 +58,8 @@ module _ (profile : List DeviceParts) where
     pub expected : AreKindsOf (MayFollow profile events) refusal.expected
 
   -- The outcomes that events read as, where n events came before them. A packet at their front is
-  -- read, then the rest. Else, with the first event that no packet goes on with, they are refused;
-  -- that event and those after it are passed over, and what is left is read. Else, where there are
-  -- some, they are truncated.
+  -- read, then the rest. Else the first event that no packet can have there is refused; from it on
+  -- events are passed over, and what is left is read. Else, where there are some, they are truncated.
   abbrev pub ReadsFrom : ℕ → List Event → List Outcome → Type 0
   ReadsFrom n events [] = events ≡ []
   ReadsFrom n events (Accepted t ∷ more) =

@@ -1,4 +1,4 @@
--- Why a list of events that some packet begins with doesn't go on with an event.
+-- Why an event is refused after events that some packet begins with.
 --
 -- The drawings are those of `Packet`. `..` at the front stands for any events, and the last event is
 -- the one that is refused.
@@ -24,8 +24,8 @@ pub data ByteReason (events : List Event) : Reason → Type 0 where
   --
   -- .. S byte
   bad_restart : (front : List Event) → front ≢ [] → events ≡ front ++ Start ∷ [] → ByteReason events BadRestart
-  -- It comes after an ACK. There any byte may follow where one may, except for the packet error code
-  -- of a reply, which has one value.
+  -- It comes after an ACK. After an ACK every byte may follow or none, but where only the packet
+  -- error code of a reply may.
   --
   -- .. A byte
   bad_pec_sent : (front : List Event) → events ≡ front ++ Ack ∷ [] → ByteReason events BadPec
@@ -54,8 +54,8 @@ pub data AckReason (events : List Event) : Reason → Type 0 where
 
 -- Why a NACK is refused after events that ACK alone may follow.
 pub data NackReason (events : List Event) : Reason → Type 0 where
-  -- It refuses a byte of a reply: that was not the last. After any byte but those of a reply NACK may
-  -- follow.
+  -- It refuses a byte of a reply: that was not the last. NACK may follow any other byte, so there is
+  -- no other case.
   --
   -- .. S addr+R A bytes A .. byte N
   too_short : (front : List Event) → (addr : ℕ) → (bytes : List ℕ) → (byte : ℕ) → events ≡ front ++ leg (read_address addr ∷ bytes) ++ Byte byte ∷ []
@@ -75,7 +75,8 @@ module _ (profile : List DeviceParts) where
     pub follows : MayFollow profile events event
     pub alone : (other : Event) → MayFollow profile events other → other ≡ event
 
-  -- The reason why the events, some packet's beginning, don't go on with an event.
+  -- Why an event is refused after the events, some packet's beginning. It is asked only of an event
+  -- that may not follow.
   abbrev pub IsReason : List Event → Event → Reason → Type 0
   IsReason events (Byte b) reason = Whether (SomeByteMayFollow events) (ByteReason events reason) (reason ≡ WrongEvent)
   IsReason events Ack reason = Whether (FollowsAlone events Nack) (AckReason events reason) (reason ≡ WrongEvent)

@@ -33,11 +33,11 @@ is_stop Ack = false
 is_stop Nack = false
 is_stop Stop = true
 
--- Whether an event ever stands directly after another one in a packet: after START a byte, after
--- a byte its answer, after ACK what is no answer, after NACK STOP, and after STOP nothing.
-abbrev pub stands_behind : Event → Event → Bool
-stands_behind Start event = is_byte event
-stands_behind (Byte b) event = is_answer event
-stands_behind Ack event = is_no_answer event
-stands_behind Nack event = is_stop event
-stands_behind Stop event = false
+-- Whether the second event may come directly after the first in some packet: after START a byte,
+-- after a byte its answer, after ACK what is no answer, after NACK STOP, and after STOP nothing.
+abbrev pub follows_in_turn : Event → Event → Bool
+follows_in_turn Start event = is_byte event
+follows_in_turn (Byte b) event = is_answer event
+follows_in_turn Ack event = is_no_answer event
+follows_in_turn Nack event = is_stop event
+follows_in_turn Stop event = false

@@ -121,9 +121,12 @@ pub fn alerts_are_packets()
 
 // ---- after events
 
-/// Where some byte, or NACK alone, or ACK alone may follow, the events end as a reason is drawn. So an
-/// event that may not follow has one reason, and it is no truncation.
+/// Under a profile that is accepted, an event that may not follow has one reason, which is no
+/// truncation. Where some byte, or NACK alone, or ACK alone may follow, the events end in one of the
+/// ways that are drawn.
 pub fn refused_events_have_a_reason()
+    ensures some { (profile : List DeviceParts) (events : List Event) (event : Event) → IsBus profile
+        → ((reason : Reason) × IsReason profile events event reason) }
     ensures byte { (profile : List DeviceParts) (events : List Event) → SomeByteMayFollow profile events
         → ((reason : Reason) × ByteReason events reason) }
     ensures ack { (profile : List DeviceParts) (events : List Event) → IsBus profile → FollowsAlone profile events Nack

@@ -22,7 +22,7 @@ use pmb_bus::laws::pec_is_a_byte;
 
 // ---- addresses
 
-/// After the first START may follow the address byte of a write, to any address of seven bits, or
+/// After the first START, the address byte of a write may follow, to any address of seven bits, or
 /// the Alert Response Address, read.
 pub fn first_addresses()
     ensures { (profile : List DeviceParts) (byte : ℕ) → IsBus profile
@@ -31,7 +31,7 @@ pub fn first_addresses()
     pec_is_a_byte();
 }
 
-/// After a later START may follow the address byte of a write to an address that had no leg, where
+/// After a later START, the address byte of a write may follow, to an address that had no leg, where
 /// the leg before was one more part, or the one that reads the device, where that was asked.
 pub fn later_addresses()
     ensures { (profile : List DeviceParts) (parts : List PartData) (legs : List Event) (addr : ℕ) (device : DeviceParts)

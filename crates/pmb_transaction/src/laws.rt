@@ -10,7 +10,7 @@ ghost use Rattle.pmb_command.specs.Wire.{Fits, wire};
 ghost use Rattle.pmb_transaction.specs.Transaction.{PartData, TransactionData};
 ghost use Rattle.pmb_transaction.specs.Body.{Allowed, IsInsideBody, checked};
 ghost use Rattle.pmb_transaction.specs.Packet.{Packet};
-ghost use Rattle.pmb_transaction.specs.Capture.{Capture, EndsAtStop};
+ghost use Rattle.pmb_transaction.specs.Capture.{Capture, EndsAtFirstStop};
 
 pub use crate::endings::{
     alerts_are_packets, calls_are_packets, one_part_more, reads_are_packets,
@@ -70,7 +70,7 @@ pub fn packet_is_not_empty()
 /// A packet ends with STOP and has no other one.
 pub fn packet_ends_with_stop()
     ensures { (profile : List DeviceParts) (t : TransactionData) (events : List Event)
-        → Packet profile t events → EndsAtStop events }
+        → Packet profile t events → EndsAtFirstStop events }
 {}
 
 /// A packet is not the beginning of a longer one, so where one ends needs no event more.

@@ -14,7 +14,7 @@ pub enum Reason {
     BadPec,
     /// An address was acknowledged that no device has.
     UnknownDevice,
-    /// A command code was acknowledged that begins nothing there.
+    /// A command code was acknowledged that begins no body allowed there.
     UnknownCommand,
     /// A reply goes on after its last byte.
     TooLong,

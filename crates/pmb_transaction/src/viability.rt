@@ -12,7 +12,7 @@ ghost use Rattle.pmb_transaction.specs.Transaction.{PartData};
 ghost use Rattle.pmb_transaction.specs.Packet.{addresses, leg, PartsEvents};
 ghost use Rattle.pmb_transaction.specs.Capture.{IsPacket, MayFollow, Viable};
 ghost use Rattle.pmb_transaction.specs.Viable.{BeginsBody, IsBeginning, IsInsideBody};
-ghost use Rattle.pmb_transaction.specs.Turns.{stands_behind};
+ghost use Rattle.pmb_transaction.specs.Turns.{follows_in_turn};
 
 use pmb_bus::laws::pec_is_a_byte;
 
@@ -49,7 +49,7 @@ pub fn packets_go_no_further()
 /// START or STOP, after NACK STOP, and nothing else.
 pub fn events_take_turns()
     ensures { (profile : List DeviceParts) (events : List Event) (before event : Event)
-        → MayFollow profile (events ++ before ∷ []) event → stands_behind before event ≡ true }
+        → MayFollow profile (events ++ before ∷ []) event → follows_in_turn before event ≡ true }
 {}
 
 /// After complete parts and a leg of which some bytes were taken, any byte may follow where some
@@ -82,7 +82,8 @@ pub fn packets_begin_with_start()
     pec_is_a_byte();
 }
 
-/// ACK may follow after it where some body that is allowed there begins with the bytes and it.
+/// After such a byte ACK may follow where some body that is allowed there begins with the bytes and
+/// it.
 pub fn bytes_taken_begin_a_body()
     ensures { (profile : List DeviceParts) (parts : List PartData) (legs : List Event) (addr : ℕ) (device : DeviceParts)
         (bytes : List ℕ) (byte : ℕ) → IsBus profile → length parts ≤ 15 → IsDistinct nat_eq (addresses parts)
