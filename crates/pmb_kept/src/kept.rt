@@ -10,7 +10,7 @@ ghost use Rattle.pmb_transaction.specs.Transaction.{Write as says_write, Read as
 ghost use Rattle.pmb_transaction.specs.Packet.{addresses};
 
 use crate::kind::{Kind, make_alert, make_call, make_read, make_refused, make_write};
-use crate::parts::{copy_parts, copy_sent, front_parts, put_part};
+use crate::parts::{copy_bytes, copy_parts, copy_sent, front_parts, put_part};
 use pmb_transaction::Transaction;
 use std::marker::Model;
 
@@ -25,7 +25,7 @@ pub struct Kept {
     call: Transaction,
     refused: Transaction,
     alert: Transaction,
-    /// It says nothing else ever.
+    /// Always `NoAlert`.
     no_alert: Transaction,
     /// Which of them ended last.
     last: Kind,
@@ -119,6 +119,7 @@ impl Kept {
     }
 
     /// Adds a part.
+    #[inline(always)]
     pub fn push_part(&mut self, addr: u8, code: u8, data_bytes: &[u8], pec: bool)
         requires room { length self.old.parts < 16 }
         requires fits { length data_bytes.now ≤ 255 }
@@ -148,6 +149,7 @@ impl Kept {
     }
 
     /// The packet was a read.
+    #[inline]
     pub fn end_read(&mut self, address: u8, command: u8, data_bytes: &[u8], with_pec: bool)
         requires { length data_bytes.now ≤ 255 }
         ensures { self.new.last
@@ -166,8 +168,7 @@ impl Kept {
         };
         *addr = address;
         *code = command;
-        reply.clear();
-        let _ = reply.try_extend_from_slice(data_bytes);
+        copy_bytes(data_bytes, reply);
         *pec = with_pec;
     }
 
@@ -199,10 +200,8 @@ impl Kept {
         };
         *addr = address;
         *code = command;
-        bytes.clear();
-        let _ = bytes.try_extend_from_slice(sent);
-        reply.clear();
-        let _ = reply.try_extend_from_slice(data_bytes);
+        copy_bytes(sent, bytes);
+        copy_bytes(data_bytes, reply);
         *pec = with_pec;
     }
 

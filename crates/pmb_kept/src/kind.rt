@@ -4,7 +4,8 @@
 //! transaction is made. So one that is of the kind already stays, and only what the next one holds is
 //! written.
 
-ghost use Rattle.std.specs.Prelude.{◌≡◌};
+ghost use Rattle.std.specs.Prelude.{◌≡◌, false, []};
+ghost use Rattle.pmb_transaction.specs.Transaction.{Read as says_read, Call as says_call, Refused as says_refused, Alert as says_alert, transaction_data};
 ghost use Rattle.pmb_kept.specs.Kind.{IsWrite, IsRead, IsCall, IsRefused, IsAlert, parts_of};
 
 use arrayvec::ArrayVec;
@@ -41,6 +42,7 @@ pub fn make_write(transaction: &mut Transaction)
 pub fn make_read(transaction: &mut Transaction)
     ensures kind { IsRead transaction.new }
     ensures same { IsRead transaction.old → transaction.new ≡ transaction.old }
+    ensures fresh { (IsRead transaction.old → ⊥) → transaction_data transaction.new ≡ says_read (record { addr = 0; code = 0; reply = []; pec = false }) }
 {
     if let Transaction::Read { .. } = transaction {
         return;
@@ -58,6 +60,7 @@ pub fn make_read(transaction: &mut Transaction)
 pub fn make_call(transaction: &mut Transaction)
     ensures kind { IsCall transaction.new }
     ensures same { IsCall transaction.old → transaction.new ≡ transaction.old }
+    ensures fresh { (IsCall transaction.old → ⊥) → transaction_data transaction.new ≡ says_call (record { addr = 0; code = 0; bytes = []; reply = []; pec = false }) }
 {
     if let Transaction::Call { .. } = transaction {
         return;
@@ -76,6 +79,7 @@ pub fn make_call(transaction: &mut Transaction)
 pub fn make_refused(transaction: &mut Transaction)
     ensures kind { IsRefused transaction.new }
     ensures same { IsRefused transaction.old → transaction.new ≡ transaction.old }
+    ensures fresh { (IsRefused transaction.old → ⊥) → transaction_data transaction.new ≡ says_refused (record { parts = []; addr = 0; sent = []; at_read = false }) }
 {
     if let Transaction::Refused { .. } = transaction {
         return;
@@ -93,6 +97,7 @@ pub fn make_refused(transaction: &mut Transaction)
 pub fn make_alert(transaction: &mut Transaction)
     ensures kind { IsAlert transaction.new }
     ensures same { IsAlert transaction.old → transaction.new ≡ transaction.old }
+    ensures fresh { (IsAlert transaction.old → ⊥) → transaction_data transaction.new ≡ says_alert (record { byte = 0; pec = false }) }
 {
     if let Transaction::Alert { .. } = transaction {
         return;

@@ -12,18 +12,62 @@ ghost use Rattle.pmb_kept.specs.Kind.{parts_of};
 use arrayvec::ArrayVec;
 use pmb_transaction::{Part, Transaction};
 
-/// A part of these.
-fn part_of(addr: u8, code: u8, data_bytes: &[u8], pec: bool) -> Part
-    requires { length data_bytes.now ≤ 255 }
-    ensures { part_data result ≡ record { addr = addr; code = code; bytes = data_bytes.now; pec = pec } }
+/// Copies a byte over others. The second of two goes by `pop`, since `truncate` calls `memset`.
+#[inline(always)]
+fn copy_one<const N: usize>(byte: u8, into: &mut ArrayVec<u8, N>)
+    requires { 0 < N }
+    ensures { into.new.items ≡ byte ∷ [] }
 {
-    let mut bytes = ArrayVec::new();
-    let _ = bytes.try_extend_from_slice(data_bytes);
-    Part {
-        addr,
-        code,
-        bytes,
-        pec,
+    if into.len() == 2 {
+        into.pop();
+    }
+    into.truncate(1);
+    if let Some(place) = into.get_mut(0) {
+        *place = byte;
+        return;
+    }
+    into.push(byte);
+}
+
+/// Copies two bytes over others.
+#[inline(always)]
+fn copy_two<const N: usize>(first: u8, second: u8, into: &mut ArrayVec<u8, N>)
+    requires { 2 ≤ N }
+    ensures { into.new.items ≡ first ∷ second ∷ [] }
+{
+    into.truncate(2);
+    if into.len() == 2 {
+        let places = into.as_mut_slice();
+        places[0] = first;
+        places[1] = second;
+        return;
+    }
+    into.pop();
+    into.push(first);
+    into.push(second);
+}
+
+/// Copies any number of bytes over others.
+#[inline(never)]
+fn copy_many<const N: usize>(bytes: &[u8], into: &mut ArrayVec<u8, N>)
+    requires { length bytes.now ≤ N }
+    ensures { into.new.items ≡ bytes.now }
+{
+    into.clear();
+    let _ = into.try_extend_from_slice(bytes);
+}
+
+/// Copies bytes over others. Most data are one byte or two, for which calls of `memset` and `memcpy`
+/// would cost some 60 instructions; byte by byte they cost a dozen.
+#[inline(always)]
+pub(crate) fn copy_bytes<const N: usize>(bytes: &[u8], into: &mut ArrayVec<u8, N>)
+    requires { length bytes.now ≤ N }
+    ensures { into.new.items ≡ bytes.now }
+{
+    match bytes {
+        [byte] => copy_one(*byte, into),
+        [first, second] => copy_two(*first, *second, into),
+        _ => copy_many(bytes, into),
     }
 }
 
@@ -35,8 +79,7 @@ fn write_over(part: &mut Part, addr: u8, code: u8, data_bytes: &[u8], pec: bool)
 {
     part.addr = addr;
     part.code = code;
-    part.bytes.clear();
-    let _ = part.bytes.try_extend_from_slice(data_bytes);
+    copy_bytes(data_bytes, &mut part.bytes);
     part.pec = pec;
 }
 
@@ -57,11 +100,14 @@ pub(crate) fn put_part<const N: usize>(
         ++ record { addr = addr; code = code; bytes = data_bytes.now; pec = pec } ∷ [] }
     ensures inside { at + 1 ≤ length parts.new.items }
 {
-    if let Some(part) = parts.get_mut(at) {
-        write_over(part, addr, code, data_bytes, pec);
-        return;
+    if at == parts.len() {
+        // A blank one is cleared in its place. One with its data would be made elsewhere and copied.
+        parts.push(Part::default());
     }
-    parts.push(part_of(addr, code, data_bytes, pec));
+    let Some(part) = parts.get_mut(at) else {
+        unreachable!()
+    };
+    write_over(part, addr, code, data_bytes, pec);
 }
 
 /// The first parts of a write.
