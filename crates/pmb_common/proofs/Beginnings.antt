@@ -2,15 +2,15 @@
 use Rattle.std.proofs.Common.{◌≡◌, ℕ, ◌%◌, ◌<◌, ◌≤◌, Bool, true, nat_eq, Option, Some, None, List, [], ◌∷◌, ◌++◌, length, take, drop, refl, sym, ap, subst, ◌∙◌, arith, append_assoc, length-append}
 use Rattle.std.proofs.lemmas.List.{length-take-le, take-append-drop}
 use Rattle.std.specs.Prelude.{IsSome}
-use Rattle.pmb_bus.specs.declared.event.Event.TheVariants.{Start, Stop}
+use Rattle.pmb_bus.specs.declared.event.Event.TheVariants.{Start, Byte, Ack, Stop}
 use Rattle.pmb_bus.specs.Event.{canonical_text}
 use Rattle.pmb_command.specs.Wire.{AreByteValues}
 use Rattle.pmb_common.specs.declared.legs.Legs.{Legs}
-use Rattle.pmb_common.specs.declared.legs.Legs.TheVariants.{Written, Both, Group}
+use Rattle.pmb_common.specs.declared.legs.Legs.TheVariants.{Written, Both, Group, Nacked}
 use Rattle.pmb_common.specs.Front.{NoneAcked, acked_text, end_text}
-use Rattle.pmb_common.specs.Legs.{BeginsOdd, FindsSecond, IsOfLegs, NextWritten, leg_events}
-use Rattle.pmb_common.proofs.Ends.{Ended, ends, read_text, written_text}
-use Rattle.pmb_common.proofs.Texts.{acked_text-append, none_at_start, none_at_stop}
+use Rattle.pmb_common.specs.Legs.{BeginsOdd, FindsNacked, FindsSecond, IsOfLegs, NextWritten, leg_events}
+use Rattle.pmb_common.proofs.Ends.{ends, nacked_text, read_text, written_text}
+use Rattle.pmb_common.proofs.Texts.{first_of_acked, first_of_nacked, none_at_nack, none_at_start, none_at_stop}
 use Rattle.pmb_common.proofs.Wires.{small-drop, small-take}
 
 abbrev pub start : List ℕ
@@ -28,60 +28,83 @@ pub not_there : {X : Type 0} (found : Option X) → IsSome found → ((x : X) �
 not_there None some never = cc some
 not_there (Some x) some never = never x refl
 
+small_ended : (front : List ℕ) (last : ℕ) → AreByteValues (front ++ last ∷ []) → AreByteValues front × (last < 256)
+small_ended [] last small = (tt, small.0)
+small_ended (b ∷ front) last small = let more = small_ended front last small.1 in ((small.0, more.0), more.1)
+
+-- a leg by its bytes: those before the last, which has NACK, and the last
+pub record IsNacked (all : List ℕ) : Type 0 where
+  pub front : List ℕ
+  pub last : ℕ
+  pub whole : all ≡ front ++ last ∷ []
+  pub small_front : AreByteValues front
+  pub small_last : last < 256
+  pub text : (rest : List ℕ) → canonical_text (leg_events Nacked all) ++ rest ≡ start ++ (acked_text front ++ (end_text last ++ rest))
+
+nacked_by : (all : List ℕ) → AreByteValues all → 1 ≤ length all → IsNacked all
+nacked_by [] small enough = absurd (omega (arith, enough))
+nacked_by (byte ∷ bytes) small enough =
+    let ended = ends byte bytes in
+    let parts = small_ended ended.front ended.last (subst AreByteValues ended.whole small) in
+    record {
+      front = ended.front;
+      last = ended.last;
+      whole = ended.whole;
+      small_front = parts.0;
+      small_last = parts.1;
+      text = λ rest.
+          ap (λ (l : List ℕ). canonical_text (leg_events Nacked l) ++ rest) ended.whole
+          ∙ ap (λ (l : List ℕ). l ++ rest) (nacked_text ended.front ended.last)
+          ∙ ap (λ (l : List ℕ). start ++ l) (append_assoc (acked_text ended.front) (end_text ended.last) rest);
+    }
+
+pub is_nacked : (all : List ℕ) → IsOfLegs Nacked all → IsNacked all
+is_nacked all are = nacked_by all are.small are.enough
+
 -- both legs, by their bytes: those of the first, those of the second but for the last, and the last
 pub record IsBoth (written : ℕ) (all : List ℕ) : Type 0 where
   pub front : List ℕ
   pub back : List ℕ
   pub last : ℕ
   pub long : length front ≡ written
-  pub some : 1 ≤ length back
   pub whole : all ≡ (front ++ back) ++ last ∷ []
   pub small_front : AreByteValues front
   pub small_back : AreByteValues back
   pub small_last : last < 256
   pub to_read : ℕ
-  pub tail : List ℕ
-  pub begins : back ≡ to_read ∷ tail
+  pub small_to_read : to_read < 256
   pub odd : to_read % 2 ≡ 1
+  pub begins : (rest : List ℕ) → (more : List ℕ) × (acked_text back ++ (end_text last ++ rest) ≡ canonical_text (Byte to_read ∷ []) ++ more)
   pub text : (rest : List ℕ) → canonical_text (leg_events (Both written) all) ++ rest ≡ start ++ (acked_text front ++ (start ++ (acked_text back ++ (end_text last ++ rest))))
 
 regroup : (a b c d rest : List ℕ) → (a ++ (b ++ (c ++ d))) ++ rest ≡ a ++ (b ++ (c ++ (d ++ rest)))
 regroup a b c d rest = simp append_assoc
 
-small_ended : (front : List ℕ) (last : ℕ) → AreByteValues (front ++ last ∷ []) → AreByteValues front × (last < 256)
-small_ended [] last small = (tt, small.0)
-small_ended (b ∷ front) last small = let more = small_ended front last small.1 in ((small.0, more.0), more.1)
-
-both_by_last : (front : List ℕ) (to_read : ℕ) (tail : List ℕ) → AreByteValues front → AreByteValues (to_read ∷ tail) → Ended tail
-    → to_read % 2 ≡ 1 → IsBoth (length front) (front ++ to_read ∷ tail)
-both_by_last front to_read tail first second ended odd =
-    let parts = small_ended ended.front ended.last (subst AreByteValues ended.whole second.1) in
-    let whole : front ++ to_read ∷ tail ≡ front ++ to_read ∷ (ended.front ++ ended.last ∷ []) = ap (λ (l : List ℕ). front ++ to_read ∷ l) ended.whole in
-    record {
-      front = front;
-      back = to_read ∷ ended.front;
-      last = ended.last;
-      long = refl;
-      some = omega arith;
-      whole = whole ∙ sym (append_assoc front (to_read ∷ ended.front) (ended.last ∷ []));
-      small_front = first;
-      small_back = (second.0, parts.0);
-      small_last = parts.1;
-      to_read = to_read;
-      tail = ended.front;
-      begins = refl;
-      odd = odd;
-      text = λ rest.
-          ap (λ (l : List ℕ). canonical_text (leg_events (Both (length front)) l) ++ rest) whole
-          ∙ ap (λ (l : List ℕ). l ++ rest) (read_text front to_read ended.front ended.last)
-          ∙ ap (λ (l : List ℕ). start ++ l) (regroup (acked_text front) start (acked_text (to_read ∷ ended.front)) (end_text ended.last) rest);
-    }
-
-both_by : (front behind : List ℕ) → AreByteValues front → AreByteValues behind → 2 ≤ length behind → BeginsOdd behind
+both_by : (front behind : List ℕ) → AreByteValues front → AreByteValues behind → 1 ≤ length behind → BeginsOdd behind
     → IsBoth (length front) (front ++ behind)
 both_by front [] first second enough odd = absurd odd
-both_by front (to_read ∷ []) first second enough odd = absurd (omega (arith, enough))
-both_by front (to_read ∷ next ∷ tail) first second enough odd = both_by_last front to_read (next ∷ tail) first second (ends next tail) odd
+both_by front (to_read ∷ tail) first second enough odd =
+    let ended = ends to_read tail in
+    let parts = small_ended ended.front ended.last (subst AreByteValues ended.whole second) in
+    let whole : front ++ to_read ∷ tail ≡ front ++ (ended.front ++ ended.last ∷ []) = ap (λ (l : List ℕ). front ++ l) ended.whole in
+    record {
+      front = front;
+      back = ended.front;
+      last = ended.last;
+      long = refl;
+      whole = whole ∙ sym (append_assoc front ended.front (ended.last ∷ []));
+      small_front = first;
+      small_back = parts.0;
+      small_last = parts.1;
+      to_read = to_read;
+      small_to_read = second.0;
+      odd = odd;
+      begins = λ rest. first_of_nacked ended.front ended.last to_read tail rest ended.whole;
+      text = λ rest.
+          ap (λ (l : List ℕ). canonical_text (leg_events (Both (length front)) l) ++ rest) whole
+          ∙ ap (λ (l : List ℕ). l ++ rest) (read_text front ended.front ended.last)
+          ∙ ap (λ (l : List ℕ). start ++ l) (regroup (acked_text front) start (acked_text ended.front) (end_text ended.last) rest);
+    }
 
 pub is_both : (written : ℕ) (all : List ℕ) → IsOfLegs (Both written) all → IsBoth written all
 is_both written all are =
@@ -89,7 +112,7 @@ is_both written all are =
     let behind = drop written all in
     let whole : front ++ behind ≡ all = take-append-drop written all in
     let long : length front ≡ written = length-take-le written all (omega (arith, are.enough)) in
-    let enough : 2 ≤ length behind = omega (arith, are.enough, long, ap length whole, length-append front behind) in
+    let enough : 1 ≤ length behind = omega (arith, are.enough, long, ap length whole, length-append front behind) in
     subst (λ (n : ℕ). IsBoth n all) long
     (subst (IsBoth (length front)) whole (both_by front behind (small-take written all are.small) (small-drop written all are.small) enough are.reads))
 
@@ -131,35 +154,55 @@ module _ (text first behind old new : List ℕ) (none : old ≡ []) (begins : te
       let took = takes both.front behind_first both.small_front (none_at_start (acked_text both.back ++ (end_text both.last ++ rest))) few here in
       (took.0 ∙ ap (λ (l : List ℕ). l ++ both.front) none, took.1)
 
+  -- of a leg with NACK those before it
+  pub nacked_first : (are : IsOfLegs Nacked all) → text ≡ canonical_text (leg_events Nacked all) ++ rest
+      → (new ≡ (is_nacked all are).front) × (behind ≡ end_text (is_nacked all are).last ++ rest)
+  nacked_first are split =
+      let one = is_nacked all are in
+      let joined : start ++ first ≡ start ++ (acked_text one.front ++ (end_text one.last ++ rest)) = sym begins ∙ split ∙ one.text rest in
+      let here : first ≡ acked_text one.front ++ (end_text one.last ++ rest) = cc joined in
+      let few : length (old ++ one.front) ≤ 516 =
+      omega (arith, length-append old one.front, ap length none, ap length one.whole, length-append one.front (one.last ∷ []), are.few) in
+      let took = takes one.front (end_text one.last ++ rest) one.small_front (none_at_nack one.last rest) few here in
+      (took.0 ∙ ap (λ (l : List ℕ). l ++ one.front) none, took.1)
+
 -- the text after START
 same_behind : (behind second more : List ℕ) → behind ≡ start ++ second → behind ≡ start ++ more → second ≡ more
 same_behind behind second more one other = let joined : start ++ second ≡ start ++ more = sym one ∙ other in cc joined
 
 -- What `is_even` says of the byte in front.
 abbrev pub TellsEven : List ℕ → Bool → Type 0
-TellsEven text result = (byte : ℕ) (rest : List ℕ) → byte < 256 → text ≡ acked_text (byte ∷ []) ++ rest → result ≡ nat_eq (byte % 2) 0
+TellsEven text result = (byte : ℕ) (rest : List ℕ) → byte < 256 → text ≡ canonical_text (Byte byte ∷ []) ++ rest → result ≡ nat_eq (byte % 2) 0
 
 -- that of a leg that is read is not even
 pub read_is_odd : (written : ℕ) (behind second all rest : List ℕ) (result : Bool) (are : IsOfLegs (Both written) all) → behind ≡ start ++ second → TellsEven second result
     → behind ≡ start ++ (acked_text (is_both written all are).back ++ (end_text (is_both written all are).last ++ rest)) → result ≡ true → ⊥
 read_is_odd written behind second all rest result are begins tells split is =
     let both = is_both written all are in
-    let more = end_text both.last ++ rest in
-    let here : second ≡ acked_text (both.to_read ∷ []) ++ (acked_text both.tail ++ more) =
-    same_behind behind second (acked_text both.back ++ more) begins split
-    ∙ ap (λ (l : List ℕ). acked_text l ++ more) both.begins
-    ∙ ap (λ (l : List ℕ). l ++ more) (acked_text-append (both.to_read ∷ []) both.tail)
-    ∙ append_assoc (acked_text (both.to_read ∷ [])) (acked_text both.tail) more in
-    let small = subst AreByteValues both.begins both.small_back in
-    let even : nat_eq (both.to_read % 2) 0 ≡ true = sym (tells both.to_read (acked_text both.tail ++ more) small.0 here) ∙ is in
+    let there = both.begins rest in
+    let here : second ≡ canonical_text (Byte both.to_read ∷ []) ++ there.0 =
+    same_behind behind second (acked_text both.back ++ (end_text both.last ++ rest)) begins split ∙ there.1 in
+    let even : nat_eq (both.to_read % 2) 0 ≡ true = sym (tells both.to_read there.0 both.small_to_read here) ∙ is in
     let one : nat_eq 1 0 ≡ true = ap (λ (n : ℕ). nat_eq n 0) (sym both.odd) ∙ even in
     cc one
 
 -- and that of the next leg of a group is
 pub group_is_even : (behind second rest : List ℕ) (result : Bool) → (next : NextWritten rest) → behind ≡ start ++ second → TellsEven second result → behind ≡ rest → result ≡ true
 group_is_even behind second rest result next begins tells same =
-    tells next.byte next.more next.small (same_behind behind second (acked_text (next.byte ∷ []) ++ next.more) begins (same ∙ next.split))
+    let here : second ≡ acked_text (next.byte ∷ []) ++ next.more =
+    same_behind behind second (acked_text (next.byte ∷ []) ++ next.more) begins (same ∙ next.split) in
+    tells next.byte (canonical_text (Ack ∷ []) ++ next.more) next.small (here ∙ first_of_acked next.byte next.more)
     ∙ ap (λ (n : ℕ). nat_eq n 0) next.even
+
+-- of a leg with NACK the byte before that
+pub nacked_last : (behind front new all rest : List ℕ) (result : Option Legs) (are : IsOfLegs Nacked all)
+    → front ≡ (is_nacked all are).front → FindsNacked behind front new result → behind ≡ end_text (is_nacked all are).last ++ rest
+    → (result ≡ Some Nacked) × (new ≡ all)
+nacked_last behind front new all rest result are first finds split =
+    let one = is_nacked all are in
+    let few : length front ≤ 515 = omega (arith, ap length first, ap length one.whole, length-append one.front (one.last ∷ []), are.few) in
+    let found = finds one.last rest one.small_last few split in
+    (found.0, found.1 ∙ ap (λ (l : List ℕ). l ++ one.last ∷ []) first ∙ sym one.whole)
 
 -- of the second leg those after START
 pub both_second : (written : ℕ) (behind second front new all rest : List ℕ) (result : Option Legs) (are : IsOfLegs (Both written) all)
@@ -180,7 +223,7 @@ both_second written behind second front new all rest result are first begins fin
       length-append both.front both.back,
       are.few,
     ) in
-    let found = finds both.back both.last rest (record { some = both.some; small = both.small_back; small_last = both.small_last; few = few }) here in
+    let found = finds both.back both.last rest (record { small = both.small_back; small_last = both.small_last; few = few }) here in
     let long : length front ≡ written = ap length first ∙ both.long in (
       found.0 ∙ ap (λ (n : ℕ). Some (Both n)) long,
       found.1 ∙ ap (λ (l : List ℕ). (l ++ both.back) ++ both.last ∷ []) first ∙ sym both.whole,

@@ -7,7 +7,7 @@ use Rattle.pmb_bus.specs.declared.event.Event.TheVariants.{Stop}
 use Rattle.pmb_bus.specs.Event.{canonical_text, character}
 use Rattle.pmb_bus.specs.Text.{EndsBetween}
 use Rattle.pmb_command.specs.Parts.{DeviceParts}
-use Rattle.pmb_transaction.specs.Capture.{EndsAtStop}
+use Rattle.pmb_transaction.specs.Capture.{EndsAtFirstStop}
 use Rattle.pmb_transaction.specs.Transaction.{TransactionData}
 use Rattle.pmb_common.specs.declared.common.Taken.{Taken}
 use Rattle.pmb_common.specs.Common.{TakesPacket}
@@ -22,14 +22,14 @@ used_text profile text used count t taken =
     ∙ take-append_seam (canonical_text taken.events) taken.rest
 
 -- the text of events that end with STOP ends with LF
-stop_text : (events : List Event) → (ends : EndsAtStop events) → canonical_text events ≡ (canonical_text ends.front ++ character "P" ∷ []) ++ character "\n" ∷ []
+stop_text : (events : List Event) → (ends : EndsAtFirstStop events) → canonical_text events ≡ (canonical_text ends.front ++ character "P" ∷ []) ++ character "\n" ∷ []
 stop_text events ends =
     ap canonical_text ends.split
     ∙ text-append ends.front (Stop ∷ [])
     ∙ sym (append_assoc (canonical_text ends.front) (character "P" ∷ []) (character "\n" ∷ []))
 
 pub ends_between : (lines : (text : List ℕ) → EndsBetween (text ++ character "\n" ∷ [])) (profile : List DeviceParts) (text : List ℕ) (used count : ℕ)
-    (t : TransactionData) → (taken : TakesPacket profile text used count t) → EndsAtStop taken.events → EndsBetween (take used text)
+    (t : TransactionData) → (taken : TakesPacket profile text used count t) → EndsAtFirstStop taken.events → EndsBetween (take used text)
 ends_between lines profile text used count t taken ends =
     subst EndsBetween (sym (used_text profile text used count t taken ∙ stop_text taken.events ends)) (lines (canonical_text ends.front ++ character "P" ∷ []))
 

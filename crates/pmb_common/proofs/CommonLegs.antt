@@ -1,5 +1,5 @@
 -- The legs of common packets, and the packets of such legs.
-use Rattle.std.proofs.Common.{◌≡◌, ℕ, ◌+◌, ◌*◌, ◌%◌, ◌≤◌, inl, inr, Bool, true, false, List, [], ◌∷◌, ◌++◌, length, nat_eq, refl, sym, ap, subst, ◌∙◌, arith, append_assoc, length-append}
+use Rattle.std.proofs.Common.{◌≡◌, ℕ, ◌+◌, ◌*◌, ◌%◌, ◌≤◌, ◌<◌, inl, inr, Bool, true, false, List, [], ◌∷◌, ◌++◌, length, nat_eq, refl, sym, ap, subst, ◌∙◌, arith, append_assoc, length-append}
 use Rattle.std.proofs.lemmas.List.{append-nil}
 use Rattle.std.proofs.Math.Seq.{drop-append_seam}
 use Rattle.std.specs.List.{IsDistinct}
@@ -8,21 +8,19 @@ use Rattle.pmb_bus.specs.declared.event.Event.{Event}
 use Rattle.pmb_bus.specs.declared.event.Event.TheVariants.{Start, Byte, Ack, Nack, Stop}
 use Rattle.pmb_bus.specs.Address.{write_address, read_address}
 use Rattle.pmb_bus.specs.Event.{AreBytes, canonical_text}
-use Rattle.pmb_bus.specs.Pec.{pec}
-use Rattle.pmb_command.specs.declared.form.Form.{Form}
-use Rattle.pmb_command.specs.declared.form.Form.TheVariants.{Zero, One, Two, Four, Eight, Block}
+use Rattle.pmb_command.specs.declared.form.Form.TheVariants.{Zero}
 use Rattle.pmb_command.specs.Bus.{IsBus}
 use Rattle.pmb_command.specs.Parts.{DeviceParts}
-use Rattle.pmb_command.specs.Wire.{AreByteValues, Fits, wire}
-use Rattle.pmb_transaction.specs.Transaction.{PartData, ReadData, CallData, TransactionData, Write, Read, Call}
-use Rattle.pmb_transaction.specs.Body.{checked}
-use Rattle.pmb_transaction.specs.Packet.{Packet, acked, leg, nacked}
+use Rattle.pmb_command.specs.Wire.{AreByteValues, wire}
+use Rattle.pmb_transaction.specs.Transaction.{PartData, ReadData, CallData, TransactionData, Write, Read, Call, Refused}
+use Rattle.pmb_transaction.specs.Body.{Allowed, IsInsideBody, checked}
+use Rattle.pmb_transaction.specs.Packet.{Packet, ReadRefused, acked, leg, nacked}
 use Rattle.pmb_common.specs.declared.legs.Legs.{Legs}
-use Rattle.pmb_common.specs.declared.legs.Legs.TheVariants.{Written, Both, Group}
-use Rattle.pmb_common.specs.Common.{BeginsCommon, IsCommon, OneCalled, OneRead, OneWritten, TakesPacket, device_called, device_read, parts_written, read_events}
+use Rattle.pmb_common.specs.declared.legs.Legs.TheVariants.{Written, Both, Group, Nacked}
+use Rattle.pmb_common.specs.Common.{BeginsCommon, IsCommon, OneByteRefused, OneCalled, OneRead, OneReadRefused, OneWritten, TakesPacket, address_refused, byte_refused, device_called, device_read, nacked_leg, parts_written, read_events, read_refused}
 use Rattle.pmb_common.specs.Front.{acked_text}
-use Rattle.pmb_common.specs.Legs.{BeginsOdd, Follows, IsOfLegs, SayBoth, SayLegs, leg_events}
-use Rattle.pmb_common.proofs.Ends.{both, both_events, length-both_text, length-written_text}
+use Rattle.pmb_common.specs.Legs.{BeginsOdd, Follows, IsOfLegs, SayBoth, SayLegs, SaysNacked, leg_events}
+use Rattle.pmb_common.proofs.Ends.{both, both_events, length-both_text, length-nacked_leg_text, length-written_text, second_leg}
 use Rattle.pmb_common.proofs.LegBytes.{behind_acked, bytes_of_acked, bytes_of_nacked, few_checked, few_in_leg, few_on_wire, length-acked, some_checked, some_on_wire}
 use Rattle.pmb_common.proofs.Found.{call_has_data, read_has_data}
 use Rattle.pmb_common.proofs.Texts.{small-append, text-append}
@@ -62,51 +60,55 @@ takes_write profile text rest address code data_bytes with_pec bytes used count 
   all = omega (arith, many, length-append (acked bytes) (Stop ∷ []), length-acked bytes);
 }
 
--- the read
 length-nacked : (bytes : List ℕ) → length (nacked bytes) ≡ 2 * length bytes
 length-nacked [] = refl
 length-nacked (b ∷ []) = refl
 length-nacked (b ∷ c ∷ bytes) = omega (arith, length-nacked (c ∷ bytes))
 
-length-both : (front : List ℕ) (to_read : ℕ) (reply : List ℕ) → length (both front to_read reply) ≡ 5 + 2 * length front + 2 * length reply
-length-both front to_read reply =
-    let second = leg (to_read ∷ []) ++ nacked reply in
-    omega (
-      arith,
-      length-append (acked front ++ second) (Stop ∷ []),
-      length-append (acked front) second,
-      length-acked front,
-      length-nacked reply,
-    )
+length-both : (front second : List ℕ) → length (both front second) ≡ 3 + 2 * length front + 2 * length second
+length-both front second = omega (
+  arith,
+  length-append (acked front ++ nacked_leg second) (Stop ∷ []),
+  length-append (acked front) (nacked_leg second),
+  length-acked front,
+  length-nacked second,
+)
 
 -- the packet of both legs
-takes_both : (profile : List DeviceParts) (text rest : List ℕ) (t : TransactionData) (front : List ℕ) (to_read : ℕ) (reply bytes : List ℕ)
-    (written used count : ℕ) → IsCommon t → Packet profile t (both front to_read reply) → bytes ≡ front ++ to_read ∷ reply → written ≡ length front
+takes_both : (profile : List DeviceParts) (text rest : List ℕ) (t : TransactionData) (front second bytes : List ℕ)
+    (written used count : ℕ) → IsCommon t → Packet profile t (both front second) → bytes ≡ front ++ second → written ≡ length front
     → text ≡ canonical_text (leg_events (Both written) bytes) ++ rest → used ≡ 6 + 5 * length bytes → count ≡ 3 + 2 * length bytes
     → TakesPacket profile text used count t
-takes_both profile text rest t front to_read reply bytes written used count common packet spelled long split used_bytes many =
-    let same : read_events written bytes ≡ both front to_read reply =
-    ap (λ (n : ℕ). read_events n bytes) long ∙ ap (read_events (length front)) spelled ∙ both_events front to_read reply in
-    let bytes_long : length bytes ≡ length front + 1 + length reply = omega (arith, ap length spelled, length-append front (to_read ∷ reply)) in
+takes_both profile text rest t front second bytes written used count common packet spelled long split used_bytes many =
+    let same : read_events written bytes ≡ both front second =
+    ap (λ (n : ℕ). read_events n bytes) long ∙ ap (read_events (length front)) spelled ∙ both_events front second in
+    let bytes_long : length bytes ≡ length front + length second = omega (arith, ap length spelled, length-append front second) in
     record {
       common = common;
-      events = both front to_read reply;
+      events = both front second;
       packet = packet;
       rest = rest;
       split = split ∙ ap (λ (events : List Event). canonical_text events ++ rest) same;
-      bytes = omega (arith, used_bytes, bytes_long, length-both_text front to_read reply);
-      all = omega (arith, many, bytes_long, length-both front to_read reply);
+      bytes = omega (arith, used_bytes, bytes_long, length-both_text front second);
+      all = omega (arith, many, bytes_long, length-both front second);
     }
 
+-- the events of both legs where some bytes are read
+both_read : (front : List ℕ) (to_read : ℕ) (reply : List ℕ) → 1 ≤ length reply
+    → both front (to_read ∷ reply) ≡ leg front ++ (leg (to_read ∷ []) ++ nacked reply) ++ Stop ∷ []
+both_read front to_read reply some = ap (λ (l : List Event). leg front ++ l ++ Stop ∷ []) (second_leg to_read reply some)
+
+-- the read
 pub takes_read : (profile : List DeviceParts) (text rest : List ℕ) (address code : ℕ) (data_bytes : List ℕ) (with_pec : Bool) (bytes : List ℕ)
-    (written used count : ℕ) → OneRead profile address code data_bytes with_pec bytes → written ≡ 2
+    (written used count : ℕ) → OneRead profile address code data_bytes with_pec bytes → written ≡ 2 → written + 1 < length bytes
     → text ≡ canonical_text (leg_events (Both written) bytes) ++ rest → used ≡ 6 + 5 * length bytes → count ≡ 3 + 2 * length bytes
     → TakesPacket profile text used count (Read (record { addr = address; code = code; reply = data_bytes; pec = with_pec }))
-takes_read profile text rest address code data_bytes with_pec bytes written used count says two split used_bytes many =
+takes_read profile text rest address code data_bytes with_pec bytes written used count says two some split used_bytes many =
     let t : ReadData = record { addr = address; code = code; reply = data_bytes; pec = with_pec } in
     let front = write_address address ∷ code ∷ [] in
     let reply = checked with_pec (front ++ read_address address ∷ []) (wire says.form data_bytes) in
-    takes_both profile text rest (Read t) front (read_address address) reply bytes written used count (device_read t)
+    let some_reply : 1 ≤ length reply = omega (arith, two, some, ap length says.spelled) in
+    takes_both profile text rest (Read t) front (read_address address ∷ reply) bytes written used count (device_read t)
     (record {
       device = says.device;
       form = says.form;
@@ -114,20 +116,21 @@ takes_read profile text rest address code data_bytes with_pec bytes written used
       read = says.read;
       fits = says.fits;
       mode = says.mode;
-      spelled = refl;
+      spelled = both_read front (read_address address) reply some_reply;
     }) says.spelled two split used_bytes many
 
 -- the call
 pub takes_call : (profile : List DeviceParts) (text rest : List ℕ) (address code : ℕ) (sent data_bytes : List ℕ) (with_pec : Bool) (bytes : List ℕ)
-    (written used count : ℕ) → OneCalled profile address code data_bytes with_pec bytes sent written
+    (written used count : ℕ) → OneCalled profile address code data_bytes with_pec bytes sent written → written + 1 < length bytes
     → text ≡ canonical_text (leg_events (Both written) bytes) ++ rest → used ≡ 6 + 5 * length bytes → count ≡ 3 + 2 * length bytes
     → TakesPacket profile text used count (Call (record { addr = address; code = code; bytes = sent; reply = data_bytes; pec = with_pec }))
-takes_call profile text rest address code sent data_bytes with_pec bytes written used count says split used_bytes many =
+takes_call profile text rest address code sent data_bytes with_pec bytes written used count says some split used_bytes many =
     let t : CallData = record { addr = address; code = code; bytes = sent; reply = data_bytes; pec = with_pec } in
     let front = write_address address ∷ code ∷ wire says.form sent in
     let reply = checked with_pec (front ++ read_address address ∷ []) (wire says.form data_bytes) in
     let long : written ≡ length front = omega (arith, says.first) in
-    takes_both profile text rest (Call t) front (read_address address) reply bytes written used count (device_called t)
+    let some_reply : 1 ≤ length reply = omega (arith, long, some, ap length says.spelled, length-append front (read_address address ∷ reply)) in
+    takes_both profile text rest (Call t) front (read_address address ∷ reply) bytes written used count (device_called t)
     (record {
       device = says.device;
       form = says.form;
@@ -136,8 +139,128 @@ takes_call profile text rest address code sent data_bytes with_pec bytes written
       sent = says.sends;
       replied = says.fits;
       mode = says.mode;
-      spelled = refl;
+      spelled = both_read front (read_address address) reply some_reply;
     }) says.spelled long split used_bytes many
+
+-- what is kept of a refusal before which no part was
+pub refused_alone : (parts : List PartData) (address : ℕ) (sent : List ℕ) (at_read : Bool) → parts ≡ []
+    → Refused (record { parts = parts; addr = address; sent = sent ++ []; at_read = at_read }) ≡ Refused (record { parts = []; addr = address; sent = sent; at_read = at_read })
+refused_alone parts address sent at_read none =
+    ap (λ (ps : List PartData). Refused (record { parts = ps; addr = address; sent = sent ++ []; at_read = at_read })) none
+    ∙ ap (λ (l : List ℕ). Refused (record { parts = []; addr = address; sent = l; at_read = at_read })) (append-nil sent)
+
+-- the packet of one leg whose last byte has NACK
+takes_nacked : (profile : List DeviceParts) (text rest : List ℕ) (t : TransactionData) (bytes : List ℕ) (used count : ℕ)
+    → IsCommon t → Packet profile t (nacked_leg bytes ++ Stop ∷ []) → text ≡ canonical_text (leg_events Nacked bytes) ++ rest
+    → used ≡ 4 + 5 * length bytes → count ≡ 2 + 2 * length bytes → TakesPacket profile text used count t
+takes_nacked profile text rest t bytes used count common packet split used_bytes many = record {
+  common = common;
+  events = nacked_leg bytes ++ Stop ∷ [];
+  packet = packet;
+  rest = rest;
+  split = split;
+  bytes = used_bytes ∙ sym (length-nacked_leg_text bytes);
+  all = omega (arith, many, length-append (nacked_leg bytes) (Stop ∷ []), length-nacked bytes);
+}
+
+-- of a refused address
+address_packet : (profile : List DeviceParts) (address : ℕ) → address < 128
+    → Packet profile (Refused (record { parts = []; addr = address; sent = []; at_read = false })) (nacked_leg (write_address address ∷ []) ++ Stop ∷ [])
+unfolding IsDistinct
+address_packet profile address seven = record {
+  few = omega arith;
+  distinct = tt;
+  another = refl;
+  legs = [];
+  each = refl;
+  last = nacked_leg (write_address address ∷ []);
+  refused = record { seven = seven; spelled = refl };
+  spelled = refl;
+}
+
+pub takes_address : (profile : List DeviceParts) (text rest : List ℕ) (address : ℕ) (bytes : List ℕ) (used count : ℕ) → address < 128
+    → bytes ≡ write_address address ∷ [] → text ≡ canonical_text (leg_events Nacked bytes) ++ rest → used ≡ 4 + 5 * length bytes → count ≡ 2 + 2 * length bytes
+    → TakesPacket profile text used count (Refused (record { parts = []; addr = address; sent = []; at_read = false }))
+takes_address profile text rest address bytes used count seven spelled split used_bytes many =
+    takes_nacked profile text rest (Refused (record { parts = []; addr = address; sent = []; at_read = false })) bytes used count
+    (address_refused address)
+    (subst (λ (l : List ℕ). Packet profile (Refused (record { parts = []; addr = address; sent = []; at_read = false })) (nacked_leg l ++ Stop ∷ []))
+    (sym spelled) (address_packet profile address seven))
+    split used_bytes many
+
+-- of a refused byte
+byte_packet : (profile : List DeviceParts) (address first : ℕ) (more bytes : List ℕ) → AreByteValues (first ∷ more)
+    → (says : OneByteRefused profile address (first ∷ more) bytes)
+    → Packet profile (Refused (record { parts = []; addr = address; sent = first ∷ more; at_read = false })) (nacked_leg (write_address address ∷ first ∷ more) ++ Stop ∷ [])
+unfolding IsDistinct
+byte_packet profile address first more bytes small says = record {
+  few = omega arith;
+  distinct = tt;
+  another = refl;
+  legs = [];
+  each = refl;
+  last = nacked_leg (write_address address ∷ first ∷ more);
+  refused = record {
+    device = says.device;
+    known = says.known;
+    bytes = small;
+    front = says.front;
+    last = says.last;
+    split = says.split;
+    begins = says.begins;
+    spelled = refl;
+  };
+  spelled = refl;
+}
+
+pub takes_byte : (profile : List DeviceParts) (text rest : List ℕ) (address : ℕ) (sent bytes : List ℕ) (used count : ℕ) → AreByteValues bytes
+    → OneByteRefused profile address sent bytes → text ≡ canonical_text (leg_events Nacked bytes) ++ rest
+    → used ≡ 4 + 5 * length bytes → count ≡ 2 + 2 * length bytes
+    → TakesPacket profile text used count (Refused (record { parts = []; addr = address; sent = sent; at_read = false }))
+takes_byte profile text rest address [] bytes used count small says split used_bytes many =
+    absurd (omega (arith, ap length says.split, length-append says.front (says.last ∷ [])))
+takes_byte profile text rest address (first ∷ more) bytes used count small says split used_bytes many =
+    let all : AreByteValues (write_address address ∷ first ∷ more) = subst AreByteValues says.spelled small in
+    takes_nacked profile text rest (Refused (record { parts = []; addr = address; sent = first ∷ more; at_read = false })) bytes used count
+    (byte_refused address first more)
+    (subst (λ (l : List ℕ). Packet profile (Refused (record { parts = []; addr = address; sent = first ∷ more; at_read = false })) (nacked_leg l ++ Stop ∷ []))
+    (sym says.spelled) (byte_packet profile address first more bytes all.1 says))
+    split used_bytes many
+
+-- where to be read is refused
+read_packet : (profile : List DeviceParts) (address : ℕ) (sent bytes : List ℕ) (written : ℕ)
+    → (says : OneReadRefused profile address sent bytes written)
+    → Packet profile (Refused (record { parts = []; addr = address; sent = sent; at_read = true })) (both (write_address address ∷ sent) (read_address address ∷ []))
+unfolding IsDistinct
+read_packet profile address [] bytes written says = record {
+  few = omega arith;
+  distinct = tt;
+  another = refl;
+  legs = [];
+  each = refl;
+  last = leg (write_address address ∷ []) ++ nacked_leg (read_address address ∷ []);
+  refused = record { alone = refl; device = says.device; known = says.known; body = says.body; spelled = refl };
+  spelled = refl;
+}
+read_packet profile address (first ∷ more) bytes written says = record {
+  few = omega arith;
+  distinct = tt;
+  another = refl;
+  legs = [];
+  each = refl;
+  last = leg (write_address address ∷ first ∷ more) ++ nacked_leg (read_address address ∷ []);
+  refused = record { alone = refl; device = says.device; known = says.known; body = says.body; spelled = refl };
+  spelled = refl;
+}
+
+pub takes_unread : (profile : List DeviceParts) (text rest : List ℕ) (address : ℕ) (sent bytes : List ℕ) (written used count : ℕ)
+    → OneReadRefused profile address sent bytes written → text ≡ canonical_text (leg_events (Both written) bytes) ++ rest
+    → used ≡ 6 + 5 * length bytes → count ≡ 3 + 2 * length bytes
+    → TakesPacket profile text used count (Refused (record { parts = []; addr = address; sent = sent; at_read = true }))
+takes_unread profile text rest address sent bytes written used count says split used_bytes many =
+    takes_both profile text rest (Refused (record { parts = []; addr = address; sent = sent; at_read = true })) (write_address address ∷ sent) (read_address address ∷ []) bytes
+    written used count (read_refused address sent) (read_packet profile address sent bytes written says)
+    says.spelled (omega (arith, says.first)) split used_bytes many
 
 -- ---- from the packet to its legs
 
@@ -151,12 +274,11 @@ pub record CommonLegs (profile : List DeviceParts) (text : List ℕ) : Type 0 wh
   pub say : SayLegs profile text legs all
   pub split : text ≡ canonical_text (leg_events legs all) ++ rest
 
-bytes_of_both : (front : List ℕ) (to_read : ℕ) (reply : List ℕ) → AreBytes (both front to_read reply) → AreByteValues (front ++ to_read ∷ reply)
-bytes_of_both front to_read reply small =
-    let behind = (leg (to_read ∷ []) ++ nacked reply) ++ Stop ∷ [] in
-    let both_small : AreBytes (acked front ++ behind) = subst AreBytes (append_assoc (acked front) (leg (to_read ∷ []) ++ nacked reply) (Stop ∷ [])) small in
-    let second = behind_acked front behind both_small in
-    small-append front (to_read ∷ reply) (bytes_of_acked front behind both_small) (second.0, bytes_of_nacked reply (Stop ∷ []) second.1)
+bytes_of_both : (front second : List ℕ) → AreBytes (both front second) → AreByteValues (front ++ second)
+bytes_of_both front second small =
+    let behind = nacked_leg second ++ Stop ∷ [] in
+    let both_small : AreBytes (acked front ++ behind) = subst AreBytes (append_assoc (acked front) (nacked_leg second) (Stop ∷ [])) small in
+    small-append front second (bytes_of_acked front behind both_small) (bytes_of_nacked second (Stop ∷ []) (behind_acked front behind both_small))
 
 bytes_before : (events : List Event) → AreBytes (events ++ Stop ∷ []) → AreBytes events
 bytes_before [] small = tt
@@ -173,7 +295,9 @@ unfolding encode_with
 begun_text byte events rest = refl
 
 module _ (profile : List DeviceParts) (bus : IsBus profile)
-    (are_bytes : (t : TransactionData) (events : List Event) → Packet profile t events → AreBytes events) (text : List ℕ) where
+    (are_bytes : (t : TransactionData) (events : List Event) → Packet profile t events → AreBytes events)
+    (few_inside : (device : DeviceParts) (parts : List PartData) (front : List ℕ) → IsInsideBody device parts front → length front ≤ 257)
+    (few_asked : (device : DeviceParts) (parts : List PartData) (body : List ℕ) → Allowed device parts body → length body ≤ 258) (text : List ℕ) where
   -- that of a write of one part
   write_legs : (part : PartData) (events : List Event) (rest : List ℕ) → Packet profile (Write (part ∷ [])) events → text ≡ canonical_text events ++ rest
       → CommonLegs profile text
@@ -262,9 +386,9 @@ module _ (profile : List DeviceParts) (bus : IsBus profile)
 
   -- those of both legs
   both_legs : (t : TransactionData) (events : List Event) (rest : List ℕ) (front : List ℕ) (to_read : ℕ) (reply : List ℕ) → Packet profile t events
-      → events ≡ both front to_read reply → 1 ≤ length reply → length front + length reply ≤ 515
+      → events ≡ both front (to_read ∷ reply) → length front + length reply ≤ 515
       → to_read % 2 ≡ 1 → SayBoth profile (length front) (front ++ to_read ∷ reply) → text ≡ canonical_text events ++ rest → CommonLegs profile text
-  both_legs t events rest front to_read reply packet spelled some few odd say split =
+  both_legs t events rest front to_read reply packet spelled few odd say split =
       let all = front ++ to_read ∷ reply in
       let long : length all ≡ length front + 1 + length reply = omega (arith, length-append front (to_read ∷ reply)) in
       record {
@@ -272,14 +396,14 @@ module _ (profile : List DeviceParts) (bus : IsBus profile)
         all = all;
         rest = rest;
         are = record {
-          small = bytes_of_both front to_read reply (subst AreBytes spelled (are_bytes t events packet));
-          enough = omega (arith, long, some);
+          small = bytes_of_both front (to_read ∷ reply) (subst AreBytes spelled (are_bytes t events packet));
+          enough = omega (arith, long);
           few = omega (arith, long, few);
           reads = subst BeginsOdd (sym (drop-append_seam front (to_read ∷ reply))) odd;
         };
         follows = tt;
         say = say;
-        split = split ∙ ap (λ (l : List Event). canonical_text l ++ rest) (spelled ∙ sym (both_events front to_read reply));
+        split = split ∙ ap (λ (l : List Event). canonical_text l ++ rest) (spelled ∙ sym (both_events front (to_read ∷ reply)));
       }
 
   -- those of a read
@@ -291,25 +415,28 @@ module _ (profile : List DeviceParts) (bus : IsBus profile)
       let reply = checked t.pec before (wire packet.form t.reply) in
       let on_wire : 1 ≤ length (wire packet.form t.reply) =
       some_on_wire packet.form t.reply packet.fits (read_has_data profile t.addr t.code packet.device packet.form bus packet.known packet.read) in
-      both_legs (Read t) events rest front (read_address t.addr) reply packet packet.spelled
-      (omega (arith, on_wire, some_checked t.pec before (wire packet.form t.reply)))
+      let some : 1 ≤ length reply = omega (arith, on_wire, some_checked t.pec before (wire packet.form t.reply)) in
+      both_legs (Read t) events rest front (read_address t.addr) reply packet (packet.spelled ∙ sym (both_read front (read_address t.addr) reply some))
       (omega (arith, few_checked t.pec before (wire packet.form t.reply), few_on_wire packet.form t.reply packet.fits))
       (omega arith)
-      (inl (
-        refl,
-        t.addr,
-        t.code,
-        t.reply,
-        t.pec,
-        record {
-          device = packet.device;
-          form = packet.form;
-          known = packet.known;
-          read = packet.read;
-          fits = packet.fits;
-          mode = packet.mode;
-          spelled = refl;
-        },
+      (inr (
+        omega (arith, some),
+        inl (
+          refl,
+          t.addr,
+          t.code,
+          t.reply,
+          t.pec,
+          record {
+            device = packet.device;
+            form = packet.form;
+            known = packet.known;
+            read = packet.read;
+            fits = packet.fits;
+            mode = packet.mode;
+            spelled = refl;
+          },
+        ),
       ))
       split
 
@@ -323,8 +450,8 @@ module _ (profile : List DeviceParts) (bus : IsBus profile)
       let not_zero : packet.form ≡ Zero → ⊥ = call_has_data profile t.addr t.code packet.device packet.form bus packet.known packet.called in
       let sent_on_wire : 1 ≤ length (wire packet.form t.bytes) = some_on_wire packet.form t.bytes packet.sent not_zero in
       let on_wire : 1 ≤ length (wire packet.form t.reply) = some_on_wire packet.form t.reply packet.replied not_zero in
-      both_legs (Call t) events rest front (read_address t.addr) reply packet packet.spelled
-      (omega (arith, on_wire, some_checked t.pec before (wire packet.form t.reply)))
+      let some : 1 ≤ length reply = omega (arith, on_wire, some_checked t.pec before (wire packet.form t.reply)) in
+      both_legs (Call t) events rest front (read_address t.addr) reply packet (packet.spelled ∙ sym (both_read front (read_address t.addr) reply some))
       (omega (
         arith,
         few_checked t.pec before (wire packet.form t.reply),
@@ -333,25 +460,99 @@ module _ (profile : List DeviceParts) (bus : IsBus profile)
       ))
       (omega arith)
       (inr (
-        omega (arith, sent_on_wire),
-        t.addr,
-        t.code,
-        t.bytes,
-        t.reply,
-        t.pec,
-        record {
-          device = packet.device;
-          form = packet.form;
-          known = packet.known;
-          called = packet.called;
-          sends = packet.sent;
-          fits = packet.replied;
-          mode = packet.mode;
-          first = omega arith;
-          spelled = refl;
-        },
+        omega (arith, some, length-append front (read_address t.addr ∷ reply)),
+        inr (
+          omega (arith, sent_on_wire),
+          t.addr,
+          t.code,
+          t.bytes,
+          t.reply,
+          t.pec,
+          record {
+            device = packet.device;
+            form = packet.form;
+            known = packet.known;
+            called = packet.called;
+            sends = packet.sent;
+            fits = packet.replied;
+            mode = packet.mode;
+            first = omega arith;
+            spelled = refl;
+          },
+        ),
       ))
       split
+
+  -- that of one whose last byte has NACK
+  nacked_legs : (t : TransactionData) (events : List Event) (rest : List ℕ) (all : List ℕ) → Packet profile t events → events ≡ nacked_leg all ++ Stop ∷ []
+      → 1 ≤ length all → length all ≤ 516 → SaysNacked profile all → text ≡ canonical_text events ++ rest → CommonLegs profile text
+  nacked_legs t events rest all packet spelled some few say split =
+      let small : AreBytes (nacked all ++ Stop ∷ []) = subst AreBytes spelled (are_bytes t events packet) in
+      record {
+        legs = Nacked;
+        all = all;
+        rest = rest;
+        are = record { small = bytes_of_nacked all (Stop ∷ []) small; enough = some; few = few; reads = tt };
+        follows = tt;
+        say = say;
+        split = split ∙ ap (λ (l : List Event). canonical_text l ++ rest) spelled;
+      }
+
+  -- of a refused address
+  address_legs : (address : ℕ) (events : List Event) (rest : List ℕ)
+      → Packet profile (Refused (record { parts = []; addr = address; sent = []; at_read = false })) events → text ≡ canonical_text events ++ rest
+      → CommonLegs profile text
+  address_legs address events rest packet split =
+      let all = write_address address ∷ [] in
+      nacked_legs (Refused (record { parts = []; addr = address; sent = []; at_read = false })) events rest all packet
+      (packet.spelled ∙ ap (λ (l : List Event). l ++ packet.last ++ Stop ∷ []) packet.each ∙ ap (λ (l : List Event). l ++ Stop ∷ []) packet.refused.spelled)
+      (omega arith) (omega arith) (inl (address, packet.refused.seven, refl)) split
+
+  -- of a refused byte
+  byte_legs : (address first : ℕ) (more : List ℕ) (events : List Event) (rest : List ℕ)
+      → Packet profile (Refused (record { parts = []; addr = address; sent = first ∷ more; at_read = false })) events → text ≡ canonical_text events ++ rest
+      → CommonLegs profile text
+  byte_legs address first more events rest packet split =
+      let all = write_address address ∷ first ∷ more in
+      let here = packet.refused in
+      let few : length (first ∷ more) ≤ 258 =
+      omega (arith, ap length here.split, length-append here.front (here.last ∷ []), few_inside here.device [] here.front here.begins) in
+      nacked_legs (Refused (record { parts = []; addr = address; sent = first ∷ more; at_read = false })) events rest all packet
+      (packet.spelled ∙ ap (λ (l : List Event). l ++ packet.last ++ Stop ∷ []) packet.each ∙ ap (λ (l : List Event). l ++ Stop ∷ []) here.spelled)
+      (omega arith) (omega (arith, few))
+      (inr (
+        address,
+        first ∷ more,
+        record { device = here.device; known = here.known; front = here.front; last = here.last; split = here.split; begins = here.begins; spelled = refl },
+      ))
+      split
+
+  -- those where to be read is refused
+  unread_legs : (address : ℕ) (sent : List ℕ) (events : List Event) (rest : List ℕ) (last : List Event)
+      → Packet profile (Refused (record { parts = []; addr = address; sent = sent; at_read = true })) events
+      → (refused : ReadRefused profile [] address sent last) → events ≡ last ++ Stop ∷ [] → text ≡ canonical_text events ++ rest
+      → CommonLegs profile text
+  unread_legs address sent events rest last packet here spelled split =
+      let front = write_address address ∷ sent in
+      let few : length sent ≤ 258 = few_asked here.device [] sent (inr here.body) in
+      both_legs (Refused (record { parts = []; addr = address; sent = sent; at_read = true })) events rest front (read_address address) [] packet
+      (spelled ∙ ap (λ (l : List Event). l ++ Stop ∷ []) here.spelled)
+      (omega (arith, few))
+      (omega arith)
+      (inl (
+        omega (arith, length-append front (read_address address ∷ [])),
+        (address, sent, record { device = here.device; known = here.known; body = here.body; first = omega arith; spelled = refl }),
+      ))
+      split
+
+  legs_of_unread : (address : ℕ) (sent : List ℕ) (events : List Event) (rest : List ℕ)
+      → Packet profile (Refused (record { parts = []; addr = address; sent = sent; at_read = true })) events → text ≡ canonical_text events ++ rest
+      → CommonLegs profile text
+  legs_of_unread address [] events rest packet split =
+      unread_legs address [] events rest packet.last packet packet.refused (packet.spelled ∙ ap (λ (l : List Event). l ++ packet.last ++ Stop ∷ []) packet.each) split
+  legs_of_unread address (first ∷ more) events rest packet split =
+      unread_legs address (first ∷ more) events rest packet.last packet packet.refused
+      (packet.spelled ∙ ap (λ (l : List Event). l ++ packet.last ++ Stop ∷ []) packet.each) split
 
   -- those of a write
   legs_of_write : (parts : List PartData) (events : List Event) (rest : List ℕ) → Packet profile (Write parts) events → text ≡ canonical_text events ++ rest
@@ -365,6 +566,9 @@ module _ (profile : List DeviceParts) (bus : IsBus profile)
   legs_of t events rest (parts_written parts) packet split = legs_of_write parts events rest packet split
   legs_of t events rest (device_read read) packet split = read_legs read events rest packet split
   legs_of t events rest (device_called call) packet split = call_legs call events rest packet split
+  legs_of t events rest (address_refused address) packet split = address_legs address events rest packet split
+  legs_of t events rest (byte_refused address first more) packet split = byte_legs address first more events rest packet split
+  legs_of t events rest (read_refused address sent) packet split = legs_of_unread address sent events rest packet split
 
   -- The legs of a common packet at the front of a text.
   pub common_legs : BeginsCommon profile text → CommonLegs profile text

@@ -6,6 +6,18 @@ use Rattle.pmb_bus.specs.declared.event.Event.TheVariants.{Byte}
 use Rattle.pmb_bus.specs.Event.{canonical_text}
 use Rattle.pmb_common.specs.Front.{acked_text, end_text, lower_digit}
 
+-- ---- a byte, whatever follows it
+
+-- one byte of the text is none
+pub short_byte : (text : List ℕ) (byte : ℕ) (rest : List ℕ) → length text < 2 → text ≡ canonical_text (Byte byte ∷ []) ++ rest → ⊥
+unfolding encode_with
+short_byte text byte rest short same = let long = ap length same in omega (arith, long)
+
+-- the lower one of the byte's digits
+pub low_digit : (text : List ℕ) (byte : ℕ) (rest : List ℕ) → text ≡ canonical_text (Byte byte ∷ []) ++ rest → get_or text 1 0 ≡ lower_digit (byte % 16)
+unfolding encode_with
+low_digit text byte rest same = ap (λ (l : List ℕ). get_or l 1 0) same
+
 -- ---- a byte and its ACK
 
 -- fewer bytes than that are none
@@ -20,11 +32,6 @@ other_ack text byte rest same = ap (λ (l : List ℕ). get_or l 3 0) same
 pub other_space : (text : List ℕ) (byte : ℕ) (rest : List ℕ) → text ≡ acked_text (byte ∷ []) ++ rest → get_or text 4 0 ≡ 32
 unfolding encode_with
 other_space text byte rest same = ap (λ (l : List ℕ). get_or l 4 0) same
-
--- the lower one of the byte's digits
-pub low_digit : (text : List ℕ) (byte : ℕ) (rest : List ℕ) → text ≡ acked_text (byte ∷ []) ++ rest → get_or text 1 0 ≡ lower_digit (byte % 16)
-unfolding encode_with
-low_digit text byte rest same = ap (λ (l : List ℕ). get_or l 1 0) same
 
 -- the word before it
 pub acked_word : (text : List ℕ) (byte : ℕ) (rest : List ℕ) → text ≡ acked_text (byte ∷ []) ++ rest

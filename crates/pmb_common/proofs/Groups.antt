@@ -14,7 +14,7 @@ use Rattle.pmb_command.specs.Parts.{DeviceParts, IsNew}
 use Rattle.pmb_command.specs.Wire.{AreByteValues}
 use Rattle.pmb_transaction.specs.Transaction.{PartData, Write}
 use Rattle.pmb_transaction.specs.Packet.{PartEvents, PartsEvents, acked, addresses, leg}
-use Rattle.pmb_common.specs.Common.{IsCommon, OneWritten, TakesPacket, parts_written}
+use Rattle.pmb_common.specs.Common.{OneWritten, TakesPacket, parts_written}
 use Rattle.pmb_common.specs.Front.{NoneAcked, TakenFront, acked_text}
 use Rattle.pmb_common.specs.Groups.{AddsPart, MoreParts, SayGroup, TakenParts}
 use Rattle.pmb_common.proofs.Beginnings.{TakesAll, start, start_or_stop, stop}

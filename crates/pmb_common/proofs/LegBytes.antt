@@ -10,7 +10,7 @@ use Rattle.pmb_command.specs.Parts.{DeviceParts}
 use Rattle.pmb_command.specs.Wire.{AreByteValues, Fits, wire}
 use Rattle.pmb_transaction.specs.Transaction.{PartData}
 use Rattle.pmb_transaction.specs.Body.{checked}
-use Rattle.pmb_transaction.specs.Packet.{PartEvents, acked, leg, nacked}
+use Rattle.pmb_transaction.specs.Packet.{PartEvents, acked, nacked}
 
 pub length-acked : (bytes : List ℕ) → length (acked bytes) ≡ 2 * length bytes
 length-acked [] = refl

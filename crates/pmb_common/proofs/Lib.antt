@@ -13,3 +13,4 @@ pub mod CommonLegs
 pub mod Spelled
 pub mod Groups
 pub mod Inside
+pub mod Bodies

@@ -1,14 +1,14 @@
 -- Legs at the front of a text, by what was taken of it.
-use Rattle.std.proofs.Common.{◌≡◌, ℕ, ◌≤◌, Option, Some, None, List, [], ◌∷◌, ◌++◌, length, sym, ap, ◌∙◌, arith, append_assoc}
+use Rattle.std.proofs.Common.{◌≡◌, ℕ, ◌+◌, ◌≤◌, Option, Some, None, List, [], ◌∷◌, ◌++◌, length, sym, ap, subst, ◌∙◌, arith, append_assoc, length-append}
 use Rattle.std.specs.Prelude.{IfSome}
 use Rattle.pmb_bus.specs.declared.event.Event.TheVariants.{Start, Stop}
 use Rattle.pmb_bus.specs.Event.{canonical_text}
 use Rattle.pmb_common.specs.declared.legs.Legs.{Legs}
-use Rattle.pmb_common.specs.declared.legs.Legs.TheVariants.{Written, Group}
+use Rattle.pmb_common.specs.declared.legs.Legs.TheVariants.{Written, Group, Nacked}
 use Rattle.pmb_common.specs.Common.{read_events}
 use Rattle.pmb_common.specs.Front.{TakenFront, acked_text, end_text}
-use Rattle.pmb_common.specs.Legs.{BeginsWithLegs, TakenSecond, leg_events}
-use Rattle.pmb_common.proofs.Ends.{read_text, written_text}
+use Rattle.pmb_common.specs.Legs.{BeginsWithLegs, TakenNacked, TakenSecond, least, leg_events}
+use Rattle.pmb_common.proofs.Ends.{nacked_text, read_text, written_text}
 
 abbrev pub start : List ℕ
 start = canonical_text (Start ∷ [])
@@ -39,12 +39,34 @@ group_there text first behind old new none begins taken =
           ∙ sym (append_assoc start (acked_text new) behind),
     )
 
+-- a leg whose last byte has NACK
+pub nacked_there : (text first behind old front new : List ℕ) (legs : Legs) → old ≡ [] → text ≡ start ++ first
+    → TakenFront first old front behind → TakenNacked legs behind front new → BeginsWithLegs legs new text
+nacked_there text first behind old front new legs none begins taken other =
+    let same : taken.more ≡ front = sym (taken.added ∙ ap (λ (l : List ℕ). l ++ taken.more) none) in
+    let split : text ≡ start ++ (acked_text front ++ (end_text other.last ++ other.rest)) =
+    begins
+    ∙ ap (λ (l : List ℕ). start ++ l) taken.split
+    ∙ ap (λ (l : List ℕ). start ++ (acked_text l ++ behind)) same
+    ∙ ap (λ (l : List ℕ). start ++ (acked_text front ++ l)) other.split in
+    let joined : canonical_text (leg_events legs new) ++ other.rest ≡ start ++ (acked_text front ++ (end_text other.last ++ other.rest)) =
+    ap (λ (l : Legs). canonical_text (leg_events l new) ++ other.rest) other.nacked
+    ∙ ap (λ (l : List ℕ). canonical_text (leg_events Nacked l) ++ other.rest) other.added
+    ∙ ap (λ (l : List ℕ). l ++ other.rest) (nacked_text front other.last)
+    ∙ ap (λ (l : List ℕ). start ++ l) (append_assoc (acked_text front) (end_text other.last) other.rest) in
+    (other.rest, split ∙ sym joined)
+
+-- where it is found
+pub nacked_found : (text first behind old front new : List ℕ) (result : Option Legs) → old ≡ [] → text ≡ start ++ first
+    → TakenFront first old front behind → IfSome result (λ legs. TakenNacked legs behind front new) → IfSome result (λ legs. BeginsWithLegs legs new text)
+nacked_found text first behind old front new None none begins taken other = tt
+nacked_found text first behind old front new (Some legs) none begins taken other = nacked_there text first behind old front new legs none begins taken other
+
 -- the text of both, by what was taken of each
-both_text : (front back : List ℕ) (last : ℕ) → 1 ≤ length back
+both_text : (front back : List ℕ) (last : ℕ)
     → canonical_text (read_events (length front) ((front ++ back) ++ last ∷ [])) ≡ start ++ (acked_text front ++ (start ++ (acked_text back ++ end_text last)))
-both_text front [] last some = absurd (omega (arith, some))
-both_text front (to_read ∷ back) last some =
-    ap (λ (l : List ℕ). canonical_text (read_events (length front) l)) (append_assoc front (to_read ∷ back) (last ∷ [])) ∙ read_text front to_read back last
+both_text front back last =
+    ap (λ (l : List ℕ). canonical_text (read_events (length front) l)) (append_assoc front back (last ∷ [])) ∙ read_text front back last
 
 regroup : (a b c d rest : List ℕ) → (a ++ (b ++ (c ++ d))) ++ rest ≡ a ++ (b ++ (c ++ (d ++ rest)))
 regroup a b c d rest = simp append_assoc
@@ -64,7 +86,7 @@ both_there text first behind second old front new legs none begins one again oth
     ≡ start ++ (acked_text front ++ (start ++ (acked_text other.back ++ (end_text other.last ++ other.rest)))) =
     ap (λ (l : Legs). canonical_text (leg_events l new) ++ other.rest) other.both
     ∙ ap (λ (l : List ℕ). canonical_text (read_events (length front) l) ++ other.rest) other.added
-    ∙ ap (λ (l : List ℕ). l ++ other.rest) (both_text front other.back other.last other.some)
+    ∙ ap (λ (l : List ℕ). l ++ other.rest) (both_text front other.back other.last)
     ∙ ap (λ (l : List ℕ). start ++ l) (regroup (acked_text front) start (acked_text other.back) (end_text other.last) other.rest) in
     (other.rest, split ∙ sym joined)
 
@@ -75,3 +97,20 @@ pub both_found : (text first behind second old front new : List ℕ) (result : O
 both_found text first behind second old front new None none begins one again other = tt
 both_found text first behind second old front new (Some legs) none begins one again other =
     both_there text first behind second old front new legs none begins one again other
+
+-- ---- they have as many bytes as such legs have at least
+
+pub enough_both : (second front new : List ℕ) (result : Option Legs) → IfSome result (λ legs. TakenSecond legs second front new)
+    → IfSome result (λ legs. least legs ≤ length new)
+enough_both second front new None other = tt
+enough_both second front new (Some legs) other =
+    let long : length front + 1 ≤ length new =
+    omega (arith, ap length other.added, length-append (front ++ other.back) (other.last ∷ []), length-append front other.back) in
+    subst (λ (l : Legs). least l ≤ length new) (sym other.both) long
+
+pub enough_nacked : (behind front new : List ℕ) (result : Option Legs) → IfSome result (λ legs. TakenNacked legs behind front new)
+    → IfSome result (λ legs. least legs ≤ length new)
+enough_nacked behind front new None other = tt
+enough_nacked behind front new (Some legs) other =
+    let long : 1 ≤ length new = omega (arith, ap length other.added, length-append front (other.last ∷ [])) in
+    subst (λ (l : Legs). least l ≤ length new) (sym other.nacked) long

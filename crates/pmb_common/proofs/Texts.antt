@@ -1,9 +1,9 @@
 -- The canonical text of acknowledged bytes, and where it ends.
-use Rattle.std.proofs.Common.{◌≡◌, ℕ, ◌*◌, ◌/◌, ◌%◌, List, [], ◌∷◌, ◌++◌, length, refl, sym, ap, ◌∙◌, arith}
+use Rattle.std.proofs.Common.{◌≡◌, ◌<◌, ℕ, ◌*◌, ◌/◌, ◌%◌, List, [], ◌∷◌, ◌++◌, length, refl, sym, ap, ◌∙◌, arith}
 use Rattle.std.proofs.lemmas.Grind.{flat_map-append}
 use Rattle.hex.specs.Hex.{encode_with}
 use Rattle.pmb_bus.specs.declared.event.Event.{Event}
-use Rattle.pmb_bus.specs.declared.event.Event.TheVariants.{Start, Byte, Ack, Stop}
+use Rattle.pmb_bus.specs.declared.event.Event.TheVariants.{Start, Byte, Ack, Nack, Stop}
 use Rattle.pmb_bus.specs.Event.{canonical_text, text_of}
 use Rattle.pmb_command.specs.Wire.{AreByteValues}
 use Rattle.pmb_transaction.specs.Packet.{acked}
@@ -53,6 +53,35 @@ unfolding encode_with
 none_at_nack last rest byte more small same =
     let letters : ◌≡◌ {A = ℕ} 78 65 = cc same in
     omega (arith, letters)
+
+-- a byte with NACK is neither STOP nor START
+pub nack_or_stop : (last : ℕ) (a b text : List ℕ) → last < 256 → text ≡ end_text last ++ a → text ≡ canonical_text (Stop ∷ []) ++ b → ⊥
+unfolding encode_with
+nack_or_stop last a b text small one other =
+    let letter : 80 ≡ lower_digit (last / 16) = cc (one, other) in
+    no_digit (last / 16) 80 (omega arith) refl (sym letter)
+
+pub nack_or_start : (last : ℕ) (a b text : List ℕ) → last < 256 → text ≡ end_text last ++ a → text ≡ canonical_text (Start ∷ []) ++ b → ⊥
+unfolding encode_with
+nack_or_start last a b text small one other =
+    let letter : 83 ≡ lower_digit (last / 16) = cc (one, other) in
+    no_digit (last / 16) 83 (omega arith) refl (sym letter)
+
+-- the byte in front of bytes of which the last has NACK
+pub first_of_nacked : (front : List ℕ) (last byte : ℕ) (bytes rest : List ℕ) → byte ∷ bytes ≡ front ++ last ∷ []
+    → (more : List ℕ) × (acked_text front ++ (end_text last ++ rest) ≡ canonical_text (Byte byte ∷ []) ++ more)
+unfolding encode_with
+first_of_nacked [] last byte bytes rest same =
+    let is : last ≡ byte = cc same in
+    (canonical_text (Nack ∷ Stop ∷ []) ++ rest, ap (λ (b : ℕ). end_text b ++ rest) is)
+first_of_nacked (x ∷ front) last byte bytes rest same =
+    let is : x ≡ byte = cc same in
+    (canonical_text (Ack ∷ []) ++ (acked_text front ++ (end_text last ++ rest)), ap (λ (b : ℕ). acked_text (b ∷ front) ++ (end_text last ++ rest)) is)
+
+-- and the one in front of one with ACK
+pub first_of_acked : (byte : ℕ) (rest : List ℕ) → acked_text (byte ∷ []) ++ rest ≡ canonical_text (Byte byte ∷ []) ++ (canonical_text (Ack ∷ []) ++ rest)
+unfolding encode_with
+first_of_acked byte rest = refl
 
 -- what one of two lists of acknowledged bytes goes on with, where the texts are the same
 pub record GoesOn (taken : List ℕ) (all : List ℕ) (behind : List ℕ) (rest : List ℕ) : Type 0 where

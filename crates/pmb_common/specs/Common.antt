@@ -1,20 +1,20 @@
 -- Common packets, and what it means that one is taken at once from a text.
-use Rattle.std.specs.Prelude.{◌≡◌, ℕ, ◌+◌, Bool, Some, List, [], ◌∷◌, ◌++◌, length, take, drop}
+use Rattle.std.specs.Prelude.{◌≡◌, ℕ, ◌+◌, Bool, true, false, Some, List, [], ◌∷◌, ◌++◌, length, take, drop}
 use Rattle.pmb_bus.specs.declared.event.Event.{Event}
-use Rattle.pmb_bus.specs.declared.event.Event.TheVariants.{Stop}
+use Rattle.pmb_bus.specs.declared.event.Event.TheVariants.{Start, Stop}
 use Rattle.pmb_bus.specs.Address.{write_address, read_address}
 use Rattle.pmb_bus.specs.Event.{canonical_text}
 use Rattle.pmb_command.specs.declared.form.Form.{Form}
 use Rattle.pmb_command.specs.Parts.{DeviceParts, device_with}
 use Rattle.pmb_command.specs.PecMode.{AllowsPec}
 use Rattle.pmb_command.specs.Wire.{Fits, wire}
-use Rattle.pmb_transaction.specs.Transaction.{PartData, ReadData, CallData, TransactionData, Write, Read, Call}
-use Rattle.pmb_transaction.specs.Body.{forms, checked, WriteBody}
+use Rattle.pmb_transaction.specs.Transaction.{PartData, ReadData, CallData, TransactionData, Write, Read, Call, Refused}
+use Rattle.pmb_transaction.specs.Body.{forms, checked, WriteBody, IsInsideBody, IsRequest}
 use Rattle.pmb_transaction.specs.Packet.{Packet, leg, nacked}
 
 -- The table of the transactions whose packets are taken at once, in every form of their data, with
 -- or without a packet error code (SMBus 3.0 section 6.5). Each byte is acknowledged, but for the
--- last one that is read.
+-- last one that is read, and for what a row says is refused. No part comes before that.
 pub data IsCommon : TransactionData → Type 0 where
   -- S addr+W A code A data A .. [pec A] [S addr+W A code A data A .. [pec A]] .. P
   parts_written : (parts : List PartData) → IsCommon (Write parts)
@@ -22,6 +22,12 @@ pub data IsCommon : TransactionData → Type 0 where
   device_read : (t : ReadData) → IsCommon (Read t)
   -- S addr+W A code A data A .. S addr+R A reply A .. [pec] N P
   device_called : (t : CallData) → IsCommon (Call t)
+  -- S addr+W N P
+  address_refused : (addr : ℕ) → IsCommon (Refused (record { parts = []; addr = addr; sent = []; at_read = false }))
+  -- S addr+W A sent A .. sent N P
+  byte_refused : (addr : ℕ) (first : ℕ) (more : List ℕ) → IsCommon (Refused (record { parts = []; addr = addr; sent = first ∷ more; at_read = false }))
+  -- S addr+W A sent A .. S addr+R N P
+  read_refused : (addr : ℕ) (sent : List ℕ) → IsCommon (Refused (record { parts = []; addr = addr; sent = sent; at_read = true }))
 
 -- A text begins with the text of a common packet, the canonical text of its events: so many bytes,
 -- and so many events.
@@ -40,11 +46,14 @@ BeginsCommon profile text = (used : ℕ) × (count : ℕ) × (t : TransactionDat
 
 -- ---- the bytes of a packet, its address bytes too
 
--- The events of two legs, so many bytes in the first and the others in the second: those that are
--- read have NACK after the last.
+-- a leg in which NACK follows the last byte
+abbrev pub nacked_leg : List ℕ → List Event
+nacked_leg bytes = Start ∷ nacked bytes
+
+-- The events of two legs, so many bytes in the first and the others in the second: its last one, be
+-- it the address byte itself, has NACK.
 abbrev pub read_events : ℕ → List ℕ → List Event
-read_events written bytes =
-    leg (take written bytes) ++ (leg (take 1 (drop written bytes)) ++ nacked (drop 1 (drop written bytes))) ++ Stop ∷ []
+read_events written bytes = leg (take written bytes) ++ nacked_leg (drop written bytes) ++ Stop ∷ []
 
 module _ (profile : List DeviceParts) (address : ℕ) (code : ℕ) (bytes : List ℕ) (with_pec : Bool) (all : List ℕ) where
   -- those of a written leg
@@ -78,3 +87,24 @@ module _ (profile : List DeviceParts) (address : ℕ) (code : ℕ) (bytes : List
     pub first : written ≡ 2 + length (wire form sent)
     pub spelled : all ≡ write_address address ∷ code ∷ wire form sent ++ read_address address
         ∷ checked with_pec (write_address address ∷ code ∷ wire form sent ++ read_address address ∷ []) (wire form bytes)
+
+-- ---- those of a packet in which something is refused
+
+module _ (profile : List DeviceParts) (address : ℕ) (sent : List ℕ) (all : List ℕ) where
+  -- those of a leg, where the last byte sent is refused
+  pub record OneByteRefused : Type 0 where
+    pub device : DeviceParts
+    pub known : device_with address profile ≡ Some device
+    pub front : List ℕ
+    pub last : ℕ
+    pub split : sent ≡ front ++ last ∷ []
+    pub begins : IsInsideBody device [] front
+    pub spelled : all ≡ write_address address ∷ sent
+
+  -- Those of both legs, where to be read is refused; the first leg has `written` bytes.
+  pub record OneReadRefused (written : ℕ) : Type 0 where
+    pub device : DeviceParts
+    pub known : device_with address profile ≡ Some device
+    pub body : IsRequest device sent
+    pub first : written ≡ 1 + length sent
+    pub spelled : all ≡ write_address address ∷ sent ++ read_address address ∷ []

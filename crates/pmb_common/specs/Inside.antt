@@ -1,5 +1,5 @@
 -- Events inside a packet, before its STOP.
-use Rattle.std.specs.Prelude.{ℕ, ◌<◌, ⊤, List}
+use Rattle.std.specs.Prelude.{◌<◌, ⊤, List}
 use Rattle.std.specs.List.{AllByRecursion}
 use Rattle.pmb_bus.specs.declared.event.Event.{Event}
 use Rattle.pmb_bus.specs.declared.event.Event.TheVariants.{Start, Byte, Ack, Nack, Stop}

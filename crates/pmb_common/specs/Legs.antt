@@ -2,14 +2,15 @@
 use Rattle.std.specs.Prelude.{◌≡◌, ◌≤◌, ◌<◌, ℕ, ◌+◌, ◌%◌, ◌⊎◌, ⊤, Bool, Option, Some, List, [], ◌∷◌, ◌++◌, drop, length}
 use Rattle.pmb_bus.specs.declared.event.Event.{Event}
 use Rattle.pmb_bus.specs.declared.event.Event.TheVariants.{Start, Stop}
+use Rattle.pmb_bus.specs.Address.{write_address}
 use Rattle.pmb_bus.specs.Event.{canonical_text}
 use Rattle.pmb_command.specs.Parts.{DeviceParts}
 use Rattle.pmb_command.specs.Wire.{AreByteValues}
 use Rattle.pmb_transaction.specs.Packet.{leg}
 use Rattle.pmb_common.specs.declared.legs.Legs.{Legs}
-use Rattle.pmb_common.specs.declared.legs.Legs.TheVariants.{Written, Both, Group}
+use Rattle.pmb_common.specs.declared.legs.Legs.TheVariants.{Written, Both, Group, Nacked}
 use Rattle.pmb_common.specs.Front.{acked_text, end_text}
-use Rattle.pmb_common.specs.Common.{OneCalled, OneRead, read_events}
+use Rattle.pmb_common.specs.Common.{OneByteRefused, OneCalled, OneRead, OneReadRefused, nacked_leg, read_events}
 use Rattle.pmb_common.specs.Groups.{SayGroup, SaysPart}
 
 -- the events of legs with these bytes, up to STOP; of a group those of the first leg
@@ -17,12 +18,14 @@ abbrev pub leg_events : Legs → List ℕ → List Event
 leg_events Written bytes = leg bytes ++ Stop ∷ []
 leg_events (Both written) bytes = read_events written bytes
 leg_events Group bytes = leg bytes
+leg_events Nacked bytes = nacked_leg bytes ++ Stop ∷ []
 
--- how many bytes the legs have at least: in one that is read, one stands after the address
+-- how many bytes the legs have at least: a leg with NACK has the byte before it
 abbrev pub least : Legs → ℕ
 least Written = 0
-least (Both written) = written + 2
+least (Both written) = written + 1
 least Group = 0
+least Nacked = 1
 
 -- the first of some bytes is odd, as an address byte for reading is
 abbrev pub BeginsOdd : List ℕ → Type 0
@@ -34,6 +37,7 @@ abbrev pub Reads : Legs → List ℕ → Type 0
 Reads Written bytes = ⊤
 Reads (Both written) bytes = BeginsOdd (drop written bytes)
 Reads Group bytes = ⊤
+Reads Nacked bytes = ⊤
 
 -- Bytes of a packet's legs.
 pub record IsOfLegs (legs : Legs) (bytes : List ℕ) : Type 0 where
@@ -54,6 +58,7 @@ abbrev pub Follows : Legs → List ℕ → Type 0
 Follows Written behind = ⊤
 Follows (Both written) behind = ⊤
 Follows Group behind = NextWritten behind
+Follows Nacked behind = ⊤
 
 -- The text of legs with these bytes stands at the front of a text.
 abbrev pub BeginsWithLegs : Legs → List ℕ → List ℕ → Type 0
@@ -64,14 +69,12 @@ pub record TakenSecond (legs : Legs) (text : List ℕ) (first : List ℕ) (all :
   pub back : List ℕ
   pub last : ℕ
   pub rest : List ℕ
-  pub some : 1 ≤ length back
   pub both : legs ≡ Both (length first)
   pub added : all ≡ (first ++ back) ++ last ∷ []
   pub split : text ≡ acked_text back ++ (end_text last ++ rest)
 
 -- Bytes of a second leg, which find room after those of the first.
 pub record IsSecond (first : List ℕ) (back : List ℕ) (last : ℕ) : Type 0 where
-  pub some : 1 ≤ length back
   pub small : AreByteValues back
   pub small_last : last < 256
   pub few : length (first ++ back) ≤ 515
@@ -81,15 +84,46 @@ abbrev pub FindsSecond : List ℕ → List ℕ → List ℕ → Option Legs → 
 FindsSecond text first new result = (back : List ℕ) (last : ℕ) (rest : List ℕ) → IsSecond first back last → text ≡ acked_text back ++ (end_text last ++ rest)
     → (result ≡ Some (Both (length first))) × (new ≡ (first ++ back) ++ last ∷ [])
 
--- What both legs with these bytes say. A first leg of two bytes is that of a read: a call sends
--- data.
-abbrev pub SayBoth : List DeviceParts → ℕ → List ℕ → Type 0
-SayBoth profile written bytes =
+-- A byte with NACK was taken from the front of a text, up to STOP, and put after those of the first
+-- leg.
+pub record TakenNacked (legs : Legs) (text : List ℕ) (first : List ℕ) (all : List ℕ) : Type 0 where
+  pub last : ℕ
+  pub rest : List ℕ
+  pub nacked : legs ≡ Nacked
+  pub added : all ≡ first ++ last ∷ []
+  pub split : text ≡ end_text last ++ rest
+
+-- Such a byte at the front of a text is taken.
+abbrev pub FindsNacked : List ℕ → List ℕ → List ℕ → Option Legs → Type 0
+FindsNacked text first new result = (last : ℕ) (rest : List ℕ) → last < 256 → length first ≤ 515 → text ≡ end_text last ++ rest
+    → (result ≡ Some Nacked) × (new ≡ first ++ last ∷ [])
+
+-- What a leg with these bytes says, of which the last one has NACK: an address is refused, or a byte
+-- that is sent.
+abbrev pub SaysNacked : List DeviceParts → List ℕ → Type 0
+SaysNacked profile bytes =
+    ((address : ℕ) × (address < 128) × (bytes ≡ write_address address ∷ []))
+    ⊎ ((address : ℕ) × (sent : List ℕ) × OneByteRefused profile address sent bytes)
+
+-- to be read is refused
+abbrev pub SayUnread : List DeviceParts → ℕ → List ℕ → Type 0
+SayUnread profile written bytes = (address : ℕ) × (sent : List ℕ) × OneReadRefused profile address sent bytes written
+
+-- What both legs say, where some bytes are read. A first leg of two bytes is that of a read: a call
+-- sends data.
+abbrev pub SayRead : List DeviceParts → ℕ → List ℕ → Type 0
+SayRead profile written bytes =
     ((written ≡ 2) × (address : ℕ) × (code : ℕ) × (reply : List ℕ) × (with_pec : Bool) × OneRead profile address code reply with_pec bytes)
     ⊎ ((2 < written) × (address : ℕ) × (code : ℕ) × (sent : List ℕ) × (reply : List ℕ) × (with_pec : Bool) × OneCalled profile address code reply with_pec bytes sent written)
+
+-- What both legs with these bytes say. In one that is read, some byte stands after the address.
+abbrev pub SayBoth : List DeviceParts → ℕ → List ℕ → Type 0
+SayBoth profile written bytes =
+    ((length bytes ≡ written + 1) × SayUnread profile written bytes) ⊎ ((written + 1 < length bytes) × SayRead profile written bytes)
 
 -- What legs at the front of a text say, with these bytes.
 abbrev pub SayLegs : List DeviceParts → List ℕ → Legs → List ℕ → Type 0
 SayLegs profile text Written bytes = SaysPart profile bytes
 SayLegs profile text (Both written) bytes = SayBoth profile written bytes
 SayLegs profile text Group bytes = SayGroup profile text bytes
+SayLegs profile text Nacked bytes = SaysNacked profile bytes

@@ -5,3 +5,4 @@ pub mod Groups
 pub mod Inside
 pub mod Legs
 pub mod PacketBytes
+pub mod Refused

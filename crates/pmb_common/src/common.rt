@@ -7,18 +7,19 @@
 ghost use Rattle.std.specs.Prelude.{◌≡◌, ◌<◌, ◌≤◌, ◌+◌, ◌*◌, ◌++◌, List, ℕ, IsSome, IfSome, length};
 ghost use Rattle.pmb_bus.specs.Event.{canonical_text};
 ghost use Rattle.pmb_common.specs.Common.{BeginsCommon, TakesPacket};
-ghost use Rattle.pmb_common.specs.declared.legs.Legs.TheVariants.{Both, Written};
+ghost use Rattle.pmb_common.specs.declared.legs.Legs.TheVariants.{Both, Nacked, Written};
 ghost use Rattle.pmb_common.specs.Groups.{SaysPart};
-ghost use Rattle.pmb_common.specs.Legs.{BeginsWithLegs, SayBoth, SayLegs, leg_events};
+ghost use Rattle.pmb_common.specs.Legs.{BeginsWithLegs, SayBoth, SayLegs, SayUnread, SaysNacked, least, leg_events};
 
 use crate::group::take_group;
 use crate::legs::{Legs, front_legs};
 use crate::packet_bytes::PacketBytes;
 use crate::packets::{called, read, written};
+use crate::refused::{refused_address, refused_byte, unread};
 use pmb_kept::Kept;
 use pmb_table::Profile;
 use pmb_table::laws::accepted_bus;
-use pmb_transaction::laws::packets_are_bytes;
+use pmb_transaction::laws::{bodies_are_short, packets_are_bytes};
 
 /// How much of a text a packet is.
 #[derive(Clone, Copy, Debug, PartialEq, Eq)]
@@ -56,8 +57,22 @@ impl Common {
     {
         accepted_bus(profile);
         packets_are_bytes();
+        bodies_are_short();
         let legs = front_legs(text, &mut self.bytes)?;
         keep(kept, profile, legs, text, &mut self.bytes)
+    }
+}
+
+// How much of a text one leg with these bytes is.
+#[inline]
+fn one_leg(bytes: &[u8]) -> Taken
+    requires { length bytes.now ≤ 516 }
+    ensures used { result.used ≡ 4 + 5 * length bytes.now }
+    ensures events { result.events ≡ 2 + 2 * length bytes.now }
+{
+    Taken {
+        used: 4 + 5 * bytes.len(),
+        events: 2 + 2 * bytes.len(),
     }
 }
 
@@ -84,6 +99,7 @@ fn keep(
     bytes: &mut PacketBytes,
 ) -> Option<Taken>
     requires begins { BeginsWithLegs legs bytes.old.items text.now }
+    requires enough { least legs ≤ length bytes.old.items }
     ensures takes { IfSome result (λ taken. TakesPacket profile.now text.now taken.used taken.events kept.new.last) }
     ensures some { IfSome result (λ taken. 0 < taken.used) }
     ensures answers { SayLegs profile.now text.now legs bytes.old.items → IsSome result }
@@ -92,6 +108,7 @@ fn keep(
         Legs::Written => keep_write(kept, profile, bytes.as_slice()),
         Legs::Both { written } => keep_both(kept, profile, bytes.as_slice(), written),
         Legs::Group => take_group(kept, profile, text, bytes),
+        Legs::Nacked => keep_nacked(kept, profile, bytes.as_slice()),
     }
 }
 
@@ -108,21 +125,24 @@ fn keep_write(kept: &mut Kept, profile: &Profile, bytes: &[u8]) -> Option<Taken>
     kept.begin();
     kept.push_part(said.address, said.code, said.data.bytes, said.data.pec);
     kept.end_write();
-    Some(Taken {
-        used: 4 + 5 * bytes.len(),
-        events: 2 + 2 * bytes.len(),
-    })
+    Some(one_leg(bytes))
 }
 
-// Keeps the read or the call, whose two legs have these bytes.
+// Keeps the read or the call, whose two legs have these bytes, or what is refused when a device is to
+// be read.
 #[inline(always)]
 fn keep_both(kept: &mut Kept, profile: &Profile, bytes: &[u8], written: usize) -> Option<Taken>
-    requires { length bytes.now ≤ 516 }
+    requires few { length bytes.now ≤ 516 }
+    requires enough { written + 1 ≤ length bytes.now }
     ensures takes { (text rest : List ℕ) → text ≡ canonical_text (leg_events (Both written) bytes.now) ++ rest
         → IfSome result (λ taken. TakesPacket profile.now text taken.used taken.events kept.new.last) }
     ensures some { IfSome result (λ taken. 0 < taken.used) }
     ensures answers { SayBoth profile.now written bytes.now → IsSome result }
 {
+    let second = bytes.len() - written;
+    if second == 1 {
+        return keep_unread(kept, profile, bytes, written);
+    }
     if written == 2 {
         let said = read(profile, bytes)?;
         kept.end_read(said.address, said.code, said.data.bytes, said.data.pec);
@@ -137,4 +157,40 @@ fn keep_both(kept: &mut Kept, profile: &Profile, bytes: &[u8], written: usize) -
         said.reply.pec,
     );
     Some(both_legs(bytes))
+}
+
+// Keeps what is refused when a device is to be read: the two legs have these bytes.
+#[inline(never)]
+fn keep_unread(kept: &mut Kept, profile: &Profile, bytes: &[u8], written: usize) -> Option<Taken>
+    requires few { length bytes.now ≤ 516 }
+    requires second { length bytes.now ≡ written + 1 }
+    ensures takes { (text rest : List ℕ) → text ≡ canonical_text (leg_events (Both written) bytes.now) ++ rest
+        → IfSome result (λ taken. TakesPacket profile.now text taken.used taken.events kept.new.last) }
+    ensures some { IfSome result (λ taken. 0 < taken.used) }
+    ensures answers { SayUnread profile.now written bytes.now → IsSome result }
+{
+    let sent = unread(profile, bytes, written)?;
+    kept.begin();
+    kept.end_refused(sent.address, sent.bytes, None, true);
+    Some(both_legs(bytes))
+}
+
+// Keeps what is refused in a leg with these bytes, of which the last one has NACK: its address, or a
+// byte that is sent.
+#[inline(never)]
+fn keep_nacked(kept: &mut Kept, profile: &Profile, bytes: &[u8]) -> Option<Taken>
+    requires { length bytes.now ≤ 516 }
+    ensures takes { (text rest : List ℕ) → text ≡ canonical_text (leg_events Nacked bytes.now) ++ rest
+        → IfSome result (λ taken. TakesPacket profile.now text taken.used taken.events kept.new.last) }
+    ensures some { IfSome result (λ taken. 0 < taken.used) }
+    ensures answers { SaysNacked profile.now bytes.now → IsSome result }
+{
+    kept.begin();
+    if let Some(address) = refused_address(bytes) {
+        kept.end_refused(address, &[], None, false);
+        return Some(one_leg(bytes));
+    }
+    let sent = refused_byte(profile, bytes)?;
+    kept.end_refused(sent.address, sent.bytes, None, false);
+    Some(one_leg(bytes))
 }

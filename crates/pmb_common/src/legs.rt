@@ -1,8 +1,8 @@
 //! The legs of a packet at the front of a text.
 
-ghost use Rattle.std.specs.Prelude.{◌≡◌, List, ℕ, Some, [], ◌++◌, IfSome};
+ghost use Rattle.std.specs.Prelude.{◌≡◌, ◌≤◌, List, ℕ, Some, [], ◌++◌, IfSome, length};
 ghost use Rattle.pmb_bus.specs.Event.{canonical_text};
-ghost use Rattle.pmb_common.specs.Legs.{BeginsWithLegs, FindsSecond, Follows, IsOfLegs, TakenSecond, leg_events};
+ghost use Rattle.pmb_common.specs.Legs.{BeginsWithLegs, FindsNacked, FindsSecond, Follows, IsOfLegs, TakenNacked, TakenSecond, least, leg_events};
 
 use crate::packet_bytes::PacketBytes;
 use crate::words::{behind_start, behind_stop, front_last, is_even, take_acked};
@@ -12,10 +12,12 @@ use crate::words::{behind_start, behind_stop, front_last, is_even, take_acked};
 pub(crate) enum Legs {
     /// One that is written.
     Written,
-    /// A written one of this many bytes, and one that is read.
+    /// A written one of this many bytes, and one that is read, or whose address byte has NACK.
     Both { written: usize },
     /// A written one, and after it others that are written.
     Group,
+    /// One whose last byte has NACK.
+    Nacked,
 }
 
 /// The legs at the front of a text, up to STOP, where they are those of a common packet; of a group
@@ -23,6 +25,7 @@ pub(crate) enum Legs {
 #[inline]
 pub(crate) fn front_legs(text: &[u8], bytes: &mut PacketBytes) -> Option<Legs>
     ensures spelled { IfSome result (λ legs. BeginsWithLegs legs bytes.new.items text.now) }
+    ensures enough { IfSome result (λ legs. least legs ≤ length bytes.new.items) }
     ensures found { (legs : Legs) (all rest : List ℕ) → IsOfLegs legs all → Follows legs rest → text.now ≡ canonical_text (leg_events legs all) ++ rest
         → (result ≡ Some legs) × (bytes.new.items ≡ all) }
 {
@@ -32,7 +35,9 @@ pub(crate) fn front_legs(text: &[u8], bytes: &mut PacketBytes) -> Option<Legs>
     if let Some(_) = behind_stop(behind) {
         return Some(Legs::Written);
     }
-    let second = behind_start(behind)?;
+    let Some(second) = behind_start(behind) else {
+        return take_nacked(behind, bytes);
+    };
     if is_even(second) {
         return Some(Legs::Group);
     }
@@ -52,9 +57,6 @@ fn take_second(text: &[u8], bytes: &mut PacketBytes) -> Option<Legs>
     let written = bytes.len();
     let end = take_acked(text, bytes);
     let last = front_last(end)?;
-    if bytes.len() == written {
-        return None;
-    }
     if bytes.is_full() {
         return None;
     }
@@ -70,4 +72,19 @@ fn take_reply(text: &[u8], bytes: &mut PacketBytes) -> Option<Legs>
     ensures found { FindsSecond text.now bytes.old.items bytes.new.items result }
 {
     take_second(text, bytes)
+}
+
+/// Takes the byte with NACK at the front of a text, up to STOP, and puts it after those of the first
+/// leg. Not inlined, since few packets end so.
+#[inline(never)]
+fn take_nacked(text: &[u8], bytes: &mut PacketBytes) -> Option<Legs>
+    ensures spelled { IfSome result (λ legs. TakenNacked legs text.now bytes.old.items bytes.new.items) }
+    ensures found { FindsNacked text.now bytes.old.items bytes.new.items result }
+{
+    let last = front_last(text)?;
+    if bytes.is_full() {
+        return None;
+    }
+    bytes.push(last);
+    Some(Legs::Nacked)
 }

@@ -1,9 +1,10 @@
 //! Whole common packets, taken at once from the text of a capture.
 //!
 //! Most of a capture is writes, to one device or to a group, reads and process calls, every byte
-//! acknowledged. Where the canonical text of such a packet lies whole at the front of a piece,
-//! [`Common::take`] takes it at once: one space between words, digits in lower case and a LF after
-//! STOP. All else is left to be taken event by event.
+//! acknowledged, and packets in which an address or a byte is refused. Where the canonical text of such
+//! a packet lies whole at the front of a piece, [`Common::take`] takes it at once: one space between
+//! words, digits in lower case and a LF after STOP. All else is left to be taken event by event: alerts,
+//! and what is refused after a part of a group.
 //!
 //! ```rust
 //! let profile = Profile::from_toml(rt.alloc(), SAMPLE.as_bytes())?;
@@ -24,6 +25,7 @@ pub mod laws;
 mod legs;
 mod packet_bytes;
 mod packets;
+mod refused;
 mod words;
 
 pub use common::{Common, Taken};

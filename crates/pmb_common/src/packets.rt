@@ -1,4 +1,5 @@
-//! The table of the packets that are taken at once: what the bytes of each say.
+//! The table of the packets that are taken at once: what the bytes of each say. Those in which
+//! something is refused are in `refused`.
 //!
 //! A packet that is to be taken so joins by a function here and its row in `IsCommon` of the specs.
 
@@ -30,7 +31,7 @@ pub(crate) struct Call<'b> {
 
 /// The device that a byte addresses for writing.
 #[inline(always)]
-fn addressed(profile: &Profile, to_write: u8) -> Option<&DeviceProfile>
+pub(crate) fn addressed(profile: &Profile, to_write: u8) -> Option<&DeviceProfile>
     ensures known { IfSome result (λ device. (to_write ≡ write_address device.now.address)
         × (device_with device.now.address profile.now ≡ Some device.now)) }
     ensures found { (address : ℕ) (device : DeviceParts) → to_write ≡ write_address address

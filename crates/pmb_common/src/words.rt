@@ -138,11 +138,11 @@ pub(crate) fn behind_stop(text: &[u8]) -> Option<&[u8]>
     }
 }
 
-/// Whether the byte at the front of a text, where one with its ACK stands there, is even, as the
-/// address byte of a leg that is written is.
+/// Whether the byte at the front of a text, where one stands there, is even, as the address byte of a
+/// leg that is written is.
 #[inline(always)]
 pub(crate) fn is_even(text: &[u8]) -> bool
-    ensures { (byte : ℕ) (rest : List ℕ) → byte < 256 → text.now ≡ acked_text (byte ∷ []) ++ rest → result ≡ nat_eq (byte % 2) 0 }
+    ensures { (byte : ℕ) (rest : List ℕ) → byte < 256 → text.now ≡ canonical_text (BusEvent.Byte byte ∷ []) ++ rest → result ≡ nat_eq (byte % 2) 0 }
 {
     let [_, digit, ..] = text else {
         return false;

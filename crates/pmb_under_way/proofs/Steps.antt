@@ -7,7 +7,7 @@ use Rattle.pmb_command.specs.Parts.{DeviceParts}
 use Rattle.pmb_transaction.specs.Packet.{Packet, acked, leg}
 use Rattle.pmb_transaction.specs.Capture.{IsPacket, MayFollow}
 use Rattle.pmb_transaction.specs.Reading.{IsUnderWay}
-use Rattle.pmb_transaction.specs.Turns.{is_answer, is_byte, is_no_answer, is_stop, stands_behind}
+use Rattle.pmb_transaction.specs.Turns.{is_answer, is_byte, is_no_answer, is_stop, follows_in_turn}
 use Rattle.pmb_under_way.specs.declared.under_way.Place.{Place}
 use Rattle.pmb_under_way.specs.declared.under_way.Place.TheVariants as places
 use Rattle.pmb_under_way.specs.declared.under_way.UnderWay.{UnderWay}
@@ -67,7 +67,7 @@ byte_is_no_stop event byte is stop = cc (is, stop)
 abbrev pub TakeTurns : Type 0
 TakeTurns =
     (profile : List DeviceParts) (events : List Event) (before event : Event) → MayFollow profile (events ++ before ∷ []) event
-    → stands_behind before event ≡ true
+    → follows_in_turn before event ≡ true
 
 -- the last of some events
 pub record EndsWith (events : List Event) (last : Event) : Type 0 where
@@ -75,7 +75,7 @@ pub record EndsWith (events : List Event) (last : Event) : Type 0 where
   pub split : events ≡ front ++ last ∷ []
 
 pub not_its_turn : (turns : TakeTurns) (profile : List DeviceParts) (events : List Event) (before event : Event) → EndsWith events before
-    → stands_behind before event ≡ false → MayFollow profile events event → ⊥
+    → follows_in_turn before event ≡ false → MayFollow profile events event → ⊥
 not_its_turn turns profile events before event ends unfit follows =
     let turn = turns profile ends.front before event (subst (λ (es : List Event). MayFollow profile es event) ends.split follows) in
     cc (unfit, turn)

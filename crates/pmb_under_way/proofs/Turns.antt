@@ -6,7 +6,7 @@ use Rattle.pmb_bus.specs.Address.{read_address, write_address}
 use Rattle.pmb_command.specs.Parts.{DeviceParts}
 use Rattle.pmb_transaction.specs.Capture.{MayFollow}
 use Rattle.pmb_transaction.specs.Reading.{IsUnderWay}
-use Rattle.pmb_transaction.specs.Turns.{stands_behind}
+use Rattle.pmb_transaction.specs.Turns.{follows_in_turn}
 use Rattle.pmb_under_way.specs.declared.under_way.Move.{Move}
 use Rattle.pmb_under_way.specs.declared.under_way.Move.TheVariants as moves
 use Rattle.pmb_under_way.specs.declared.under_way.Place.{Place}
@@ -19,7 +19,7 @@ use Rattle.pmb_under_way.proofs.WrittenLegs.{address_ends, byte_ends, in_leg_end
 use Rattle.pmb_under_way.proofs.AnsweredLegs.{answer_byte_ends, in_answer_ends, read_address_ends}
 
 module _ (turns : TakeTurns) (profile : List DeviceParts) where
-  turn_after : (events : List Event) (before event : Event) → EndsWith events before → MayFollow profile events event → stands_behind before event ≡ true
+  turn_after : (events : List Event) (before event : Event) → EndsWith events before → MayFollow profile events event → follows_in_turn before event ≡ true
   turn_after events before event ends follows =
       turns profile ends.front before event (subst (λ (es : List Event). MayFollow profile es event) ends.split follows)
 

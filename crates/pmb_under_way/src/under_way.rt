@@ -2,8 +2,8 @@
 //!
 //! [`Place`] says where its events end. What each place says of the events, of the leg under way
 //! and of the answer under way stands in `specs/machine/UnderWay`. A new place needs its lines there,
-//! in `IsPacketPlace` and `has_turn`, and its arm in `step_by_place`, in `expected`, and in the three
-//! functions that tell reasons.
+//! in `IsPacketPlace` and `has_turn`, and its arm in `step_by_place`, in `expected`, and in
+//! `byte_reason` and `ack_reason`.
 
 ghost use Rattle.std.specs.Prelude.{◌≡◌, ◌≢◌, ◌<◌, ◌≤◌, ◌↔◌, IfSome, IsSome, true, List, [], length};
 ghost use Rattle.pmb_bus.specs.declared.event.Event.{Event as BusEvent};

@@ -45,7 +45,8 @@ fn first_packet<'p>(reader: &mut Reader<'p>, text: &[u8]) -> Option<(usize, usiz
 fn is_common(transaction: &Transaction) -> bool {
     match transaction {
         Transaction::Write { .. } | Transaction::Read { .. } | Transaction::Call { .. } => true,
-        Transaction::Refused { .. } | Transaction::Alert { .. } | Transaction::NoAlert => false,
+        Transaction::Refused { parts, .. } => parts.is_empty(),
+        Transaction::Alert { .. } | Transaction::NoAlert => false,
     }
 }
 

@@ -14,7 +14,7 @@ use std::test::Fail;
 /// A text, what is taken of it, and the line of the transaction.
 type Row = (&'static str, usize, usize, &'static str);
 
-const TAKEN: [Row; 10] = [
+const TAKEN: [Row; 18] = [
     ("S b0 A 03 A P\n", 14, 6, "write 58 03"),
     ("S b0 A 03 A 46 A P\nS b0", 19, 8, "write 58 03 pec"),
     ("S b0 A 21 A 00 A 10 A P\n", 24, 10, "write 58 21 00 10"),
@@ -60,9 +60,30 @@ const TAKEN: [Row; 10] = [
         19,
         "write 5a 99 41 42 pec + 58 03",
     ),
+    // an address that is refused, of no device and of one
+    ("S 40 N P\n", 9, 4, "refused 20"),
+    ("S b0 N P\nS", 9, 4, "refused 58"),
+    // a byte that is refused: a code, whatever it is, data, and where a packet error code may come
+    ("S b0 A c8 N P\n", 14, 6, "refused 58 c8"),
+    ("S b0 A 21 A 00 N P\nS 19", 19, 8, "refused 58 21 00"),
+    ("S b0 A 03 A 47 N P\n", 19, 8, "refused 58 03 47"),
+    (
+        "S b0 A 1b A 01 A 7a A 10 N P\n",
+        29,
+        12,
+        "refused 58 1b 01 7a 10",
+    ),
+    // to be read, after a code and after the data of a call
+    ("S b0 A 88 A S b1 N P\n", 21, 9, "refused 58 88 read"),
+    (
+        "S b0 A 1b A 01 A 7a A S b1 N P\n",
+        31,
+        13,
+        "refused 58 1b 01 7a read",
+    ),
 ];
 
-const NOT_TAKEN: [&str; 40] = [
+const NOT_TAKEN: [&str; 62] = [
     "",
     "S",
     "S b0 A 03 A P",
@@ -73,9 +94,35 @@ const NOT_TAKEN: [&str; 40] = [
     "S b0 A 03 A # a comment\nP\n",
     // the packet error code is 46
     "S b0 A 03 A 47 A P\n",
-    // a byte that is not acknowledged
-    "S b0 A 03 N P\n",
-    "S b0 N P\n",
+    // what is refused, spelled in another way or cut off
+    "S b0 N P",
+    "S b0 N P ",
+    "S b0 N  P\n",
+    "S B0 N P\n",
+    "S b0 A 03 n P\n",
+    "S b0 A 03 N P",
+    "S b0 A 88 A S b1 N P",
+    // no device is at 57h to take its address
+    "S ae A 03 N P\n",
+    // a code that is no command's was acknowledged
+    "S b0 A c8 A 00 N P\n",
+    // a byte more after a packet error code, and after data where the device knows no code
+    "S b0 A 03 A 46 A 00 N P\n",
+    "S b2 A 03 A 47 N P\n",
+    // and after the data of a call, which has its code after the reply
+    "S b0 A 30 A 02 A d0 A 01 A 55 N P\n",
+    // a wrong packet error code was acknowledged
+    "S b0 A 03 A 47 A 00 N P\n",
+    // NACK, and then more than STOP
+    "S b0 A 03 N S b0 A 03 A P\n",
+    "S b0 N S b0 A 03 A P\n",
+    "S b0 A 03 N N P\n",
+    // a command that is not read, a part of a call, nothing that was asked, another device
+    "S b0 A 03 A S b1 N P\n",
+    "S b0 A 1b A 02 A 7a A S b1 N P\n",
+    "S b0 A S b1 N P\n",
+    "S b0 A 88 A S b3 N P\n",
+    "S b1 N P\n",
     // the last byte of a reply is acknowledged
     "S b0 A 88 A S b1 A 00 A 08 A P\n",
     // no device is at 57h
@@ -121,9 +168,13 @@ const NOT_TAKEN: [&str; 40] = [
     "S b0 A 1b A 01 A 7a A S b1 A 01 A 10 A 7b N P\n",
     // no code is sent, and no reply
     "S b0 A S b1 A 01 A 10 N P\n",
-    "S b0 A 1b A 01 A 7a A S b1 N P\n",
+    // a group in which something is refused
+    "S b0 A 03 A S 40 N P\n",
+    "S b0 A 03 A S b2 N P\n",
+    "S b0 A 03 A S b2 A 88 A S b3 N P\n",
     // the Alert Response Address
     "S 19 A b0 N P\n",
+    "S 19 N P\n",
 ];
 
 #[test]

@@ -1,9 +1,9 @@
-use Rattle.std.proofs.Common.{◌≡◌, ℕ, List, ◌++◌, sym, ap, subst, ◌∙◌}
+use Rattle.std.proofs.Common.{ℕ, ◌+◌, ◌≤◌, List, ◌++◌, length, sym, ap, subst, ◌∙◌, arith}
 use Rattle.pmb_bus.specs.Event.{canonical_text}
 use Rattle.pmb_common.specs.declared.legs.Legs.{Legs}
-use Rattle.pmb_common.specs.declared.legs.Legs.TheVariants.{Both, Written}
+use Rattle.pmb_common.specs.declared.legs.Legs.TheVariants.{Both, Nacked, Written}
 use Rattle.pmb_common.specs.Groups.{SaysPart}
-use Rattle.pmb_common.specs.Legs.{BeginsWithLegs, SayBoth, SayLegs, leg_events}
+use Rattle.pmb_common.specs.Legs.{BeginsWithLegs, SayBoth, SayLegs, SaysNacked, least, leg_events}
 use Rattle.pmb_common.proofs.common.keep.Goals as goal
 
 pub returns-in-Written-clause-takes : goal.returns-in-Written-clause-takes
@@ -17,6 +17,23 @@ returns-in-Both-clause-takes c =
     let begins = subst (λ (legs : Legs). BeginsWithLegs legs c.args.bytes.now.items c.args.text.now) c.in-Both.is c.requires.begins in
     c.keep_both.ensures.takes c.args.text.now begins.0
     (begins.1 ∙ ap (λ (l : List ℕ). canonical_text (leg_events (Both c.in-Both.written) l) ++ begins.0) (sym c.as_slice-in-Both.ensures.value))
+
+pub returns-in-Nacked-clause-takes : goal.returns-in-Nacked-clause-takes
+returns-in-Nacked-clause-takes c =
+    let begins = subst (λ (legs : Legs). BeginsWithLegs legs c.args.bytes.now.items c.args.text.now) c.in-Nacked.is c.requires.begins in
+    c.keep_nacked.ensures.takes c.args.text.now begins.0
+    (begins.1 ∙ ap (λ (l : List ℕ). canonical_text (leg_events Nacked l) ++ begins.0) (sym c.as_slice-in-Nacked.ensures.value))
+
+pub keep_both-requires-clause-enough : goal.keep_both-requires-clause-enough
+keep_both-requires-clause-enough c =
+    let enough : c.in-Both.written + 1 ≤ length c.args.bytes.now.items =
+    subst (λ (legs : Legs). least legs ≤ length c.args.bytes.now.items) c.in-Both.is c.requires.enough in
+    omega (arith, enough, ap length c.as_slice-in-Both.ensures.value)
+
+pub returns-in-Nacked-clause-answers : goal.returns-in-Nacked-clause-answers
+returns-in-Nacked-clause-answers c say =
+    c.keep_nacked.ensures.answers (subst (SaysNacked c.args.profile.now) (sym c.as_slice-in-Nacked.ensures.value)
+    (subst (λ (legs : Legs). SayLegs c.args.profile.now c.args.text.now legs c.args.bytes.now.items) c.in-Nacked.is say))
 
 pub returns-in-Written-clause-answers : goal.returns-in-Written-clause-answers
 returns-in-Written-clause-answers c say =

@@ -1,4 +1,4 @@
-use Rattle.std.proofs.Common.{◌≡◌, List, [], ◌∷◌, ◌++◌, refl, ap, ◌∙◌}
+use Rattle.std.proofs.Common.{◌≡◌, List, [], ◌∷◌, ◌++◌, ap, ◌∙◌}
 use Rattle.pmb_transaction.specs.Transaction.{PartData, Write}
 use Rattle.pmb_common.proofs.CommonLegs.{takes_write}
 use Rattle.pmb_common.proofs.common.keep_write.Goals as goal
@@ -15,5 +15,5 @@ returns-clause-takes c text rest split =
     rw last
     (
     takes_write c.args.profile.now text rest said.address said.code said.data.bytes.now said.data.pec c.args.bytes.now _ _
-    c.in_ok-said.ensures.says split refl refl
+    c.in_ok-said.ensures.says split c.one_leg.ensures.used c.one_leg.ensures.events
     )

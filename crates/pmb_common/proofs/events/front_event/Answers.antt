@@ -1,8 +1,8 @@
-use Rattle.std.proofs.Common.{◌≡◌, ℕ, Some, get_or, sym, ap, ◌∙◌, arith}
+use Rattle.std.proofs.Common.{◌≡◌, ℕ, Some, sym, ap, ◌∙◌, arith}
 use Rattle.std.proofs.lemmas.Option.{same_Some}
 use Rattle.pmb_bus.specs.declared.event.Event.{Event}
 use Rattle.pmb_bus.specs.declared.event.Event.TheVariants.{Byte, Stop}
-use Rattle.pmb_common.proofs.Inside.{first, first_is, is_ack, is_byte, is_nack, is_no_stop, is_start, length-byte_text, two_there}
+use Rattle.pmb_common.proofs.Inside.{first_is, is_ack, is_byte, is_nack, is_no_stop, is_start, length-byte_text, two_there}
 use Rattle.pmb_common.proofs.events.front_event.Goals as goal
 
 pub returns-in_default-clause-found : goal.returns-in_default-clause-found

@@ -1,4 +1,4 @@
-use Rattle.std.proofs.Common.{◌≡◌, sym, ◌∙◌, arith}
+use Rattle.std.proofs.Common.{sym, ◌∙◌, arith}
 use Rattle.pmb_common.proofs.Beginnings.{not_there}
 use Rattle.pmb_common.proofs.group.keep_part.Goals as goal
 

@@ -1,4 +1,4 @@
-use Rattle.std.proofs.Common.{◌≡◌, ℕ, Some, List, [], ◌∷◌, ◌++◌, length, drop, sym, ap, ◌∙◌, arith, length-append}
+use Rattle.std.proofs.Common.{◌≡◌, ℕ, Some, List, [], ◌∷◌, ◌++◌, length, drop, sym, ap, ◌∙◌, arith}
 use Rattle.std.proofs.lemmas.Bool.{eqb-true}
 use Rattle.std.proofs.lemmas.Option.{same_Some}
 use Rattle.pmb_common.specs.declared.legs.Legs.TheVariants.{Both}
@@ -14,7 +14,6 @@ returns-clause-spelled c =
       back = taken.more;
       last = c.in_ok-last.last;
       rest = drop 7 c.take_acked-end.result.now;
-      some = omega (arith, ap length taken.added, length-append c.args.bytes.now.items taken.more);
       both = ap (λ (n : ℕ). Both n) written;
       added = c.push.ensures ∙ ap (λ (l : List ℕ). l ++ c.in_ok-last.last ∷ []) taken.added;
       split = taken.split ∙ ap (λ (l : List ℕ). acked_text taken.more ++ l) c.in_ok-last.ensures.spelled;
@@ -24,11 +23,6 @@ pub returns-in_err-last-clause-found : goal.returns-in_err-last-clause-found
 returns-in_err-last-clause-found c back last rest is split =
     let took = c.take_acked-end.ensures.all back (end_text last ++ rest) is.small (none_at_nack last rest) (omega (arith, is.few)) split in
     absurd (cc (c.in_err-last.ensures.only last rest is.small_last took.1))
-
-pub returns-then-len-written-clause-found : goal.returns-then-len-written-clause-found
-returns-then-len-written-clause-found c back last rest is split =
-    let took = c.take_acked-end.ensures.all back (end_text last ++ rest) is.small (none_at_nack last rest) (omega (arith, is.few)) split in
-    absurd (omega (arith, ap length took.0, length-append c.args.bytes.now.items back, is.some))
 
 pub returns-then-is_full-clause-found : goal.returns-then-is_full-clause-found
 returns-then-is_full-clause-found c back last rest is split =

@@ -1,9 +1,9 @@
 use Rattle.std.proofs.Common.{◌≡◌, ℕ, ◌%◌, nat_eq, sym, ap, arith}
-use Rattle.pmb_common.proofs.FrontWords.{low_digit, short_acked}
+use Rattle.pmb_common.proofs.FrontWords.{low_digit, short_byte}
 use Rattle.pmb_common.proofs.words.is_even.Goals as goal
 
 pub returns-in_default : goal.returns-in_default
-returns-in_default c byte rest small same = absurd (short_acked c.args.text.now byte rest (omega (arith, c.in_default.len_below)) same)
+returns-in_default c byte rest small same = absurd (short_byte c.args.text.now byte rest c.in_default.len_below same)
 
 pub returns : goal.returns
 returns c byte rest small same =
