@@ -10,7 +10,7 @@ use Rattle.pmb_command.specs.Bus.{IsBus}
 use Rattle.pmb_command.specs.Parts.{DeviceParts}
 use Rattle.pmb_transaction.specs.declared.reason.Reason.{Reason}
 use Rattle.pmb_transaction.specs.declared.reason.Reason.TheVariants.{Truncated}
-use Rattle.pmb_transaction.specs.Capture.{EndsAtStop, HasNoStop}
+use Rattle.pmb_transaction.specs.Capture.{EndsAtFirstStop, HasNoStop}
 use Rattle.pmb_transaction.specs.Packet.{Packet}
 use Rattle.pmb_transaction.specs.Reading.{Accepted, IsUnderWay, Outcome, ReadsFrom, Refusal, RefusalData}
 use Rattle.pmb_transaction.specs.Reason.{IsReason}
@@ -100,7 +100,7 @@ one_then_others t ts members =
     map-map (λ (member : InState). record { device = member.device; state = apply_all member.device ts member.state }) (after_one t) members
 
 module _ (profile : List DeviceParts) where
-  module _ (bus : IsBus profile) (stops : (t : TransactionData) (events : List Event) → Packet profile t events → EndsAtStop events)
+  module _ (bus : IsBus profile) (stops : (t : TransactionData) (events : List Event) → Packet profile t events → EndsAtFirstStop events)
       (going : (events : List Event) → IsUnderWay profile events → HasNoStop events)
       (other : (events : List Event) (event : Event) (reason : Reason) → IsReason profile events event reason → reason ≢ Truncated) where
     -- ---- what is read

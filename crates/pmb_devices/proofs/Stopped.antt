@@ -1,10 +1,10 @@
--- A reading goes from STOP to STOP: what is accepted or refused takes the events up to and with the
--- first one.
+-- A reading goes from STOP to STOP: what is accepted or refused takes the events up to and including
+-- the first one.
 use Rattle.std.proofs.Common.{◌≡◌, ◌≢◌, ℕ, ◌+◌, ◌⊎◌, inl, inr, List, [], ◌∷◌, ◌++◌, length, refl, sym, ap, subst, ◌∙◌, append_assoc}
 use Rattle.pmb_bus.specs.declared.event.Event.{Event}
 use Rattle.pmb_bus.specs.declared.event.Event.TheVariants.{Stop}
 use Rattle.pmb_command.specs.Parts.{DeviceParts}
-use Rattle.pmb_transaction.specs.Capture.{EndsAtStop, HasNoStop}
+use Rattle.pmb_transaction.specs.Capture.{EndsAtFirstStop, HasNoStop}
 use Rattle.pmb_transaction.specs.Packet.{Packet}
 use Rattle.pmb_transaction.specs.Reading.{Accepted, IsUnderWay, Outcome, ReadsFrom, Refusal, to_first_stop, to_the_end}
 use Rattle.pmb_transaction.specs.Transaction.{TransactionData}
@@ -70,7 +70,7 @@ record Left (since rest : List Event) : Type 0 where
 one_more_left : (since : List Event) (front rest : List Event) → rest ≡ front ++ Stop ∷ (since ++ Stop ∷ []) → Left since rest
 one_more_left since front rest split = record {
   before = front ++ Stop ∷ [];
-  stopped = inr (front, refl);
+  stopped = inr (record { front = front; split = refl });
   split = split ∙ sym (append_assoc front (Stop ∷ []) (since ++ Stop ∷ []));
 }
 
@@ -89,11 +89,11 @@ behind_first since a before rest none (inl empty) nor same =
 behind_first since a before rest none (inr w) nor same =
     inr
     (
-    left_behind since a w.0 rest none
+    left_behind since a w.front rest none
     (
     same
-    ∙ ap (λ (es : List Event). es ++ (since ++ Stop ∷ [])) w.1
-    ∙ append_assoc w.0 (Stop ∷ []) (since ++ Stop ∷ [])
+    ∙ ap (λ (es : List Event). es ++ (since ++ Stop ∷ [])) w.split
+    ∙ append_assoc w.front (Stop ∷ []) (since ++ Stop ∷ [])
     )
     )
 
@@ -111,7 +111,7 @@ module _ (profile : List DeviceParts) where
   pub not_in_none : (t : TransactionData) (rest : List Event) → UpToStop t [] rest → ⊥
   not_in_none t rest taken = no_stop_in_none taken.front rest taken.split
 
-  module _ (stops : (t : TransactionData) (events : List Event) → Packet profile t events → EndsAtStop events) where
+  module _ (stops : (t : TransactionData) (events : List Event) → Packet profile t events → EndsAtFirstStop events) where
     -- it ends with it, as a packet does
     pub up_to_stop : (t : TransactionData) (events front rest : List Event) → events ≡ front ++ rest → Packet profile t front → UpToStop t events rest
     up_to_stop t events front rest split packet =

@@ -2,8 +2,8 @@
 --
 -- Each device answers for itself. A byte is recorded with ACK where a device gave one, and else
 -- with NACK, as the wire has it (SMBus 3.0 section 6.5). An Ask to which no device gave a byte is
--- recorded as NACK alone, so that no byte stands in a capture that nobody sent: this project's own
--- rule.
+-- recorded as NACK alone, so that a capture has no byte that nobody sent. This last rule is the
+-- project's own.
 use Rattle.std.specs.Prelude.{◌≢◌, ◌⊎◌, List, [], ◌∷◌, ◌++◌}
 use Rattle.std.specs.List.{AllByRecursion, Contains}
 use Rattle.pmb_bus.specs.declared.event.Event.{Event}
@@ -61,20 +61,20 @@ pub record AnsweredSignal : Type 0 where
   pub signal : HostSignal
   pub result : DeviceSignal
 
--- what came since the last STOP: each signal, other than STOP, has the answer of the bus after
--- those before it
+-- What came since the last STOP: each signal, none of which is STOP, has the answer that the bus
+-- gives to it after those before it.
 abbrev pub AreAnswered : List InState → Legs → List AnsweredSignal → Type 0
 AreAnswered members legs [] = Unit {0}
 AreAnswered members legs (exchange ∷ more) =
     (exchange.signal ≢ Stop) × BusAnswers members legs exchange.signal exchange.result
     × AreAnswered members (with_signal legs exchange.signal) more
 
--- the legs that they make, after others
+-- the legs that they make after earlier ones
 abbrev pub legs_after : Legs → List AnsweredSignal → Legs
 legs_after legs [] = legs
 legs_after legs (exchange ∷ more) = legs_after (with_signal legs exchange.signal) more
 
--- and the events that are recorded of them
+-- the events that are recorded of them
 abbrev pub recorded_events : List AnsweredSignal → List Event
 recorded_events [] = []
 recorded_events (exchange ∷ more) = recorded exchange.signal exchange.result ++ recorded_events more

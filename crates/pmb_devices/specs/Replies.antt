@@ -1,5 +1,5 @@
--- What a device's registers hold whenever it was used since it was made, and replies that a host
--- reads by Asks alone.
+-- What a device's registers hold, whatever was done with it since it was made, and replies that a
+-- host reads by Asks alone.
 use Rattle.std.specs.Prelude.{◌≡◌, ◌⊎◌, ℕ, ◌<◌, false, Some, List, [], ◌∷◌, length}
 use Rattle.pmb_command.specs.declared.form.Form.{Form}
 use Rattle.pmb_command.specs.Fitting.{register_form}

@@ -6,6 +6,7 @@ use Rattle.pmb_bus.specs.declared.event.Event.TheVariants.{Stop}
 use Rattle.pmb_command.specs.Parts.{DeviceParts}
 use Rattle.pmb_transaction.specs.declared.reason.Reason.TheVariants.{Truncated}
 use Rattle.pmb_transaction.specs.Transaction.{TransactionData}
+use Rattle.pmb_transaction.specs.Cut.{EndsWithStop}
 use Rattle.pmb_transaction.specs.Reading.{Outcome, Refusal, RefusalData}
 use Rattle.pmb_registers.specs.State.{InState, first_state}
 use Rattle.pmb_registers.specs.Apply.{apply_all}
@@ -24,14 +25,14 @@ AllEnd legs [] (new ∷ news) = ⊥
 AllEnd legs (old ∷ olds) [] = ⊥
 AllEnd legs (old ∷ olds) (new ∷ news) = (new.device ≡ old.device) × Ends old.device legs old.state new.state × AllEnd legs olds news
 
--- The devices go from some states to others by stretches, each of which STOP ends.
+-- The devices go from some states to others by stretches of signals, each ended by STOP.
 abbrev pub Runs : List InState → List (List AnsweredSignal) → List InState → Type 0
 Runs members [] now = now ≡ members
 Runs members (stretch ∷ more) now =
     AreAnswered members Outside stretch
     × ((next : List InState) × AllEnd (legs_after Outside stretch) members next × Runs next more now)
 
--- the events that are recorded of them
+-- the events that are recorded of stretches, each with its STOP
 abbrev pub run_events : List (List AnsweredSignal) → List Event
 run_events [] = []
 run_events (stretch ∷ more) = (recorded_events stretch ++ Stop ∷ []) ++ run_events more
@@ -40,10 +41,10 @@ run_events (stretch ∷ more) = (recorded_events stretch ++ Stop ∷ []) ++ run_
 abbrev pub all_after : List TransactionData → List InState → List InState
 all_after ts members = map (λ member. record { device = member.device; state = apply_all member.device ts member.state }) members
 
--- Nothing is refused, or the events end inside a packet.
+-- Nothing is refused but an end inside a packet.
 abbrev pub IsTruncation : List Outcome → Type 0
 IsTruncation outcomes = (outcomes ≡ []) ⊎ ((refusal : RefusalData) × (outcomes ≡ Refusal refusal ∷ []) × (refusal.reason ≡ Truncated))
 
--- Events are none, or STOP is the last one.
+-- no events, or events that end with STOP
 abbrev pub AreStopped : List Event → Type 0
-AreStopped events = (events ≡ []) ⊎ ((front : List Event) × (events ≡ front ++ Stop ∷ []))
+AreStopped events = (events ≡ []) ⊎ EndsWithStop events

@@ -25,8 +25,8 @@ pub use Rattle.pmb_devices.specs.machine.Standing.{BusStanding, BusStandsAt}
 abbrev pub all_applied : TransactionData → List InState → List InState
 all_applied t members = map (λ member. record { device = member.device; state = apply member.device t member.state }) members
 
--- What STOP makes of the bus. Where it ends the packet of a transaction, whatever came before, that
--- is what the transaction makes of each device.
+-- What STOP makes of the bus. Where the events since the last STOP, with this one, are the packet
+-- of a transaction, each device becomes what the transaction makes of it, whatever came before.
 pub record BusEnds (standing : BusStanding) (new : Bus) : Type 0 where
   pub members : List InState
   pub ends : AllEnd (legs_after Outside standing.history) standing.members members

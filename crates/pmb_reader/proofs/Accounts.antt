@@ -6,7 +6,7 @@ use Rattle.pmb_bus.specs.declared.event.Event.TheVariants.{Start, Byte, Ack, Nac
 use Rattle.pmb_command.specs.Parts.{DeviceParts}
 use Rattle.pmb_transaction.specs.Transaction.{TransactionData}
 use Rattle.pmb_transaction.specs.Packet.{Packet}
-use Rattle.pmb_transaction.specs.Capture.{Capture, HasNoStop}
+use Rattle.pmb_transaction.specs.Capture.{Capture, EndsAtFirstStop, HasNoStop}
 use Rattle.pmb_transaction.specs.Reading.{Accepted, Outcome, PassedOver, ReadsAfterStop, ReadsFrom, Refusal, RefusalData, RefusedAt, TruncatedAt, to_first_stop, to_the_end}
 use Rattle.pmb_reader.specs.declared.reader.Reader.{Reader}
 use Rattle.pmb_reader.specs.declared.reader.Took.TheVariants as took
@@ -15,7 +15,7 @@ use Rattle.pmb_reader.specs.Refusal.{refusal_data}
 use Rattle.pmb_reader.specs.Reader.{Standing, Open, Held, Passing, ReaderStandsAt, ReaderFinishes, ReaderTakes, behind_passed, last_read}
 use Rattle.pmb_reader.specs.Feed.{AnswersAgain, EndsPacket, Leads, ReaderNeedsMore, ReaderRefuses}
 use Rattle.pmb_reader.specs.Reading.{AnyEvent, Due, HasRead, HeldEvent, IsDue, IsDueAt, IsNotHeld, PassedEvent, Remains}
-use Rattle.pmb_reader.proofs.Stopless.{in_tail, no_stop_in_none}
+use Rattle.pmb_reader.proofs.Stopless.{in_tail, no_stop_in_none, none_ends}
 
 -- ---- what is passed over
 
@@ -240,7 +240,7 @@ module _ (profile : List DeviceParts) where
   due_first (PassedEvent first) (Open m before) front event rest n events at is leads = absurd at
   due_first (PassedEvent first) (Held m refusal) front event rest n events at is leads = absurd at
   due_first (PassedEvent first) (Passing m) [] event rest n events at is (inl leads) = absurd (cc (leads.1))
-  due_first (PassedEvent first) (Passing m) [] event rest n events at is (inr leads) = absurd (no_stop_in_none leads.0 leads.1 leads.3)
+  due_first (PassedEvent first) (Passing m) [] event rest n events at is (inr leads) = absurd (none_ends leads.0 leads.1 leads.2 leads.3)
   due_first (PassedEvent first) (Passing m) (e ∷ front) event rest n events at is leads =
       let same : e ≡ first = cc (is.1) in
       (front, ap (λ (x : Event). x ∷ front) same)
@@ -259,26 +259,23 @@ module _ (profile : List DeviceParts) where
         );
   }
 
-  passed_to_stop : (events : List Event) (due : Due) (outcomes : List Outcome) (n : ℕ) (piece passed rest : List Event) → HasNoStop passed
-      → piece ≡ passed ++ Stop ∷ rest → IsDue due piece → Account events due outcomes (Passing n)
-      → Account (events ++ piece) AnyEvent outcomes (Open (n + length passed + 1) rest)
-  passed_to_stop events due outcomes n piece passed rest none split is account =
-      let count : n + length passed + 1 ≡ n + length (passed ++ Stop ∷ []) = omega (arith, length-append passed (Stop ∷ [])) in
-      let through : piece ≡ (passed ++ Stop ∷ []) ++ rest = split ∙ sym (append_assoc passed (Stop ∷ []) rest) in record {
-        at = tt;
-        reads =
-            λ more later any remains.
-            further events piece more (outcomes ++ later)
-            (
-            account.reads (piece ++ more) later (due_in_front due piece more is) (
-              passed ++ Stop ∷ [],
-              rest ++ more,
-              to_first_stop (ap (λ (es : List Event). es ++ more) through ∙ append_assoc (passed ++ Stop ∷ []) rest more)
-                  (record { front = passed; no_stop = none; split = refl }),
-              subst (λ (m : ℕ). ReadsFrom profile m (rest ++ more) later) count remains,
-            )
-            );
-      }
+  passed_to_stop : (events : List Event) (due : Due) (outcomes : List Outcome) (n : ℕ) (piece passed rest : List Event) → piece ≡ passed ++ rest
+      → EndsAtFirstStop passed → IsDue due piece → Account events due outcomes (Passing n)
+      → Account (events ++ piece) AnyEvent outcomes (Open (n + length passed) rest)
+  passed_to_stop events due outcomes n piece passed rest split ends is account = record {
+    at = tt;
+    reads =
+        λ more later any remains.
+        further events piece more (outcomes ++ later)
+        (
+        account.reads (piece ++ more) later (due_in_front due piece more is) (
+          passed,
+          rest ++ more,
+          to_first_stop (ap (λ (es : List Event). es ++ more) split ∙ append_assoc passed rest more) ends,
+          remains,
+        )
+        );
+  }
 
   led : OthersPass → (events : List Event) (due : Due) (outcomes : List Outcome) (standing : Standing) (piece : List Event) (behind : Standing)
       → ((n : ℕ) (refusal : RefusalData) → standing ≡ Held n refusal → ⊥) → IsDue due piece → Leads standing piece behind
@@ -315,7 +312,7 @@ module _ (profile : List DeviceParts) where
   led_nowhere (Passing n) behind (inl leads) =
       let same : n + 0 ≡ n = omega arith in
       leads.1 ∙ ap (λ (m : ℕ). Passing m) same
-  led_nowhere (Passing n) behind (inr leads) = absurd (no_stop_in_none leads.0 leads.1 leads.3)
+  led_nowhere (Passing n) behind (inr leads) = absurd (none_ends leads.0 leads.1 leads.2 leads.3)
 
   pub none_is_read : (before after : Reader) (events : List Event) (due : Due) (outcomes : List Outcome) (used : ℕ)
       → HasRead profile before events due outcomes

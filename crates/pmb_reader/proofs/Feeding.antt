@@ -47,11 +47,18 @@ module _ (profile : List DeviceParts) where
 
   passed_on : (n : ℕ) (piece : List Event) (event : Event) (after : Reader) → HasNoStop piece
       → ReaderStandsAt profile after (behind_passed (n + length piece) event) → LedTo profile (Passing n) (piece ++ event ∷ []) after
-  passed_on n piece Stop after none stands = record {
-    behind = Open (n + length piece + 1) [];
-    leads = inr (piece, [], none, refl, refl);
-    stands = stands;
-  }
+  passed_on n piece Stop after none stands =
+      let count : n + length piece + 1 ≡ n + length (piece ++ Stop ∷ []) = omega (arith, length-append piece (Stop ∷ [])) in record {
+        behind = Open (n + length piece + 1) [];
+        leads = inr (
+          piece ++ Stop ∷ [],
+          [],
+          sym (append-nil (piece ++ Stop ∷ [])),
+          record { front = piece; no_stop = none; split = refl },
+          ap (λ (m : ℕ). Open m []) count,
+        );
+        stands = stands;
+      }
   passed_on n piece Start after none stands = passed_one n piece Start after (no_stop_in_more piece Start none (λ e. cc e)) stands
   passed_on n piece (Byte b) after none stands = passed_one n piece (Byte b) after (no_stop_in_more piece (Byte b) none (λ e. cc e)) stands
   passed_on n piece Ack after none stands = passed_one n piece Ack after (no_stop_in_more piece Ack none (λ e. cc e)) stands
@@ -72,14 +79,14 @@ module _ (profile : List DeviceParts) where
       passed_on n piece event after leads.0
       (subst (λ (s : Standing). ReaderTakes profile s event answers.More after) leads.1 takes)
   led_on (Passing n) behind piece event after (inr leads) takes =
-      let took : ReaderTakes profile (Open (n + length leads.0 + 1) leads.1) event answers.More after =
+      let took : ReaderTakes profile (Open (n + length leads.0) leads.1) event answers.More after =
       subst (λ (s : Standing). ReaderTakes profile s event answers.More after) leads.4 takes in record {
-        behind = Open (n + length leads.0 + 1) (leads.1 ++ event ∷ []);
+        behind = Open (n + length leads.0) (leads.1 ++ event ∷ []);
         leads = inr (
           leads.0,
           leads.1 ++ event ∷ [],
-          leads.2,
-          ap (λ (es : List Event). es ++ event ∷ []) leads.3 ∙ append_assoc leads.0 (Stop ∷ leads.1) (event ∷ []),
+          ap (λ (es : List Event). es ++ event ∷ []) leads.2 ∙ append_assoc leads.0 leads.1 (event ∷ []),
+          leads.3,
           refl,
         );
         stands = took.1;

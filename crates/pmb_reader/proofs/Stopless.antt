@@ -1,8 +1,8 @@
--- Lists of events without a STOP.
-use Rattle.std.proofs.Common.{◌≡◌, List, [], ◌∷◌, ◌++◌, ap}
+-- Lists of events without a STOP, and up to the first one.
+use Rattle.std.proofs.Common.{◌≡◌, List, [], ◌∷◌, ◌++◌, ap, ◌∙◌, append_assoc}
 use Rattle.pmb_bus.specs.declared.event.Event.{Event}
 use Rattle.pmb_bus.specs.declared.event.Event.TheVariants.{Stop}
-use Rattle.pmb_transaction.specs.Capture.{HasNoStop}
+use Rattle.pmb_transaction.specs.Capture.{EndsAtFirstStop, HasNoStop}
 
 pub no_stop_in_none : HasNoStop []
 no_stop_in_none [] after split = cc split
@@ -24,3 +24,9 @@ no_stop_in_more (first ∷ events) event none other [] after split =
 no_stop_in_more (first ∷ events) event none other (e ∷ before) after split =
     let rest : events ++ event ∷ [] ≡ before ++ Stop ∷ after = cc split in
     no_stop_in_more events event (in_tail first events none) other before after rest
+
+-- events up to and including the first STOP are not none
+pub none_ends : (passed rest : List Event) → [] ≡ passed ++ rest → EndsAtFirstStop passed → ⊥
+none_ends passed rest split ends =
+    no_stop_in_none ends.front rest
+    (split ∙ ap (λ (es : List Event). es ++ rest) ends.split ∙ append_assoc ends.front (Stop ∷ []) rest)

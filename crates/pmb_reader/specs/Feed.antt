@@ -1,11 +1,10 @@
--- What a reader answers for a piece more of a capture.
+-- What a reader returns for the next piece of a capture.
 use Rattle.std.specs.Prelude.{◌≡◌, ℕ, ◌+◌, ◌⊎◌, List, [], ◌∷◌, ◌++◌, length}
 use Rattle.pmb_bus.specs.declared.event.Event.{Event}
-use Rattle.pmb_bus.specs.declared.event.Event.TheVariants.{Stop}
 use Rattle.pmb_command.specs.Parts.{DeviceParts}
 use Rattle.pmb_transaction.specs.Transaction.{TransactionData, transaction_data}
 use Rattle.pmb_transaction.specs.Packet.{Packet}
-use Rattle.pmb_transaction.specs.Capture.{HasNoStop}
+use Rattle.pmb_transaction.specs.Capture.{EndsAtFirstStop, HasNoStop}
 use Rattle.pmb_transaction.specs.Reading.{IsUnderWay, RefusalData, RefusedAt}
 use Rattle.pmb_reader.specs.declared.feed.Outcome.{Outcome}
 use Rattle.pmb_reader.specs.declared.feed.Outcome.TheVariants as answers
@@ -13,14 +12,16 @@ use Rattle.pmb_reader.specs.declared.reader.Reader.{Reader}
 use Rattle.pmb_reader.specs.Refusal.{refusal_data}
 use Rattle.pmb_reader.specs.Reader.{Standing, Open, Held, Passing, ReaderStandsAt}
 
--- Where events lead that are all used and end no packet: they go on with the packet under way;
--- while events are passed over, those after the first STOP begin a packet.
+-- Where a piece leads whose events are all used and end no packet. Where a packet is read, they are
+-- more events of it. While events are passed over, a piece without STOP is passed over as a whole;
+-- of another one the events up to and including its first STOP are passed over, and those after it
+-- are the first of a packet. While a refusal is held no event is used.
 abbrev pub Leads : Standing → List Event → Standing → Type 0
 Leads (Open n events) piece behind = behind ≡ Open n (events ++ piece)
 Leads (Held n refusal) piece behind = (piece ≡ []) × (behind ≡ Held n refusal)
 Leads (Passing n) piece behind =
     (HasNoStop piece × (behind ≡ Passing (n + length piece)))
-    ⊎ ((passed : List Event) × (rest : List Event) × HasNoStop passed × (piece ≡ passed ++ Stop ∷ rest) × (behind ≡ Open (n + length passed + 1) rest))
+    ⊎ ((passed : List Event) × (rest : List Event) × (piece ≡ passed ++ rest) × EndsAtFirstStop passed × (behind ≡ Open (n + length passed) rest))
 
 -- where a packet is read, some packet begins with its events so far, and they hold no whole one
 abbrev pub IsUnderWayAt : List DeviceParts → Standing → Type 0
@@ -64,7 +65,7 @@ pub record ReaderRefuses (profile : List DeviceParts) (standing : Standing) (pie
   pub refused : RefusedAt profile n events event refusal
   pub stands : ReaderStandsAt profile after (Held (n + length events) refusal)
 
--- The refusal that is held is answered again.
+-- The refusal that is held is returned again.
 pub record AnswersAgain (profile : List DeviceParts) (standing : Standing) (used : ℕ) (after : Reader) (refusal : RefusalData) : Type 0 where
   pub n : ℕ
   pub held : standing ≡ Held n refusal

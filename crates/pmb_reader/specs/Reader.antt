@@ -1,10 +1,10 @@
--- What a reader answers for one event more.
+-- What a reader returns for the next event, and at the end of the events.
 --
 -- `ReaderStandsAt profile reader standing` says where a reader stands that was made for a profile
 -- and given some events since. At `Open n events`, n events came, and then those of the packet
 -- under way, none between packets: some packet begins with them, and they hold no whole one. At
 -- `Held n refusal`, n events came, and it holds the refusal of the next one. At `Passing n`, n
--- events came, and it passes over what comes up to and with the next STOP. What this says of a
+-- events came, and it passes over what comes up to and including the next STOP. What this says of a
 -- reader's own fields is in `machine`, and nothing here needs it to be understood.
 use Rattle.std.specs.Prelude.{◌≡◌, ℕ, ◌+◌, Option, Some, None, Result, Ok, Err, List, [], ◌∷◌, ◌++◌, length}
 use Rattle.pmb_bus.specs.declared.event.Event.{Event}
@@ -35,15 +35,16 @@ behind_passed n Ack = Passing (n + 1)
 behind_passed n Nack = Passing (n + 1)
 behind_passed n Stop = Open (n + 1) []
 
--- and once reading is to go on after a refusal
+-- and after `resync`
 abbrev pub behind_resync : Standing → Standing
 behind_resync (Open n events) = Open n events
 behind_resync (Held n refusal) = Passing n
 behind_resync (Passing n) = Passing n
 
--- What one event comes to. Of a packet: it goes on, so that some packet begins with the events so
--- far, and they hold no whole one; it ends; or no packet goes on so. A refusal that is held is
--- answered again. What is passed over is passed over.
+-- What one event comes to. Where a packet is read, the event continues it, so that some packet
+-- begins with the events so far, and they hold no whole one; or it ends it; or it is refused, since
+-- no packet can have it there. A refusal that is held is returned again. While events are passed
+-- over, this one is too.
 abbrev pub ReaderTakes : List DeviceParts → Standing → Event → Took → Reader → Type 0
 ReaderTakes profile (Open n events) event answers.More after =
     IsUnderWay profile (events ++ event ∷ []) × ReaderStandsAt profile after (Open n (events ++ event ∷ []))
@@ -64,7 +65,7 @@ CanCome profile (Open n events) event = MayFollow profile events event
 CanCome profile (Held n refusal) event = ⊥
 CanCome profile (Passing n) event = Unit {0}
 
--- what is answered at the end of the events: inside a packet that they are truncated, and a refusal
+-- what is returned at the end of the events: inside a packet that they are truncated, and a refusal
 -- that is held
 abbrev pub ReaderFinishes : List DeviceParts → Standing → Result Unit Refusal → Type 0
 ReaderFinishes profile (Open n events) (Ok done) = events ≡ []

@@ -6,14 +6,14 @@ use Rattle.pmb_transaction.specs.Reading.{Outcome, ReadsAfterStop, ReadsFrom}
 use Rattle.pmb_reader.specs.declared.reader.Reader.{Reader}
 use Rattle.pmb_reader.specs.Reader.{Standing, Open, Held, Passing, ReaderStandsAt}
 
--- What comes next: whatever does, where no event was refused since the last one that was used; else
--- the refused event again, which was not used, and whose refusal is held, or no longer.
+-- What has to come next. Any event may, unless the last one was refused. That one was not used, and
+-- comes again: its refusal is still held (`HeldEvent`), or it is to be passed over (`PassedEvent`).
 pub data Due : Type 0 where
   AnyEvent : Due
   HeldEvent : Event → Due
   PassedEvent : Event → Due
 
--- what is due once reading is to go on after a refusal
+-- what is due after `resync`
 abbrev pub due_behind_resync : Due → Due
 due_behind_resync AnyEvent = AnyEvent
 due_behind_resync (HeldEvent event) = PassedEvent event
@@ -25,13 +25,13 @@ IsNotHeld AnyEvent = Unit {0}
 IsNotHeld (HeldEvent event) = ⊥
 IsNotHeld (PassedEvent event) = Unit {0}
 
--- events that come are those that are due
+-- the events that come begin with what is due
 abbrev pub IsDue : Due → List Event → Type 0
 IsDue AnyEvent events = Unit {0}
 IsDue (HeldEvent event) events = (rest : List Event) × (events ≡ event ∷ rest)
 IsDue (PassedEvent event) events = (rest : List Event) × (events ≡ event ∷ rest)
 
--- where a reader stands to which they are due
+-- where a reader stands while that is due
 abbrev pub IsDueAt : Due → Standing → Type 0
 IsDueAt AnyEvent (Open n events) = Unit {0}
 IsDueAt AnyEvent (Held n refusal) = ⊥
@@ -44,15 +44,15 @@ IsDueAt (PassedEvent event) (Held n refusal) = ⊥
 IsDueAt (PassedEvent event) (Passing n) = Unit {0}
 
 module _ (profile : List DeviceParts) where
-  -- What is still read from where a reader stands, of the events that come: the packet under way
-  -- and what follows it, or what follows the next STOP.
+  -- What is still read from where a reader stands, of the events to come: the packet under way with
+  -- them and what follows it, or what follows the next STOP.
   abbrev pub Remains : Standing → List Event → List Outcome → Type 0
   Remains (Open n events) more outcomes = ReadsFrom profile n (events ++ more) outcomes
   Remains (Held n refusal) more outcomes = ReadsAfterStop profile n more outcomes
   Remains (Passing n) more outcomes = ReadsAfterStop profile n more outcomes
 
-  -- A reader that used the events of a capture up to here answered the outcomes, and stands where
-  -- it does: whatever comes, the capture reads as these outcomes and what remains.
+  -- A reader used these events of a capture, and returned these outcomes. Whatever comes next, the
+  -- capture reads as these outcomes and what remains from where the reader stands.
   pub record HasRead (reader : Reader) (events : List Event) (due : Due) (outcomes : List Outcome) : Type 0 where
     pub standing : Standing
     pub stands : ReaderStandsAt profile reader standing

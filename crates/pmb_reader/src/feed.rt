@@ -18,7 +18,7 @@ pub enum Outcome {
     More,
     /// The last event used is the STOP of this packet.
     Packet(Transaction),
-    /// The next event is not used: no packet goes on with it.
+    /// The next event is not used: no packet can have it there.
     Refused(Refusal),
 }
 
@@ -32,10 +32,11 @@ pub struct Feed {
 }
 
 impl<'p> Reader<'p> {
-    /// Takes the next piece of a capture, up to and with the STOP that ends a packet, or up to and
-    /// without an event that no packet goes on with: the events after `used` are to be given again.
+    /// Takes the next piece of a capture, up to and including the STOP that ends a packet, or up to an
+    /// event that no packet can have there, which is not used: the events after `used` are to be given
+    /// again.
     ///
-    /// While a refusal is held, every call answers it and uses nothing. The transaction is handed
+    /// While a refusal is held, every call returns it and uses nothing. The transaction is handed
     /// over by value; [`take`](Reader::take) and [`packet`](Reader::packet) lend it.
     pub fn feed(&mut self, events: &[Event]) -> Feed
         ensures { (profile : List DeviceParts) (standing : Standing) → ReaderStandsAt profile self.old standing

@@ -1,8 +1,8 @@
 //! Packets read from the events of a bus, one event at a time.
 //!
 //! A [`Reader`] takes the events of a capture in order. At each STOP that ends a packet it has the
-//! transaction; at the first event that no packet goes on with it answers why, and what might have
-//! come. It keeps no list of events; the packet under way is kept by `pmb_under_way`.
+//! transaction; at the first event that no packet can have there it returns why, and what might
+//! have come. It keeps no list of events; the packet under way is kept by `pmb_under_way`.
 //!
 //! ```rust
 //! let profile = Profile::from_toml(rt.alloc(), SAMPLE.as_bytes())?;

@@ -76,7 +76,7 @@ impl<'p> Reader<'p> {
 
     /// Takes one event.
     ///
-    /// While a refusal is held, every call answers it and uses nothing.
+    /// While a refusal is held, every call returns it and uses nothing.
     #[inline(always)]
     pub fn take(&mut self, event: Event) -> Took
         ensures { (profile : List DeviceParts) (standing : Standing) → ReaderStandsAt profile self.old standing
@@ -122,8 +122,8 @@ impl<'p> Reader<'p> {
         }
     }
 
-    /// The kinds of the events that some packet goes on with; none while a refusal is held, and all
-    /// while events are passed over.
+    /// The kinds of the events that some packet can have next; none while a refusal is held, and
+    /// all while events are passed over.
     pub fn expected(&self) -> Kinds
         ensures { (profile : List DeviceParts) (standing : Standing) → ReaderStandsAt profile self.now standing
             → AreKindsOf (CanCome profile standing) result }
@@ -212,7 +212,7 @@ impl<'p> Reader<'p> {
         }
     }
 
-    /// Goes on after a refusal: the events up to and with the next STOP, the refused one among
+    /// Goes on after a refusal: the events up to and including the next STOP, the refused one among
     /// them, are passed over. Where no refusal is held nothing changes.
     pub fn resync(&mut self)
         ensures resumes { (profile : List DeviceParts) (standing : Standing) → ReaderStandsAt profile self.old standing

@@ -1,7 +1,7 @@
 use pmb_bus::Kinds;
 use pmb_transaction::Reason;
 
-/// The refusal of an event that no packet goes on with, or of an end of the events inside a packet.
+/// The refusal of an event that no packet can have there, or of an end of the events in a packet.
 #[derive(Clone, Copy, Debug, PartialEq, Eq)]
 pub struct Refusal {
     /// How many events came before, since the reader was made; stays at the greatest `u64`.

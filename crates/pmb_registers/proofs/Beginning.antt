@@ -12,7 +12,7 @@ use Rattle.pmb_command.specs.Fitting.{register_form}
 use Rattle.pmb_command.specs.Parts.{CommandParts, DeviceParts, HaveOwnCodes, command_with}
 use Rattle.pmb_registers.specs.declared.register.Register.{Register}
 use Rattle.pmb_registers.specs.declared.place.Place.{Place}
-use Rattle.pmb_registers.specs.State.{RegisterData, first_bytes, first_bytes_of_none, own_pages, registers_in, registers_of, zeros}
+use Rattle.pmb_registers.specs.State.{RegisterData, first_bytes, first_bytes_at, own_pages, registers_in, registers_of, zeros}
 use Rattle.pmb_registers.specs.machine.Registers.{register_data}
 use Rattle.pmb_registers.specs.machine.Places.{NoneHas, IsPlaceOf, ArePlaces, registers_of_some}
 
@@ -33,26 +33,25 @@ found_code code (x ∷ cs) command is = elim (pick (nat_eq x.entry.code code) x 
 
 -- ---- first bytes
 
-module _ (device : DeviceParts) (code : ℕ) (command : CommandParts) (form : Form) (is : command_with code device.commands ≡ Some command) where
+module _ (device : DeviceParts) (code : ℕ) (form : Form) where
   -- VOUT_MODE begins with the mode
+  pub mode_at : (initial : Option (List ℕ)) → code ≡ 0x20 → first_bytes_at device code initial form ≡ device.vout_mode ∷ []
+  mode_at initial same = rw (eq-eqb code 0x20 same) refl
+
+  -- any other code with zeros, where the profile gives no bytes
+  pub zeros_at : code ≢ 0x20 → first_bytes_at device code None form ≡ zeros form
+  zeros_at other = rw (ne_eqb code 0x20 other) refl
+
+module _ (device : DeviceParts) (code : ℕ) (command : CommandParts) (form : Form) (is : command_with code device.commands ≡ Some command) where
+  -- so does the command with that code
   pub begins_with_mode : code ≡ 0x20 → first_bytes device command form ≡ device.vout_mode ∷ []
-  begins_with_mode same =
-      let equal : nat_eq command.entry.code 0x20 ≡ true = eq-eqb command.entry.code 0x20 (found_code code device.commands command is ∙ same) in
-      rw equal refl
+  begins_with_mode same = mode_at device command.entry.code form command.initial (found_code code device.commands command is ∙ same)
 
-  -- what the profile gives no bytes begins with zeros
-  pub begins_with_zeros : (code ≡ 0x20 → ⊥) → None ≡ option_and_then (λ c. c.initial) (command_with code device.commands) → first_bytes device command form ≡ zeros form
+  pub begins_with_zeros : code ≢ 0x20 → None ≡ option_and_then (λ c. c.initial) (command_with code device.commands) → first_bytes device command form ≡ zeros form
   begins_with_zeros other none =
-      let apart : nat_eq command.entry.code 0x20 ≡ false = ne_eqb command.entry.code 0x20 (λ same. other (sym (found_code code device.commands command is) ∙ same)) in
       let not_given : command.initial ≡ None = sym (none ∙ ap (option_and_then (λ (c : CommandParts). c.initial)) is) in
-      rw apart (ap (λ (initial : Option (List ℕ)). unwrap_or initial (zeros form)) not_given)
-
--- of a code that the device lacks
-pub lacking_has_mode : (device : DeviceParts) (code : ℕ) (form : Form) → code ≡ 0x20 → first_bytes_of_none device code form ≡ device.vout_mode ∷ []
-lacking_has_mode device code form same = rw (eq-eqb code 0x20 same) refl
-
-pub lacking_has_zeros : (device : DeviceParts) (code : ℕ) (form : Form) → (code ≡ 0x20 → ⊥) → first_bytes_of_none device code form ≡ zeros form
-lacking_has_zeros device code form other = rw (ne_eqb code 0x20 other) refl
+      ap (λ (initial : Option (List ℕ)). first_bytes_at device command.entry.code initial form) not_given
+      ∙ zeros_at device command.entry.code form (λ same. other (sym (found_code code device.commands command is) ∙ same))
 
 -- ---- the registers of one command
 

@@ -1,5 +1,5 @@
 -- What a simulated device answers to the body of a read or of a call, in its state: the bytes of a
--- reply, or the bit of STATUS_CML for which it refuses to be read.
+-- reply, or, where it refuses to be read, the bit of STATUS_CML that it sets.
 --
 -- The bits are those of PMBus Part II 1.3 chapter 17; when a device sets which is this project's
 -- own rule, and so is the order of the reasons. COEFFICIENTS is of section 14.1 there.
@@ -27,8 +27,8 @@ abbrev pub is_paged : Option CommandParts → Bool
 is_paged None = false
 is_paged (Some command) = has_pages command
 
--- The coefficients of a command's numbers, where they are in DIRECT or an output voltage that may
--- be.
+-- The coefficients of a command's numbers: the command's own where they are in DIRECT, the device's
+-- where they are output voltages and it has some. Numbers of another kind have none.
 abbrev pub coefficients_of_kind : Option Coefficients → Kind → Option Coefficients
 coefficients_of_kind vout Raw = None
 coefficients_of_kind vout Linear11 = None
@@ -47,12 +47,13 @@ abbrev pub coefficient_bytes : Coefficients → List ℕ
 coefficient_bytes c =
     to_le_bytes w16 (cast_unsigned w16 c.m) ++ to_le_bytes w16 (cast_unsigned w16 c.b) ++ cast_unsigned w8 c.r ∷ []
 
--- COEFFICIENTS is called with a code and a byte for the direction, which changes nothing here.
+-- the reply to COEFFICIENTS; a command without coefficients is a bad value
 abbrev pub coefficients_reply : Option Coefficients → Result (List ℕ) CmlBit
 coefficients_reply None = Err BadValue
 coefficients_reply (Some coefficients) = Ok (coefficient_bytes coefficients)
 
--- what is after the code of a call of COEFFICIENTS: a count, and the block
+-- The answer to a call of COEFFICIENTS. After its code come a count, the code of a command, and a
+-- byte for the direction, which makes no difference here.
 abbrev pub answer_coefficients : DeviceParts → List ℕ → Result (List ℕ) CmlBit
 answer_coefficients device [] = Err BadValue
 answer_coefficients device (count ∷ []) = Err BadValue
@@ -60,14 +61,15 @@ answer_coefficients device (count ∷ code ∷ []) = Err BadValue
 answer_coefficients device (count ∷ code ∷ direction ∷ []) = coefficients_reply (coefficients_of device code)
 answer_coefficients device (count ∷ code ∷ direction ∷ more ∷ rest) = Err BadValue
 
--- To a read, by the code alone, the answer is what the register holds on the selected page; of
--- calls COEFFICIENTS alone is answered.
+-- A read, which has the code alone, is answered with what the register holds on the selected page.
+-- Of calls only COEFFICIENTS is answered.
 abbrev pub answer_of_page : DeviceParts → DeviceState → ℕ → List ℕ → Result (List ℕ) CmlBit
 answer_of_page device state code [] = Ok (unwrap_or (held state.page code state.registers) [])
 answer_of_page device state code (byte ∷ behind) =
     if nat_eq code 0x30 then answer_coefficients device (byte ∷ behind) else Err BadCommand
 
--- The answer to a body. Where all pages are selected, the register of one page is not to be had.
+-- The answer to a body. While all pages are selected, a command with a register for each page is
+-- refused.
 abbrev pub answer : DeviceParts → DeviceState → List ℕ → Result (List ℕ) CmlBit
 answer device state [] = Err BadCommand
 answer device state (code ∷ behind) =

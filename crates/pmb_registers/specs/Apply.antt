@@ -1,14 +1,12 @@
 -- What a transaction does to the state of a simulated device.
 --
--- PAGE is of PMBus Part II 1.3 section 11.10, CLEAR_FAULTS of section 15.1, how the bits of a
--- status register are cleared of section 10.2, STATUS_CML of chapter 17. That a device keeps what
--- it is told, and acts in no other way, is this project's own rule.
+-- In PMBus Part II 1.3, PAGE is in section 11.10, CLEAR_FAULTS in section 15.1, how the bits of a
+-- status register are cleared in section 10.2, and STATUS_CML in chapter 17. That a device keeps
+-- what is written to it, and acts in no other way, is this project's own rule.
 use Rattle.std.specs.Prelude.{ℕ, ◌-◌, Bool, true, false, ◌&&◌, ◌||◌, if◌then◌else◌, Option, Some, None, Result, Ok, Err, List, [], ◌∷◌, is_some, map, nat_eq}
 use Rattle.std.specs.Int.Bits.{bit_and, bit_or}
 use Rattle.pmb_command.specs.declared.form.Form.TheVariants.{Zero}
-use Rattle.pmb_command.specs.declared.entry.Kind.{Kind}
-use Rattle.pmb_command.specs.declared.entry.Kind.TheVariants.{Raw, Linear11, Linear11Fixed, Vout, VoutSigned, Direct, Status}
-use Rattle.pmb_command.specs.Fitting.{is_form}
+use Rattle.pmb_command.specs.Fitting.{is_form, is_status_kind}
 use Rattle.pmb_command.specs.Parts.{CommandParts, DeviceParts, command_with}
 use Rattle.pmb_transaction.specs.Transaction.{PartData, RefusedData, TransactionData, Write, Read, Call, Refused, Alert, NoAlert}
 use Rattle.pmb_transaction.specs.Body.{forms}
@@ -19,30 +17,21 @@ use Rattle.pmb_registers.specs.Answer.{all_pages, answer}
 
 -- ---- which registers a write reaches
 
--- Under a selected page: the register of that page, or under ffh of each; one that all pages share
--- always.
+-- A write reaches the register of the selected page, or that of each page where ffh is selected. It
+-- always reaches a register that all pages share.
 abbrev pub reaches : ℕ → Option ℕ → Bool
 reaches selected None = true
 reaches selected (Some page) = nat_eq selected all_pages || nat_eq selected page
 
--- A register of some codes, where it is reached, with other bytes; another one as it was.
+-- A register changes if its code is one of these and it is reached. Any other stays as it was.
 abbrev pub changed_one : ℕ → (ℕ → Bool) → (List ℕ → List ℕ) → RegisterData → RegisterData
 changed_one selected codes change r = if codes r.code && reaches selected r.page then record r { bytes = change r.bytes } else r
 
--- each of the registers
+-- all registers after such a change
 abbrev pub changed : ℕ → (ℕ → Bool) → (List ℕ → List ℕ) → List RegisterData → List RegisterData
 changed selected codes change registers = map (changed_one selected codes change) registers
 
 -- ---- what a write does
-
-abbrev pub is_status_kind : Kind → Bool
-is_status_kind Raw = false
-is_status_kind Linear11 = false
-is_status_kind (Linear11Fixed exponent) = false
-is_status_kind Vout = false
-is_status_kind VoutSigned = false
-is_status_kind (Direct coefficients) = false
-is_status_kind Status = true
 
 abbrev pub holds_status : Option CommandParts → Bool
 holds_status None = false
@@ -63,7 +52,7 @@ abbrev pub selected_by : ℕ → List ℕ → ℕ
 selected_by page [] = page
 selected_by page (byte ∷ bytes) = byte
 
--- What a complete write does, by its code and data. PAGE selects a page, and its register takes it.
+-- What a complete write does, by its code and data. PAGE selects a page, and its register holds it.
 -- CLEAR_FAULTS makes the bits of all status registers 0. Another write without data does nothing. A
 -- status register loses the bits that are written as 1, and any other takes the bytes.
 abbrev pub after_write : DeviceParts → ℕ → List ℕ → DeviceState → DeviceState
@@ -93,19 +82,20 @@ abbrev pub with_noted : DeviceParts → Option CmlBit → DeviceState → Device
 with_noted device None state = state
 with_noted device (Some bit) state = with_bit device bit state
 
--- The bit of bytes after an address of which the last was refused: the code, the value of PAGE, or
--- what stands where the packet error code has to.
+-- The bit for bytes after an address, the last of which was refused: the code, the value of PAGE,
+-- or a byte where the packet error code has to be.
 abbrev pub bit_of_sent : List ℕ → Option CmlBit
 bit_of_sent [] = None
 bit_of_sent (code ∷ []) = Some BadCommand
 bit_of_sent (code ∷ byte ∷ []) = if nat_eq code 0x00 then Some BadValue else Some PecFailed
 bit_of_sent (code ∷ byte ∷ next ∷ bytes) = Some PecFailed
 
--- the bit of an answer that is refused
+-- the bit of an answer that is a refusal
 abbrev pub bit_of_answer : Result (List ℕ) CmlBit → Option CmlBit
 bit_of_answer (Ok reply) = None
 bit_of_answer (Err bit) = Some bit
 
+-- the bit for a refused leg: a byte that was sent was refused, or the address of a read
 abbrev pub bit_of_refused : DeviceParts → DeviceState → List ℕ → Bool → Option CmlBit
 bit_of_refused device state sent false = bit_of_sent sent
 bit_of_refused device state sent true = bit_of_answer (answer device state sent)
@@ -127,8 +117,8 @@ module _ (device : DeviceParts) where
   after_refusal t state =
       if nat_eq t.addr device.address then with_noted device (bit_of_refused device state t.sent t.at_read) state else state
 
-  -- What a transaction makes of a device's state: each complete part acts, a refused leg is noted,
-  -- and what is read or called, or answered to an alert, changes nothing.
+  -- What a transaction makes of a device's state: each complete part acts, and a refused leg is
+  -- noted. A read, a call and the answer to an alert change nothing.
   abbrev pub apply : TransactionData → DeviceState → DeviceState
   apply (Write parts) state = after_parts parts state
   apply (Read t) state = state

@@ -8,7 +8,7 @@ abbrev pub reply_bytes : Reply → List ℕ
 reply_bytes (Held bytes) = bytes.now
 reply_bytes (Coefficients bytes) = bytes
 
--- a reply, or the bit for which there is none
+-- the bytes of a reply, or the bit of a refusal
 abbrev pub answer_bytes : Result Reply CmlBit → Result (List ℕ) CmlBit
 answer_bytes (Ok reply) = Ok (reply_bytes reply)
 answer_bytes (Err bit) = Err bit

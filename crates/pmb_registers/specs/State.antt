@@ -17,15 +17,15 @@ pub record RegisterData : Type 0 where
   pub page : Option ℕ
   pub bytes : List ℕ
 
--- The page that is selected, one of the device's or ffh for all of them, and the registers: a finite
--- map from a page and a code to bytes, as the list of its places, of which each stands there once.
+-- The page that is selected, one of the device's or ffh for all of them, and the registers: a
+-- finite map from page and code to bytes, as a list in which each page and code stands once.
 pub record DeviceState : Type 0 where
   pub page : ℕ
   pub registers : List RegisterData
 
 -- ---- looking at a register
 
--- a register answers for a page: its own one, or each
+-- a register is of a page: of its own, or of any where it has none
 abbrev pub is_of_page : ℕ → Option ℕ → Bool
 is_of_page page None = true
 is_of_page page (Some own) = nat_eq own page
@@ -49,27 +49,28 @@ zeros Four = 0 ∷ 0 ∷ 0 ∷ 0 ∷ []
 zeros Eight = 0 ∷ 0 ∷ 0 ∷ 0 ∷ 0 ∷ 0 ∷ 0 ∷ 0 ∷ []
 zeros Block = []
 
--- VOUT_MODE begins with the device's mode, any other register with the bytes that the profile gives
--- it, or else with zeros.
-abbrev pub first_bytes : DeviceParts → CommandParts → Form → List ℕ
-first_bytes device command form =
-    if nat_eq command.entry.code 0x20 then device.vout_mode ∷ [] else unwrap_or command.initial (zeros form)
+-- What a code's register holds at first: that of VOUT_MODE the device's mode, any other the bytes
+-- that the profile gives it, or else zeros.
+abbrev pub first_bytes_at : DeviceParts → ℕ → Option (List ℕ) → Form → List ℕ
+first_bytes_at device code initial form = if nat_eq code 0x20 then device.vout_mode ∷ [] else unwrap_or initial (zeros form)
 
--- what is returned in place of them for a code that the device lacks
-abbrev pub first_bytes_of_none : DeviceParts → ℕ → Form → List ℕ
-first_bytes_of_none device code form = if nat_eq code 0x20 then device.vout_mode ∷ [] else zeros form
+-- that of a command that the device has
+abbrev pub first_bytes : DeviceParts → CommandParts → Form → List ℕ
+first_bytes device command form = first_bytes_at device command.entry.code command.initial form
 
 -- the pages for which a command has registers
 abbrev pub own_pages : ℕ → Bool → List (Option ℕ)
 own_pages pages paged = if paged then map Some (range_with_len 0 pages) else None ∷ []
 
--- The registers of a command in a form: of one that is read, or is written with data.
+-- The registers of a command in a form. One that is neither read nor written with data has no form
+-- and no register.
 abbrev pub registers_in : DeviceParts → CommandParts → Option Form → List RegisterData
 registers_in device command None = []
 registers_in device command (Some form) =
     map (λ page. record { code = command.entry.code; page = page; bytes = first_bytes device command form })
     (own_pages device.pages command.entry.paged)
 
+-- those in its own form
 abbrev pub registers_of : DeviceParts → CommandParts → List RegisterData
 registers_of device command = registers_in device command (register_form command.entry.shape)
 

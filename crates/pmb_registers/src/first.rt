@@ -3,7 +3,7 @@
 ghost use Rattle.std.specs.Prelude.{◌≡◌, ◌+◌, ◌<◌, ◌≤◌, [], ◌++◌, OnOk, None, Some, length, map, take};
 ghost use Rattle.std.specs.List.{flat_map, range_with_len};
 ghost use Rattle.pmb_command.specs.Parts.{CommandParts, command_with};
-ghost use Rattle.pmb_registers.specs.State.{first_bytes, first_bytes_of_none, registers_of, zeros};
+ghost use Rattle.pmb_registers.specs.State.{first_bytes, first_bytes_at, registers_of, zeros};
 ghost use Rattle.pmb_registers.specs.machine.Registers.{register_data};
 ghost use Rattle.pmb_registers.specs.machine.Places.{ArePlaces, NoneHas, registers_of_some};
 
@@ -48,7 +48,7 @@ fn list_of(bytes: &[u8]) -> ArrayVec<u8, 255>
 /// for it, and the mode for VOUT_MODE.
 pub fn first_bytes(device: &DeviceProfile, code: u8, form: Form) -> ArrayVec<u8, 255>
     ensures command { (command : CommandParts) → command_with code device.now.commands ≡ Some command → result.items ≡ first_bytes device.now command form }
-    ensures lacking { command_with code device.now.commands ≡ None → result.items ≡ first_bytes_of_none device.now code form }
+    ensures lacking { command_with code device.now.commands ≡ None → result.items ≡ first_bytes_at device.now code None form }
 {
     if code == VOUT_MODE {
         return list_of(&[device.vout_mode()]);

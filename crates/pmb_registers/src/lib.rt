@@ -1,8 +1,9 @@
 //! The state of a simulated device: its registers and the page that is selected.
 //!
 //! [`Registers`] begin as a device's profile says. A complete write changes them, a read or a call is
-//! answered from them, and a refused one sets a bit of STATUS_CML. The definitions of all this stand
-//! here as a map that a transaction changes; of events and signals this crate knows nothing.
+//! answered from them, and a refused one sets a bit of STATUS_CML. In the definitions they are a
+//! map from page and code to bytes, which a transaction changes. This crate knows nothing of events
+//! and signals.
 //!
 //! ```rust
 //! let profile = Profile::from_toml(rt.alloc(), SAMPLE.as_bytes())?;

@@ -1,10 +1,9 @@
 //! The registers of a device.
 //!
-//! The registers of a command lie side by side, page by page, and `places` says where: so a command
+//! The registers of a command lie side by side, page by page, and `places` says where. So a command
 //! is found by its code in one step, and what a write costs does not grow with the registers of
-//! others.
-//! `status_codes` lists the commands with status bits, so that CLEAR_FAULTS goes to their registers
-//! alone.
+//! others. `status_codes` lists the commands with status bits, so that CLEAR_FAULTS goes to their
+//! registers alone.
 
 ghost use Rattle.std.specs.Prelude.{◌≡◌, ◌≤◌, [], IfOk, IfSome, if◌then◌else◌, length, map, nat_eq, option_map};
 ghost use Rattle.std.specs.Option.{unwrap_or};

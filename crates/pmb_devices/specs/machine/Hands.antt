@@ -38,8 +38,8 @@ pub record HandsOn (legs : Legs) (signal : HostSignal) (members : List InState) 
   pub moved : AllMoved legs signal devices members results
   pub last : result ≡ last_loud results
 
--- The first devices took the signal, as many as told, and the others have still to take it; this is the
--- last answer that is not silence.
+-- The first `count` devices took the signal, and the others have still to take it. This is the last
+-- answer that is not silence.
 pub record HandsSoFar (legs : Legs) (signal : HostSignal) (members : List InState) (devices : List Device) (count : ℕ) (result : DeviceSignal) : Type 0 where
   pub done : List Device
   pub rest : List Device

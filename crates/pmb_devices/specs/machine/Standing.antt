@@ -9,8 +9,8 @@ use Rattle.pmb_devices.specs.declared.bus.Bus.{Bus}
 use Rattle.pmb_devices.specs.Bus.{AreAnswered, AnsweredSignal, legs_after}
 use Rattle.pmb_devices.specs.Runs.{Runs, first_members}
 
--- What a bus went through since it was made: the stretches that STOP ended, each device with its
--- state at the last STOP, or its first one, and each signal since then, with the answer to it.
+-- What a bus went through since it was made: the stretches that STOP ended; each device with its
+-- state after the last STOP, or its first state; and each signal since then, with its answer.
 pub record BusStanding : Type 0 where
   pub past : List (List AnsweredSignal)
   pub members : List InState

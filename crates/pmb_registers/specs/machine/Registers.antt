@@ -17,7 +17,7 @@ change_of (ClearBits written) old = cleared_bits written.now old
 change_of ClearEach old = map (λ byte. 0) old
 change_of (SetBits mask) old = map (λ byte. bit_or byte mask) old
 
--- a register has room for them
+-- a register has room for the bytes that a change gives it
 abbrev pub HasRoom : Change → Type 0
 HasRoom (Take bytes) = length bytes.now ≤ 255
 HasRoom (ClearBits written) = Unit {0}

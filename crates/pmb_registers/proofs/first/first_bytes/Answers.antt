@@ -1,5 +1,5 @@
-use Rattle.std.proofs.Common.{◌∙◌, ℕ, [], ◌∷◌, ap, sym}
-use Rattle.pmb_registers.proofs.Beginning.{begins_with_mode, begins_with_zeros, lacking_has_mode, lacking_has_zeros}
+use Rattle.std.proofs.Common.{◌∙◌, ℕ, None, [], ◌∷◌, ap, sym}
+use Rattle.pmb_registers.proofs.Beginning.{begins_with_mode, begins_with_zeros, mode_at, zeros_at}
 use Rattle.pmb_registers.proofs.first.first_bytes.Goals as goal
 
 pub returns-then-code-eq-VOUT_MODE-clause-command : goal.returns-then-code-eq-VOUT_MODE-clause-command
@@ -8,7 +8,7 @@ returns-then-code-eq-VOUT_MODE-clause-command c = λ command is.
 
 pub returns-then-code-eq-VOUT_MODE-clause-lacking : goal.returns-then-code-eq-VOUT_MODE-clause-lacking
 returns-then-code-eq-VOUT_MODE-clause-lacking c = λ none.
-    c.list_of.ensures ∙ ap (λ (mode : ℕ). mode ∷ []) c.vout_mode.ensures ∙ sym (lacking_has_mode c.args.device.now c.args.code c.args.form c.if-code-eq-VOUT_MODE.true)
+    c.list_of.ensures ∙ ap (λ (mode : ℕ). mode ∷ []) c.vout_mode.ensures ∙ sym (mode_at c.args.device.now c.args.code c.args.form None c.if-code-eq-VOUT_MODE.true)
 
 pub returns-in-None-clause-command : goal.returns-in-None-clause-command
 returns-in-None-clause-command c = λ command is.
@@ -16,4 +16,4 @@ returns-in-None-clause-command c = λ command is.
 
 pub returns-in-None-clause-lacking : goal.returns-in-None-clause-lacking
 returns-in-None-clause-lacking c = λ none.
-    c.list_of-in-None.ensures ∙ c.zeros.ensures.value ∙ sym (lacking_has_zeros c.args.device.now c.args.code c.args.form c.if-code-eq-VOUT_MODE.false)
+    c.list_of-in-None.ensures ∙ c.zeros.ensures.value ∙ sym (zeros_at c.args.device.now c.args.code c.args.form c.if-code-eq-VOUT_MODE.false)
