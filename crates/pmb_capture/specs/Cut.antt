@@ -6,8 +6,8 @@ use Rattle.pmb_io.specs.Count.{capped}
 use Rattle.pmb_io.specs.declared.tally.Tally.{Tally}
 use Rattle.pmb_transaction.specs.Cut.{EndsWithStop}
 
--- A text that spells events of which the last is STOP, and at whose end no word and no comment goes
--- on. One that spells such events and ends with LF is so.
+-- A text that spells events, the last of which is STOP, and that ends inside no word and no
+-- comment. One of such events that ends with LF is such a text.
 pub record EndsAtCut (text : List ℕ) : Type 0 where
   pub events : List Event
   pub spells : Spells text events

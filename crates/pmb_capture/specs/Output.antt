@@ -7,8 +7,8 @@ use Rattle.pmb_transaction.specs.Reading.{Outcome, Accepted, Refusal}
 use Rattle.pmb_transaction.specs.Transaction.{TransactionData}
 use Rattle.pmb_capture.specs.Lines.{refusal_line}
 
--- What a command writes: a text for each transaction, after those before it in the capture, and one
--- at the end.
+-- What a command writes: a text for each transaction, which may depend on those before it in the
+-- capture, and one at the end.
 pub record OutputText : Type 0 where
   pub of_packet : List TransactionData → TransactionData → List ℕ
   pub at_end : Tally → List ℕ

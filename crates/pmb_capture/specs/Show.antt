@@ -11,8 +11,8 @@ use Rattle.pmb_transaction.specs.Transaction.{TransactionData}
 use Rattle.pmb_capture.specs.Output.{OutputText}
 use Rattle.pmb_capture.specs.Written.{Writes, WritesAtEnd, WritesFront, WritesUpToStop}
 
--- A transaction's line after others: its own, and as a comment its note, which is what it says by
--- the PAGE and VOUT_MODE that those before it told.
+-- The line of a transaction, and as a comment its note, which says what the transaction means under
+-- the PAGE and VOUT_MODE that those before it set.
 abbrev pub noted_line : List DeviceParts → List TransactionData → TransactionData → List ℕ
 noted_line profile before t = line t ++ (codes " # " ++ (note profile before t ++ codes "\n"))
 
@@ -21,7 +21,7 @@ abbrev pub noted_behind : List DeviceParts → List TransactionData → List Tra
 noted_behind profile before [] = []
 noted_behind profile before (t ∷ ts) = noted_line profile before t ++ noted_behind profile (before ++ t ∷ []) ts
 
--- the lines of transactions that are all there were
+-- the lines of transactions, before which there were none
 abbrev pub noted_lines : List DeviceParts → List TransactionData → List ℕ
 noted_lines profile ts = noted_behind profile [] ts
 

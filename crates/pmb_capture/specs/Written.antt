@@ -21,8 +21,9 @@ module _ (output : OutputText) (profile : List DeviceParts) where
     pub lines : text ≡ outcomes_text output outcomes ++ output.at_end tally
     pub counts : IsTallyOf (packets_in outcomes) (refusals_in outcomes) tally
 
-  -- A word of the bytes is no token: the events are those of the words before the first such, whose
-  -- line comes after theirs and counts as a refusal. A packet under way there is not reported.
+  -- A word of the bytes is no token: the events are those of the words before the first such word.
+  -- Its line comes after theirs, and it counts as a refusal. A packet under way there is not
+  -- reported.
   pub record WritesUpToBadWord (bytes : List ℕ) (text : List ℕ) (tally : Tally) : Type 0 where
     pub events : List Event
     pub outcomes : List Outcome
@@ -56,15 +57,15 @@ module _ (output : OutputText) (profile : List DeviceParts) where
     pub reads : Reading profile events outcomes
     pub lines : text ≡ outcomes_text output (but_truncation outcomes)
 
-  -- What is written so far for bytes, a front of what is written for them.
+  -- What is written so far for bytes: the beginning of what is written for them.
   pub record WritesFront (bytes : List ℕ) (text : List ℕ) : Type 0 where
     pub rest : List ℕ
     pub tally : Tally
     pub so_far : WritesSoFar bytes text
     pub writes : Writes bytes (text ++ rest) tally
 
-  -- What a command is to write of a capture. More is wanted of bytes that begin some text that
-  -- spells events.
+  -- What a command is to write of a capture. More bytes are wanted while those so far begin some
+  -- text that spells events.
   abbrev pub writing : Job Tally
   writing = record {
     Whole = λ tally bytes text. WritesAtEnd bytes text tally;

@@ -1,7 +1,8 @@
 //! Captures: what is written of them under a profile.
 //!
-//! [`show`] writes a line for each packet and each refusal of a capture, that of a packet with what it
-//! says; [`check_capture`] writes the refusals alone, and how many packets and refusals there were.
+//! [`show`] writes a line for each packet of a capture, with a note on what it means, and one for
+//! each refusal. [`check_capture`] writes the refusals alone, and how many packets and refusals
+//! there were.
 //!
 //! ```rust
 //! let profile = Profile::from_toml(rt.alloc(), SAMPLE.as_bytes())?;

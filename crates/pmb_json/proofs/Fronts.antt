@@ -1,6 +1,6 @@
 -- What is written so far, and where more is wanted.
-use Rattle.std.proofs.Common.{◌≡◌, ◌⊎◌, ◌<◌, ℕ, inl, inr, Option, List, [], ◌++◌, length, refl, sym, ap, subst, ◌∙◌, append-nil}
-use Rattle.pmb_bus.specs.Text.{BeginsText, FirstBadWord, front_word}
+use Rattle.std.proofs.Common.{◌≡◌, ◌⊎◌, ℕ, inl, inr, List, [], ◌++◌, length, refl, sym, ap, subst, ◌∙◌, append-nil}
+use Rattle.pmb_bus.specs.Text.{BeginsText, FirstBadWord}
 use Rattle.pmb_command.specs.Parts.{DeviceParts}
 use Rattle.pmb_json.specs.declared.bad_words.BadWords.{BadWords}
 use Rattle.pmb_json.specs.declared.bad_words.BadWords.TheVariants.{End, GoOn}
@@ -12,7 +12,7 @@ use Rattle.pmb_json.specs.SoFar.{HasWrittenJson}
 use Rattle.pmb_json.specs.Text.{BadLine, IsBadLine, bad_line_objects, front_objects}
 use Rattle.pmb_json.specs.machine.Standing.{IsBadSoFar, StandsIn, json_bad_words, json_choice, json_profile, longer_line}
 use Rattle.pmb_json.proofs.Leading.{bad_line_is, has_bad_line, has_written}
-use Rattle.pmb_json.proofs.Reading.{MovesSpans, reads_so_far}
+use Rattle.pmb_json.proofs.Reading.{MovesSpans, reads_so_far, under}
 use Rattle.pmb_json.proofs.Words.{solid_no_lf}
 use Rattle.pmb_io.specs.Lines.{HasNoLf}
 use Rattle.pmb_objects.specs.Object.{object_lines}
@@ -30,12 +30,15 @@ same_line bad = ap (λ (l : List ℕ). record bad { line = l }) (append-nil bad.
 pub bad_line_now : (choice : ChoiceData) (profile : List DeviceParts) (b : Before) (bad : BadLine) → IsBadSoFar choice profile b bad [] → HasNoLf bad.line → IsBadLine choice profile b (longer_line bad [])
 bad_line_now choice profile b bad so_far in_line = bad_line_is choice profile b bad [] [] [] [] so_far refl in_line tt tt
 
-pub so_far_in : (inside : Inside) (start now : Json) (bytes text : List ℕ) → MovesSpans → ((reached : Reached) → HasRead now.scan reached → (last : List Span) × EndsWith reached last)
+pub so_far_in : (inside : Inside) (start now : Json) (bytes text : List ℕ) → MovesSpans
+    → ((reached : Reached) → reached.profile ≡ json_profile start → HasRead now.scan reached → (last : List Span) × EndsWith reached last)
     → StandsIn inside start now bytes text → HasWrittenJson (json_choice start) (json_profile start) (json_bad_words start) bytes text
 so_far_in Words start now bytes text move ends stands =
     let behind = stands.behind in
     let words = behind.holds in
-    let end = ends words.reached words.scans.reader in
+    let told = words.told.told behind.b words.begins in
+    let same = under (json_choice start) (json_profile start) behind.b now.scan now.stream behind.used behind.put words words.reached behind.put now.stream told in
+    let end = ends words.reached same words.scans.reader in
     let reads = reads_so_far (json_choice start) (json_profile start) behind.b now.scan now.stream behind.used behind.put words end.0 move end.1 in
     has_written (json_choice start) (json_profile start) (json_bad_words start) _ bytes text behind [] reads.0 reads.1 reads.2
 so_far_in BadWord start now bytes text move ends stands =

@@ -8,6 +8,7 @@ pub mod Steps
 pub mod Reading
 pub mod Taking
 pub mod Fronts
+pub mod Endings
 pub mod Running
 pub mod BadLines
 pub mod OneText

@@ -1,6 +1,5 @@
 -- A word that is no token: where it is met, how it goes on, and what is put out of it.
-use Rattle.std.proofs.Common.{◌≡◌, ◌≢◌, ◌⊎◌, ℕ, ◌+◌, ◌<◌, ◌≤◌, true, inl, inr, List, [], ◌∷◌, ◌++◌, drop, filter, length, map, take, refl, sym, ap, subst, ◌∙◌, add-zero, append_assoc, append-nil, arith, length-append, length-take}
-use Rattle.std.proofs.lemmas.List.{map-append}
+use Rattle.std.proofs.Common.{◌≡◌, ℕ, ◌+◌, true, List, [], ◌∷◌, ◌++◌, filter, length, take, refl, sym, ap, subst, ◌∙◌, add-zero, append_assoc, append-nil, arith, length-append}
 use Rattle.std.proofs.lemmas.List.Elements.{filter-append}
 use Rattle.pmb_bus.specs.declared.event.Event.{Event}
 use Rattle.pmb_bus.specs.LexFault.{OpenWordIsBad}
@@ -8,19 +7,18 @@ use Rattle.pmb_bus.specs.Text.{EndsBetween, FirstBadWord, front_word, is_word, o
 use Rattle.pmb_command.specs.Parts.{DeviceParts}
 use Rattle.pmb_io.specs.Count.{capped}
 use Rattle.pmb_io.specs.Lines.{HasNoLf}
-use Rattle.pmb_json.specs.Text.{BadLine, IsBadLine, IsBehindLine, at_word, bad_line_objects, behind_line, front_objects, word_object}
-use Rattle.pmb_json.specs.machine.Ends.{IsOver}
+use Rattle.pmb_json.specs.Text.{BadLine, bad_line_objects, behind_line, front_objects, word_object}
 use Rattle.pmb_json.specs.machine.Standing.{HasBadWord, InBadLine, IsBadSoFar, behind_bytes, behind_object, last_word_objects, longer_line}
-use Rattle.pmb_json.proofs.Lines.{behind_front, front_cut, told_for_good}
+use Rattle.pmb_json.proofs.Lines.{behind_front}
 use Rattle.pmb_json.proofs.Objects.{counts_moved, lines_append, transactions_moved, whole_moved}
-use Rattle.pmb_json.proofs.Words.{no_lf_append, solid_both, solid_no_lf}
+use Rattle.pmb_json.proofs.Words.{no_lf_append, solid_both}
 use Rattle.pmb_objects.specs.BadToken.{bad_token_object}
 use Rattle.pmb_objects.specs.Counts.{CountsData, end_objects}
 use Rattle.pmb_objects.specs.Object.{Object, object_lines}
 use Rattle.pmb_places.specs.declared.places.Place.{Place}
 use Rattle.pmb_places.specs.Places.{place_behind, place_of_last_word}
 use Rattle.pmb_scan.specs.Reached.{EndsWith, Reached}
-use Rattle.pmb_spans.specs.Spans.{Span, SpansFrom, is_whole, moved_span, moved_spans}
+use Rattle.pmb_spans.specs.Spans.{Span, Spans, SpansFrom, is_whole, moved_spans}
 use Rattle.pmb_stream.specs.declared.stream.Stream.{Stream}
 use Rattle.pmb_stream.specs.Before.{Before, with_bytes, with_reached}
 use Rattle.pmb_stream.specs.Choice.{ChoiceData}
@@ -118,12 +116,17 @@ module _ (choice : ChoiceData) (profile : List DeviceParts) where
       subst (λ (l : List ℕ). FirstBadWord l reached.events (length front)) (ap (λ (l : List ℕ). l ++ rest) split ∙ append_assoc front (open_word reached.text) rest)
       (subst (λ (n : ℕ). FirstBadWord (reached.text ++ rest) reached.events n) place bad.2)
 
+  -- events that read as spans from their beginning, where others came before
+  pub read_from : (b : Before) (p : List DeviceParts) (events : List Event) (spans : List Span) → ((p : List DeviceParts) (n m : ℕ) (events : List Event) (spans : List Span) → SpansFrom p m events spans → SpansFrom p (n + m) events (moved_spans n spans))
+      → p ≡ profile → Spans p events spans → SpansFrom profile b.n events (moved_spans b.n spans)
+  read_from b p events spans move under reads =
+      subst (λ (n : ℕ). SpansFrom profile n events (moved_spans b.n spans)) (add-zero b.n)
+      (move profile b.n 0 events spans (subst (λ (q : List DeviceParts). SpansFrom q 0 events spans) under reads))
+
   -- the packets and refusals before it
   pub met_reads : (b : Before) (reached : Reached) (last : List Span) → ((p : List DeviceParts) (n m : ℕ) (events : List Event) (spans : List Span) → SpansFrom p m events spans → SpansFrom p (n + m) events (moved_spans n spans))
       → reached.profile ≡ profile → EndsWith reached last → SpansFrom profile b.n reached.events (moved_spans b.n (reached.spans ++ last))
-  met_reads b reached last move under end =
-      subst (λ (n : ℕ). SpansFrom profile n reached.events (moved_spans b.n (reached.spans ++ last))) (add-zero b.n)
-      (move profile b.n 0 reached.events (reached.spans ++ last) (subst (λ (p : List DeviceParts). SpansFrom p 0 reached.events (reached.spans ++ last)) under end.spans))
+  met_reads b reached last move under end = read_from b reached.profile reached.events (reached.spans ++ last) move under end.spans
 
   pub met_whole : (n : ℕ) (reached : Reached) (last : List Span) → EndsWith reached last → moved_spans n reached.spans ≡ filter is_whole (moved_spans n (reached.spans ++ last))
   met_whole n reached last end =

@@ -1,20 +1,20 @@
 -- Words that may be tokens: what a scan told the stream of them.
-use Rattle.std.proofs.Common.{◌≡◌, ◌⊎◌, ℕ, ◌+◌, ◌<◌, inl, inr, Option, List, [], ◌∷◌, ◌++◌, drop, filter, length, map, take, refl, sym, ap, subst, ◌∙◌, append_assoc, append-nil, arith, length-drop, take-append-drop}
+use Rattle.std.proofs.Common.{◌≡◌, ℕ, ◌+◌, inl, List, [], ◌++◌, drop, filter, length, take, refl, sym, ap, subst, ◌∙◌, append_assoc, append-nil, arith, length-drop, take-append-drop}
 use Rattle.std.proofs.lemmas.List.{map-append}
 use Rattle.pmb_bus.specs.declared.event.Event.{Event}
 use Rattle.pmb_bus.specs.declared.lexer.LexFault.{LexFault}
 use Rattle.pmb_bus.specs.LexFault.{OpenWordIsBad}
-use Rattle.pmb_bus.specs.Text.{BeginsText, EndedWordsSpell, EndsBetween, FirstBadWord, Spells, front_word, open_word}
+use Rattle.pmb_bus.specs.Text.{BeginsText, EndedWordsSpell, Spells, front_word, open_word}
 use Rattle.pmb_command.specs.Parts.{DeviceParts}
 use Rattle.pmb_io.specs.Tally.{IsTallyOf}
 use Rattle.pmb_io.specs.declared.tally.Tally.{Tally}
 use Rattle.pmb_json.specs.declared.bad_words.BadWords.{BadWords}
 use Rattle.pmb_json.specs.declared.engine.Json.{Json}
 use Rattle.pmb_json.specs.SoFar.{ReadsSoFar}
-use Rattle.pmb_json.specs.Text.{BadLine, IsBadLine, ReadsToEnd, WritesJson, front_objects}
+use Rattle.pmb_json.specs.Text.{IsBadLine, ReadsToEnd, WritesJson, front_objects}
 use Rattle.pmb_json.specs.machine.Standing.{Behind, HasBadWord, InBadWord, InWords, IsMadeAs, json_bad_words, json_choice, json_profile, longer_line}
-use Rattle.pmb_json.proofs.MetWords.{has_met, met, met_knows, met_lines, met_reads, met_whole, met_word}
-use Rattle.pmb_json.proofs.Leading.{has_written, leads_first, writes_json}
+use Rattle.pmb_json.proofs.MetWords.{has_met, met, met_lines, met_reads, met_whole, met_word}
+use Rattle.pmb_json.proofs.Leading.{leads_first, writes_json}
 use Rattle.pmb_json.proofs.Objects.{counts_moved, lines_append, objects_append, transactions_moved}
 use Rattle.pmb_json.proofs.Words.{no_lf_append, solid_no_lf}
 use Rattle.pmb_objects.specs.Counts.{CountsData, end_objects}
@@ -102,12 +102,12 @@ module _ (choice : ChoiceData) (profile : List DeviceParts) (b : Before) (scan :
   }
 
   -- what was told, by the choice and the profile
-  lines_by : (there : Reached) (text : List ℕ) (new : Stream) → HasToldOf b words.begun new there text → AreLinesOf choice profile b there text
+  pub lines_by : (there : Reached) (text : List ℕ) (new : Stream) → HasToldOf b words.begun new there text → AreLinesOf choice profile b there text
   lines_by there text new told =
       subst (λ (p : List DeviceParts). AreLinesOf choice p b there text) words.same_profile
       (subst (λ (k : ChoiceData). AreLinesOf k (stream_profile words.begun) b there text) words.same_choice told.lines)
 
-  under : (there : Reached) (text : List ℕ) (new : Stream) → HasToldOf b words.begun new there text → there.profile ≡ profile
+  pub under : (there : Reached) (text : List ℕ) (new : Stream) → HasToldOf b words.begun new there text → there.profile ≡ profile
   under there text new told = told.at.profile ∙ (told.same.profile ∙ words.same_profile)
 
   -- one of them is no token
@@ -143,6 +143,33 @@ module _ (choice : ChoiceData) (profile : List DeviceParts) (b : Before) (scan :
       ∙ (objects_append choice profile place b.ts (moved_spans b.n there.spans) (moved_spans b.n last)
       ∙ ap (λ (ts : List TransactionData). span_objects choice profile place b.ts (moved_spans b.n there.spans) ++ span_objects choice profile place (b.ts ++ ts) (moved_spans b.n last)) (transactions_moved b.n there.spans))
 
+  -- Bytes that spell events: after the lines that were told come those of the other spans, and of
+  -- the end.
+  pub reads_on : (there : Reached) (events : List Event) (others : List Span) (own said : List ℕ) → there.text ≡ used → AreLinesOf choice profile b there own → Spells used events
+      → SpansFrom profile b.n events (moved_spans b.n (there.spans ++ others))
+      → said ≡ object_lines choice.devices (span_objects choice profile (event_place b.read b.n there.text) (b.ts ++ transactions_in there.spans) (moved_spans b.n others) ++ end_objects (after_spans b.counts (there.spans ++ others)))
+      → (objects : List Object) × ReadsToEnd choice profile b used objects (after_spans b.counts (there.spans ++ others))
+      × (own ++ said ≡ object_lines choice.devices (objects ++ end_objects (after_spans b.counts (there.spans ++ others))))
+  reads_on there events others own said text_is told spells reads said_are =
+      let spans = moved_spans b.n (there.spans ++ others) in
+      let counts = after_spans b.counts (there.spans ++ others) in
+      let place = event_place b.read b.n used in
+      let objects = span_objects choice profile place b.ts spans in
+      let first = span_objects choice profile place b.ts (moved_spans b.n there.spans) in
+      let later = span_objects choice profile place (b.ts ++ transactions_in there.spans) (moved_spans b.n others) in
+      let lines = object_lines choice.devices in
+      let own_is : own ≡ lines first =
+      told [] ∙ ap (λ (l : List ℕ). lines (span_objects choice profile (event_place b.read b.n l) b.ts (moved_spans b.n there.spans))) (append-nil there.text ∙ text_is) in
+      let said_is : said ≡ lines (later ++ end_objects counts) =
+      said_are ∙ ap (λ (l : List ℕ). lines (span_objects choice profile (event_place b.read b.n l) (b.ts ++ transactions_in there.spans) (moved_spans b.n others) ++ end_objects counts)) text_is in (
+        objects,
+        record { events = events; spans = spans; spells = spells; reads = reads; all = refl; behind = sym (counts_moved b.counts b.n (there.spans ++ others)) },
+        ap (λ (l : List ℕ). l ++ said) own_is
+            ∙ (ap (λ (l : List ℕ). lines first ++ l) said_is
+            ∙ (sym (lines_append choice.devices first (later ++ end_objects counts))
+            ∙ ap lines (sym (append_assoc first later (end_objects counts)) ∙ ap (λ (l : List Object). l ++ end_objects counts) (sym (ends_objects there others used))))),
+      )
+
   -- the end is read
   pub reads_end : (more said : List ℕ) (after : Scan) (new : Stream) (last : List Span) → MovesSpans → (ends : EndsWords (StreamStands words.begun new) words.reached after (put ++ more)) → EndsWith ends.there last
       → said ≡ object_lines choice.devices (span_objects choice profile (event_place b.read b.n ends.there.text) (b.ts ++ transactions_in ends.there.spans) (moved_spans b.n last) ++ end_objects (after_spans b.counts (ends.there.spans ++ last)))
@@ -151,33 +178,10 @@ module _ (choice : ChoiceData) (profile : List DeviceParts) (b : Before) (scan :
   reads_end more said after new last move ends end said_are =
       let there = ends.there in
       let told = ends.visited.told b words.begins in
-      let text_is : there.text ≡ used = ends.same_text ∙ words.is_text in
-      let spans = moved_spans b.n (there.spans ++ last) in
-      let counts = after_spans b.counts (there.spans ++ last) in
-      let place = event_place b.read b.n used in
-      let objects = span_objects choice profile place b.ts spans in
-      let own = span_objects choice profile place b.ts (moved_spans b.n there.spans) in
-      let ended = span_objects choice profile place (b.ts ++ transactions_in there.spans) (moved_spans b.n last) in
-      let lines = object_lines choice.devices in
-      let own_is : put ++ more ≡ lines own =
-      lines_by there (put ++ more) new told [] ∙ ap (λ (l : List ℕ). lines (span_objects choice profile (event_place b.read b.n l) b.ts (moved_spans b.n there.spans))) (append-nil there.text ∙ text_is) in
-      let said_is : said ≡ lines (ended ++ end_objects counts) =
-      said_are ∙ ap (λ (l : List ℕ). lines (span_objects choice profile (event_place b.read b.n l) (b.ts ++ transactions_in there.spans) (moved_spans b.n last) ++ end_objects counts)) text_is in (
-        objects,
-        record {
-          events = there.events;
-          spans = spans;
-          spells = subst (λ (l : List ℕ). Spells l there.events) words.is_text ends.spells;
-          reads = met_reads choice profile b there last move (under there (put ++ more) new told) end;
-          all = refl;
-          behind = sym (counts_moved b.counts b.n (there.spans ++ last));
-        },
-        sym (append_assoc put more said)
-            ∙ (ap (λ (l : List ℕ). l ++ said) own_is
-            ∙ (ap (λ (l : List ℕ). lines own ++ l) said_is
-            ∙ (sym (lines_append choice.devices own (ended ++ end_objects counts))
-            ∙ ap lines (sym (append_assoc own ended (end_objects counts)) ∙ ap (λ (l : List Object). l ++ end_objects counts) (sym (ends_objects there last used)))))),
-      )
+      let reads = reads_on there there.events last (put ++ more) said (ends.same_text ∙ words.is_text) (lines_by there (put ++ more) new told)
+      (subst (λ (l : List ℕ). Spells l there.events) words.is_text ends.spells)
+      (met_reads choice profile b there last move (under there (put ++ more) new told) end) said_are in
+      (reads.0, reads.1, sym (append_assoc put more said) ∙ reads.2)
 
   -- they end in a word that is no token
   pub ends_met : (more : List ℕ) (fault : LexFault) (after : Scan) (new : Stream) (last : List Span) → MovesSpans

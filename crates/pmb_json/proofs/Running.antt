@@ -1,7 +1,7 @@
 -- What a run over a capture wrote, in the words of `json`.
-use Rattle.std.proofs.Common.{◌≡◌, ℕ, Ok, Err, None, Result, OnOk, List, sym, subst, arith}
+use Rattle.std.proofs.Common.{◌≡◌, ℕ, Ok, Err, List, sym, subst}
+use Rattle.pmb_command.specs.Bus.{IsBus}
 use Rattle.pmb_command.specs.Parts.{DeviceParts}
-use Rattle.pmb_io.specs.Calls.{WriterTells}
 use Rattle.pmb_io.specs.Engines.{engine_job}
 use Rattle.pmb_io.specs.declared.fault.RunFault.{RunFault}
 use Rattle.pmb_io.specs.declared.tally.Tally.{Tally}
@@ -14,11 +14,6 @@ use Rattle.pmb_json.specs.Json.{WritesJsonFront, json_job}
 use Rattle.pmb_json.specs.machine.Standing.{HasEnded, HasPutOut, HasStopped, json_bad_words, json_choice, json_profile, json_tally}
 use Rattle.pmb_json.proofs.Fronts.{opens_in}
 use Rattle.pmb_stream.specs.Choice.{ChoiceData}
-
--- a call over a writer that never fails is done
-pub never_fails : {P : Type 0} (r : Result Unit RunFault) → WriterTells (record { held = None; failures = 0 }) (record { held = None; failures = 0 }) r → OnOk r P → P
-never_fails (Ok done) tells holds = holds
-never_fails (Err fault) tells holds = absurd (omega (arith, tells.1))
 
 abbrev pub own_job : Json → Json → Job (Unit {0})
 own_job = engine_job HasPutOut HasStopped HasEnded
@@ -41,10 +36,11 @@ module _ {R W : Type 0} (reader_told : R → ReaderTold) (writer_told : W → Wr
       (ran_as reader_told writer_told (own_job start now) first old new (json_job (json_choice start) (json_profile start) (json_bad_words start)) tt (json_tally now)
       (λ bytes text ended. ended) (λ bytes text stopped. stopped) (λ bytes opened. opens_in opened.0.inside start opened.0 bytes opened.1 opened.2) ran))
 
-  pub json_failed : (fault : RunFault)
-      → ((begun : Json) (bytes text : List ℕ) → HasPutOut begun now bytes text → WritesJsonFront (json_choice begun) (json_profile begun) (json_bad_words begun) bytes text)
+  pub json_failed : (fault : RunFault) → IsBus profile
+      → ((begun left : Json) (bytes text : List ℕ) → IsBus (json_profile begun) → HasPutOut begun left bytes text
+      → WritesJsonFront (json_choice begun) (json_profile begun) (json_bad_words begun) bytes text)
       → Ran reader_told writer_told (own_job start now) first old new (Err fault) → Ran reader_told writer_told (json_job choice profile after) first old new (Err fault)
-  json_failed fault leaves ran =
+  json_failed fault bus leaves ran =
       named_as (λ job. Ran reader_told writer_told job first old new (Err fault)) start choice profile after same_choice same_profile same_after
       (failed_as reader_told writer_told (own_job start now) first old new (json_job (json_choice start) (json_profile start) (json_bad_words start)) fault
-      (λ bytes text written. leaves start bytes text written) ran)
+      (λ bytes text written. leaves start now bytes text (subst IsBus (sym same_profile) bus) written) ran)

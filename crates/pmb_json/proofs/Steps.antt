@@ -1,9 +1,8 @@
 -- A `Json` after bytes more.
 use Rattle.std.proofs.Common.{◌≡◌, ◌≢◌, ◌⊎◌, ℕ, ◌+◌, ◌<◌, ◌≤◌, true, inl, inr, List, [], ◌∷◌, ◌++◌, drop, length, take, refl, sym, ap, subst, ◌∙◌, append_assoc, append-nil, arith, length-append, length-take, take-append-drop}
-use Rattle.pmb_bus.specs.Text.{EndsBetween, FirstBadWord, front_word, is_word, open_word}
+use Rattle.pmb_bus.specs.Text.{EndsBetween, front_word, is_word, open_word}
 use Rattle.pmb_command.specs.Parts.{DeviceParts}
 use Rattle.pmb_io.specs.Count.{capped}
-use Rattle.pmb_io.specs.Lines.{HasNoLf}
 use Rattle.pmb_io.specs.Tally.{IsTallyOf}
 use Rattle.pmb_io.specs.declared.tally.Tally.{Tally}
 use Rattle.pmb_json.specs.declared.bad_words.BadWords.{BadWords}
@@ -11,14 +10,14 @@ use Rattle.pmb_json.specs.declared.bad_words.BadWords.TheVariants.{End, GoOn}
 use Rattle.pmb_json.specs.declared.engine.Json.{Json}
 use Rattle.pmb_json.specs.Json.{StopsJson}
 use Rattle.pmb_json.specs.Text.{BadLine, IsBadLine, IsBehindLine, WritesJson, bad_line_objects, behind_line, front_objects}
-use Rattle.pmb_json.specs.machine.Ends.{EndsLine, IsOver}
-use Rattle.pmb_json.specs.machine.Standing.{Behind, BehindBadWord, HasBadWord, InBadLine, InBadWord, InWords, IsBadSoFar, IsMadeAs, behind_bytes, behind_object, json_bad_words, json_choice, json_profile, last_word_objects, longer_line}
+use Rattle.pmb_json.specs.machine.Ends.{EndsLine}
+use Rattle.pmb_json.specs.machine.Standing.{Behind, BehindBadWord, HasBadWord, InBadLine, InBadWord, InWords, IsBadSoFar, IsMadeAs, behind_bytes, behind_object, json_bad_words, json_profile, last_word_objects, longer_line}
 use Rattle.pmb_json.proofs.MetWords.{StandsThere, word_goes_on, first_so_far, knows_as, lines_with_counts, lines_with_last, lines_with_word, stands_there, word_is}
 use Rattle.pmb_json.proofs.Leading.{bad_line_is, leads_line, writes_bad_line}
 use Rattle.pmb_json.proofs.Lines.{behind_front, front_cut, never_under_way, same_split, split_line, told_for_good}
 use Rattle.pmb_json.proofs.Objects.{lines_append}
 use Rattle.pmb_json.proofs.Reading.{words_begin}
-use Rattle.pmb_json.proofs.Words.{no_lf_append, solid_no_lf, solid_then}
+use Rattle.pmb_json.proofs.Words.{solid_no_lf, solid_then}
 use Rattle.pmb_objects.specs.BadToken.{bad_token_object}
 use Rattle.pmb_objects.specs.Counts.{end_objects}
 use Rattle.pmb_objects.specs.Object.{object_lines}

@@ -1,12 +1,9 @@
 -- The word at the front of a text, byte by byte, and lines.
-use Rattle.std.proofs.Common.{◌≡◌, ◌≢◌, ◌⊎◌, ℕ, zero, suc, ◌+◌, ◌<◌, ◌≤◌, ◌||◌, ◌==◌, Bool, true, false, cond, inl, inr, None, List, [], ◌∷◌, ◌++◌, length, take, refl, sym, ap, subst, ◌∙◌, append_assoc, append-nil, arith}
+use Rattle.std.proofs.Common.{◌≡◌, ◌≢◌, ℕ, ◌||◌, ◌==◌, Bool, true, false, cond, inl, inr, List, [], ◌∷◌, ◌++◌, refl, sym, ap, ◌∙◌}
 use Rattle.std.specs.List.{slice_split, onto_first}
 use Rattle.std.proofs.lemmas.Bool.{cases_Bool, cases_eq, ne_eqb, false≢true}
-use Rattle.std.proofs.lemmas.List.{take-append-le}
 use Rattle.std.proofs.lemmas.List.Splits.{slice_split-cons_yes, slice_split-cons_no}
-use Rattle.pmb_bus.specs.declared.event.Event.{Event}
-use Rattle.pmb_bus.specs.Event.{event_of}
-use Rattle.pmb_bus.specs.Text.{EndsBetween, FirstBadWord, Spells, blanked_from, first_run, front_word, in_comment, is_separator, is_word}
+use Rattle.pmb_bus.specs.Text.{blanked_from, first_run, front_word, in_comment, is_separator}
 use Rattle.pmb_io.specs.Lines.{HasNoLf}
 use Rattle.pmb_json.specs.machine.Ends.{ends_word}
 

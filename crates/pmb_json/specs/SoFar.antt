@@ -5,7 +5,6 @@ use Rattle.pmb_bus.specs.declared.event.Event.{Event}
 use Rattle.pmb_bus.specs.Text.{BeginsText, EndedWordsSpell, FirstBadWord, front_word}
 use Rattle.pmb_command.specs.Parts.{DeviceParts}
 use Rattle.pmb_json.specs.declared.bad_words.BadWords.{BadWords}
-use Rattle.pmb_json.specs.declared.bad_words.BadWords.TheVariants.{End, GoOn}
 use Rattle.pmb_objects.specs.Object.{Object, object_lines}
 use Rattle.pmb_spans.specs.Spans.{Span, SpansFrom, is_whole}
 use Rattle.pmb_stream.specs.Before.{Before, at_first}

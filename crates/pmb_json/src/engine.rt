@@ -6,6 +6,7 @@
 
 ghost use Rattle.std.specs.Prelude.{◌≡◌, ◌⊎◌, ◌≢◌, ◌++◌, ◌≤◌, ◌<◌, ℕ, List, [], OnOk, IfOk, length};
 ghost use Rattle.pmb_bus.specs.Text.{front_word, open_word};
+ghost use Rattle.pmb_command.specs.Bus.{IsBus};
 ghost use Rattle.pmb_io.specs.Calls.{WriterTells};
 ghost use Rattle.pmb_io.specs.Engines.{PutsOut};
 ghost use Rattle.pmb_io.specs.Outgoing.{PutsText};
@@ -19,11 +20,11 @@ ghost use Rattle.pmb_stream.specs.Choice.{choice_data};
 ghost use Rattle.pmb_stream.specs.Stream.{StreamKnows, stream_choice};
 
 use crate::bad_words::BadWords;
-use crate::nowhere::Nowhere;
 use crate::word_end::{behind, is_over, line_bytes, word_bytes};
 use crate::word_laws::bad_words_stand_there;
-use pmb_bus::laws::texts_may_be_cut_between_words;
+use pmb_bus::laws::{ended_words_lead_on, spelled_has_no_bad_word, texts_may_be_cut_between_words};
 use pmb_io::{Engine, Flow, RunFault, Sink, Tally, Waiting};
+use pmb_scan::laws::scans_lead_on;
 use pmb_scan::{Scan, Taken};
 use pmb_spans::laws::spans_move;
 use pmb_stream::{Choice, Stream};
@@ -94,21 +95,6 @@ impl<'p> Json<'p> {
         ensures { result ≡ json_tally self.now }
     {
         self.stream.tally()
-    }
-
-    /// Leaves the text where it is, and puts out no more: what came of it so far is a front of what
-    /// it would come to.
-    pub(crate) fn leave(&mut self)
-        ensures { (start : Json) (bytes text : List ℕ) → HasPutOut start self.old bytes text
-            → WritesJsonFront (json_choice start) (json_profile start) (json_bad_words start) bytes text }
-    {
-        spans_move();
-        bad_words_stand_there();
-        // Nothing of this is kept. That the capture may end here says that it comes to something.
-        let _ = self.scan.truncation();
-        // Without a call of the stream's the check doesn't find the types that it is made of.
-        let _ = self.stream.tally();
-        let _ = self.end(&mut Waiting::new(), &mut Nowhere);
     }
 
     /// Takes bytes up to the end of a bad line.
@@ -301,4 +287,15 @@ impl<'p> Engine for Json<'p> {
     }
 
     ghost stops_for_good = { stops_for_good };
+}
+
+/// What was put out so far is a beginning of what is written for the same bytes, if they end there.
+pub(crate) fn fronts_are_written()
+    ensures { (start now : Json) (bytes text : List ℕ) → IsBus (json_profile start) → HasPutOut start now bytes text
+        → WritesJsonFront (json_choice start) (json_profile start) (json_bad_words start) bytes text }
+{
+    spans_move();
+    ended_words_lead_on();
+    spelled_has_no_bad_word();
+    scans_lead_on();
 }

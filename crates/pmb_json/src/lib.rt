@@ -17,7 +17,6 @@
 mod bad_words;
 mod engine;
 pub mod laws;
-mod nowhere;
 mod run;
 mod word_end;
 mod word_laws;

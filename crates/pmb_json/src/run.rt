@@ -5,10 +5,11 @@ ghost use Rattle.pmb_stream.specs.Choice.{choice_data};
 ghost use Rattle.pmb_json.specs.Json.{json_job};
 
 use crate::bad_words::BadWords;
-use crate::engine::Json;
+use crate::engine::{Json, fronts_are_written};
 use pmb_io::{Sink, Source, Tally, ToolFault, each_piece};
 use pmb_stream::Choice;
 use pmb_table::Profile;
+use pmb_table::laws::accepted_bus;
 
 /// Writes the objects of the capture whose text is `first` and what the reader gives, under a profile,
 /// each as a line of JSON.
@@ -42,11 +43,12 @@ pub fn json<'p, R: Source, W: Sink>(
         start,
         devices,
     };
+    accepted_bus(profile);
     let mut engine = Json::new(profile, chosen, bad_words);
     match each_piece(&mut engine, first, reader, writer) {
         Ok(()) => Ok(engine.tally()),
         Err(fault) => {
-            engine.leave();
+            fronts_are_written();
             Err(ToolFault::from(fault))
         }
     }

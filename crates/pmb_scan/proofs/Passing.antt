@@ -1,4 +1,4 @@
--- Passing over events, up to and with the first STOP.
+-- Passing over events, up to and including the first STOP.
 use Rattle.std.proofs.Common.{◌≡◌, ◌≢◌, ℕ, ◌+◌, List, [], ◌∷◌, length, refl, subst, arith}
 use Rattle.pmb_bus.specs.declared.event.Event.{Event}
 use Rattle.pmb_bus.specs.declared.event.Event.TheVariants.{Stop}

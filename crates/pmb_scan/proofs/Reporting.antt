@@ -16,7 +16,7 @@ use Rattle.pmb_transaction.specs.Packet.{Packet}
 use Rattle.pmb_transaction.specs.Reading.{RefusalData}
 use Rattle.pmb_transaction.specs.Transaction.{TransactionData}
 use Rattle.pmb_spans.specs.Spans.{Span, ReadSpan, RefusedSpan, TruncatedSpan, Spans, SpansFrom, is_whole}
-use Rattle.pmb_scan.specs.Reached.{Reached, IsReading, LeadsOn, EndsWith, SpansBehind, behind_bytes, behind_event, behind_whole, stands_behind}
+use Rattle.pmb_scan.specs.Reached.{Reached, IsReading, LeadsOn, EndsWith, SpansBehind, behind_bytes, behind_event, behind_whole, standing_after}
 use Rattle.pmb_scan.specs.Scan.{end_spans}
 use Rattle.pmb_scan.specs.machine.Standing.{ReaderReached}
 use Rattle.pmb_scan.specs.machine.Reported.{ReportsAs, EndsPacket, IsRefused}
@@ -63,8 +63,8 @@ spans_then profile events rest event spans others span reads =
 -- it goes on
 reads_more : OthersPass → (reached : Reached) (standing : Standing) (event : Event) (after : Reader) → reached.standing ≡ standing → LeadsOn reached
     → ReaderTakes reached.profile standing event answers.More after
-    → ReaderStandsAt reached.profile after (stands_behind standing event) × IsReading (stands_behind standing event)
-    × ((rest : List Event) (others : List Span) → SpansBehind reached.profile (stands_behind standing event) rest others → SpansBehind reached.profile standing (event ∷ rest) others)
+    → ReaderStandsAt reached.profile after (standing_after standing event) × IsReading (standing_after standing event)
+    × ((rest : List Event) (others : List Span) → SpansBehind reached.profile (standing_after standing event) rest others → SpansBehind reached.profile standing (event ∷ rest) others)
 reads_more others_pass reached (Open n events) event after same on takes =
     (takes.1, tt, λ rest others reads. subst (λ (es : List Event). SpansFrom reached.profile n es others) (append_assoc events (event ∷ []) rest) reads)
 reads_more others_pass reached (Held n refusal) event after same on takes = absurd takes

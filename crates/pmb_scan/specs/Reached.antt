@@ -11,9 +11,9 @@ use Rattle.pmb_transaction.specs.Reading.{RefusalData}
 use Rattle.pmb_transaction.specs.Transaction.{TransactionData}
 
 -- Under a profile these bytes were used, the words that have ended in them are the tokens of these
--- events, and these are the packets that ended and the refusals that came. It stands inside a
--- packet or between two (`Open`), or after a refusal, and passes over what comes up to the next
--- STOP (`Passing`).
+-- events, and these are the packets that ended and the refusals that came. The scan stands inside a
+-- packet or between two (`Open`), or after a refusal, where it passes over what comes up to and
+-- including the next STOP (`Passing`).
 pub record Reached : Type 0 where
   pub profile : List DeviceParts
   pub text : List ℕ
@@ -27,21 +27,21 @@ at_start profile = record { profile = profile; text = []; events = []; spans = [
 
 -- ---- what each visit adds
 
--- bytes more
+-- more bytes
 abbrev pub behind_bytes : Reached → List ℕ → Reached
 behind_bytes reached bytes = record reached { text = reached.text ++ bytes }
 
--- where it stands after an event that ends no packet and is not refused
-abbrev pub stands_behind : Standing → Event → Standing
-stands_behind (Open n events) event = Open n (events ++ event ∷ [])
-stands_behind (Held n refusal) event = Held n refusal
-stands_behind (Passing n) event = behind_passed n event
+-- where the scan stands after an event that ends no packet and is not refused
+abbrev pub standing_after : Standing → Event → Standing
+standing_after (Open n events) event = Open n (events ++ event ∷ [])
+standing_after (Held n refusal) event = Held n refusal
+standing_after (Passing n) event = behind_passed n event
 
 -- such an event
 abbrev pub behind_event : Reached → Event → Reached
-behind_event reached event = record reached { events = reached.events ++ event ∷ []; standing = stands_behind reached.standing event }
+behind_event reached event = record reached { events = reached.events ++ event ∷ []; standing = standing_after reached.standing event }
 
--- An event that ends a packet, which began after n events, with these.
+-- An event that ends a packet, which began after n events with those of `front`.
 abbrev pub behind_packet : Reached → ℕ → List Event → Event → TransactionData → Reached
 behind_packet reached n front event t = record reached {
   events = reached.events ++ event ∷ [];
@@ -58,7 +58,7 @@ behind_whole reached n bytes events t = record reached {
   standing = Open (n + length events) [];
 }
 
--- An event that is refused, after those of a packet that began after n events.
+-- An event that is refused after those of `front`, with which a packet began after n events.
 abbrev pub behind_refusal : Reached → ℕ → List Event → Event → RefusalData → Reached
 behind_refusal reached n front event refusal = record reached {
   events = reached.events ++ event ∷ [];
@@ -66,7 +66,7 @@ behind_refusal reached n front event refusal = record reached {
   standing = behind_passed (n + length front) event;
 }
 
--- Bytes are the text of a whole common packet of a transaction, which has these events.
+-- These bytes are the canonical text of these events, the packet of a common transaction.
 pub record IsWhole (profile : List DeviceParts) (t : TransactionData) (events : List Event) (bytes : List ℕ) : Type 0 where
   pub common : IsCommon t
   pub packet : Packet profile t events
@@ -81,23 +81,24 @@ IsReading (Held n refusal) = ⊥
 IsReading (Passing n) = Unit {0}
 
 module _ (profile : List DeviceParts) where
-  -- The spans of the events that follow from there: the packet under way is read with them, from
-  -- where it began; what is passed over is read from after the first STOP.
+  -- The spans of what is read from there on, where these events follow. Inside a packet it is read
+  -- from its beginning, with them. After a refusal they are passed over up to and including the
+  -- first STOP, and those after it are read.
   abbrev pub SpansBehind : Standing → List Event → List Span → Type 0
   SpansBehind (Open n events) rest spans = SpansFrom profile n (events ++ rest) spans
   SpansBehind (Held n refusal) rest spans = ⊥
   SpansBehind (Passing n) rest spans = SpansAfterStop profile n rest spans
 
--- What was reached is a front of what the capture reads as: whatever follows, its spans are those
--- reached, and then those of what follows. None of those reached is an end inside a packet.
+-- What was reached is the beginning of what the capture reads as: whatever follows, its spans are
+-- those reached, and then those of what follows. None of those reached is an end inside a packet.
 pub record LeadsOn (reached : Reached) : Type 0 where
   pub reading : IsReading reached.standing
   pub leads : (rest : List Event) (others : List Span) → SpansBehind reached.profile reached.standing rest others
       → Spans reached.profile (reached.events ++ rest) (reached.spans ++ others)
   pub whole : filter is_whole reached.spans ≡ reached.spans
 
--- Nothing follows: the spans are those reached and then these, which are an end inside a packet or
--- none. None of those reached is one.
+-- Where nothing follows, the spans are those reached and then `last`: one of an end inside a
+-- packet, or none. None of those reached is such an end.
 pub record EndsWith (reached : Reached) (last : List Span) : Type 0 where
   pub spans : Spans reached.profile reached.events (reached.spans ++ last)
   pub whole : filter is_whole reached.spans ≡ reached.spans

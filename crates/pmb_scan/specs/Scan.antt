@@ -1,9 +1,9 @@
 -- What a scan does with a piece of a capture's text, and at its end.
 --
--- `ScanStandsAt scan reached` says that a scan was given the bytes reached since `new`, and that more
--- may follow; `HasRead scan reached` that its reader was given the events reached, also where a word
--- was no token, or the bytes have ended. What both say of a scan's own fields is in `machine`, and
--- nothing here needs it to be understood.
+-- `ScanStandsAt scan reached` says that a scan was given the bytes reached since `new`, and that
+-- more may follow; `HasRead scan reached` that its reader was given the events reached, also after
+-- a word that is no token and after the end of the bytes. What both say of a scan's own fields is
+-- in `machine`, and nothing here needs it to be understood.
 use Rattle.std.specs.Prelude.{◌≡◌, ℕ, ◌+◌, ◌<◌, Option, Some, None, List, [], ◌∷◌, ◌++◌, length, take}
 use Rattle.pmb_bus.specs.declared.event.Event.{Event}
 use Rattle.pmb_bus.specs.declared.lexer.LexFault.{LexFault}
@@ -21,7 +21,7 @@ pub use Rattle.pmb_scan.specs.machine.Standing.{ScanStandsAt, HasRead}
 
 -- In what follows a visitor was told what was reached, and a text was put out for it.
 module _ (Visited : Reached → List ℕ → Type 0) where
-  -- an event more
+  -- the next event
   pub record TakesEvent (reached : Reached) (event : Event) (after : Scan) (text : List ℕ) : Type 0 where
     pub there : Reached
     pub profile : there.profile ≡ reached.profile
@@ -30,7 +30,7 @@ module _ (Visited : Reached → List ℕ → Type 0) where
     pub reads : HasRead after there
     pub visited : Visited there text
 
-  -- A piece more, all of which is used.
+  -- The next piece, all of which is used.
   pub record TakesAll (reached : Reached) (piece : List ℕ) (after : Scan) (text : List ℕ) : Type 0 where
     pub there : Reached
     pub profile : there.profile ≡ reached.profile
@@ -38,7 +38,7 @@ module _ (Visited : Reached → List ℕ → Type 0) where
     pub stands : ScanStandsAt after there
     pub visited : Visited there text
 
-  -- A piece more, used up to a byte with which no text that spells events goes on: a word is no token.
+  -- The next piece, used up to a byte that no text of events can have there: a word is no token.
   pub record StopsAtBadWord (reached : Reached) (piece : List ℕ) (used : ℕ) (fault : LexFault) (after : Scan) (text : List ℕ) : Type 0 where
     pub there : Reached
     pub profile : there.profile ≡ reached.profile
@@ -79,8 +79,8 @@ module _ (Visited : Reached → List ℕ → Type 0) where
   TakesEnd reached None after text = EndsWords reached after text
   TakesEnd reached (Some fault) after text = EndsInBadWord reached fault after text
 
--- The span of an end inside a packet, with its events so far. Elsewhere no end is refused: none is
--- truncated that has no events.
+-- The span of an end inside a packet, with the events of the packet. An end anywhere else is not
+-- refused, since there is no packet to be truncated.
 abbrev pub end_spans : Standing → Option Refusal → List Span
 end_spans (Open n events) None = []
 end_spans (Open n events) (Some refusal) = TruncatedSpan n events (refusal_data refusal) ∷ []

@@ -1,8 +1,8 @@
 //! From the text of a capture to what comes of it.
 //!
-//! Most events complete nothing, so what a packet or a refusal wants is done in functions of their
-//! own, which are not inlined: an event pays for none of it. `take_words` takes a whole common
-//! packet in a turn, where one lies in front, or a byte and its ACK, or one word.
+//! Most events complete nothing. What is done for a packet or a refusal is in functions of its own
+//! that are not inlined, so that no other event pays for it. In each turn `take_words` takes a
+//! whole common packet, where one lies in front, or a byte and its ACK, or one word.
 
 ghost use Rattle.std.specs.Prelude.{◌≡◌, ◌++◌, ◌∷◌, [], ◌≤◌, ◌<◌, ℕ, List, None, OnOk, IfOk, IfSome, length, drop};
 ghost use Rattle.pmb_bus.specs.declared.event.Event.{Event as BusEvent};

@@ -33,7 +33,7 @@ pub trait Visitor {
             → Stands start self.new (behind_bytes reached bytes.now) text };
 
     /// An event came that ends no packet: one of the packet under way, or one that is passed over,
-    /// which comes after a refusal, up to and with the next STOP.
+    /// which comes after a refusal, up to and including the next STOP.
     fn visit_event(&mut self, event: Event)
         ensures { (start : Self) (reached : Reached) (text : List ℕ) → Stands start self.old reached text
             → Spells reached.text (reached.events ++ event ∷ []) → Stands start self.new (behind_event reached event) text };

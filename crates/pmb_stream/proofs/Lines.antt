@@ -3,7 +3,7 @@ use Rattle.std.proofs.Common.{◌≡◌, ℕ, true, false, Option, None, List, [
 use Rattle.std.proofs.lemmas.List.Elements.{filter-append}
 use Rattle.std.proofs.lemmas.Grind.{flat_map-append}
 use Rattle.pmb_io.specs.Outgoing.{PutsText}
-use Rattle.pmb_io.proofs.Writing.{writes_then, writes_nothing}
+use Rattle.pmb_io.proofs.Writing.{writes_then}
 use Rattle.pmb_object.specs.Member.{object_line}
 use Rattle.pmb_objects.specs.Object.{Object, is_wanted, object_lines}
 

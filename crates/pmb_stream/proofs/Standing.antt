@@ -1,5 +1,5 @@
 -- What a stream keeps, one event after the other.
-use Rattle.std.proofs.Common.{◌≡◌, ℕ, ◌+◌, true, false, List, [], ◌∷◌, ◌++◌, length, append_assoc, length-append, sym, ap, ◌∙◌, subst, arith}
+use Rattle.std.proofs.Common.{◌≡◌, ℕ, ◌+◌, false, List, [], ◌∷◌, ◌++◌, length, append_assoc, length-append, sym, ap, ◌∙◌, subst, arith}
 use Rattle.std.proofs.lemmas.Bool.{false≢true}
 use Rattle.pmb_bus.specs.declared.event.Event.{Event}
 use Rattle.pmb_bus.specs.declared.event.Event.TheVariants.{Start, Byte, Ack, Nack, Stop}
@@ -14,7 +14,7 @@ use Rattle.pmb_places.specs.OpenWord.{OpenWordStandsAt}
 use Rattle.pmb_places.specs.declared.places.Place.{Place}
 use Rattle.pmb_reader.specs.Reader.{Standing, Open, Held, Passing, behind_passed}
 use Rattle.pmb_said.specs.Standing.{SaidStandsAt}
-use Rattle.pmb_scan.specs.Reached.{stands_behind}
+use Rattle.pmb_scan.specs.Reached.{standing_after}
 use Rattle.pmb_transaction.specs.Transaction.{TransactionData}
 use Rattle.pmb_stream.specs.declared.stream.Begun.{Begun}
 use Rattle.pmb_stream.specs.declared.stream.Stream.{Stream}
@@ -98,7 +98,7 @@ keeps_event b old new text n count place events event keeps passing said begun c
 pub read_event : (b : Before) (old new : Stream) (text : List ℕ) (standing : Standing) (all : ℕ) (place : Place) (event : Event) → old.passing ≡ false → KeepsUnderWay b old text standing
     → IsCountOf standing all → new.passing ≡ old.passing → ((events : List Event) → SaidStandsAt old.said events → SaidStandsAt new.said (events ++ event ∷ []))
     → new.begun.items ≡ begun_behind old.begun.items old.count place event → old.count ≡ capped (b.n + all)
-    → ((more : List ℕ) → event_place b.read b.n (text ++ more) (b.n + all) ≡ place) → KeepsUnderWay b new text (stands_behind standing event)
+    → ((more : List ℕ) → event_place b.read b.n (text ++ more) (b.n + all) ≡ place) → KeepsUnderWay b new text (standing_after standing event)
 read_event b old new text (Open n events) all place event reading keeps counted passing said begun count placed =
     let at : b.n + all ≡ (b.n + n) + length events = omega (arith, counted) in
     keeps_event b old new text n old.count place events event keeps passing said begun (count ∙ ap capped at)
@@ -115,7 +115,7 @@ counts_passed n events Ack counted = omega (arith, counted, length-append events
 counts_passed n events Nack counted = omega (arith, counted, length-append events (Nack ∷ []))
 counts_passed n events Stop counted = omega (arith, counted, length-append events (Stop ∷ []))
 
-pub counts_event : (standing : Standing) (events : List Event) (event : Event) → IsCountOf standing (length events) → IsCountOf (stands_behind standing event) (length (events ++ event ∷ []))
+pub counts_event : (standing : Standing) (events : List Event) (event : Event) → IsCountOf standing (length events) → IsCountOf (standing_after standing event) (length (events ++ event ∷ []))
 counts_event (Open n own) events event counted = omega (arith, counted, length-append own (event ∷ []), length-append events (event ∷ []))
 counts_event (Held n refusal) events event counted = tt
 counts_event (Passing n) events event counted = counts_passed n events event counted

@@ -9,7 +9,7 @@ use Rattle.pmb_objects.specs.Object.{Object}
 use Rattle.pmb_objects.specs.Packets.{alert_object, call_object, no_alert_object, packet_objects, read_object, refused_object, starts, write_object, write_objects}
 use Rattle.pmb_objects.specs.Seen.{SeenData}
 use Rattle.pmb_places.specs.declared.places.Place.{Place}
-use Rattle.pmb_transaction.specs.Capture.{EndsAtStop}
+use Rattle.pmb_transaction.specs.Capture.{EndsAtFirstStop}
 use Rattle.pmb_transaction.specs.Packet.{Packet}
 use Rattle.pmb_transaction.specs.declared.part.Part.{Part}
 use Rattle.pmb_transaction.specs.Transaction.{part_data, PartData, TransactionData, Write, Read, Call, Refused, Alert, NoAlert}
@@ -144,6 +144,6 @@ module _ (seen : SeenData) (place : ℕ → Place) where
   objects_by_kept profile n front event (Alert t) stop packet = first_is n front _ event (λ at first. alert_object at first t) stop packet.spelled
   objects_by_kept profile n front event NoAlert stop packet = first_is n front _ event (λ at first. no_alert_object at first) stop packet
 
-  pub packet_by_kept : (profile : List DeviceParts) (n : ℕ) (front : List Event) (event : Event) (t : TransactionData) → EndsAtStop (front ++ event ∷ []) → Packet profile t (front ++ event ∷ [])
+  pub packet_by_kept : (profile : List DeviceParts) (n : ℕ) (front : List Event) (event : Event) (t : TransactionData) → EndsAtFirstStop (front ++ event ∷ []) → Packet profile t (front ++ event ∷ [])
       → kept_objects seen (begun_legs place n front) t ≡ packet_objects seen place n (front ++ event ∷ []) t
   packet_by_kept profile n front event t ends packet = objects_by_kept profile n front event t (same_last front ends.front event Stop ends.split) packet

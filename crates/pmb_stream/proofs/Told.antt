@@ -13,9 +13,9 @@ use Rattle.pmb_places.specs.Text.{place_of_last_word}
 use Rattle.pmb_reader.specs.Reader.{Standing, Open, behind_passed}
 use Rattle.pmb_said.specs.Said.{said_device}
 use Rattle.pmb_said.specs.Standing.{SaidStandsAt}
-use Rattle.pmb_scan.specs.Reached.{Reached, behind_bytes, behind_event, behind_packet, behind_refusal, stands_behind}
+use Rattle.pmb_scan.specs.Reached.{Reached, behind_bytes, behind_event, behind_packet, behind_refusal, standing_after}
 use Rattle.pmb_spans.specs.Spans.{Span, ReadSpan, RefusedSpan, moved_span, moved_spans}
-use Rattle.pmb_transaction.specs.Capture.{EndsAtStop}
+use Rattle.pmb_transaction.specs.Capture.{EndsAtFirstStop}
 use Rattle.pmb_transaction.specs.Packet.{Packet}
 use Rattle.pmb_transaction.specs.Reading.{RefusalData}
 use Rattle.pmb_transaction.specs.Transaction.{TransactionData}
@@ -68,7 +68,7 @@ module _ (choice : ChoiceData) (profile : List DeviceParts) (b : Before) where
 
 -- a packet's lines, by what was kept of its STARTs
 pub packet_adds : (choice : ChoiceData) (profile accepted : List DeviceParts) (b : Before) (bytes : List ℕ) (spans : List Span) (begun : List Begun) (n : ℕ) (front : List Event) (event : Event) (t : TransactionData)
-    → ((more : List ℕ) → begun ≡ begun_legs (event_place b.read b.n (bytes ++ more)) (b.n + n) front) → EndsAtStop (front ++ event ∷ []) → Packet accepted t (front ++ event ∷ [])
+    → ((more : List ℕ) → begun ≡ begun_legs (event_place b.read b.n (bytes ++ more)) (b.n + n) front) → EndsAtFirstStop (front ++ event ∷ []) → Packet accepted t (front ++ event ∷ [])
     → AddsLines choice profile b bytes spans (ReadSpan n (front ++ event ∷ []) t) (object_lines choice.devices (kept_objects (seen_behind choice profile (b.ts ++ transactions_in spans)) begun t))
 packet_adds choice profile accepted b bytes spans begun n front event t kept ends packet more =
     let place = event_place b.read b.n (bytes ++ more) in
@@ -116,7 +116,7 @@ module _ (b : Before) (start old new : Stream) (reached : Reached) (text : List 
   }
 
   pub told_event : (event : Event) → IsSame old new → StreamKnows (record (with_reached b reached) { n = (b.n + length reached.events) + 1 }) new
-      → KeepsUnderWay b new reached.text (stands_behind reached.standing event) → HasToldOf b start new (behind_event reached event) text
+      → KeepsUnderWay b new reached.text (standing_after reached.standing event) → HasToldOf b start new (behind_event reached event) text
   told_event event same knows packet = record {
     same = same_then start old new told.same same;
     at = record {
@@ -142,7 +142,7 @@ module _ (b : Before) (start old new : Stream) (reached : Reached) (text : List 
   behind_last : (event : Event) → (b.n + length reached.events) + 1 ≡ b.n + length (reached.events ++ event ∷ [])
   behind_last event = omega (arith, length-append reached.events (event ∷ []))
 
-  pub told_packet : (n : ℕ) (front : List Event) (event : Event) (t : TransactionData) → reached.standing ≡ Open n front → EndsAtStop (front ++ event ∷ []) → Packet reached.profile t (front ++ event ∷ [])
+  pub told_packet : (n : ℕ) (front : List Event) (event : Event) (t : TransactionData) → reached.standing ≡ Open n front → EndsAtFirstStop (front ++ event ∷ []) → Packet reached.profile t (front ++ event ∷ [])
       → IsSame old new → new.passing ≡ old.passing → IsCleared new
       → StreamKnows (record {
         read = b.read ++ reached.text;

@@ -6,7 +6,7 @@ use Rattle.hex.specs.Hex.{encode_with}
 use Rattle.pmb_bus.specs.declared.event.Event.{Event}
 use Rattle.pmb_bus.specs.declared.event.Event.TheVariants.{Start, Byte, Ack, Nack, Stop}
 use Rattle.pmb_bus.specs.Event.{AreBytes, canonical_text, text_of}
-use Rattle.pmb_bus.specs.Text.{EndsBetween, Spells}
+use Rattle.pmb_bus.specs.Text.{Spells}
 use Rattle.pmb_command.specs.Parts.{DeviceParts}
 use Rattle.pmb_common.specs.Inside.{AreInside, IsInside}
 use Rattle.pmb_reader.specs.Reader.{Standing, Open}

@@ -1,5 +1,5 @@
 -- A whole common packet, told at once.
-use Rattle.std.proofs.Common.{◌≡◌, ℕ, zero, suc, ◌+◌, ◌<◌, ◌≤◌, List, [], ◌∷◌, ◌++◌, codes, length, slice_index_or, append-nil, append_assoc, length-append, refl, sym, ap, ◌∙◌, subst, arith}
+use Rattle.std.proofs.Common.{◌≡◌, ℕ, true, false, zero, suc, ◌+◌, ◌<◌, ◌≤◌, List, [], ◌∷◌, ◌++◌, codes, length, slice_index_or, append-nil, append_assoc, length-append, refl, sym, ap, ◌∙◌, subst, arith}
 use Rattle.std.specs.List.{Contains}
 use Rattle.std.proofs.lemmas.Grind.{flat_map-append}
 use Rattle.pmb_bus.specs.declared.event.Event.{Event}
@@ -7,18 +7,18 @@ use Rattle.pmb_bus.specs.declared.event.Event.TheVariants.{Start, Byte, Ack, Nac
 use Rattle.pmb_bus.specs.Event.{AreBytes, canonical_text, character, text_of}
 use Rattle.pmb_bus.specs.Text.{EndsBetween}
 use Rattle.pmb_command.specs.Parts.{DeviceParts}
-use Rattle.pmb_common.specs.Common.{IsCommon, device_called, device_read, parts_written}
+use Rattle.pmb_common.specs.Common.{IsCommon, address_refused, byte_refused, device_called, device_read, parts_written, read_refused}
 use Rattle.pmb_objects.specs.Counts.{after_packet}
 use Rattle.pmb_objects.specs.Object.{object_lines}
 use Rattle.pmb_objects.specs.Packets.{packet_objects}
 use Rattle.pmb_objects.specs.Seen.{SeenData}
 use Rattle.pmb_places.specs.declared.places.Place.{Place}
 use Rattle.pmb_reader.specs.Reader.{Standing, Open}
-use Rattle.pmb_scan.specs.Reached.{Reached, behind_bytes, behind_event, behind_whole, stands_behind}
+use Rattle.pmb_scan.specs.Reached.{Reached, behind_bytes, behind_event, behind_whole, standing_after}
 use Rattle.pmb_spans.specs.Spans.{ReadSpan}
-use Rattle.pmb_transaction.specs.Capture.{EndsAtStop, HasNoStop}
-use Rattle.pmb_transaction.specs.Packet.{Packet}
-use Rattle.pmb_transaction.specs.Transaction.{PartData, TransactionData, Write}
+use Rattle.pmb_transaction.specs.Capture.{EndsAtFirstStop, HasNoStop}
+use Rattle.pmb_transaction.specs.Packet.{Packet, PartsEvents}
+use Rattle.pmb_transaction.specs.Transaction.{PartData, RefusedData, TransactionData, Refused, Write}
 use Rattle.pmb_stream.specs.declared.stream.Begun.{Begun}
 use Rattle.pmb_stream.specs.declared.stream.Stream.{Stream}
 use Rattle.pmb_stream.specs.Before.{Before, with_reached}
@@ -62,6 +62,10 @@ bytes_before (Ack ∷ front) more small = bytes_before front more small
 bytes_before (Nack ∷ front) more small = bytes_before front more small
 bytes_before (Stop ∷ front) more small = bytes_before front more small
 
+no_legs : (profile : List DeviceParts) (parts : List PartData) (events : List Event) → PartsEvents profile parts events → parts ≡ [] → events ≡ []
+no_legs profile [] events each none = each
+no_legs profile (part ∷ parts) events each none = absurd (cc none)
+
 -- a common packet begins with START
 begins_write : (profile : List DeviceParts) (parts : List PartData) (events : List Event) → Packet profile (Write parts) events → (more : List Event) × (events ≡ Start ∷ more)
 begins_write profile [] events packet = absurd (omega (arith, packet.some))
@@ -69,10 +73,33 @@ begins_write profile (part ∷ parts) events packet =
     let (first, rest, split, leg, others) = packet.each in
     (_, packet.spelled ∙ ap (λ (legs : List Event). legs ++ Stop ∷ []) (split ∙ ap (λ (l : List Event). l ++ rest) leg.spelled))
 
+-- one in which something is refused has no leg before that
+alone : (profile : List DeviceParts) (t : RefusedData) (events : List Event) → (packet : Packet profile (Refused t) events) → t.parts ≡ [] → events ≡ packet.last ++ Stop ∷ []
+alone profile t events packet none =
+    packet.spelled ∙ ap (λ (legs : List Event). legs ++ packet.last ++ Stop ∷ []) (no_legs profile t.parts packet.legs packet.each none)
+
+begins_unread : (profile : List DeviceParts) (addr : ℕ) (sent : List ℕ) (events : List Event) → Packet profile (Refused (record { parts = []; addr = addr; sent = sent; at_read = true })) events
+    → (more : List Event) × (events ≡ Start ∷ more)
+begins_unread profile addr [] events packet =
+    (_, alone profile (record { parts = []; addr = addr; sent = []; at_read = true }) events packet refl ∙ ap (λ (legs : List Event). legs ++ Stop ∷ []) packet.refused.spelled)
+begins_unread profile addr (first ∷ more) events packet =
+    (_, alone profile (record { parts = []; addr = addr; sent = first ∷ more; at_read = true }) events packet refl ∙ ap (λ (legs : List Event). legs ++ Stop ∷ []) packet.refused.spelled)
+
 begins : (profile : List DeviceParts) (t : TransactionData) (events : List Event) → IsCommon t → Packet profile t events → (more : List Event) × (events ≡ Start ∷ more)
 begins profile t events (parts_written parts) packet = begins_write profile parts events packet
 begins profile t events (device_read read) packet = (_, packet.spelled)
 begins profile t events (device_called call) packet = (_, packet.spelled)
+begins profile t events (address_refused addr) packet = (
+  _,
+  alone profile (record { parts = []; addr = addr; sent = []; at_read = false }) events packet refl
+      ∙ ap (λ (legs : List Event). legs ++ Stop ∷ []) packet.refused.spelled,
+)
+begins profile t events (byte_refused addr first more) packet = (
+  _,
+  alone profile (record { parts = []; addr = addr; sent = first ∷ more; at_read = false }) events packet refl
+      ∙ ap (λ (legs : List Event). legs ++ Stop ∷ []) packet.refused.spelled,
+)
+begins profile t events (read_refused addr sent) packet = begins_unread profile addr sent events packet
 
 line_by : (front more : List Event) → HasNoStop front → AreBytes (front ++ Stop ∷ []) → front ++ Stop ∷ [] ≡ Start ∷ more → IsLine (front ++ Stop ∷ [])
 line_by [] more none small same = absurd (cc same)
@@ -84,7 +111,7 @@ line_by (e ∷ rest) more none small same =
       small = bytes_before rest (Stop ∷ []) (subst (λ (event : Event). AreBytes (event ∷ (rest ++ Stop ∷ []))) first small);
     }
 
-pub is_line : (profile : List DeviceParts) (t : TransactionData) (events : List Event) → IsCommon t → Packet profile t events → EndsAtStop events → AreBytes events → IsLine events
+pub is_line : (profile : List DeviceParts) (t : TransactionData) (events : List Event) → IsCommon t → Packet profile t events → EndsAtFirstStop events → AreBytes events → IsLine events
 is_line profile t events common packet ends small =
     let begun = begins profile t events common packet in
     subst IsLine (sym ends.split) (line_by ends.front begun.0 ends.no_stop (subst AreBytes ends.split small) (sym ends.split ∙ begun.1))
@@ -102,6 +129,9 @@ objects_whole : (seen : SeenData) (place : ℕ → Place) (n : ℕ) (rest : List
 objects_whole seen place n rest t (parts_written parts) one = write_objects_whole seen place n rest parts one
 objects_whole seen place n rest t (device_read read) one = refl
 objects_whole seen place n rest t (device_called call) one = refl
+objects_whole seen place n rest t (address_refused addr) one = refl
+objects_whole seen place n rest t (byte_refused addr first more) one = refl
+objects_whole seen place n rest t (read_refused addr sent) one = refl
 
 -- ---- its text
 
@@ -176,9 +206,9 @@ module _ (b : Before) (start mid new : Stream) (reached : Reached) (text : List 
       let bytes = reached.text ++ canonical_text (line rest) in
       let span = ReadSpan n (line rest) t in
       let kept : KeepsPacket b mid (reached.text ++ codes "S ") n (Start ∷ []) =
-      subst (λ (s : Standing). KeepsUnderWay b mid (reached.text ++ codes "S ") (stands_behind s Start)) standing told.at.packet in
+      subst (λ (s : Standing). KeepsUnderWay b mid (reached.text ++ codes "S ") (standing_after s Start)) standing told.at.packet in
       let counted : n + 1 ≡ length (reached.events ++ Start ∷ []) =
-      subst (λ (s : Standing). IsCountOf (stands_behind s Start) (length (reached.events ++ Start ∷ []))) standing told.at.counted in
+      subst (λ (s : Standing). IsCountOf (standing_after s Start) (length (reached.events ++ Start ∷ []))) standing told.at.counted in
       let so_far : length (reached.events ++ Start ∷ []) ≡ length reached.events + 1 = length-append reached.events (Start ∷ []) in
       let own = two_more rest in
       let all = length-append reached.events (line rest) in

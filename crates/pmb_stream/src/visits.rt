@@ -12,7 +12,7 @@ ghost use Rattle.pmb_places.specs.Places.{PlacesStandAt, place_of_last_word};
 ghost use Rattle.pmb_reader.specs.Reader.{behind_passed};
 ghost use Rattle.pmb_said.specs.Said.{said_device};
 ghost use Rattle.pmb_said.specs.Standing.{SaidStandsAt};
-ghost use Rattle.pmb_scan.specs.Reached.{Reached, stands_behind};
+ghost use Rattle.pmb_scan.specs.Reached.{Reached, standing_after};
 ghost use Rattle.pmb_transaction.specs.Transaction.{transaction_data};
 ghost use Rattle.pmb_stream.specs.Before.{Before};
 ghost use Rattle.pmb_stream.specs.Stream.{IsSame, StreamAt, StreamKnows, StreamStands};
@@ -36,7 +36,7 @@ impl<'p> Stream<'p> {
     #[inline]
     pub(crate) fn take_event(&mut self, event: Event)
         ensures packet { (b : Before) (reached : Reached) → StreamAt b self.old reached → Spells reached.text (reached.events ++ event ∷ [])
-            → KeepsUnderWay b self.new reached.text (stands_behind reached.standing event) }
+            → KeepsUnderWay b self.new reached.text (standing_after reached.standing event) }
         ensures knows { (b : Before) → StreamKnows b self.old → StreamKnows b self.new }
         ensures same { IsSame self.old self.new }
     {

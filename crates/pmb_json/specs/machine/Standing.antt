@@ -1,6 +1,6 @@
 -- Where a `Json` is within its capture.
 use Rattle.std.proofs.Common.{append_assoc, subst, sym}
-use Rattle.std.specs.Prelude.{◌≡◌, ◌≢◌, ◌⊎◌, ◌<◌, ◌≤◌, ℕ, List, [], ◌∷◌, ◌++◌, filter, length}
+use Rattle.std.specs.Prelude.{◌≡◌, ◌⊎◌, ◌<◌, ℕ, List, [], ◌∷◌, ◌++◌, filter, length}
 use Rattle.pmb_bus.specs.Text.{EndsBetween, FirstBadWord, front_word, open_word}
 use Rattle.pmb_command.specs.Parts.{DeviceParts}
 use Rattle.pmb_io.specs.Lines.{HasNoLf}

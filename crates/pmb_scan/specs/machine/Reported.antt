@@ -1,4 +1,4 @@
--- What one event more comes to.
+-- What the next event comes to.
 use Rattle.std.specs.Prelude.{◌≡◌, ℕ, List, [], ◌∷◌, ◌++◌}
 use Rattle.pmb_bus.specs.declared.event.Event.{Event}
 use Rattle.pmb_reader.specs.declared.reader.Reader.{Reader}

@@ -1,4 +1,4 @@
--- What it comes to that a whole common packet is taken at once.
+-- What a whole common packet comes to that is taken at once.
 use Rattle.std.specs.Prelude.{◌≡◌, ℕ, List, [], length, take}
 use Rattle.pmb_bus.specs.declared.event.Event.{Event}
 use Rattle.pmb_bus.specs.Text.{EndsBetween, Spells}
@@ -7,8 +7,8 @@ use Rattle.pmb_scan.specs.declared.scan.Scan.{Scan}
 use Rattle.pmb_scan.specs.Reached.{Reached, IsWhole, behind_whole}
 use Rattle.pmb_scan.specs.machine.Standing.{ScanStandsAt}
 
--- A scan stood between two packets, and took one at the front of a piece: so many bytes and events
--- of it.
+-- A scan that stood between two packets took one at the front of a piece: `used` bytes of the
+-- piece, and `count` events.
 pub record TakesWhole (reached : Reached) (piece : List ℕ) (used : ℕ) (count : ℕ) (after : Scan) : Type 0 where
   pub n : ℕ
   pub events : List Event

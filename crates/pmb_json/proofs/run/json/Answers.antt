@@ -13,4 +13,4 @@ pub returns-in-Err : goal.returns-in-Err
 returns-in-Err g c =
     let began = c.new-engine.ensures in
     tool_ran_into g.R.Source.told g.W.Sink.told _ _ _ _ (Err c.from.result) c.in-Err.fault c.from.ensures
-    (json_failed g.R.Source.told g.W.Sink.told c.new-engine.result c.each_piece.new.engine _ _ _ began.choice began.profile began.bad_words _ _ _ c.in-Err.fault c.leave.ensures c.in-Err.ensures)
+    (json_failed g.R.Source.told g.W.Sink.told c.new-engine.result c.each_piece.new.engine _ _ _ began.choice began.profile began.bad_words _ _ _ c.in-Err.fault c.accepted_bus.ensures c.fronts_are_written.ensures c.in-Err.ensures)

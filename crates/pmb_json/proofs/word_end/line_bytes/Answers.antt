@@ -1,4 +1,4 @@
-use Rattle.std.proofs.Common.{◌≡◌, ◌++◌, ◌∷◌, [], List, ℕ, get_or, subst, sym, take, arith}
+use Rattle.std.proofs.Common.{◌∷◌, [], get_or, subst, sym, take, arith}
 use Rattle.std.proofs.lemmas.List.{take_more}
 use Rattle.pmb_io.specs.Lines.{HasNoLf}
 use Rattle.pmb_json.proofs.Words.{no_lf_append}

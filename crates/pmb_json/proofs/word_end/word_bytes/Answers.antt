@@ -1,4 +1,4 @@
-use Rattle.std.proofs.Common.{◌≡◌, ◌++◌, ◌∷◌, [], List, ℕ, ap, get_or, subst, sym, take, arith, ◌∙◌}
+use Rattle.std.proofs.Common.{◌≡◌, ◌∷◌, [], List, ℕ, get_or, subst, sym, take, arith, ◌∙◌}
 use Rattle.std.proofs.lemmas.List.{take_more}
 use Rattle.pmb_bus.specs.Text.{front_word}
 use Rattle.pmb_json.proofs.Words.{solid_both, solid_byte}

@@ -1,4 +1,4 @@
-use Rattle.std.proofs.Common.{◌≡◌, ◌+◌, ◌++◌, List, ℕ, append-nil, ap, arith, length, length-drop, refl, subst, sym, take, take-append-drop, ◌∙◌}
+use Rattle.std.proofs.Common.{◌+◌, ◌++◌, List, ℕ, ap, arith, length, length-drop, refl, subst, sym, take, take-append-drop, ◌∙◌}
 use Rattle.pmb_json.specs.declared.engine.Inside.{Inside}
 use Rattle.pmb_json.specs.declared.engine.Json.{Json}
 use Rattle.pmb_json.specs.machine.Standing.{StandsIn, json_bad_words, json_choice, json_profile}

@@ -1,4 +1,4 @@
-use Rattle.std.proofs.Common.{◌++◌, ◌∷◌, [], List, ℕ, refl, subst, sym, ◌∙◌}
+use Rattle.std.proofs.Common.{◌++◌, ◌∷◌, [], List, refl, subst, sym, ◌∙◌}
 use Rattle.pmb_bus.specs.Text.{open_word}
 use Rattle.pmb_io.specs.Count.{capped}
 use Rattle.pmb_io.specs.Outgoing.{PutsText}

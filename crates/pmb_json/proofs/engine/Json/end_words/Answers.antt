@@ -1,12 +1,11 @@
-use Rattle.std.proofs.Common.{◌++◌, ◌+◌, List, ℕ, append_assoc, refl, subst, sym, ◌∙◌}
-use Rattle.std.proofs.lemmas.Result.{on_ok_weaker}
+use Rattle.std.proofs.Common.{◌++◌, List, ℕ, append_assoc, refl, subst, sym, ◌∙◌}
 use Rattle.pmb_bus.specs.Text.{Spells}
 use Rattle.pmb_command.specs.Parts.{DeviceParts}
 use Rattle.pmb_io.specs.Engines.{PutsOut}
 use Rattle.pmb_io.specs.Outgoing.{PutsText}
 use Rattle.pmb_io.proofs.Writing.{on_ok_both, writes_then}
 use Rattle.pmb_json.specs.Text.{WritesJson}
-use Rattle.pmb_json.specs.machine.Standing.{Behind, behind_bytes, json_bad_words, json_choice, json_profile, json_tally, last_word_objects}
+use Rattle.pmb_json.specs.machine.Standing.{behind_bytes, json_bad_words, json_choice, json_profile, json_tally, last_word_objects}
 use Rattle.pmb_json.proofs.MetWords.{met, met_knows}
 use Rattle.pmb_json.proofs.Reading.{ends_json, ends_met, reads_end}
 use Rattle.pmb_json.proofs.Steps.{behind_put, ends_in_word}
@@ -14,7 +13,6 @@ use Rattle.pmb_objects.specs.Counts.{end_objects}
 use Rattle.pmb_objects.specs.Object.{object_lines}
 use Rattle.pmb_scan.specs.Scan.{TakesEnd, end_spans}
 use Rattle.pmb_spans.specs.Spans.{moved_spans}
-use Rattle.pmb_stream.specs.Before.{Before}
 use Rattle.pmb_stream.specs.Choice.{ChoiceData}
 use Rattle.pmb_stream.specs.Spans.{after_spans, event_place, span_objects, transactions_in}
 use Rattle.pmb_stream.specs.Stream.{StreamStands, stream_profile}

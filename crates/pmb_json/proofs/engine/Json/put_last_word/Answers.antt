@@ -1,4 +1,4 @@
-use Rattle.std.proofs.Common.{◌∷◌, [], List, ℕ, ap, subst, sym}
+use Rattle.std.proofs.Common.{◌∷◌, [], subst, sym}
 use Rattle.std.proofs.lemmas.Result.{on_ok_weaker}
 use Rattle.pmb_io.specs.Count.{capped}
 use Rattle.pmb_io.specs.Outgoing.{PutsText}

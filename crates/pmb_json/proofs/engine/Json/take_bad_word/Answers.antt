@@ -6,8 +6,7 @@ use Rattle.pmb_json.specs.machine.Standing.{Behind, BehindBadWord, StandsIn, beh
 use Rattle.pmb_json.proofs.Steps.{behind_taken, goes_on, is_behind, made_on, waits}
 use Rattle.pmb_json.proofs.Taking.{line_then, puts_none}
 use Rattle.pmb_io.proofs.Writing.{writes_nothing}
-use Rattle.std.proofs.Common.{append-nil, append_assoc}
-use Rattle.std.proofs.lemmas.Bool.{false≢true}
+use Rattle.std.proofs.Common.{append-nil}
 use Rattle.pmb_json.proofs.engine.Json.take_bad_word.Goals as goal
 
 -- more of it may come

@@ -1,10 +1,10 @@
-use Rattle.std.proofs.Common.{List, [], ◌∷◌, ◌++◌, refl, ap, ◌∙◌, subst, sym}
+use Rattle.std.proofs.Common.{List, ◌++◌, refl, ap, ◌∙◌, subst, sym}
 use Rattle.pmb_bus.specs.declared.event.Event.{Event}
 use Rattle.pmb_bus.specs.declared.event.Event.TheVariants.{Stop}
 use Rattle.pmb_bus.specs.Event.{AreBytes, canonical_text}
 use Rattle.pmb_command.specs.Bus.{IsBus}
 use Rattle.pmb_scan.specs.Reached.{Reached, behind_bytes}
-use Rattle.pmb_transaction.specs.Capture.{EndsAtStop}
+use Rattle.pmb_transaction.specs.Capture.{EndsAtFirstStop}
 use Rattle.pmb_transaction.specs.Packet.{Packet}
 use Rattle.pmb_transaction.specs.Transaction.{transaction_data}
 use Rattle.pmb_stream.specs.Before.{Before, with_reached}
@@ -29,7 +29,7 @@ returns-clause-visits g c start reached text n events stands between spells stan
     (whole.text ∙ ap canonical_text ends.split) in
     let there = behind_bytes (behind_inside reached n front) stop in
     let packet = subst (λ (es : List Event). Packet reached.profile t es) ends.split whole.packet in
-    let at_stop = subst EndsAtStop ends.split ends in
+    let at_stop = subst EndsAtFirstStop ends.split ends in
     let bytes = c.take_text.ensures in
     let taken = c.take_packet.ensures in
     let told_at : (b : Before) → StreamBegins b start → HasToldOf b start mid there text =

@@ -1,5 +1,4 @@
-use Rattle.std.proofs.Common.{◌++◌}
-use Rattle.pmb_scan.specs.Reached.{behind_bytes, stands_behind}
+use Rattle.pmb_scan.specs.Reached.{behind_bytes, standing_after}
 use Rattle.pmb_stream.specs.Before.{with_reached}
 use Rattle.pmb_stream.proofs.Standing.{keeps_as}
 use Rattle.pmb_stream.proofs.Told.{same_then, told_bytes, told_event}
@@ -17,6 +16,6 @@ returns c start reached put stands spells = record {
       told_bytes b start c.args.self.now c.take_text.new.self reached put (stands.told b begins) c.args.word.now text.same text.said text.begun text.passing text.knows in
       told_event b start c.take_text.new.self c.count_event.new.self there put told c.args.event (same_then _ _ _ taken.same counted.same)
       (counted.knows (with_reached b there) (taken.knows (with_reached b there) told.at.knows))
-      (keeps_as b c.take_event.new.self c.count_event.new.self there.text (stands_behind there.standing c.args.event) counted.said counted.begun counted.passing
+      (keeps_as b c.take_event.new.self c.count_event.new.self there.text (standing_after there.standing c.args.event) counted.said counted.begun counted.passing
       (taken.packet b there told.at spells));
 }

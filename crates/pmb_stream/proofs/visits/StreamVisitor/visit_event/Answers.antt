@@ -1,4 +1,4 @@
-use Rattle.pmb_scan.specs.Reached.{stands_behind}
+use Rattle.pmb_scan.specs.Reached.{standing_after}
 use Rattle.pmb_stream.specs.Before.{with_reached}
 use Rattle.pmb_stream.proofs.Standing.{keeps_as}
 use Rattle.pmb_stream.proofs.Told.{same_then, told_event}
@@ -13,6 +13,6 @@ returns c start reached text stands spells = record {
       let counted = c.count_event.ensures in
       told_event b start c.args.self.now c.count_event.new.self reached text told c.args.event (same_then _ _ _ taken.same counted.same)
       (counted.knows (with_reached b reached) (taken.knows (with_reached b reached) told.at.knows))
-      (keeps_as b c.take_event.new.self c.count_event.new.self reached.text (stands_behind reached.standing c.args.event) counted.said counted.begun counted.passing
+      (keeps_as b c.take_event.new.self c.count_event.new.self reached.text (standing_after reached.standing c.args.event) counted.said counted.begun counted.passing
       (taken.packet b reached told.at spells));
 }
