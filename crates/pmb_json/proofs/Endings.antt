@@ -80,7 +80,7 @@ tally_of_is : (counts : CountsData) → IsTallyOf counts.packets (counts.refusal
 tally_of_is counts = record { packets_counted = refl; refusals_counted = refl }
 
 module _ (choice : ChoiceData) (profile : List DeviceParts) (after : BadWords) (bytes text : List ℕ) where
-  -- this is a front of what is written for the bytes
+  -- the text is the beginning of what is written for the bytes
   abbrev pub WritesMore : Type 0
   WritesMore = (rest : List ℕ) × (tally : Tally) × WritesJson choice profile after bytes (text ++ rest) tally
 

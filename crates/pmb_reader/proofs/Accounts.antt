@@ -323,7 +323,7 @@ module _ (profile : List DeviceParts) where
       has_read after events due outcomes read.standing (subst (ReaderStandsAt profile after) (led_nowhere read.standing w.behind w.leads) w.stands)
       (account_of before events due outcomes read)
 
-  -- the events used, up to with the one that ends a packet
+  -- the events used, up to and including the one that ends a packet
   used_with : (piece front : List Event) (event : Event) (rest : List Event) (used : ℕ) → piece ≡ front ++ event ∷ rest → used ≡ length front + 1
       → front ++ event ∷ [] ≡ take used piece
   used_with piece front event rest used split up_to =
