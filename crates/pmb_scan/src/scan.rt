@@ -243,10 +243,14 @@ impl<'p> Scan<'p> {
     }
 }
 
-/// Whether a piece begins as a common packet does: with START and two acknowledged bytes.
+/// Whether a piece begins as a common packet does: with START, an address byte that is acknowledged
+/// and a byte with its answer, or an address byte that is refused.
 #[inline(always)]
 fn begins_common(piece: &[u8]) -> bool {
-    matches!(piece, [b'S', _, _, _, _, b'A', _, _, _, _, b'A', ..])
+    matches!(
+        piece,
+        [b'S', _, _, _, _, b'A', _, _, _, _, b'A' | b'N', ..] | [b'S', _, _, _, _, b'N', ..]
+    )
 }
 
 /// Tells a visitor of a refusal.

@@ -1,5 +1,5 @@
 -- Between two packets and two words, the common packet in front is taken.
-use Rattle.std.proofs.Common.{◌≡◌, [], length, refl, subst}
+use Rattle.std.proofs.Common.{[], length, refl, subst}
 use Rattle.pmb_bus.specs.Text.{EndsBetween}
 use Rattle.pmb_command.specs.Bus.{IsBus}
 use Rattle.pmb_common.specs.Common.{TakesPacket}
