@@ -244,13 +244,16 @@ impl<'p> Scan<'p> {
 }
 
 /// Whether a piece begins as a common packet does: with START, an address byte that is acknowledged
-/// and a byte with its answer, or an address byte that is refused.
+/// and a byte with its answer, or an address byte that is refused. The leg of an alert begins with
+/// 19, and is none.
 #[inline(always)]
 fn begins_common(piece: &[u8]) -> bool {
-    matches!(
-        piece,
-        [b'S', _, _, _, _, b'A', _, _, _, _, b'A' | b'N', ..] | [b'S', _, _, _, _, b'N', ..]
-    )
+    match piece {
+        [b'S', _, _, _, _, b'A', _, _, _, _, b'A', ..] => true,
+        [b'S', _, b'1', b'9', ..] => false,
+        [b'S', _, _, _, _, b'N', ..] | [b'S', _, _, _, _, b'A', _, _, _, _, b'N', ..] => true,
+        _ => false,
+    }
 }
 
 /// Tells a visitor of a refusal.
