@@ -7,7 +7,7 @@
  *    side. Two calls at one time may not write to the same place.
  *  - No pointer may be null, also where a length is 0. Behind a pointer with a length there are
  *    that many bytes, up to 2^63 - 1. What a call writes to does not overlap what it reads.
- *  - Every value is allowed. What is out of range is told by a status.
+ *  - Every value is allowed. A status says what is out of range.
  *
  * There are two parts. Up to the line "whole inputs" below, for each function:
  *  - It takes no memory from the heap, and uses less than 2 KB of stack. It needs memcpy and memmove
@@ -68,9 +68,9 @@ enum pmb_status {
     PMB_NO_NAME = 15,
     /* The text, and the NUL after it where it has one, don't fit into the room. */
     PMB_NO_ROOM = 16,
-    /* The profile has a fault, which the result tells with its place. */
+    /* The profile has a fault. The result says which, and where. */
     PMB_BAD_PROFILE = 17,
-    /* malloc or realloc refused memory. */
+    /* malloc or realloc had no memory. */
     PMB_NO_MEMORY = 18,
     /* The choice: one of its numbers is none that its field has. */
     PMB_BAD_CHOICE = 19,
@@ -120,7 +120,7 @@ uint8_t pmb_pec_next(uint8_t crc, uint8_t byte);
 uint8_t pmb_pec(uint8_t crc, const uint8_t *bytes, size_t length);
 
 /* Writes the code of two bytes whose value is nearest to a quantity: the even one where two are
- * equally near. A quantity outside the range is refused, however little it is outside.
+ * equally near. A quantity outside the range is a fault, however little it is outside.
  * Returns what is wrong with the format (PMB_BAD_FORMAT to PMB_NO_COEFFICIENTS), or else with the
  * quantity (PMB_ZERO_DENOMINATOR, PMB_TOO_LARGE), or else PMB_BELOW or PMB_ABOVE. */
 int32_t pmb_encode(const pmb_format *format, pmb_quantity quantity, uint16_t *code);
@@ -141,17 +141,17 @@ int32_t pmb_quantity_parse(const char *text, size_t length, pmb_quantity *quanti
 
 /* Writes the text of a quantity, and a NUL: its shortest exact decimal where one has at most 24
  * digits after the point, and otherwise numerator, '/' and denominator in lowest terms. length is
- * told how many characters it has, also where they don't fit; 0 where there is no text.
+ * set to how many characters it has, also where they don't fit; 0 where there is no text.
  * Returns PMB_ZERO_DENOMINATOR or PMB_TOO_LARGE, or else PMB_NO_ROOM. */
 int32_t pmb_quantity_text(pmb_quantity quantity, char *text, size_t room, size_t *length);
 
 /* Writes the name of a standard command (PMBus Part II Appendix I), and a NUL, as "READ_VIN" of 88h.
- * length is told how many characters it has, also where they don't fit; 0 where there is no name.
+ * length is set to how many characters it has, also where they don't fit; 0 where there is no name.
  * Returns PMB_NO_NAME, or else PMB_NO_ROOM. */
 int32_t pmb_command_name(uint8_t code, char *text, size_t room, size_t *length);
 
 /* Writes the name of a bit of a status command (PMBus Part II section 17), and a NUL, as "VOUT" of
- * bit 15 of 79h, STATUS_WORD. Bits are counted from 0 at the lowest. length is told how many
+ * bit 15 of 79h, STATUS_WORD. Bits are counted from 0 at the lowest. length is set to how many
  * characters it has, also where they don't fit; 0 where there is no name.
  * Returns PMB_NO_NAME, or else PMB_NO_ROOM. */
 int32_t pmb_bit_name(uint8_t code, uint8_t bit, char *text, size_t room, size_t *length);
@@ -180,7 +180,7 @@ typedef struct pmb_lexer {
 } pmb_lexer;
 
 /* Reads the next piece of a text, up to and including the byte that ends its next event, or all of
- * it. used is told how many bytes were read; those after them are to be given again, before what
+ * it. used is set to how many bytes were read; those after them are to be given again, before what
  * follows.
  * A text may be cut anywhere: its events are the same.
  * Returns PMB_OK, and writes the event; or PMB_NO_EVENT, where all is used; or PMB_BAD_TOKEN, where
@@ -199,7 +199,8 @@ int32_t pmb_lex_end(pmb_lexer *lexer, pmb_event *event);
  * as a whole, under a profile: a TOML document, docs/profiles.md. Captures, lines and requests are
  * those of docs/text.md. For each function:
  *  - It returns how many bytes the text has, also where they don't fit. What fits stands at the start
- *    of the room, without a NUL, and the rest of the room stays. A room of 0 bytes tells the length.
+ *    of the room, without a NUL, and the rest of the room stays. With a room of 0 bytes only the
+ *    length is found.
  *  - The status in `told` is PMB_OK; or PMB_NO_ROOM where the text doesn't fit; or PMB_BAD_PROFILE or
  *    PMB_NO_MEMORY, and then the room stays and the length is 0.
  *  - It takes memory for the profile by malloc and realloc, pmb_run for its devices too, and frees
@@ -239,7 +240,7 @@ typedef struct pmb_result {
     /* How many bytes the text has; what the call returns. */
     size_t length;
     /* How many packets a capture has and how many refusals, a word that is no token among them; how
-     * many lines were built or requests done, and how many had a fault, were refused or failed. */
+     * many lines were built or requests done, and how many had a fault or failed. */
     uint64_t packets;
     uint64_t refusals;
 } pmb_result;

@@ -85,7 +85,7 @@ _LINEAR11, _LINEAR11_FIXED, _ULINEAR16, _SLINEAR16, _DIRECT, _VOUT, _VOUT_SIGNED
 
 
 class Error(ValueError):
-    """A value was refused.
+    """A format, a quantity or a code has a fault.
 
     `fault` is the fault's name, as the program prints it: `Below`, `BadExponent` and so on. `place`
     is the argument in which it lies: `format`, `quantity` or `code`.
@@ -323,10 +323,10 @@ def encode(format: Union[str, Format], quantity: Number) -> int:
         number = _quantity(quantity)
     except Error:
         # The format's fault comes before the quantity's.
-        _refuse(_LIBRARY.pmb_decode(ctypes.byref(named), 0, ctypes.byref(_Quantity())))
+        _raise_fault(_LIBRARY.pmb_decode(ctypes.byref(named), 0, ctypes.byref(_Quantity())))
         raise
     status = _LIBRARY.pmb_encode(ctypes.byref(named), number, ctypes.byref(code))
-    _refuse(status)
+    _raise_fault(status)
     return code.value
 
 
@@ -342,7 +342,7 @@ def decode(format: Union[str, Format], code: int) -> Fraction:
     status = _LIBRARY.pmb_decode(
         ctypes.byref(named), code if in_range else 0, ctypes.byref(quantity)
     )
-    _refuse(status)
+    _raise_fault(status)
     if not in_range:
         raise Error("BadCode", "code")
     return Fraction(quantity.numerator, quantity.denominator)
@@ -361,7 +361,7 @@ def quantity_text(quantity: Number) -> str:
     point, as `-1.5`, and otherwise numerator and denominator, as `-2/3`."""
     number = _quantity(quantity)
     room, length = ctypes.create_string_buffer(46), ctypes.c_size_t()
-    _refuse(_LIBRARY.pmb_quantity_text(number, room, len(room), ctypes.byref(length)))
+    _raise_fault(_LIBRARY.pmb_quantity_text(number, room, len(room), ctypes.byref(length)))
     return room.value.decode("ascii")
 
 
@@ -552,7 +552,7 @@ def _parse(text: Union[str, bytes]) -> _Quantity:
     if isinstance(text, str):
         text = text.encode("utf-8", "surrogatepass")
     found = _Quantity()
-    _refuse(_LIBRARY.pmb_quantity_parse(text, len(text), ctypes.byref(found)))
+    _raise_fault(_LIBRARY.pmb_quantity_parse(text, len(text), ctypes.byref(found)))
     return found
 
 
@@ -566,7 +566,7 @@ def _quantity(quantity: Number) -> _Quantity:
     return _Quantity(exact.numerator, exact.denominator)
 
 
-def _refuse(status: int) -> None:
+def _raise_fault(status: int) -> None:
     if status != _OK:
         place = "format" if 3 <= status <= 10 else "quantity"
         raise Error(_FAULTS[status], place)

@@ -149,8 +149,8 @@ pub(crate) fn form_hint(keyed: Keyed<'_>, lines: &mut Hints) {
 fn ways_hint(parts: &Parts<'_>, lines: &mut Hints) -> bool {
     if !parts.has_form() {
         let _ = lines.try_push_str(
-            "  write, read and call are all \"none\": one of them is needed, and a command with \
-             code has those alone that its keys give\n",
+            "  write, read and call are all \"none\": one of them is needed, and a command with a \
+             code has only those that its keys give\n",
         );
         return true;
     }
@@ -158,8 +158,8 @@ fn ways_hint(parts: &Parts<'_>, lines: &mut Hints) -> bool {
         let (write, read) = (parts.write, parts.read);
         let _ = write!(
             lines,
-            "  write = \"{write}\", read = \"{read}\": these are the same, unless write is \"zero\" or \
-             one of them \"none\"\n"
+            "  write = \"{write}\", read = \"{read}\": these have to be the same, unless write is \
+             \"zero\" or one of them is \"none\"\n"
         );
         return true;
     }

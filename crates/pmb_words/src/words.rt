@@ -91,7 +91,7 @@ fn capture_command<'a>(alloc: Global) -> Result<Command<'a>, AllocError>
         alloc,
         top_command(alloc),
         "show",
-        "Shows the transactions of a capture, one a line",
+        "Writes the transactions and the refusals of a capture, one a line",
         "Standard input is a profile, a line '%%' and the capture, or with --sample the capture \
          alone. 'pmb profile' shows what a profile makes, or what is wrong with it.\n\n\
          Example:\n  echo 'S b0 A 21 A 00 A 18 A P' | ./pmb show --sample",
@@ -101,7 +101,7 @@ fn capture_command<'a>(alloc: Global) -> Result<Command<'a>, AllocError>
         alloc,
         showing,
         "check",
-        "Tells the refusals of a capture, one a line, and the number of packets",
+        "Writes the refusals of a capture, one a line, and the numbers of packets and of refusals",
         "Standard input is a profile, a line '%%' and the capture, or with --sample the capture \
          alone. 'pmb profile' shows what a profile makes, or what is wrong with it.\n\n\
          Example:\n  echo 'S b0 A 03 A 47 A P' | ./pmb check --sample",
@@ -149,7 +149,7 @@ fn json_command<'a>(alloc: Global) -> Result<Command<'a>, AllocError>
     let bare = bare_command(
         alloc,
         "json",
-        "Tells what a capture says, as lines of JSON",
+        "Writes what a capture says, as lines of JSON",
         "Standard input is a profile, a line '%%' and the capture, or with --sample the capture \
          alone. 'pmb profile' shows what a profile makes, or what is wrong with it.\n\n\
          Example:\n  echo 'S b0 A 21 A 00 A 18 A P' | ./pmb json --sample",
@@ -158,7 +158,8 @@ fn json_command<'a>(alloc: Global) -> Result<Command<'a>, AllocError>
         .arg(flag(
             alloc,
             "late",
-            "The capture begins in the middle: PAGE and VOUT_MODE are unknown until it tells them",
+            "The capture begins in the middle: PAGE and VOUT_MODE are unknown until they are \
+             written or read",
         ))?
         .arg(flag(
             alloc,
@@ -182,8 +183,8 @@ fn json_command<'a>(alloc: Global) -> Result<Command<'a>, AllocError>
             "device",
             "HH",
             ArgAction::Append,
-            "Tell only what is said of the device at this address of seven bits, in two hexadecimal \
-             digits; may be given more than once",
+            "Of the objects that name a device, write only those of the device at this address of \
+             seven bits, in two hexadecimal digits; may be given more than once",
         ))
 }
 

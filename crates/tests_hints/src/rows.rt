@@ -188,10 +188,10 @@ static FORMS: [Row; 9] = [
     (At::Command, b"code = 0xd0\nread = \"zero\"\n", BadForm, "  read = \"zero\": it is one of \"none\" \"one\" \"two\" \"four\" \"eight\" \"block\"\n"),
     (At::Command, b"code = 0xd0\nread = \"word\"\n", BadForm, "  read = \"word\": it is one of \"none\" \"one\" \"two\" \"four\" \"eight\" \"block\"\n"),
     (At::SecondCommand, b"code = 0xe0\ncall = \"four\"\n", BadForm, "  call = \"four\": it is one of \"none\" \"two\" \"block\"\n"),
-    (At::Command, b"code = 0x20\n", BadForm, "  write, read and call are all \"none\": one of them is needed, and a command with code has those alone that its keys give\n"),
-    (At::Command, b"name = \"READ_VIN\"\nread = \"none\"\n", BadForm, "  write, read and call are all \"none\": one of them is needed, and a command with code has those alone that its keys give\n"),
-    (At::Command, b"code = 0xe0\nwrite = \"four\"\nread = \"eight\"\n", BadForm, "  write = \"four\", read = \"eight\": these are the same, unless write is \"zero\" or one of them \"none\"\n"),
-    (At::SecondCommand, b"name = \"READ_IIN\"\nwrite = \"one\"\n", BadForm, "  write = \"one\", read = \"two\": these are the same, unless write is \"zero\" or one of them \"none\"\n"),
+    (At::Command, b"code = 0x20\n", BadForm, "  write, read and call are all \"none\": one of them is needed, and a command with a code has only those that its keys give\n"),
+    (At::Command, b"name = \"READ_VIN\"\nread = \"none\"\n", BadForm, "  write, read and call are all \"none\": one of them is needed, and a command with a code has only those that its keys give\n"),
+    (At::Command, b"code = 0xe0\nwrite = \"four\"\nread = \"eight\"\n", BadForm, "  write = \"four\", read = \"eight\": these have to be the same, unless write is \"zero\" or one of them is \"none\"\n"),
+    (At::SecondCommand, b"name = \"READ_IIN\"\nwrite = \"one\"\n", BadForm, "  write = \"one\", read = \"two\": these have to be the same, unless write is \"zero\" or one of them is \"none\"\n"),
     (At::Command, b"name = \"PAGE\"\nwrite = \"two\"\nread = \"two\"\n", BadForm, "  PAGE keeps the standard's forms, or has \"none\" in their place: write = \"one\", read = \"one\", call = \"none\"\n"),
 ];
 

@@ -31,15 +31,15 @@ fn tells_what_the_words_lack(rt: HostRuntime) {
 }
 
 /// What `pmb json --help` prints.
-const HELP: &str = "Tells what a capture says, as lines of JSON\n\n\
+const HELP: &str = "Writes what a capture says, as lines of JSON\n\n\
     Usage: pmb json [OPTIONS]\n\n\
     Options:\n\
     \x20     --sample           Take the sample profile, and not one from the front of the input\n\
-    \x20     --late             The capture begins in the middle: PAGE and VOUT_MODE are unknown until it tells them\n\
+    \x20     --late             The capture begins in the middle: PAGE and VOUT_MODE are unknown until they are written or read\n\
     \x20     --fixed-vout-mode  With --late, VOUT_MODE begins as the profile says, and only PAGE is unknown\n\
     \x20     --keep-going       After a word that is no token, drop the rest of its line and read on\n\
     \x20     --digits <N>       The most digits after the point of a number, 0 to 12; 6 without this\n\
-    \x20     --device <HH>      Tell only what is said of the device at this address of seven bits, in two hexadecimal digits; may be given more than once\n\
+    \x20     --device <HH>      Of the objects that name a device, write only those of the device at this address of seven bits, in two hexadecimal digits; may be given more than once\n\
     \x20 -h, --help             Print help\n\n\
     Standard input is a profile, a line '%%' and the capture, or with --sample the capture alone. 'pmb profile' shows what a profile makes, or what is wrong with it.\n\n\
     Example:\n  echo 'S b0 A 21 A 00 A 18 A P' | ./pmb json --sample\n";

@@ -40,9 +40,9 @@ fn refuses_words_that_are_no_command(rt: HostRuntime) {
 const ABOUT: &str = "Reads and writes PMBus traffic, and converts between codes and quantities\n\n\
     Usage: pmb <COMMAND>\n\n\
     Commands:\n\
-    \x20 show     Shows the transactions of a capture, one a line\n\
-    \x20 check    Tells the refusals of a capture, one a line, and the number of packets\n\
-    \x20 json     Tells what a capture says, as lines of JSON\n\
+    \x20 show     Writes the transactions and the refusals of a capture, one a line\n\
+    \x20 check    Writes the refusals of a capture, one a line, and the numbers of packets and of refusals\n\
+    \x20 json     Writes what a capture says, as lines of JSON\n\
     \x20 build    Writes the bus events of transaction lines, a packet a line\n\
     \x20 run      Runs requests on simulated devices: a packet and its result for each\n\
     \x20 profile  Shows the bus that a profile makes: its devices and their commands\n\
@@ -61,8 +61,8 @@ const RUN_EXAMPLE: &str = "Example:\n  echo 'set 58 21 12' | ./pmb run --sample\
 static ASKING: [(&str, &[&str], &str, &str); 11] = [
     ("help", &["pmb", "--help"], ABOUT, SHOW_EXAMPLE),
     ("the subcommand help", &["pmb", "help"], ABOUT, SHOW_EXAMPLE),
-    ("help on show", &["pmb", "show", "--help"], "Shows the transactions of a capture, one a line\n\nUsage: pmb show [OPTIONS]\n", SHOW_EXAMPLE),
-    ("help on check", &["pmb", "check", "--help"], "Tells the refusals of a capture, one a line, and the number of packets\n\nUsage: pmb check [OPTIONS]\n", "Example:\n  echo 'S b0 A 03 A 47 A P' | ./pmb check --sample\n"),
+    ("help on show", &["pmb", "show", "--help"], "Writes the transactions and the refusals of a capture, one a line\n\nUsage: pmb show [OPTIONS]\n", SHOW_EXAMPLE),
+    ("help on check", &["pmb", "check", "--help"], "Writes the refusals of a capture, one a line, and the numbers of packets and of refusals\n\nUsage: pmb check [OPTIONS]\n", "Example:\n  echo 'S b0 A 03 A 47 A P' | ./pmb check --sample\n"),
     ("help on build", &["pmb", "build", "--help"], "Writes the bus events of transaction lines, a packet a line\n\nUsage: pmb build [OPTIONS]\n", "Example:\n  echo 'write 58 21 00 18 pec' | ./pmb build --sample\n"),
     ("help on run", &["pmb", "run", "--help"], RUN_ABOUT, RUN_EXAMPLE),
     ("the subcommand help on run", &["pmb", "help", "run"], RUN_ABOUT, RUN_EXAMPLE),
