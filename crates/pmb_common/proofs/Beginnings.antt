@@ -2,7 +2,7 @@
 use Rattle.std.proofs.Common.{◌≡◌, ℕ, ◌%◌, ◌<◌, ◌≤◌, Bool, true, nat_eq, Option, Some, None, List, [], ◌∷◌, ◌++◌, length, take, drop, refl, sym, ap, subst, ◌∙◌, arith, append_assoc, length-append}
 use Rattle.std.proofs.lemmas.List.{length-take-le, take-append-drop}
 use Rattle.std.specs.Prelude.{IsSome}
-use Rattle.pmb_bus.specs.declared.event.Event.TheVariants.{Start, Byte, Ack, Stop}
+use Rattle.pmb_bus.specs.declared.event.Event.TheVariants.{Start, Byte, Stop}
 use Rattle.pmb_bus.specs.Event.{canonical_text}
 use Rattle.pmb_command.specs.Wire.{AreByteValues}
 use Rattle.pmb_common.specs.declared.legs.Legs.{Legs}
@@ -10,7 +10,7 @@ use Rattle.pmb_common.specs.declared.legs.Legs.TheVariants.{Written, Both, Group
 use Rattle.pmb_common.specs.Front.{NoneAcked, acked_text, end_text}
 use Rattle.pmb_common.specs.Legs.{BeginsOdd, FindsNacked, FindsSecond, IsOfLegs, NextWritten, leg_events}
 use Rattle.pmb_common.proofs.Ends.{ends, nacked_text, read_text, written_text}
-use Rattle.pmb_common.proofs.Texts.{first_of_acked, first_of_nacked, none_at_nack, none_at_start, none_at_stop}
+use Rattle.pmb_common.proofs.Texts.{first_of_nacked, none_at_nack, none_at_start, none_at_stop}
 use Rattle.pmb_common.proofs.Wires.{small-drop, small-take}
 
 abbrev pub start : List ℕ
@@ -138,7 +138,7 @@ module _ (text first behind old new : List ℕ) (none : old ≡ []) (begins : te
       let joined : start ++ first ≡ start ++ (acked_text all ++ rest) = sym begins ∙ split ∙ append_assoc start (acked_text all) rest in
       let here : first ≡ acked_text all ++ rest = cc joined in
       let few : length (old ++ all) ≤ 516 = subst (λ (l : List ℕ). length (l ++ all) ≤ 516) (sym none) are.few in
-      let ended : NoneAcked rest = subst NoneAcked (sym next.split) (none_at_start (acked_text (next.byte ∷ []) ++ next.more)) in
+      let ended : NoneAcked rest = subst NoneAcked (sym next.split) (none_at_start (canonical_text (Byte next.byte ∷ []) ++ next.more)) in
       let took = takes all rest are.small ended few here in
       (took.0 ∙ ap (λ (l : List ℕ). l ++ all) none, took.1)
 
@@ -189,10 +189,9 @@ read_is_odd written behind second all rest result are begins tells split is =
 -- and that of the next leg of a group is
 pub group_is_even : (behind second rest : List ℕ) (result : Bool) → (next : NextWritten rest) → behind ≡ start ++ second → TellsEven second result → behind ≡ rest → result ≡ true
 group_is_even behind second rest result next begins tells same =
-    let here : second ≡ acked_text (next.byte ∷ []) ++ next.more =
-    same_behind behind second (acked_text (next.byte ∷ []) ++ next.more) begins (same ∙ next.split) in
-    tells next.byte (canonical_text (Ack ∷ []) ++ next.more) next.small (here ∙ first_of_acked next.byte next.more)
-    ∙ ap (λ (n : ℕ). nat_eq n 0) next.even
+    let here : second ≡ canonical_text (Byte next.byte ∷ []) ++ next.more =
+    same_behind behind second (canonical_text (Byte next.byte ∷ []) ++ next.more) begins (same ∙ next.split) in
+    tells next.byte next.more next.small here ∙ ap (λ (n : ℕ). nat_eq n 0) next.even
 
 -- of a leg with NACK the byte before that
 pub nacked_last : (behind front new all rest : List ℕ) (result : Option Legs) (are : IsOfLegs Nacked all)

@@ -12,7 +12,8 @@ use Rattle.pmb_command.specs.declared.pec_mode.PecMode.TheVariants.{Off, On, Opt
 use Rattle.pmb_command.specs.Parts.{DeviceParts}
 use Rattle.pmb_command.specs.PecMode.{AllowsPec}
 use Rattle.pmb_command.specs.Wire.{AreByteValues, Fits, wire, wire_length}
-use Rattle.pmb_transaction.specs.Body.{CallBody, IsInsideBody, IsProperPrefix, IsReadBody, IsRequest, WriteBody, checked, forms}
+use Rattle.pmb_transaction.specs.Transaction.{PartData}
+use Rattle.pmb_transaction.specs.Body.{CallBody, IsInsideBody, IsProperPrefix, IsReadBody, IsRequest, IsWriteBody, WriteBody, checked, forms}
 use Rattle.pmb_common.specs.Codes.{code_behind}
 use Rattle.pmb_common.specs.Refused.{AreData, IsInsideData, is_read}
 use Rattle.pmb_common.proofs.Texts.{small-append}
@@ -165,21 +166,24 @@ module _ (device : DeviceParts) where
   code_in_front false code bytes = refl
   code_in_front true code bytes = refl
 
+  -- a write body is allowed after any parts
+  inside_write : (parts : List PartData) (bytes body : List ℕ) → IsWriteBody device body → IsProperPrefix bytes body → IsInsideBody device parts bytes
+  inside_write [] bytes body write longer = inr (body, inl write, longer)
+  inside_write (part ∷ parts) bytes body write longer = inr (body, write, longer)
+
   -- inside data a body goes on
-  pub in_write : (code : ℕ) (bytes : List ℕ) (form : Option Form) → (forms device code).write ≡ form → IsInsideData form device.pec (in_front code) bytes
-      → IsInsideBody device [] (code ∷ bytes)
-  in_write code bytes None is inside = absurd inside
-  in_write code bytes (Some form) is (data_bytes, with_pec, fits, allowed, longer) =
+  pub in_write : (parts : List PartData) (code : ℕ) (bytes : List ℕ) (form : Option Form) → (forms device code).write ≡ form → IsInsideData form device.pec (in_front code) bytes
+      → IsInsideBody device parts (code ∷ bytes)
+  in_write parts code bytes None is inside = absurd inside
+  in_write parts code bytes (Some form) is (data_bytes, with_pec, fits, allowed, longer) =
       let body = checked with_pec (write_address device.address ∷ []) (code ∷ wire form data_bytes) in
-      inr (
-        body,
-        inl (code, data_bytes, with_pec, record { form = form; written = is; fits = fits; mode = allowed; spelled = refl }),
-        record {
-          next = longer.next;
-          rest = longer.rest;
-          split = code_in_front with_pec code (wire form data_bytes) ∙ ap (λ (l : List ℕ). code ∷ l) longer.split;
-        },
-      )
+      inside_write parts (code ∷ bytes) body
+      (code, data_bytes, with_pec, record { form = form; written = is; fits = fits; mode = allowed; spelled = refl })
+      (record {
+        next = longer.next;
+        rest = longer.rest;
+        split = code_in_front with_pec code (wire form data_bytes) ∙ ap (λ (l : List ℕ). code ∷ l) longer.split;
+      })
 
   pub in_call : (code : ℕ) (bytes : List ℕ) (form : Option Form) → (forms device code).call ≡ form → IsInsideData form Off (in_front code) bytes
       → IsInsideBody device [] (code ∷ bytes)
@@ -198,7 +202,7 @@ module _ (device : DeviceParts) where
       IsInsideData (forms device code).write device.pec (in_front code) bytes ⊎ IsInsideData (forms device code).call Off (in_front code) bytes
 
   of_write : (code : ℕ) (bytes body : List ℕ) (own : ℕ) (data_bytes : List ℕ) (with_pec : Bool) → WriteBody device own data_bytes with_pec body → IsProperPrefix (code ∷ bytes) body
-      → InData code bytes
+      → IsInsideData (forms device code).write device.pec (in_front code) bytes
   of_write code bytes body own data_bytes with_pec write longer =
       let spelled : own ∷ checked with_pec (in_front own) (wire write.form data_bytes) ≡ code ∷ (bytes ++ longer.next ∷ longer.rest) =
       sym (code_in_front with_pec own (wire write.form data_bytes)) ∙ sym write.spelled ∙ longer.split in
@@ -206,8 +210,8 @@ module _ (device : DeviceParts) where
       let tail : checked with_pec (in_front own) (wire write.form data_bytes) ≡ bytes ++ longer.next ∷ longer.rest = cc spelled in
       let inside : IsInsideData (Some write.form) device.pec (in_front own) bytes =
       (data_bytes, with_pec, write.fits, write.mode, record { next = longer.next; rest = longer.rest; split = tail }) in
-      inl (subst (λ (n : ℕ). IsInsideData (forms device n).write device.pec (in_front n) bytes) same
-      (subst (λ (f : Option Form). IsInsideData f device.pec (in_front own) bytes) (sym write.written) inside))
+      subst (λ (n : ℕ). IsInsideData (forms device n).write device.pec (in_front n) bytes) same
+      (subst (λ (f : Option Form). IsInsideData f device.pec (in_front own) bytes) (sym write.written) inside)
 
   of_call : (code : ℕ) (bytes body : List ℕ) (own : ℕ) (form : Form) (data_bytes : List ℕ) → CallBody device own form data_bytes body → IsProperPrefix (code ∷ bytes) body
       → InData code bytes
@@ -222,10 +226,16 @@ module _ (device : DeviceParts) where
 
   pub in_data : (code : ℕ) (bytes : List ℕ) → IsInsideBody device [] (code ∷ bytes) → InData code bytes
   in_data code bytes (inl none) = absurd (cc none)
-  in_data code bytes (inr (body, inl (own, data_bytes, with_pec, write), longer)) = of_write code bytes body own data_bytes with_pec write longer
+  in_data code bytes (inr (body, inl (own, data_bytes, with_pec, write), longer)) = inl (of_write code bytes body own data_bytes with_pec write longer)
   in_data code bytes (inr (body, inr (inl (own, form, read)), longer)) =
       absurd (omega (arith, ap length (sym read.spelled ∙ longer.split), length-append bytes (longer.next ∷ longer.rest)))
   in_data code bytes (inr (body, inr (inr (own, form, data_bytes, call)), longer)) = of_call code bytes body own form data_bytes call longer
+
+  -- after a part inside those of a write
+  in_later : (part : PartData) (parts : List PartData) (code : ℕ) (bytes : List ℕ) → IsInsideBody device (part ∷ parts) (code ∷ bytes)
+      → IsInsideData (forms device code).write device.pec (in_front code) bytes
+  in_later part parts code bytes (inl none) = absurd (cc none)
+  in_later part parts code bytes (inr (body, (own, data_bytes, with_pec, write), longer)) = of_write code bytes body own data_bytes with_pec write longer
 
   -- ---- bodies that ask for a reply
 
@@ -273,35 +283,47 @@ module _ (device : DeviceParts) where
   none_true : (result : Bool) → result ≡ false → result ≡ true → ⊥
   none_true result fails holds = cc (fails, holds)
 
-  pub goes_on_from_start : (bytes : List ℕ) → (0 < length bytes → ⊥) → IsTrue true ↔ IsInsideBody device [] bytes
-  goes_on_from_start [] none = (λ is. inl refl, λ inside. refl)
-  goes_on_from_start (byte ∷ bytes) none = absurd (none (omega arith))
+  pub goes_on_from_start : (parts : List PartData) (bytes : List ℕ) → (0 < length bytes → ⊥) → IsTrue true ↔ IsInsideBody device parts bytes
+  goes_on_from_start parts [] none = (λ is. inl refl, λ inside. refl)
+  goes_on_from_start parts (byte ∷ bytes) none = absurd (none (omega arith))
 
   module _ (code : ℕ) (tail bytes : List ℕ) (shape : Shape) (mode : PecMode) (split : bytes ≡ code ∷ tail) (known : shape ≡ forms device code) (own : mode ≡ device.pec)
       (write : Bool) (says_write : IsTrue write ↔ IsInsideData shape.write mode (in_front code) tail) where
-    of_shape : IsTrue write → IsInsideBody device [] (code ∷ tail)
-    of_shape is =
-        in_write code tail (forms device code).write refl
+    of_shape : (parts : List PartData) → IsTrue write → IsInsideBody device parts (code ∷ tail)
+    of_shape parts is =
+        in_write parts code tail (forms device code).write refl
         (subst (λ (m : PecMode). IsInsideData (forms device code).write m (in_front code) tail) own
         (subst (λ (s : Shape). IsInsideData s.write mode (in_front code) tail) known (says_write.0 is)))
 
-    pub goes_on_by_write : write ≡ true → IsTrue true ↔ IsInsideBody device [] bytes
-    goes_on_by_write holds = (λ is. subst (IsInsideBody device []) (sym split) (of_shape holds), λ inside. refl)
+    pub goes_on_by_write : (parts : List PartData) → write ≡ true → IsTrue true ↔ IsInsideBody device parts bytes
+    goes_on_by_write parts holds = (λ is. subst (IsInsideBody device parts) (sym split) (of_shape parts holds), λ inside. refl)
 
-    module _ (fails : write ≡ false) (call : Bool) (says_call : IsTrue call ↔ IsInsideData shape.call Off (in_front code) tail) where
-      by_call : InData code tail → IsTrue call
-      by_call (inl inside) =
-          absurd (none_true write fails (says_write.1
+    module _ (fails : write ≡ false) where
+      not_inside : IsInsideData (forms device code).write device.pec (in_front code) tail → ⊥
+      not_inside inside =
+          none_true write fails (says_write.1
           (subst (λ (m : PecMode). IsInsideData shape.write m (in_front code) tail) (sym own)
-          (subst (λ (s : Shape). IsInsideData s.write device.pec (in_front code) tail) (sym known) inside))))
-      by_call (inr inside) = says_call.1 (subst (λ (s : Shape). IsInsideData s.call Off (in_front code) tail) (sym known) inside)
+          (subst (λ (s : Shape). IsInsideData s.write device.pec (in_front code) tail) (sym known) inside)))
 
-      pub goes_on_by_call : IsTrue call ↔ IsInsideBody device [] bytes
-      goes_on_by_call = (
-        λ is. subst (IsInsideBody device []) (sym split)
-            (in_call code tail (forms device code).call refl (subst (λ (s : Shape). IsInsideData s.call Off (in_front code) tail) known (says_call.0 is))),
-        λ inside. by_call (in_data code tail (subst (IsInsideBody device []) split inside)),
-      )
+      not_later : (parts : List PartData) → 0 < length parts → IsInsideBody device parts bytes → ⊥
+      not_later [] some inside = omega (arith, some)
+      not_later (part ∷ parts) some inside = not_inside (in_later part parts code tail (subst (IsInsideBody device (part ∷ parts)) split inside))
+
+      pub goes_on_no_more : (parts : List PartData) → 0 < length parts → IsTrue false ↔ IsInsideBody device parts bytes
+      goes_on_no_more parts some = (λ is. absurd (cc is), λ inside. absurd (not_later parts some inside))
+
+      module _ (call : Bool) (says_call : IsTrue call ↔ IsInsideData shape.call Off (in_front code) tail) where
+        by_call : InData code tail → IsTrue call
+        by_call (inl inside) = absurd (not_inside inside)
+        by_call (inr inside) = says_call.1 (subst (λ (s : Shape). IsInsideData s.call Off (in_front code) tail) (sym known) inside)
+
+        pub goes_on_by_call : (parts : List PartData) → length parts ≡ 0 → IsTrue call ↔ IsInsideBody device parts bytes
+        goes_on_by_call [] none = (
+          λ is. subst (IsInsideBody device []) (sym split)
+              (in_call code tail (forms device code).call refl (subst (λ (s : Shape). IsInsideData s.call Off (in_front code) tail) known (says_call.0 is))),
+          λ inside. by_call (in_data code tail (subst (IsInsideBody device []) split inside)),
+        )
+        goes_on_by_call (part ∷ parts) none = absurd (omega (arith, none))
 
   pub asks_nothing : (bytes : List ℕ) → (0 < length bytes → ⊥) → IsTrue false ↔ IsRequest device bytes
   asks_nothing [] none = (λ is. absurd (cc is), λ asks. absurd (asks_something asks))

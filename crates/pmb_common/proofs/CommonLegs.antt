@@ -12,16 +12,19 @@ use Rattle.pmb_command.specs.declared.form.Form.TheVariants.{Zero}
 use Rattle.pmb_command.specs.Bus.{IsBus}
 use Rattle.pmb_command.specs.Parts.{DeviceParts}
 use Rattle.pmb_command.specs.Wire.{AreByteValues, wire}
-use Rattle.pmb_transaction.specs.Transaction.{PartData, ReadData, CallData, TransactionData, Write, Read, Call, Refused}
+use Rattle.pmb_transaction.specs.Transaction.{PartData, ReadData, CallData, AlertData, TransactionData, Write, Read, Call, Refused, Alert, NoAlert}
 use Rattle.pmb_transaction.specs.Body.{Allowed, IsInsideBody, checked}
-use Rattle.pmb_transaction.specs.Packet.{Packet, ReadRefused, acked, leg, nacked}
+use Rattle.pmb_transaction.specs.Packet.{Packet, PartEvents, PartsEvents, ReadRefused, acked, leg, nacked}
 use Rattle.pmb_common.specs.declared.legs.Legs.{Legs}
 use Rattle.pmb_common.specs.declared.legs.Legs.TheVariants.{Written, Both, Group, Nacked}
-use Rattle.pmb_common.specs.Common.{BeginsCommon, IsCommon, OneByteRefused, OneCalled, OneRead, OneReadRefused, OneWritten, TakesPacket, address_refused, byte_refused, device_called, device_read, nacked_leg, parts_written, read_events, read_refused}
-use Rattle.pmb_common.specs.Front.{acked_text}
-use Rattle.pmb_common.specs.Legs.{BeginsOdd, Follows, IsOfLegs, SayBoth, SayLegs, SaysNacked, leg_events}
-use Rattle.pmb_common.proofs.Ends.{both, both_events, length-both_text, length-nacked_leg_text, length-written_text, second_leg}
-use Rattle.pmb_common.proofs.LegBytes.{behind_acked, bytes_of_acked, bytes_of_nacked, few_checked, few_in_leg, few_on_wire, length-acked, some_checked, some_on_wire}
+use Rattle.pmb_common.specs.Alerts.{alert_bytes}
+use Rattle.pmb_common.specs.Common.{BeginsCommon, IsCommon, OneCalled, OneRead, OneReadRefused, OneWritten, TakesPacket, address_refused, byte_refused, device_alerted, device_called, device_read, nacked_leg, none_alerted, parts_written, read_events, read_refused}
+use Rattle.pmb_common.specs.Groups.{MoreParts}
+use Rattle.pmb_common.specs.Legs.{BeginsOdd, Follows, IsOfLegs, SayBoth, SayLegs, SaysAlone, leg_events}
+use Rattle.pmb_common.specs.Nacked.{SaysNacked}
+use Rattle.pmb_common.proofs.Alone.{some_answer, to_alert}
+use Rattle.pmb_common.proofs.Ends.{both, both_events, length-both_text, length-written_text, second_leg}
+use Rattle.pmb_common.proofs.LegBytes.{behind_acked, bytes_of_acked, bytes_of_nacked, few_checked, few_in_leg, few_on_wire, length-acked, length-nacked, some_checked, some_on_wire}
 use Rattle.pmb_common.proofs.Found.{call_has_data, read_has_data}
 use Rattle.pmb_common.proofs.Texts.{small-append, text-append}
 
@@ -59,11 +62,6 @@ takes_write profile text rest address code data_bytes with_pec bytes used count 
   bytes = long ∙ sym (length-written_text bytes);
   all = omega (arith, many, length-append (acked bytes) (Stop ∷ []), length-acked bytes);
 }
-
-length-nacked : (bytes : List ℕ) → length (nacked bytes) ≡ 2 * length bytes
-length-nacked [] = refl
-length-nacked (b ∷ []) = refl
-length-nacked (b ∷ c ∷ bytes) = omega (arith, length-nacked (c ∷ bytes))
 
 length-both : (front second : List ℕ) → length (both front second) ≡ 3 + 2 * length front + 2 * length second
 length-both front second = omega (
@@ -149,84 +147,6 @@ refused_alone parts address sent at_read none =
     ap (λ (ps : List PartData). Refused (record { parts = ps; addr = address; sent = sent ++ []; at_read = at_read })) none
     ∙ ap (λ (l : List ℕ). Refused (record { parts = []; addr = address; sent = l; at_read = at_read })) (append-nil sent)
 
--- the packet of one leg whose last byte has NACK
-takes_nacked : (profile : List DeviceParts) (text rest : List ℕ) (t : TransactionData) (bytes : List ℕ) (used count : ℕ)
-    → IsCommon t → Packet profile t (nacked_leg bytes ++ Stop ∷ []) → text ≡ canonical_text (leg_events Nacked bytes) ++ rest
-    → used ≡ 4 + 5 * length bytes → count ≡ 2 + 2 * length bytes → TakesPacket profile text used count t
-takes_nacked profile text rest t bytes used count common packet split used_bytes many = record {
-  common = common;
-  events = nacked_leg bytes ++ Stop ∷ [];
-  packet = packet;
-  rest = rest;
-  split = split;
-  bytes = used_bytes ∙ sym (length-nacked_leg_text bytes);
-  all = omega (arith, many, length-append (nacked_leg bytes) (Stop ∷ []), length-nacked bytes);
-}
-
--- of a refused address
-address_packet : (profile : List DeviceParts) (address : ℕ) → address < 128
-    → Packet profile (Refused (record { parts = []; addr = address; sent = []; at_read = false })) (nacked_leg (write_address address ∷ []) ++ Stop ∷ [])
-unfolding IsDistinct
-address_packet profile address seven = record {
-  few = omega arith;
-  distinct = tt;
-  another = refl;
-  legs = [];
-  each = refl;
-  last = nacked_leg (write_address address ∷ []);
-  refused = record { seven = seven; spelled = refl };
-  spelled = refl;
-}
-
-pub takes_address : (profile : List DeviceParts) (text rest : List ℕ) (address : ℕ) (bytes : List ℕ) (used count : ℕ) → address < 128
-    → bytes ≡ write_address address ∷ [] → text ≡ canonical_text (leg_events Nacked bytes) ++ rest → used ≡ 4 + 5 * length bytes → count ≡ 2 + 2 * length bytes
-    → TakesPacket profile text used count (Refused (record { parts = []; addr = address; sent = []; at_read = false }))
-takes_address profile text rest address bytes used count seven spelled split used_bytes many =
-    takes_nacked profile text rest (Refused (record { parts = []; addr = address; sent = []; at_read = false })) bytes used count
-    (address_refused address)
-    (subst (λ (l : List ℕ). Packet profile (Refused (record { parts = []; addr = address; sent = []; at_read = false })) (nacked_leg l ++ Stop ∷ []))
-    (sym spelled) (address_packet profile address seven))
-    split used_bytes many
-
--- of a refused byte
-byte_packet : (profile : List DeviceParts) (address first : ℕ) (more bytes : List ℕ) → AreByteValues (first ∷ more)
-    → (says : OneByteRefused profile address (first ∷ more) bytes)
-    → Packet profile (Refused (record { parts = []; addr = address; sent = first ∷ more; at_read = false })) (nacked_leg (write_address address ∷ first ∷ more) ++ Stop ∷ [])
-unfolding IsDistinct
-byte_packet profile address first more bytes small says = record {
-  few = omega arith;
-  distinct = tt;
-  another = refl;
-  legs = [];
-  each = refl;
-  last = nacked_leg (write_address address ∷ first ∷ more);
-  refused = record {
-    device = says.device;
-    known = says.known;
-    bytes = small;
-    front = says.front;
-    last = says.last;
-    split = says.split;
-    begins = says.begins;
-    spelled = refl;
-  };
-  spelled = refl;
-}
-
-pub takes_byte : (profile : List DeviceParts) (text rest : List ℕ) (address : ℕ) (sent bytes : List ℕ) (used count : ℕ) → AreByteValues bytes
-    → OneByteRefused profile address sent bytes → text ≡ canonical_text (leg_events Nacked bytes) ++ rest
-    → used ≡ 4 + 5 * length bytes → count ≡ 2 + 2 * length bytes
-    → TakesPacket profile text used count (Refused (record { parts = []; addr = address; sent = sent; at_read = false }))
-takes_byte profile text rest address [] bytes used count small says split used_bytes many =
-    absurd (omega (arith, ap length says.split, length-append says.front (says.last ∷ [])))
-takes_byte profile text rest address (first ∷ more) bytes used count small says split used_bytes many =
-    let all : AreByteValues (write_address address ∷ first ∷ more) = subst AreByteValues says.spelled small in
-    takes_nacked profile text rest (Refused (record { parts = []; addr = address; sent = first ∷ more; at_read = false })) bytes used count
-    (byte_refused address first more)
-    (subst (λ (l : List ℕ). Packet profile (Refused (record { parts = []; addr = address; sent = first ∷ more; at_read = false })) (nacked_leg l ++ Stop ∷ []))
-    (sym says.spelled) (byte_packet profile address first more bytes all.1 says))
-    split used_bytes many
-
 -- where to be read is refused
 read_packet : (profile : List DeviceParts) (address : ℕ) (sent bytes : List ℕ) (written : ℕ)
     → (says : OneReadRefused profile address sent bytes written)
@@ -280,19 +200,46 @@ bytes_of_both front second small =
     let both_small : AreBytes (acked front ++ behind) = subst AreBytes (append_assoc (acked front) (nacked_leg second) (Stop ∷ [])) small in
     small-append front second (bytes_of_acked front behind both_small) (bytes_of_nacked second (Stop ∷ []) (behind_acked front behind both_small))
 
-bytes_before : (events : List Event) → AreBytes (events ++ Stop ∷ []) → AreBytes events
-bytes_before [] small = tt
-bytes_before (Start ∷ events) small = bytes_before events small
-bytes_before (Byte b ∷ events) small = (small.0, bytes_before events small.1)
-bytes_before (Ack ∷ events) small = bytes_before events small
-bytes_before (Nack ∷ events) small = bytes_before events small
-bytes_before (Stop ∷ events) small = bytes_before events small
+bytes_before : (events more : List Event) → AreBytes (events ++ more) → AreBytes events
+bytes_before [] more small = tt
+bytes_before (Start ∷ events) more small = bytes_before events more small
+bytes_before (Byte b ∷ events) more small = (small.0, bytes_before events more small.1)
+bytes_before (Ack ∷ events) more small = bytes_before events more small
+bytes_before (Nack ∷ events) more small = bytes_before events more small
+bytes_before (Stop ∷ events) more small = bytes_before events more small
+
+bytes_behind : (events more : List Event) → AreBytes (events ++ more) → AreBytes more
+bytes_behind [] more small = small
+bytes_behind (Start ∷ events) more small = bytes_behind events more small
+bytes_behind (Byte b ∷ events) more small = bytes_behind events more small.1
+bytes_behind (Ack ∷ events) more small = bytes_behind events more small
+bytes_behind (Nack ∷ events) more small = bytes_behind events more small
+bytes_behind (Stop ∷ events) more small = bytes_behind events more small
 
 -- the text of a leg's first byte
 begun_text : (byte : ℕ) (events : List Event) (rest : List ℕ)
-    → canonical_text (Start ∷ Byte byte ∷ Ack ∷ events) ++ rest ≡ canonical_text (Start ∷ []) ++ (acked_text (byte ∷ []) ++ (canonical_text events ++ rest))
+    → canonical_text (Start ∷ Byte byte ∷ events) ++ rest ≡ canonical_text (Start ∷ []) ++ (canonical_text (Byte byte ∷ []) ++ (canonical_text events ++ rest))
 unfolding encode_with
 begun_text byte events rest = refl
+
+-- events begin as a leg that is written does
+abbrev pub BeginsLeg : List Event → Type 0
+BeginsLeg events = (address : ℕ) × (more : List Event) × (events ≡ Start ∷ Byte (write_address address) ∷ more)
+
+begins_nacked : (address : ℕ) (sent : List ℕ) (others : List Event) → BeginsLeg (nacked_leg (write_address address ∷ sent) ++ others)
+begins_nacked address [] others = (address, Nack ∷ others, refl)
+begins_nacked address (byte ∷ sent) others = (address, Ack ∷ (nacked (byte ∷ sent) ++ others), refl)
+
+begins_part : (profile : List DeviceParts) (part : PartData) (parts : List PartData) (legs others : List Event) → PartsEvents profile (part ∷ parts) legs → BeginsLeg (legs ++ others)
+begins_part profile part parts legs others each =
+    (part.addr, _, ap (λ (l : List Event). l ++ others) (each.2 ∙ ap (λ (l : List Event). l ++ each.1) each.3.spelled))
+
+begins_refused : (profile : List DeviceParts) (parts : List PartData) (legs : List Event) (address : ℕ) (sent : List ℕ) (others : List Event) → PartsEvents profile parts legs
+    → BeginsLeg (legs ++ (nacked_leg (write_address address ∷ sent) ++ others))
+begins_refused profile [] legs address sent others each =
+    subst BeginsLeg (ap (λ (l : List Event). l ++ (nacked_leg (write_address address ∷ sent) ++ others)) (sym each)) (begins_nacked address sent others)
+begins_refused profile (part ∷ parts) legs address sent others each =
+    begins_part profile part parts legs (nacked_leg (write_address address ∷ sent) ++ others) each
 
 module _ (profile : List DeviceParts) (bus : IsBus profile)
     (are_bytes : (t : TransactionData) (events : List Event) → Packet profile t events → AreBytes events)
@@ -329,60 +276,65 @@ module _ (profile : List DeviceParts) (bus : IsBus profile)
         split = split ∙ ap (λ (l : List Event). canonical_text l ++ rest) spelled;
       }
 
-  -- the first one of a group
+  -- the first one of a group, by what follows it
+  first_leg : (part : PartData) (own : List Event) (here : PartEvents profile part own) (behind : List Event) (rest : List ℕ)
+      → AreBytes (leg (write_address part.addr ∷ here.body) ++ behind) → BeginsLeg behind → MoreParts profile (part.addr ∷ []) (canonical_text behind ++ rest)
+      → text ≡ canonical_text (leg (write_address part.addr ∷ here.body) ++ behind) ++ rest → CommonLegs profile text
+  first_leg part own here behind rest small begins more split =
+      let all = write_address part.addr ∷ here.body in
+      let begun = write_address begins.0 in
+      let small_behind : AreBytes (Start ∷ Byte begun ∷ begins.1) = subst AreBytes begins.2 (behind_acked all behind small) in
+      let split_first : text ≡ canonical_text (leg all) ++ (canonical_text behind ++ rest) =
+      split
+      ∙ ap (λ (l : List ℕ). l ++ rest) (text-append (leg all) behind)
+      ∙ append_assoc (canonical_text (leg all)) (canonical_text behind) rest in
+      record {
+        legs = Group;
+        all = all;
+        rest = canonical_text behind ++ rest;
+        are = record { small = bytes_of_acked all behind small; enough = omega arith; few = few_in_leg profile part here; reads = tt };
+        follows = record {
+          byte = begun;
+          small = small_behind.0;
+          even = omega arith;
+          more = canonical_text begins.1 ++ rest;
+          split = ap (λ (l : List Event). canonical_text l ++ rest) begins.2 ∙ begun_text begun begins.1 rest;
+        };
+        say = record {
+          first = part;
+          says = record { device = here.device; body = here.body; known = here.known; allowed = here.allowed; spelled = refl };
+          behind = canonical_text behind ++ rest;
+          split = split_first;
+          more = more;
+        };
+        split = split_first;
+      }
+
   group_legs : (part next : PartData) (more : List PartData) (events : List Event) (rest : List ℕ) → Packet profile (Write (part ∷ next ∷ more)) events
       → text ≡ canonical_text events ++ rest → CommonLegs profile text
   group_legs part next more events rest packet split =
       let here = packet.each.3 in
       let later = packet.each.1 in
-      let second = packet.each.4.3 in
       let all = write_address part.addr ∷ here.body in
-      let begun = write_address next.addr in
-      let behind = canonical_text (later ++ Stop ∷ []) ++ rest in
+      let behind = later ++ Stop ∷ [] in
       let first : packet.legs ≡ leg all ++ later = packet.each.2 ∙ ap (λ (l : List Event). l ++ later) here.spelled in
-      let spelled : events ≡ leg all ++ (later ++ Stop ∷ []) =
+      let spelled : events ≡ leg all ++ behind =
       packet.spelled ∙ ap (λ (l : List Event). l ++ Stop ∷ []) first ∙ append_assoc (leg all) later (Stop ∷ []) in
-      let small : AreBytes (acked all ++ (later ++ Stop ∷ [])) = subst AreBytes spelled (are_bytes (Write (part ∷ next ∷ more)) events packet) in
-      let small_later : AreBytes (later ++ Stop ∷ []) = behind_acked all (later ++ Stop ∷ []) small in
-      let begins : later ++ Stop ∷ [] ≡ Start ∷ (acked (begun ∷ second.body) ++ (packet.each.4.1 ++ Stop ∷ [])) =
-      ap (λ (l : List Event). l ++ Stop ∷ []) (packet.each.4.2 ∙ ap (λ (l : List Event). l ++ packet.each.4.1) second.spelled)
-      ∙ append_assoc (leg (begun ∷ second.body)) packet.each.4.1 (Stop ∷ []) in
-      let small_second : AreBytes (acked (begun ∷ second.body) ++ (packet.each.4.1 ++ Stop ∷ [])) = subst AreBytes begins small_later in
-      let split_first : text ≡ canonical_text (leg all) ++ behind =
-      split
-      ∙ ap (λ (l : List Event). canonical_text l ++ rest) spelled
-      ∙ ap (λ (l : List ℕ). l ++ rest) (text-append (leg all) (later ++ Stop ∷ []))
-      ∙ append_assoc (canonical_text (leg all)) (canonical_text (later ++ Stop ∷ [])) rest in
-      record {
-        legs = Group;
-        all = all;
-        rest = behind;
-        are = record { small = bytes_of_acked all (later ++ Stop ∷ []) small; enough = omega arith; few = few_in_leg profile part here; reads = tt };
-        follows = record {
-          byte = begun;
-          small = small_second.0;
-          even = omega arith;
-          more = canonical_text (acked second.body ++ (packet.each.4.1 ++ Stop ∷ [])) ++ rest;
-          split = ap (λ (l : List Event). canonical_text l ++ rest) begins ∙ begun_text begun (acked second.body ++ (packet.each.4.1 ++ Stop ∷ [])) rest;
-        };
-        say = record {
-          first = part;
-          says = record { device = here.device; body = here.body; known = here.known; allowed = here.allowed; spelled = refl };
-          behind = behind;
-          split = split_first;
-          more = record {
-            parts = next ∷ more;
-            legs = later;
-            each = packet.each.4;
-            distinct = packet.distinct;
-            few = omega (arith, packet.few);
-            small = bytes_before later small_later;
-            rest = rest;
-            split = refl;
-          };
-        };
-        split = split_first;
-      }
+      let small : AreBytes (leg all ++ behind) = subst AreBytes spelled (are_bytes (Write (part ∷ next ∷ more)) events packet) in
+      first_leg part packet.each.0 here behind rest small (begins_part profile next more later (Stop ∷ []) packet.each.4)
+      (record {
+        parts = next ∷ more;
+        legs = later;
+        each = packet.each.4;
+        distinct = packet.distinct;
+        few = omega (arith, packet.few);
+        small = bytes_before later (Stop ∷ []) (behind_acked all behind small);
+        last = Stop ∷ [];
+        ends = inl refl;
+        rest = rest;
+        split = refl;
+      })
+      (split ∙ ap (λ (l : List Event). canonical_text l ++ rest) spelled)
 
   -- those of both legs
   both_legs : (t : TransactionData) (events : List Event) (rest : List ℕ) (front : List ℕ) (to_read : ℕ) (reply : List ℕ) → Packet profile t events
@@ -485,7 +437,7 @@ module _ (profile : List DeviceParts) (bus : IsBus profile)
 
   -- that of one whose last byte has NACK
   nacked_legs : (t : TransactionData) (events : List Event) (rest : List ℕ) (all : List ℕ) → Packet profile t events → events ≡ nacked_leg all ++ Stop ∷ []
-      → 1 ≤ length all → length all ≤ 516 → SaysNacked profile all → text ≡ canonical_text events ++ rest → CommonLegs profile text
+      → 1 ≤ length all → length all ≤ 516 → SaysAlone profile all → text ≡ canonical_text events ++ rest → CommonLegs profile text
   nacked_legs t events rest all packet spelled some few say split =
       let small : AreBytes (nacked all ++ Stop ∷ []) = subst AreBytes spelled (are_bytes t events packet) in
       record {
@@ -498,34 +450,92 @@ module _ (profile : List DeviceParts) (bus : IsBus profile)
         split = split ∙ ap (λ (l : List Event). canonical_text l ++ rest) spelled;
       }
 
-  -- of a refused address
-  address_legs : (address : ℕ) (events : List Event) (rest : List ℕ)
-      → Packet profile (Refused (record { parts = []; addr = address; sent = []; at_read = false })) events → text ≡ canonical_text events ++ rest
-      → CommonLegs profile text
-  address_legs address events rest packet split =
-      let all = write_address address ∷ [] in
-      nacked_legs (Refused (record { parts = []; addr = address; sent = []; at_read = false })) events rest all packet
-      (packet.spelled ∙ ap (λ (l : List Event). l ++ packet.last ++ Stop ∷ []) packet.each ∙ ap (λ (l : List Event). l ++ Stop ∷ []) packet.refused.spelled)
-      (omega arith) (omega arith) (inl (address, packet.refused.seven, refl)) split
+  -- where something is refused after parts or without any
+  refused_legs : (parts : List PartData) (address : ℕ) (sent : List ℕ) (events : List Event) (rest : List ℕ)
+      → (packet : Packet profile (Refused (record { parts = parts; addr = address; sent = sent; at_read = false })) events)
+      → packet.last ≡ nacked_leg (write_address address ∷ sent) → length sent ≤ 515 → SaysNacked profile parts (write_address address ∷ sent)
+      → text ≡ canonical_text events ++ rest → CommonLegs profile text
+  refused_legs [] address sent events rest packet spelled few says split =
+      nacked_legs (Refused (record { parts = []; addr = address; sent = sent; at_read = false })) events rest (write_address address ∷ sent) packet
+      (packet.spelled ∙ ap (λ (l : List Event). l ++ packet.last ++ Stop ∷ []) packet.each ∙ ap (λ (l : List Event). l ++ Stop ∷ []) spelled)
+      (omega arith) (omega (arith, few)) (inl says) split
+  refused_legs (part ∷ parts) address sent events rest packet spelled few says split =
+      let here = packet.each.3 in
+      let later = packet.each.1 in
+      let all = write_address part.addr ∷ here.body in
+      let last = nacked_leg (write_address address ∷ sent) ++ Stop ∷ [] in
+      let behind = later ++ last in
+      let first : packet.legs ≡ leg all ++ later = packet.each.2 ∙ ap (λ (l : List Event). l ++ later) here.spelled in
+      let whole : events ≡ leg all ++ behind =
+      packet.spelled
+      ∙ ap (λ (l : List Event). l ++ packet.last ++ Stop ∷ []) first
+      ∙ append_assoc (leg all ++ later) packet.last (Stop ∷ [])
+      ∙ ap (λ (l : List Event). (leg all ++ later) ++ (l ++ Stop ∷ [])) spelled
+      ∙ append_assoc (leg all) later last in
+      let small : AreBytes (leg all ++ behind) =
+      subst AreBytes whole (are_bytes (Refused (record { parts = part ∷ parts; addr = address; sent = sent; at_read = false })) events packet) in
+      let small_behind : AreBytes behind = behind_acked all behind small in
+      first_leg part packet.each.0 here behind rest small (begins_refused profile parts later address sent (Stop ∷ []) packet.each.4)
+      (record {
+        parts = parts;
+        legs = later;
+        each = packet.each.4;
+        distinct = packet.distinct;
+        few = omega (arith, packet.few);
+        small = bytes_before later last small_behind;
+        last = last;
+        ends = inr (record {
+          parts = part ∷ parts;
+          same = refl;
+          bytes = write_address address ∷ sent;
+          small = bytes_of_nacked (write_address address ∷ sent) (Stop ∷ []) (bytes_behind later last small_behind);
+          some = omega arith;
+          few = omega (arith, few);
+          says = says;
+          spelled = refl;
+        });
+        rest = rest;
+        split = refl;
+      })
+      (split ∙ ap (λ (l : List Event). canonical_text l ++ rest) whole)
 
-  -- of a refused byte
-  byte_legs : (address first : ℕ) (more : List ℕ) (events : List Event) (rest : List ℕ)
-      → Packet profile (Refused (record { parts = []; addr = address; sent = first ∷ more; at_read = false })) events → text ≡ canonical_text events ++ rest
+  -- an address
+  address_legs : (parts : List PartData) (address : ℕ) (events : List Event) (rest : List ℕ)
+      → Packet profile (Refused (record { parts = parts; addr = address; sent = []; at_read = false })) events → text ≡ canonical_text events ++ rest
       → CommonLegs profile text
-  byte_legs address first more events rest packet split =
-      let all = write_address address ∷ first ∷ more in
+  address_legs parts address events rest packet split =
+      refused_legs parts address [] events rest packet packet.refused.spelled (omega arith)
+      (record { address = address; few = packet.few; another = packet.another; refused = inl (packet.refused.seven, refl) })
+      split
+
+  -- a byte
+  byte_legs : (parts : List PartData) (address first : ℕ) (more : List ℕ) (events : List Event) (rest : List ℕ)
+      → Packet profile (Refused (record { parts = parts; addr = address; sent = first ∷ more; at_read = false })) events → text ≡ canonical_text events ++ rest
+      → CommonLegs profile text
+  byte_legs parts address first more events rest packet split =
       let here = packet.refused in
       let few : length (first ∷ more) ≤ 258 =
-      omega (arith, ap length here.split, length-append here.front (here.last ∷ []), few_inside here.device [] here.front here.begins) in
-      nacked_legs (Refused (record { parts = []; addr = address; sent = first ∷ more; at_read = false })) events rest all packet
-      (packet.spelled ∙ ap (λ (l : List Event). l ++ packet.last ++ Stop ∷ []) packet.each ∙ ap (λ (l : List Event). l ++ Stop ∷ []) here.spelled)
-      (omega arith) (omega (arith, few))
-      (inr (
-        address,
-        first ∷ more,
-        record { device = here.device; known = here.known; front = here.front; last = here.last; split = here.split; begins = here.begins; spelled = refl },
-      ))
+      omega (arith, ap length here.split, length-append here.front (here.last ∷ []), few_inside here.device parts here.front here.begins) in
+      refused_legs parts address (first ∷ more) events rest packet here.spelled (omega (arith, few))
+      (record {
+        address = address;
+        few = packet.few;
+        another = packet.another;
+        refused = inr (
+          first ∷ more,
+          record { device = here.device; known = here.known; front = here.front; last = here.last; split = here.split; begins = here.begins; spelled = refl },
+        );
+      })
       split
+
+  -- of an alert
+  alert_legs : (t : AlertData) (events : List Event) (rest : List ℕ) → Packet profile (Alert t) events → text ≡ canonical_text events ++ rest → CommonLegs profile text
+  alert_legs t events rest packet split =
+      let reply = checked t.pec (to_alert ∷ []) (t.byte ∷ []) in
+      nacked_legs (Alert t) events rest (alert_bytes t) packet
+      (packet.spelled ∙ ap (λ (l : List Event). l ++ Stop ∷ []) (sym (second_leg to_alert reply (some_answer t))))
+      (omega arith) (omega (arith, few_checked t.pec (to_alert ∷ []) (t.byte ∷ [])))
+      (inr (Alert t, inl (t, packet.byte, refl, refl))) split
 
   -- those where to be read is refused
   unread_legs : (address : ℕ) (sent : List ℕ) (events : List Event) (rest : List ℕ) (last : List Event)
@@ -566,8 +576,11 @@ module _ (profile : List DeviceParts) (bus : IsBus profile)
   legs_of t events rest (parts_written parts) packet split = legs_of_write parts events rest packet split
   legs_of t events rest (device_read read) packet split = read_legs read events rest packet split
   legs_of t events rest (device_called call) packet split = call_legs call events rest packet split
-  legs_of t events rest (address_refused address) packet split = address_legs address events rest packet split
-  legs_of t events rest (byte_refused address first more) packet split = byte_legs address first more events rest packet split
+  legs_of t events rest (address_refused parts address) packet split = address_legs parts address events rest packet split
+  legs_of t events rest (byte_refused parts address first more) packet split = byte_legs parts address first more events rest packet split
+  legs_of t events rest (device_alerted alert) packet split = alert_legs alert events rest packet split
+  legs_of t events rest none_alerted packet split =
+      nacked_legs NoAlert events rest (to_alert ∷ []) packet packet (omega arith) (omega arith) (inr (NoAlert, inr (refl, refl))) split
   legs_of t events rest (read_refused address sent) packet split = legs_of_unread address sent events rest packet split
 
   -- The legs of a common packet at the front of a text.

@@ -1,5 +1,5 @@
--- The parts of a write, one after the other.
-use Rattle.std.proofs.Common.{◌≡◌, ℕ, ◌+◌, ◌-◌, ◌*◌, ◌<◌, ◌≤◌, Bool, false, List, [], ◌∷◌, ◌++◌, length, drop, nat_eq, refl, sym, ap, subst, ◌∙◌, arith, append_assoc, length-append}
+-- The parts of a group, one after the other, and what ends it.
+use Rattle.std.proofs.Common.{◌≡◌, ℕ, ◌+◌, ◌-◌, ◌*◌, ◌<◌, ◌≤◌, ◌⊎◌, inl, inr, Bool, false, List, [], ◌∷◌, ◌++◌, length, drop, nat_eq, refl, sym, ap, subst, ◌∙◌, arith, append_assoc, length-append}
 use Rattle.std.specs.List.{AllByRecursion, IsDistinct, list_any}
 use Rattle.std.proofs.lemmas.Bool.{eqb-false, ne_eqb, or_from}
 use Rattle.std.proofs.lemmas.Cmp.{nat_eq_equiv}
@@ -13,13 +13,15 @@ use Rattle.pmb_bus.specs.Event.{AreBytes, canonical_text}
 use Rattle.pmb_command.specs.Parts.{DeviceParts, IsNew}
 use Rattle.pmb_command.specs.Wire.{AreByteValues}
 use Rattle.pmb_transaction.specs.Transaction.{PartData, Write}
-use Rattle.pmb_transaction.specs.Packet.{PartEvents, PartsEvents, acked, addresses, leg}
+use Rattle.pmb_transaction.specs.Packet.{PartEvents, PartsEvents, acked, addresses, leg, nacked}
 use Rattle.pmb_common.specs.Common.{OneWritten, TakesPacket, parts_written}
-use Rattle.pmb_common.specs.Front.{NoneAcked, TakenFront, acked_text}
-use Rattle.pmb_common.specs.Groups.{AddsPart, MoreParts, SayGroup, TakenParts}
-use Rattle.pmb_common.proofs.Beginnings.{TakesAll, start, start_or_stop, stop}
+use Rattle.pmb_common.specs.Front.{NoneAcked, TakenFront, acked_text, end_text}
+use Rattle.pmb_common.specs.Groups.{AddsPart, EndsGroup, MoreParts, RefusedAfter, SayGroup, TakenParts}
+use Rattle.pmb_common.specs.Nacked.{SaysNacked}
+use Rattle.pmb_common.proofs.Beginnings.{IsNacked, TakesAll, is_nacked, start, start_or_stop, stop}
 use Rattle.pmb_common.proofs.LegBytes.{behind_acked, bytes_of_acked, few_in_leg, length-acked}
-use Rattle.pmb_common.proofs.Texts.{length-acked_text, none_at_start, none_at_stop, text-append}
+use Rattle.pmb_common.proofs.RefusedLegs.{NoneNacked, says_after}
+use Rattle.pmb_common.proofs.Texts.{length-acked_text, nack_or_start, nack_or_stop, none_at_nack, none_at_start, none_at_stop, text-append}
 
 -- ---- addresses
 
@@ -140,39 +142,98 @@ pub record NextPart (profile : List DeviceParts) (taken : List ℕ) (text : List
   pub few : length bytes ≤ 516
   pub split : text ≡ acked_text bytes ++ behind
   pub ended : NoneAcked behind
+  pub no_nack : NoneNacked behind
   pub other : IsNew part.addr taken
   pub room : length taken < 16
   pub more : MoreParts profile (taken ++ part.addr ∷ []) behind
 
--- what stands after a part is the START of the next one, or STOP
-none_behind : (profile : List DeviceParts) (parts : List PartData) (legs : List Event) (rest : List ℕ) → PartsEvents profile parts legs
-    → NoneAcked (canonical_text (legs ++ Stop ∷ []) ++ rest)
-none_behind profile [] legs rest each = subst (λ (l : List Event). NoneAcked (canonical_text (l ++ Stop ∷ []) ++ rest)) (sym each) (none_at_stop rest)
-none_behind profile (part ∷ parts) legs rest each =
+-- or, after START, a leg in which something is refused
+pub record NextRefused (profile : List DeviceParts) (taken : List ℕ) (text : List ℕ) : Type 0 where
+  pub parts : List PartData
+  pub same : addresses parts ≡ taken
+  pub bytes : List ℕ
+  pub few : length bytes ≤ 516
+  pub says : SaysNacked profile parts bytes
+  pub one : IsNacked bytes
+  pub rest : List ℕ
+  pub split : text ≡ acked_text one.front ++ (end_text one.last ++ rest)
+
+abbrev pub NextLeg : List DeviceParts → List ℕ → List ℕ → Type 0
+NextLeg profile taken text = NextPart profile taken text ⊎ NextRefused profile taken text
+
+-- what stands after a part is the START of another leg, or STOP
+abbrev pub StartOrStop : List ℕ → List ℕ → Type 0
+StartOrStop rest text = ((more : List ℕ) × (text ≡ start ++ more)) ⊎ (text ≡ stop ++ rest)
+
+begins_leg : (profile : List DeviceParts) (before : List ℕ) (parts : List PartData) (legs last : List Event) (rest text : List ℕ) → PartsEvents profile parts legs
+    → EndsGroup profile before last → text ≡ canonical_text (legs ++ last) ++ rest → StartOrStop rest text
+begins_leg profile before [] legs last rest text each (inl alone) split =
+    inr (split ∙ ap (λ (l : List Event). canonical_text (l ++ last) ++ rest) each ∙ ap (λ (l : List Event). canonical_text l ++ rest) alone)
+begins_leg profile before [] legs last rest text each (inr refused) split =
+    let others = nacked refused.bytes ++ Stop ∷ [] in
+    inl (
+      canonical_text others ++ rest,
+      split
+          ∙ ap (λ (l : List Event). canonical_text (l ++ last) ++ rest) each
+          ∙ ap (λ (l : List Event). canonical_text l ++ rest) refused.spelled
+          ∙ append_assoc start (canonical_text others) rest,
+    )
+begins_leg profile before (part ∷ parts) legs last rest text each ends split =
     let events = acked (write_address part.addr ∷ each.3.body) ++ each.1 in
     let first : legs ≡ leg (write_address part.addr ∷ each.3.body) ++ each.1 = each.2 ∙ ap (λ (l : List Event). l ++ each.1) each.3.spelled in
-    subst (λ (l : List Event). NoneAcked (canonical_text (l ++ Stop ∷ []) ++ rest)) (sym first)
-    (subst NoneAcked (sym (append_assoc start (canonical_text (events ++ Stop ∷ [])) rest)) (none_at_start (canonical_text (events ++ Stop ∷ []) ++ rest)))
+    inl (
+      canonical_text (events ++ last) ++ rest,
+      split ∙ ap (λ (l : List Event). canonical_text (l ++ last) ++ rest) first ∙ append_assoc start (canonical_text (events ++ last)) rest,
+    )
 
-next_by : (profile : List DeviceParts) (taken text : List ℕ) (parts : List PartData) (legs : List Event) (rest : List ℕ) → PartsEvents profile parts legs
-    → IsDistinct nat_eq (taken ++ addresses parts) → length taken + length parts ≤ 16 → AreBytes legs → start ++ text ≡ canonical_text (legs ++ Stop ∷ []) ++ rest
-    → NextPart profile taken text
-next_by profile taken text [] legs rest each distinct few small split =
-    absurd (start_or_stop text rest (start ++ text) refl (split ∙ ap (λ (l : List Event). canonical_text (l ++ Stop ∷ []) ++ rest) each))
-next_by profile taken text (part ∷ parts) legs rest each distinct few small split =
+none_acked : (rest text : List ℕ) → StartOrStop rest text → NoneAcked text
+none_acked rest text (inl (more, is)) = subst NoneAcked (sym is) (none_at_start more)
+none_acked rest text (inr is) = subst NoneAcked (sym is) (none_at_stop rest)
+
+none_nacked : (rest text : List ℕ) → StartOrStop rest text → NoneNacked text
+none_nacked rest text (inl (more, is)) last behind small same = nack_or_start last behind more text small same is
+none_nacked rest text (inr is) last behind small same = nack_or_stop last behind rest text small same is
+
+refused_next : (profile : List DeviceParts) (taken text : List ℕ) (last : List Event) (rest : List ℕ) → RefusedAfter profile (taken ++ []) last
+    → start ++ text ≡ canonical_text last ++ rest → NextRefused profile taken text
+refused_next profile taken text last rest refused split =
+    let one = is_nacked refused.bytes (record { small = refused.small; enough = refused.some; few = refused.few; reads = tt }) in
+    let joined : start ++ text ≡ start ++ (acked_text one.front ++ (end_text one.last ++ rest)) =
+    split ∙ ap (λ (l : List Event). canonical_text l ++ rest) refused.spelled ∙ one.text rest in
+    record {
+      parts = refused.parts;
+      same = refused.same ∙ append-nil taken;
+      bytes = refused.bytes;
+      few = refused.few;
+      says = refused.says;
+      one = one;
+      rest = rest;
+      split = cc joined;
+    }
+
+next_by : (profile : List DeviceParts) (taken text : List ℕ) (parts : List PartData) (legs last : List Event) (rest : List ℕ) → PartsEvents profile parts legs
+    → IsDistinct nat_eq (taken ++ addresses parts) → length taken + length parts ≤ 16 → AreBytes legs → EndsGroup profile (taken ++ addresses parts) last
+    → start ++ text ≡ canonical_text (legs ++ last) ++ rest → NextLeg profile taken text
+next_by profile taken text [] legs last rest each distinct few small (inl alone) split =
+    absurd (start_or_stop text rest (start ++ text) refl
+    (split ∙ ap (λ (l : List Event). canonical_text (l ++ last) ++ rest) each ∙ ap (λ (l : List Event). canonical_text l ++ rest) alone))
+next_by profile taken text [] legs last rest each distinct few small (inr refused) split =
+    inr (refused_next profile taken text last rest refused (split ∙ ap (λ (l : List Event). canonical_text (l ++ last) ++ rest) each))
+next_by profile taken text (part ∷ parts) legs last rest each distinct few small ends split =
     let one = each.3 in
     let bytes = write_address part.addr ∷ one.body in
     let first : legs ≡ leg bytes ++ each.1 = each.2 ∙ ap (λ (l : List Event). l ++ each.1) one.spelled in
     let own : AreBytes (acked bytes ++ each.1) = subst AreBytes first small in
-    let behind = canonical_text (each.1 ++ Stop ∷ []) ++ rest in
-    let whole : canonical_text (legs ++ Stop ∷ []) ++ rest ≡ start ++ (acked_text bytes ++ behind) =
-    ap (λ (l : List Event). canonical_text (l ++ Stop ∷ []) ++ rest) first
-    ∙ ap (λ (l : List Event). canonical_text l ++ rest) (append_assoc (leg bytes) each.1 (Stop ∷ []))
-    ∙ ap (λ (l : List ℕ). l ++ rest) (text-append (leg bytes) (each.1 ++ Stop ∷ []))
-    ∙ append_assoc (canonical_text (leg bytes)) (canonical_text (each.1 ++ Stop ∷ [])) rest
+    let behind = canonical_text (each.1 ++ last) ++ rest in
+    let whole : canonical_text (legs ++ last) ++ rest ≡ start ++ (acked_text bytes ++ behind) =
+    ap (λ (l : List Event). canonical_text (l ++ last) ++ rest) first
+    ∙ ap (λ (l : List Event). canonical_text l ++ rest) (append_assoc (leg bytes) each.1 last)
+    ∙ ap (λ (l : List ℕ). l ++ rest) (text-append (leg bytes) (each.1 ++ last))
+    ∙ append_assoc (canonical_text (leg bytes)) (canonical_text (each.1 ++ last)) rest
     ∙ leg_text bytes behind in
     let joined : start ++ text ≡ start ++ (acked_text bytes ++ behind) = split ∙ whole in
-    record {
+    let stands : StartOrStop rest behind = begins_leg profile (taken ++ addresses (part ∷ parts)) parts each.1 last rest behind each.4 ends refl in
+    inl (record {
       part = part;
       bytes = bytes;
       behind = behind;
@@ -180,7 +241,8 @@ next_by profile taken text (part ∷ parts) legs rest each distinct few small sp
       small = bytes_of_acked bytes each.1 own;
       few = few_in_leg profile part one;
       split = cc joined;
-      ended = none_behind profile parts each.1 rest each.4;
+      ended = none_acked rest behind stands;
+      no_nack = none_nacked rest behind stands;
       other = new_behind taken part.addr (addresses parts) distinct;
       room = omega (arith, few);
       more = record {
@@ -190,28 +252,26 @@ next_by profile taken text (part ∷ parts) legs rest each distinct few small sp
         distinct = subst (IsDistinct nat_eq) (sym (append_assoc taken (part.addr ∷ []) (addresses parts))) distinct;
         few = omega (arith, few, length-append taken (part.addr ∷ []));
         small = behind_acked bytes each.1 own;
+        last = last;
+        ends = subst (λ (l : List ℕ). EndsGroup profile l last) (sym (append_assoc taken (part.addr ∷ []) (addresses parts))) ends;
         rest = rest;
         split = refl;
       };
-    }
+    })
 
-pub next_part : (profile : List DeviceParts) (taken text behind : List ℕ) → MoreParts profile taken text → text ≡ start ++ behind → NextPart profile taken behind
-next_part profile taken text behind more begins =
-    next_by profile taken behind more.parts more.legs more.rest more.each more.distinct more.few more.small (sym begins ∙ more.split)
+pub next_leg : (profile : List DeviceParts) (taken text behind : List ℕ) → MoreParts profile taken text → text ≡ start ++ behind → NextLeg profile taken behind
+next_leg profile taken text behind more begins =
+    next_by profile taken behind more.parts more.legs more.last more.rest more.each more.distinct more.few more.small more.ends (sym begins ∙ more.split)
 
 -- where no START is in front, STOP is
-ends_by : (profile : List DeviceParts) (text : List ℕ) (parts : List PartData) (legs : List Event) (rest : List ℕ) → PartsEvents profile parts legs
-    → text ≡ canonical_text (legs ++ Stop ∷ []) ++ rest → ((behind : List ℕ) → text ≡ start ++ behind → ⊥) → text ≡ stop ++ rest
-ends_by profile text [] legs rest each split none = split ∙ ap (λ (l : List Event). canonical_text (l ++ Stop ∷ []) ++ rest) each
-ends_by profile text (part ∷ parts) legs rest each split none =
-    let events = acked (write_address part.addr ∷ each.3.body) ++ each.1 in
-    let first : legs ≡ leg (write_address part.addr ∷ each.3.body) ++ each.1 = each.2 ∙ ap (λ (l : List Event). l ++ each.1) each.3.spelled in
-    absurd (none (canonical_text (events ++ Stop ∷ []) ++ rest)
-    (split ∙ ap (λ (l : List Event). canonical_text (l ++ Stop ∷ []) ++ rest) first ∙ append_assoc start (canonical_text (events ++ Stop ∷ [])) rest))
+stops : (rest text : List ℕ) → StartOrStop rest text → ((behind : List ℕ) → text ≡ start ++ behind → ⊥) → text ≡ stop ++ rest
+stops rest text (inl (more, is)) none = absurd (none more is)
+stops rest text (inr is) none = is
 
 pub ends_parts : (profile : List DeviceParts) (taken text : List ℕ) → (more : MoreParts profile taken text) → ((behind : List ℕ) → text ≡ start ++ behind → ⊥)
     → text ≡ stop ++ more.rest
-ends_parts profile taken text more none = ends_by profile text more.parts more.legs more.rest more.each more.split none
+ends_parts profile taken text more none =
+    stops more.rest text (begins_leg profile (taken ++ addresses more.parts) more.parts more.legs more.last more.rest text more.each more.ends more.split) none
 
 -- ---- the part that was kept is the one that stands there
 
@@ -246,13 +306,44 @@ taken_leg leg_bytes behind old new bytes none taken same =
     let all : taken.more ≡ bytes = sym (same ∙ taken.added ∙ ap (λ (l : List ℕ). l ++ taken.more) none) in
     taken.split ∙ ap (λ (l : List ℕ). acked_text l ++ behind) all
 
--- those of the next part, where it stands there
-pub next_leg : (profile : List DeviceParts) (taken text behind old new bytes : List ℕ) → old ≡ [] → TakesAll text old new behind → bytes ≡ new
-    → (next : NextPart profile taken text) → (bytes ≡ next.bytes) × (behind ≡ next.behind)
-next_leg profile taken text behind old new bytes none takes same next =
-    let few : length (old ++ next.bytes) ≤ 516 = subst (λ (l : List ℕ). length (l ++ next.bytes) ≤ 516) (sym none) next.few in
-    let took = takes next.bytes next.behind next.small next.ended few next.split in
-    (same ∙ took.0 ∙ ap (λ (l : List ℕ). l ++ next.bytes) none, took.1)
+module _ (profile : List DeviceParts) (taken text behind old new : List ℕ) (none : old ≡ []) (takes : TakesAll text old new behind) where
+  -- those of a leg in which something is refused, but for the last
+  taken_refused : (next : NextRefused profile taken text) → (new ≡ next.one.front) × (behind ≡ end_text next.one.last ++ next.rest)
+  taken_refused next =
+      let one = next.one in
+      let few : length (old ++ one.front) ≤ 516 =
+      omega (arith, length-append old one.front, ap length none, ap length one.whole, length-append one.front (one.last ∷ []), next.few) in
+      let took = takes one.front (end_text one.last ++ next.rest) one.small_front (none_at_nack one.last next.rest) few next.split in
+      (took.0 ∙ ap (λ (l : List ℕ). l ++ one.front) none, took.1)
+
+  -- those of the next part, where it stands there
+  pub taken_part : (bytes : List ℕ) → bytes ≡ new → (next : NextPart profile taken text) → (bytes ≡ next.bytes) × (behind ≡ next.behind)
+  taken_part bytes same next =
+      let few : length (old ++ next.bytes) ≤ 516 = subst (λ (l : List ℕ). length (l ++ next.bytes) ≤ 516) (sym none) next.few in
+      let took = takes next.bytes next.behind next.small next.ended few next.split in
+      (same ∙ took.0 ∙ ap (λ (l : List ℕ). l ++ next.bytes) none, took.1)
+
+  -- it is a part, where no byte with NACK follows
+  pub next_part : NoneNacked behind → NextLeg profile taken text → NextPart profile taken text
+  next_part no_nack (inl next) = next
+  next_part no_nack (inr next) = absurd (no_nack next.one.last next.rest next.one.small_last (taken_refused next).1)
+
+  -- and else what is refused
+  pub next_refused : (last : ℕ) (rest : List ℕ) (parts : List PartData) → last < 256 → behind ≡ end_text last ++ rest
+      → ((byte : ℕ) (more : List ℕ) → byte < 256 → behind ≡ end_text byte ++ more → last ≡ byte) → addresses parts ≡ taken → NextLeg profile taken text
+      → (length new ≤ 515) × SaysNacked profile parts (new ++ last ∷ [])
+  next_refused last rest parts small ends only own (inl next) =
+      let same = taken_part new refl next in
+      absurd (next.no_nack last rest small (sym same.1 ∙ ends))
+  next_refused last rest parts small ends only own (inr next) =
+      let took = taken_refused next in
+      let one = next.one in
+      let same : last ≡ one.last = only one.last next.rest one.small_last took.1 in
+      let all : next.bytes ≡ new ++ last ∷ [] =
+      one.whole ∙ ap (λ (l : List ℕ). l ++ one.last ∷ []) (sym took.0) ∙ ap (λ (b : ℕ). new ++ b ∷ []) (sym same) in (
+        omega (arith, ap length all, length-append new (last ∷ []), next.few),
+        subst (SaysNacked profile parts) all (says_after profile next.parts parts next.bytes (next.same ∙ sym own) next.says),
+      )
 
 pub room_for_next : (parts : List PartData) → length (addresses parts) < 16 → length parts < 16
 room_for_next parts room = omega (arith, room, length-map parts (λ (p : PartData). p.addr))

@@ -16,6 +16,11 @@ pub length-acked : (bytes : List ℕ) → length (acked bytes) ≡ 2 * length by
 length-acked [] = refl
 length-acked (b ∷ bytes) = omega (arith, length-acked bytes)
 
+pub length-nacked : (bytes : List ℕ) → length (nacked bytes) ≡ 2 * length bytes
+length-nacked [] = refl
+length-nacked (b ∷ []) = refl
+length-nacked (b ∷ c ∷ bytes) = omega (arith, length-nacked (c ∷ bytes))
+
 -- the bytes of events
 pub bytes_of_acked : (bytes : List ℕ) (more : List Event) → AreBytes (acked bytes ++ more) → AreByteValues bytes
 bytes_of_acked [] more small = tt

@@ -11,6 +11,8 @@ pub mod Wires
 pub mod Found
 pub mod CommonLegs
 pub mod Spelled
+pub mod Alone
+pub mod RefusedLegs
 pub mod Groups
 pub mod Inside
 pub mod Bodies

@@ -33,6 +33,10 @@ unfolding encode_with
 length-acked_text [] = refl
 length-acked_text (b ∷ bytes) = omega (arith, length-acked_text bytes)
 
+pub length-end_text : (last : ℕ) → length (end_text last) ≡ 7
+unfolding encode_with
+length-end_text last = refl
+
 -- ---- where it ends
 
 -- after STOP, START, and a byte with NACK
@@ -77,11 +81,6 @@ first_of_nacked [] last byte bytes rest same =
 first_of_nacked (x ∷ front) last byte bytes rest same =
     let is : x ≡ byte = cc same in
     (canonical_text (Ack ∷ []) ++ (acked_text front ++ (end_text last ++ rest)), ap (λ (b : ℕ). acked_text (b ∷ front) ++ (end_text last ++ rest)) is)
-
--- and the one in front of one with ACK
-pub first_of_acked : (byte : ℕ) (rest : List ℕ) → acked_text (byte ∷ []) ++ rest ≡ canonical_text (Byte byte ∷ []) ++ (canonical_text (Ack ∷ []) ++ rest)
-unfolding encode_with
-first_of_acked byte rest = refl
 
 -- what one of two lists of acknowledged bytes goes on with, where the texts are the same
 pub record GoesOn (taken : List ℕ) (all : List ℕ) (behind : List ℕ) (rest : List ℕ) : Type 0 where

@@ -8,13 +8,15 @@ use Rattle.pmb_command.specs.declared.form.Form.{Form}
 use Rattle.pmb_command.specs.Parts.{DeviceParts, device_with}
 use Rattle.pmb_command.specs.PecMode.{AllowsPec}
 use Rattle.pmb_command.specs.Wire.{Fits, wire}
-use Rattle.pmb_transaction.specs.Transaction.{PartData, ReadData, CallData, TransactionData, Write, Read, Call, Refused}
+use Rattle.pmb_transaction.specs.Transaction.{PartData, ReadData, CallData, AlertData, TransactionData, Write, Read, Call, Refused, Alert, NoAlert}
 use Rattle.pmb_transaction.specs.Body.{forms, checked, WriteBody, IsInsideBody, IsRequest}
 use Rattle.pmb_transaction.specs.Packet.{Packet, leg, nacked}
 
 -- The table of the transactions whose packets are taken at once, in every form of their data, with
 -- or without a packet error code (SMBus 3.0 section 6.5). Each byte is acknowledged, but for the
--- last one that is read, and for what a row says is refused. No part comes before that.
+-- last one that is read, and for what a row says is refused. Parts of a group may come before that,
+-- but not before a device that refuses to be read. At the Alert Response Address a device answers, or
+-- none does.
 pub data IsCommon : TransactionData → Type 0 where
   -- S addr+W A code A data A .. [pec A] [S addr+W A code A data A .. [pec A]] .. P
   parts_written : (parts : List PartData) → IsCommon (Write parts)
@@ -22,12 +24,18 @@ pub data IsCommon : TransactionData → Type 0 where
   device_read : (t : ReadData) → IsCommon (Read t)
   -- S addr+W A code A data A .. S addr+R A reply A .. [pec] N P
   device_called : (t : CallData) → IsCommon (Call t)
-  -- S addr+W N P
-  address_refused : (addr : ℕ) → IsCommon (Refused (record { parts = []; addr = addr; sent = []; at_read = false }))
-  -- S addr+W A sent A .. sent N P
-  byte_refused : (addr : ℕ) (first : ℕ) (more : List ℕ) → IsCommon (Refused (record { parts = []; addr = addr; sent = first ∷ more; at_read = false }))
+  -- [S addr+W A code A data A .. [pec A]] .. S addr+W N P
+  address_refused : (parts : List PartData) (addr : ℕ) → IsCommon (Refused (record { parts = parts; addr = addr; sent = []; at_read = false }))
+  -- [S addr+W A code A data A .. [pec A]] .. S addr+W A sent A .. sent N P
+  byte_refused : (parts : List PartData) (addr : ℕ) (first : ℕ) (more : List ℕ)
+      → IsCommon (Refused (record { parts = parts; addr = addr; sent = first ∷ more; at_read = false }))
   -- S addr+W A sent A .. S addr+R N P
   read_refused : (addr : ℕ) (sent : List ℕ) → IsCommon (Refused (record { parts = []; addr = addr; sent = sent; at_read = true }))
+  -- S 19 A byte N P
+  -- S 19 A byte A pec N P
+  device_alerted : (t : AlertData) → IsCommon (Alert t)
+  -- S 19 N P
+  none_alerted : IsCommon NoAlert
 
 -- A text begins with the text of a common packet, the canonical text of its events: so many bytes,
 -- and so many events.
@@ -91,14 +99,14 @@ module _ (profile : List DeviceParts) (address : ℕ) (code : ℕ) (bytes : List
 -- ---- those of a packet in which something is refused
 
 module _ (profile : List DeviceParts) (address : ℕ) (sent : List ℕ) (all : List ℕ) where
-  -- those of a leg, where the last byte sent is refused
-  pub record OneByteRefused : Type 0 where
+  -- those of a leg after some parts, where the last byte sent is refused
+  pub record OneByteRefused (parts : List PartData) : Type 0 where
     pub device : DeviceParts
     pub known : device_with address profile ≡ Some device
     pub front : List ℕ
     pub last : ℕ
     pub split : sent ≡ front ++ last ∷ []
-    pub begins : IsInsideBody device [] front
+    pub begins : IsInsideBody device parts front
     pub spelled : all ≡ write_address address ∷ sent
 
   -- Those of both legs, where to be read is refused; the first leg has `written` bytes.

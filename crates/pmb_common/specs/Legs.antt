@@ -1,17 +1,19 @@
 -- The legs of a common packet: their bytes, address bytes too, and their events.
 use Rattle.std.specs.Prelude.{◌≡◌, ◌≤◌, ◌<◌, ℕ, ◌+◌, ◌%◌, ◌⊎◌, ⊤, Bool, Option, Some, List, [], ◌∷◌, ◌++◌, drop, length}
 use Rattle.pmb_bus.specs.declared.event.Event.{Event}
-use Rattle.pmb_bus.specs.declared.event.Event.TheVariants.{Start, Stop}
-use Rattle.pmb_bus.specs.Address.{write_address}
+use Rattle.pmb_bus.specs.declared.event.Event.TheVariants.{Start, Byte, Stop}
 use Rattle.pmb_bus.specs.Event.{canonical_text}
 use Rattle.pmb_command.specs.Parts.{DeviceParts}
 use Rattle.pmb_command.specs.Wire.{AreByteValues}
+use Rattle.pmb_transaction.specs.Transaction.{TransactionData}
 use Rattle.pmb_transaction.specs.Packet.{leg}
 use Rattle.pmb_common.specs.declared.legs.Legs.{Legs}
 use Rattle.pmb_common.specs.declared.legs.Legs.TheVariants.{Written, Both, Group, Nacked}
 use Rattle.pmb_common.specs.Front.{acked_text, end_text}
-use Rattle.pmb_common.specs.Common.{OneByteRefused, OneCalled, OneRead, OneReadRefused, nacked_leg, read_events}
+use Rattle.pmb_common.specs.Common.{OneCalled, OneRead, OneReadRefused, nacked_leg, read_events}
 use Rattle.pmb_common.specs.Groups.{SayGroup, SaysPart}
+use Rattle.pmb_common.specs.Alerts.{SaysAlert}
+use Rattle.pmb_common.specs.Nacked.{SaysNacked}
 
 -- the events of legs with these bytes, up to STOP; of a group those of the first leg
 abbrev pub leg_events : Legs → List ℕ → List Event
@@ -52,7 +54,7 @@ pub record NextWritten (behind : List ℕ) : Type 0 where
   pub small : byte < 256
   pub even : byte % 2 ≡ 0
   pub more : List ℕ
-  pub split : behind ≡ canonical_text (Start ∷ []) ++ (acked_text (byte ∷ []) ++ more)
+  pub split : behind ≡ canonical_text (Start ∷ []) ++ (canonical_text (Byte byte ∷ []) ++ more)
 
 abbrev pub Follows : Legs → List ℕ → Type 0
 Follows Written behind = ⊤
@@ -98,13 +100,6 @@ abbrev pub FindsNacked : List ℕ → List ℕ → List ℕ → Option Legs → 
 FindsNacked text first new result = (last : ℕ) (rest : List ℕ) → last < 256 → length first ≤ 515 → text ≡ end_text last ++ rest
     → (result ≡ Some Nacked) × (new ≡ first ++ last ∷ [])
 
--- What a leg with these bytes says, of which the last one has NACK: an address is refused, or a byte
--- that is sent.
-abbrev pub SaysNacked : List DeviceParts → List ℕ → Type 0
-SaysNacked profile bytes =
-    ((address : ℕ) × (address < 128) × (bytes ≡ write_address address ∷ []))
-    ⊎ ((address : ℕ) × (sent : List ℕ) × OneByteRefused profile address sent bytes)
-
 -- to be read is refused
 abbrev pub SayUnread : List DeviceParts → ℕ → List ℕ → Type 0
 SayUnread profile written bytes = (address : ℕ) × (sent : List ℕ) × OneReadRefused profile address sent bytes written
@@ -121,9 +116,14 @@ abbrev pub SayBoth : List DeviceParts → ℕ → List ℕ → Type 0
 SayBoth profile written bytes =
     ((length bytes ≡ written + 1) × SayUnread profile written bytes) ⊎ ((written + 1 < length bytes) × SayRead profile written bytes)
 
+-- What the one leg of a packet says, of which the last byte has NACK: something is refused, or it stands
+-- at the Alert Response Address.
+abbrev pub SaysAlone : List DeviceParts → List ℕ → Type 0
+SaysAlone profile bytes = SaysNacked profile [] bytes ⊎ ((t : TransactionData) × SaysAlert bytes t)
+
 -- What legs at the front of a text say, with these bytes.
 abbrev pub SayLegs : List DeviceParts → List ℕ → Legs → List ℕ → Type 0
 SayLegs profile text Written bytes = SaysPart profile bytes
 SayLegs profile text (Both written) bytes = SayBoth profile written bytes
 SayLegs profile text Group bytes = SayGroup profile text bytes
-SayLegs profile text Nacked bytes = SaysNacked profile bytes
+SayLegs profile text Nacked bytes = SaysAlone profile bytes

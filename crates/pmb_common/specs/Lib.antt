@@ -1,8 +1,10 @@
+pub mod Alerts
 pub mod Codes
 pub mod Common
 pub mod Front
 pub mod Groups
 pub mod Inside
 pub mod Legs
+pub mod Nacked
 pub mod PacketBytes
 pub mod Refused

@@ -18,7 +18,7 @@ pub(crate) struct Data<'b> {
 
 /// Whether the packet error code of some bytes follows them; `None` where something else does.
 #[inline(always)]
-fn has_code(bytes: &[u8], behind: &[u8]) -> Option<bool>
+pub(crate) fn has_code(bytes: &[u8], behind: &[u8]) -> Option<bool>
     ensures says { IfSome result (λ pec. behind.now ≡ code_behind pec bytes.now) }
     ensures found { (pec : Bool) → behind.now ≡ code_behind pec bytes.now → result ≡ Some pec }
 {

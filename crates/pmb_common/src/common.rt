@@ -9,13 +9,15 @@ ghost use Rattle.pmb_bus.specs.Event.{canonical_text};
 ghost use Rattle.pmb_common.specs.Common.{BeginsCommon, TakesPacket};
 ghost use Rattle.pmb_common.specs.declared.legs.Legs.TheVariants.{Both, Nacked, Written};
 ghost use Rattle.pmb_common.specs.Groups.{SaysPart};
-ghost use Rattle.pmb_common.specs.Legs.{BeginsWithLegs, SayBoth, SayLegs, SayUnread, SaysNacked, least, leg_events};
+ghost use Rattle.pmb_common.specs.Legs.{BeginsWithLegs, SayBoth, SayLegs, SayUnread, SaysAlone, least, leg_events};
 
+use crate::alerts::keep_alert;
 use crate::group::take_group;
 use crate::legs::{Legs, front_legs};
+use crate::nacked::keep_refused;
 use crate::packet_bytes::PacketBytes;
 use crate::packets::{called, read, written};
-use crate::refused::{refused_address, refused_byte, unread};
+use crate::refused::unread;
 use pmb_kept::Kept;
 use pmb_table::Profile;
 use pmb_table::laws::accepted_bus;
@@ -122,9 +124,7 @@ fn keep_write(kept: &mut Kept, profile: &Profile, bytes: &[u8]) -> Option<Taken>
     ensures answers { SaysPart profile.now bytes.now → IsSome result }
 {
     let said = written(profile, bytes)?;
-    kept.begin();
-    kept.push_part(said.address, said.code, said.data.bytes, said.data.pec);
-    kept.end_write();
+    kept.end_single(said.address, said.code, said.data.bytes, said.data.pec);
     Some(one_leg(bytes))
 }
 
@@ -175,22 +175,22 @@ fn keep_unread(kept: &mut Kept, profile: &Profile, bytes: &[u8], written: usize)
     Some(both_legs(bytes))
 }
 
-// Keeps what is refused in a leg with these bytes, of which the last one has NACK: its address, or a
-// byte that is sent.
+// Keeps what the one leg of a packet says, which has these bytes, the last one with NACK: an alert, or
+// that its address is refused or the last one of the bytes sent.
 #[inline(never)]
 fn keep_nacked(kept: &mut Kept, profile: &Profile, bytes: &[u8]) -> Option<Taken>
     requires { length bytes.now ≤ 516 }
     ensures takes { (text rest : List ℕ) → text ≡ canonical_text (leg_events Nacked bytes.now) ++ rest
         → IfSome result (λ taken. TakesPacket profile.now text taken.used taken.events kept.new.last) }
     ensures some { IfSome result (λ taken. 0 < taken.used) }
-    ensures answers { SaysNacked profile.now bytes.now → IsSome result }
+    ensures answers { SaysAlone profile.now bytes.now → IsSome result }
 {
-    kept.begin();
-    if let Some(address) = refused_address(bytes) {
-        kept.end_refused(address, &[], None, false);
+    if keep_alert(kept, bytes) {
         return Some(one_leg(bytes));
     }
-    let sent = refused_byte(profile, bytes)?;
-    kept.end_refused(sent.address, sent.bytes, None, false);
+    kept.begin();
+    if !keep_refused(kept, profile, bytes) {
+        return None;
+    }
     Some(one_leg(bytes))
 }

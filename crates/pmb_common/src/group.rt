@@ -1,8 +1,9 @@
-//! Group commands: writes of several parts, each to a device of its own.
+//! Group commands: writes of several parts, each to a device of its own. After some of them a leg may
+//! end the group in which something is refused.
 //!
 //! Each part is kept as soon as its leg is read, so that the bytes of one leg alone are collected.
 
-ghost use Rattle.std.specs.Prelude.{◌≡◌, ◌<◌, IfSome, IsSome, length, true};
+ghost use Rattle.std.specs.Prelude.{◌≡◌, ◌<◌, ◌≤◌, ◌++◌, ◌∷◌, [], IfSome, IsSome, length, true};
 ghost use Rattle.pmb_command.specs.Parts.{IsNew};
 ghost use Rattle.pmb_transaction.specs.Packet.{addresses};
 ghost use Rattle.pmb_transaction.specs.Transaction.{PartData};
@@ -10,11 +11,13 @@ ghost use Rattle.pmb_common.specs.declared.legs.Legs.TheVariants.{Group};
 ghost use Rattle.pmb_common.specs.Common.{OneWritten, TakesPacket};
 ghost use Rattle.pmb_common.specs.Groups.{AddsPart, SayGroup};
 ghost use Rattle.pmb_common.specs.Legs.{BeginsWithLegs};
+ghost use Rattle.pmb_common.specs.Nacked.{IsOfNacked, SaysNacked};
 
 use crate::common::Taken;
+use crate::nacked::keep_refused;
 use crate::packet_bytes::PacketBytes;
 use crate::packets::written;
-use crate::words::{behind_start, behind_stop, take_acked};
+use crate::words::{behind_start, behind_stop, front_last, take_acked};
 use pmb_kept::Kept;
 use pmb_table::Profile;
 
@@ -42,8 +45,22 @@ fn keep_part(kept: &mut Kept, profile: &Profile, bytes: &[u8]) -> bool
     true
 }
 
+/// Keeps what is refused in a leg of these bytes and of one more, which has NACK, after the parts so far,
+/// and returns whether it is one that may stand there. Not inlined, since few groups end so.
+#[inline(never)]
+fn keep_last(kept: &mut Kept, profile: &Profile, bytes: &mut PacketBytes, last: u8) -> bool
+    ensures keeps { result ≡ true → IsOfNacked profile.now kept.old.parts (bytes.old.items ++ last ∷ []) kept.new.last }
+    ensures found { length bytes.old.items ≤ 515 → SaysNacked profile.now kept.old.parts (bytes.old.items ++ last ∷ []) → result ≡ true }
+{
+    if bytes.is_full() {
+        return false;
+    }
+    bytes.push(last);
+    keep_refused(kept, profile, bytes.as_slice())
+}
+
 /// Takes the group at the front of a text, up to STOP, and keeps it. The bytes are those of its
-/// first leg.
+/// first leg. Where the last leg has NACK, something is refused in it.
 #[inline(never)]
 pub(crate) fn take_group(
     kept: &mut Kept,
@@ -66,6 +83,16 @@ pub(crate) fn take_group(
     while let Some(leg) = behind_start(rest) {
         bytes.clear();
         rest = take_acked(leg, bytes);
+        if let Some(last) = front_last(rest) {
+            let acked = bytes.as_slice().len();
+            if !keep_last(kept, profile, bytes, last) {
+                return None;
+            }
+            return Some(Taken {
+                used: text.len() - rest.len() + 7,
+                events: events + 3 + 2 * acked,
+            });
+        }
         let part = bytes.as_slice();
         if !keep_part(kept, profile, part) {
             return None;

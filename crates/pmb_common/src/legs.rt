@@ -14,7 +14,7 @@ pub(crate) enum Legs {
     Written,
     /// A written one of this many bytes, and one that is read, or whose address byte has NACK.
     Both { written: usize },
-    /// A written one, and after it others that are written.
+    /// A written one, and after it others whose address byte is for writing.
     Group,
     /// One whose last byte has NACK.
     Nacked,

@@ -1,10 +1,10 @@
 //! Whole common packets, taken at once from the text of a capture.
 //!
-//! Most of a capture is writes, to one device or to a group, reads and process calls, every byte
-//! acknowledged, and packets in which an address or a byte is refused. Where the canonical text of such
-//! a packet lies whole at the front of a piece, [`Common::take`] takes it at once: one space between
-//! words, digits in lower case and a LF after STOP. All else is left to be taken event by event: alerts,
-//! and what is refused after a part of a group.
+//! A capture is writes, to one device or to a group, reads and process calls, every byte acknowledged,
+//! packets in which an address or a byte is refused, and alerts. Where the canonical text of such a
+//! packet lies whole at the front of a piece, [`Common::take`] takes it at once: one space between
+//! words, digits in lower case and a LF after STOP. Other spellings are left to be taken event by event,
+//! and so is what is no packet.
 //!
 //! ```rust
 //! let profile = Profile::from_toml(rt.alloc(), SAMPLE.as_bytes())?;
@@ -17,12 +17,14 @@
 //! ```
 #![tactic(auto)]
 
+mod alerts;
 mod checked;
 mod common;
 mod events;
 mod group;
 pub mod laws;
 mod legs;
+mod nacked;
 mod packet_bytes;
 mod packets;
 mod refused;

@@ -1,5 +1,5 @@
 //! The table of the packets that are taken at once: what the bytes of each say. Those in which
-//! something is refused are in `refused`.
+//! something is refused are in `refused`, and alerts are in `alerts`.
 //!
 //! A packet that is to be taken so joins by a function here and its row in `IsCommon` of the specs.
 

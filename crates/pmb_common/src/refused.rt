@@ -5,6 +5,7 @@
 
 ghost use Rattle.std.specs.Prelude.{◌≡◌, ◌↔◌, ◌≤◌, ◌<◌, ◌+◌, [], ◌∷◌, IfSome, IsSome, IsTrue, List, ℕ, length};
 ghost use Rattle.pmb_bus.specs.Address.{write_address};
+ghost use Rattle.pmb_transaction.specs.Transaction.{PartData};
 ghost use Rattle.pmb_transaction.specs.Body.{IsInsideBody, IsRequest, forms};
 ghost use Rattle.pmb_common.specs.Common.{OneByteRefused, OneReadRefused};
 ghost use Rattle.pmb_common.specs.Refused.{AreData, IsInsideData, is_read};
@@ -74,9 +75,10 @@ fn is_read(forms: Shape, behind: &[u8]) -> bool
     behind.is_empty() && forms.read.is_some()
 }
 
-/// Whether a body that is allowed in a first leg begins with these bytes and goes on.
-fn is_inside_body(device: &DeviceProfile, bytes: &[u8]) -> bool
-    ensures { IsTrue result ↔ IsInsideBody device.now [] bytes.now }
+/// Whether a body that is allowed after so many parts begins with these bytes and goes on: a call only
+/// after none.
+fn is_inside_body(device: &DeviceProfile, bytes: &[u8], before: usize) -> bool
+    ensures { (parts : List PartData) → length parts ≡ before → (IsTrue result ↔ IsInsideBody device.now parts bytes.now) }
 {
     let Some((code, data)) = bytes.split_first() else {
         return true;
@@ -84,6 +86,9 @@ fn is_inside_body(device: &DeviceProfile, bytes: &[u8]) -> bool
     let forms = forms_of(device, *code);
     if go_on(forms.write, device.pec(), data) {
         return true;
+    }
+    if before > 0 {
+        return false;
     }
     go_on(forms.call, PecMode::Off, data)
 }
@@ -124,12 +129,17 @@ pub(crate) fn refused_address(bytes: &[u8]) -> Option<u8>
     written_to(*to_write)
 }
 
-/// What a leg of these bytes says whose last byte is refused: an address byte for writing, and the
-/// bytes that are sent, of which those before the last are inside a body.
-pub(crate) fn refused_byte<'b>(profile: &Profile, bytes: &'b [u8]) -> Option<Sent<'b>>
-    ensures says { IfSome result (λ said. OneByteRefused profile.now said.address said.bytes.now bytes.now) }
-    ensures few { IfSome result (λ said. length said.bytes.now ≤ 258) }
-    ensures found { (address : ℕ) (sent : List ℕ) → OneByteRefused profile.now address sent bytes.now → IsSome result }
+/// What a leg of these bytes says after so many parts whose last byte is refused: an address byte for
+/// writing, and the bytes that are sent, of which those before the last are inside a body.
+pub(crate) fn refused_byte<'b>(
+    profile: &Profile,
+    bytes: &'b [u8],
+    before: usize,
+) -> Option<Sent<'b>>
+    ensures says { (parts : List PartData) → length parts ≡ before → IfSome result (λ said. OneByteRefused profile.now said.address said.bytes.now bytes.now parts) }
+    ensures few { (parts : List PartData) → length parts ≡ before → IfSome result (λ said. length said.bytes.now ≤ 258) }
+    ensures found { (parts : List PartData) (address : ℕ) (sent : List ℕ) → length parts ≡ before
+        → OneByteRefused profile.now address sent bytes.now parts → IsSome result }
 {
     bodies_are_short();
     let Some((to_write, sent)) = bytes.split_first() else {
@@ -139,7 +149,7 @@ pub(crate) fn refused_byte<'b>(profile: &Profile, bytes: &'b [u8]) -> Option<Sen
         return None;
     };
     let device = addressed(profile, *to_write)?;
-    if !is_inside_body(device, front) {
+    if !is_inside_body(device, front, before) {
         return None;
     }
     Some(Sent {

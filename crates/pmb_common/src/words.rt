@@ -92,6 +92,7 @@ pub(crate) fn front_acked(text: &[u8]) -> Option<u8>
 #[inline(always)]
 pub(crate) fn front_last(text: &[u8]) -> Option<u8>
     ensures spelled { IfSome result (λ byte. text.now ≡ end_text byte ++ drop 7 text.now) }
+    ensures small { IfSome result (λ byte. byte < 256) }
     ensures only { (byte : ℕ) (rest : List ℕ) → byte < 256 → text.now ≡ end_text byte ++ rest → result ≡ Some byte }
 {
     let [first, second, space, nack, behind, stop, last, ..] = text else {

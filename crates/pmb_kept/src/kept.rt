@@ -1,4 +1,4 @@
-//! The transactions that are kept, one of each kind.
+//! The transactions that are kept, one of each kind, and a write of one part besides.
 //!
 //! The parts of the packet under way are the first ones of the kept write. Of a kept transaction of
 //! another kind nothing counts until its packet ends.
@@ -14,6 +14,15 @@ use crate::parts::{copy_bytes, copy_parts, copy_sent, front_parts, put_part};
 use pmb_transaction::Transaction;
 use std::marker::Model;
 
+/// Which of those that are kept ended last.
+#[derive(Clone, Copy)]
+enum Last {
+    /// The write of one part, in `single`.
+    Single,
+    /// That of a kind.
+    Of(Kind),
+}
+
 /// The parts of the packet under way, and the transaction whose packet ended last.
 #[derive(Drop)]
 pub struct Kept {
@@ -21,6 +30,8 @@ pub struct Kept {
     write: Transaction,
     /// How many these are.
     count: usize,
+    /// A write of one part, which leaves the parts of the group before it where they are.
+    single: Transaction,
     read: Transaction,
     call: Transaction,
     refused: Transaction,
@@ -28,7 +39,7 @@ pub struct Kept {
     /// Always `NoAlert`.
     no_alert: Transaction,
     /// Which of them ended last.
-    last: Kind,
+    last: Last,
 }
 
 impl Model for Kept {
@@ -51,12 +62,13 @@ impl Kept {
         Kept {
             write: Transaction::NoAlert,
             count: 0,
+            single: Transaction::NoAlert,
             read: Transaction::NoAlert,
             call: Transaction::NoAlert,
             refused: Transaction::NoAlert,
             alert: Transaction::NoAlert,
             no_alert: Transaction::NoAlert,
-            last: Kind::NoAlert,
+            last: Last::Of(Kind::NoAlert),
         }
     }
 
@@ -66,12 +78,13 @@ impl Kept {
         ensures { transaction_data result.now ≡ self.now.last }
     {
         match self.last {
-            Kind::Write => &self.write,
-            Kind::Read => &self.read,
-            Kind::Call => &self.call,
-            Kind::Refused => &self.refused,
-            Kind::Alert => &self.alert,
-            Kind::NoAlert => &self.no_alert,
+            Last::Single => &self.single,
+            Last::Of(Kind::Write) => &self.write,
+            Last::Of(Kind::Read) => &self.read,
+            Last::Of(Kind::Call) => &self.call,
+            Last::Of(Kind::Refused) => &self.refused,
+            Last::Of(Kind::Alert) => &self.alert,
+            Last::Of(Kind::NoAlert) => &self.no_alert,
         }
     }
 
@@ -81,12 +94,13 @@ impl Kept {
     {
         self.count = 0;
         match self.last {
-            Kind::Write => std::mem::replace(&mut self.write, Transaction::NoAlert),
-            Kind::Read => std::mem::replace(&mut self.read, Transaction::NoAlert),
-            Kind::Call => std::mem::replace(&mut self.call, Transaction::NoAlert),
-            Kind::Refused => std::mem::replace(&mut self.refused, Transaction::NoAlert),
-            Kind::Alert => std::mem::replace(&mut self.alert, Transaction::NoAlert),
-            Kind::NoAlert => Transaction::NoAlert,
+            Last::Single => std::mem::replace(&mut self.single, Transaction::NoAlert),
+            Last::Of(Kind::Write) => std::mem::replace(&mut self.write, Transaction::NoAlert),
+            Last::Of(Kind::Read) => std::mem::replace(&mut self.read, Transaction::NoAlert),
+            Last::Of(Kind::Call) => std::mem::replace(&mut self.call, Transaction::NoAlert),
+            Last::Of(Kind::Refused) => std::mem::replace(&mut self.refused, Transaction::NoAlert),
+            Last::Of(Kind::Alert) => std::mem::replace(&mut self.alert, Transaction::NoAlert),
+            Last::Of(Kind::NoAlert) => Transaction::NoAlert,
         }
     }
 
@@ -139,13 +153,29 @@ impl Kept {
     pub fn end_write(&mut self)
         ensures { self.new.last ≡ says_write self.old.parts }
     {
-        self.last = Kind::Write;
+        self.last = Last::Of(Kind::Write);
         let count = self.count;
         make_write(&mut self.write);
         let Transaction::Write { parts } = &mut self.write else {
             unreachable!()
         };
         parts.truncate(count);
+    }
+
+    /// The packet was the write of one part, which was not added before.
+    #[inline]
+    pub fn end_single(&mut self, address: u8, command: u8, data_bytes: &[u8], with_pec: bool)
+        requires { length data_bytes.now ≤ 255 }
+        ensures { self.new.last
+            ≡ says_write (record { addr = address; code = command; bytes = data_bytes.now; pec = with_pec } ∷ []) }
+    {
+        self.last = Last::Single;
+        make_write(&mut self.single);
+        let Transaction::Write { parts } = &mut self.single else {
+            unreachable!()
+        };
+        put_part(parts, 0, address, command, data_bytes, with_pec);
+        parts.truncate(1);
     }
 
     /// The packet was a read.
@@ -155,7 +185,7 @@ impl Kept {
         ensures { self.new.last
             ≡ says_read (record { addr = address; code = command; reply = data_bytes.now; pec = with_pec }) }
     {
-        self.last = Kind::Read;
+        self.last = Last::Of(Kind::Read);
         make_read(&mut self.read);
         let Transaction::Read {
             addr,
@@ -186,7 +216,7 @@ impl Kept {
         ensures { self.new.last
             ≡ says_call (record { addr = address; code = command; bytes = sent.now; reply = data_bytes.now; pec = with_pec }) }
     {
-        self.last = Kind::Call;
+        self.last = Last::Of(Kind::Call);
         make_call(&mut self.call);
         let Transaction::Call {
             addr,
@@ -213,7 +243,7 @@ impl Kept {
         ensures { self.new.last
             ≡ says_refused (record { parts = self.old.parts; addr = address; sent = taken.now ++ option_to_list refused; at_read = to_read }) }
     {
-        self.last = Kind::Refused;
+        self.last = Last::Of(Kind::Refused);
         let front = front_parts(&self.write, self.count);
         make_refused(&mut self.refused);
         let Transaction::Refused {
@@ -235,7 +265,7 @@ impl Kept {
     pub fn end_alert(&mut self, answered: u8, with_pec: bool)
         ensures { self.new.last ≡ says_alert (record { byte = answered; pec = with_pec }) }
     {
-        self.last = Kind::Alert;
+        self.last = Last::Of(Kind::Alert);
         make_alert(&mut self.alert);
         let Transaction::Alert { byte, pec } = &mut self.alert else {
             unreachable!()
@@ -248,6 +278,6 @@ impl Kept {
     pub fn end_no_alert(&mut self)
         ensures { self.new.last ≡ says_no_alert }
     {
-        self.last = Kind::NoAlert;
+        self.last = Last::Of(Kind::NoAlert);
     }
 }

@@ -144,8 +144,7 @@ pub(crate) fn copy_sent(taken: &[u8], refused: Option<u8>, into: &mut ArrayVec<u
     requires { length (taken.now ++ option_to_list refused) ≤ 258 }
     ensures { into.new.items ≡ taken.now ++ option_to_list refused }
 {
-    into.clear();
-    let _ = into.try_extend_from_slice(taken);
+    copy_bytes(taken, into);
     if let Some(byte) = refused {
         into.push(byte);
     }

@@ -7,7 +7,7 @@ use Rattle.pmb_bus.specs.declared.event.Event.TheVariants.{Start, Byte, Ack, Nac
 use Rattle.pmb_bus.specs.Event.{AreBytes, canonical_text, character, text_of}
 use Rattle.pmb_bus.specs.Text.{EndsBetween}
 use Rattle.pmb_command.specs.Parts.{DeviceParts}
-use Rattle.pmb_common.specs.Common.{IsCommon, address_refused, byte_refused, device_called, device_read, parts_written, read_refused}
+use Rattle.pmb_common.specs.Common.{IsCommon, address_refused, byte_refused, device_alerted, device_called, device_read, none_alerted, parts_written, read_refused}
 use Rattle.pmb_objects.specs.Counts.{after_packet}
 use Rattle.pmb_objects.specs.Object.{object_lines}
 use Rattle.pmb_objects.specs.Packets.{packet_objects}
@@ -62,44 +62,49 @@ bytes_before (Ack ∷ front) more small = bytes_before front more small
 bytes_before (Nack ∷ front) more small = bytes_before front more small
 bytes_before (Stop ∷ front) more small = bytes_before front more small
 
-no_legs : (profile : List DeviceParts) (parts : List PartData) (events : List Event) → PartsEvents profile parts events → parts ≡ [] → events ≡ []
-no_legs profile [] events each none = each
-no_legs profile (part ∷ parts) events each none = absurd (cc none)
-
 -- a common packet begins with START
-begins_write : (profile : List DeviceParts) (parts : List PartData) (events : List Event) → Packet profile (Write parts) events → (more : List Event) × (events ≡ Start ∷ more)
+abbrev pub BeginsWithStart : List Event → Type 0
+BeginsWithStart events = (more : List Event) × (events ≡ Start ∷ more)
+
+begins_part : (profile : List DeviceParts) (part : PartData) (parts : List PartData) (legs others : List Event) → PartsEvents profile (part ∷ parts) legs → BeginsWithStart (legs ++ others)
+begins_part profile part parts legs others (first, rest, split, leg, more) =
+    (_, ap (λ (l : List Event). l ++ others) (split ∙ ap (λ (l : List Event). l ++ rest) leg.spelled))
+
+begins_write : (profile : List DeviceParts) (parts : List PartData) (events : List Event) → Packet profile (Write parts) events → BeginsWithStart events
 begins_write profile [] events packet = absurd (omega (arith, packet.some))
 begins_write profile (part ∷ parts) events packet =
-    let (first, rest, split, leg, others) = packet.each in
-    (_, packet.spelled ∙ ap (λ (legs : List Event). legs ++ Stop ∷ []) (split ∙ ap (λ (l : List Event). l ++ rest) leg.spelled))
+    subst BeginsWithStart (sym packet.spelled) (begins_part profile part parts packet.legs (Stop ∷ []) packet.each)
 
--- one in which something is refused has no leg before that
-alone : (profile : List DeviceParts) (t : RefusedData) (events : List Event) → (packet : Packet profile (Refused t) events) → t.parts ≡ [] → events ≡ packet.last ++ Stop ∷ []
-alone profile t events packet none =
-    packet.spelled ∙ ap (λ (legs : List Event). legs ++ packet.last ++ Stop ∷ []) (no_legs profile t.parts packet.legs packet.each none)
+-- so does one in which something is refused, after parts or without any
+begins_behind : (profile : List DeviceParts) (parts : List PartData) (legs others : List Event) → PartsEvents profile parts legs → BeginsWithStart others
+    → BeginsWithStart (legs ++ others)
+begins_behind profile [] legs others none (more, is) = (more, ap (λ (l : List Event). l ++ others) none ∙ is)
+begins_behind profile (part ∷ parts) legs others each begun = begins_part profile part parts legs others each
+
+begins_refused : (profile : List DeviceParts) (t : RefusedData) (events : List Event) → (packet : Packet profile (Refused t) events)
+    → (more : List Event) × (packet.last ≡ Start ∷ more) → BeginsWithStart events
+begins_refused profile t events packet (more, is) =
+    subst BeginsWithStart (sym (packet.spelled ∙ append_assoc packet.legs packet.last (Stop ∷ [])))
+    (begins_behind profile t.parts packet.legs (packet.last ++ Stop ∷ []) packet.each (more ++ Stop ∷ [], ap (λ (l : List Event). l ++ Stop ∷ []) is))
 
 begins_unread : (profile : List DeviceParts) (addr : ℕ) (sent : List ℕ) (events : List Event) → Packet profile (Refused (record { parts = []; addr = addr; sent = sent; at_read = true })) events
-    → (more : List Event) × (events ≡ Start ∷ more)
+    → BeginsWithStart events
 begins_unread profile addr [] events packet =
-    (_, alone profile (record { parts = []; addr = addr; sent = []; at_read = true }) events packet refl ∙ ap (λ (legs : List Event). legs ++ Stop ∷ []) packet.refused.spelled)
+    begins_refused profile (record { parts = []; addr = addr; sent = []; at_read = true }) events packet (_, packet.refused.spelled)
 begins_unread profile addr (first ∷ more) events packet =
-    (_, alone profile (record { parts = []; addr = addr; sent = first ∷ more; at_read = true }) events packet refl ∙ ap (λ (legs : List Event). legs ++ Stop ∷ []) packet.refused.spelled)
+    begins_refused profile (record { parts = []; addr = addr; sent = first ∷ more; at_read = true }) events packet (_, packet.refused.spelled)
 
-begins : (profile : List DeviceParts) (t : TransactionData) (events : List Event) → IsCommon t → Packet profile t events → (more : List Event) × (events ≡ Start ∷ more)
+begins : (profile : List DeviceParts) (t : TransactionData) (events : List Event) → IsCommon t → Packet profile t events → BeginsWithStart events
 begins profile t events (parts_written parts) packet = begins_write profile parts events packet
 begins profile t events (device_read read) packet = (_, packet.spelled)
 begins profile t events (device_called call) packet = (_, packet.spelled)
-begins profile t events (address_refused addr) packet = (
-  _,
-  alone profile (record { parts = []; addr = addr; sent = []; at_read = false }) events packet refl
-      ∙ ap (λ (legs : List Event). legs ++ Stop ∷ []) packet.refused.spelled,
-)
-begins profile t events (byte_refused addr first more) packet = (
-  _,
-  alone profile (record { parts = []; addr = addr; sent = first ∷ more; at_read = false }) events packet refl
-      ∙ ap (λ (legs : List Event). legs ++ Stop ∷ []) packet.refused.spelled,
-)
+begins profile t events (address_refused parts addr) packet =
+    begins_refused profile (record { parts = parts; addr = addr; sent = []; at_read = false }) events packet (_, packet.refused.spelled)
+begins profile t events (byte_refused parts addr first more) packet =
+    begins_refused profile (record { parts = parts; addr = addr; sent = first ∷ more; at_read = false }) events packet (_, packet.refused.spelled)
 begins profile t events (read_refused addr sent) packet = begins_unread profile addr sent events packet
+begins profile t events (device_alerted alert) packet = (_, packet.spelled)
+begins profile t events none_alerted packet = (_, packet)
 
 line_by : (front more : List Event) → HasNoStop front → AreBytes (front ++ Stop ∷ []) → front ++ Stop ∷ [] ≡ Start ∷ more → IsLine (front ++ Stop ∷ [])
 line_by [] more none small same = absurd (cc same)
@@ -124,14 +129,22 @@ write_objects_whole seen place n rest [] one = refl
 write_objects_whole seen place n rest (part ∷ []) one = refl
 write_objects_whole seen place n rest (part ∷ next ∷ parts) one = absurd (omega (arith, one))
 
+refused_objects_whole : (seen : SeenData) (place : ℕ → Place) (n : ℕ) (rest : List Event) (parts : List PartData) (addr : ℕ) (sent : List ℕ) → length parts ≡ 0
+    → kept_objects seen (begun_legs place n (Start ∷ [])) (Refused (record { parts = parts; addr = addr; sent = sent; at_read = false }))
+    ≡ packet_objects seen place n (Start ∷ rest) (Refused (record { parts = parts; addr = addr; sent = sent; at_read = false }))
+refused_objects_whole seen place n rest [] addr sent none = refl
+refused_objects_whole seen place n rest (part ∷ parts) addr sent none = absurd (omega (arith, none))
+
 objects_whole : (seen : SeenData) (place : ℕ → Place) (n : ℕ) (rest : List Event) (t : TransactionData) → IsCommon t → HasOneStart t
     → kept_objects seen (begun_legs place n (Start ∷ [])) t ≡ packet_objects seen place n (Start ∷ rest) t
 objects_whole seen place n rest t (parts_written parts) one = write_objects_whole seen place n rest parts one
 objects_whole seen place n rest t (device_read read) one = refl
 objects_whole seen place n rest t (device_called call) one = refl
-objects_whole seen place n rest t (address_refused addr) one = refl
-objects_whole seen place n rest t (byte_refused addr first more) one = refl
+objects_whole seen place n rest t (address_refused parts addr) one = refused_objects_whole seen place n rest parts addr [] one
+objects_whole seen place n rest t (byte_refused parts addr first more) one = refused_objects_whole seen place n rest parts addr (first ∷ more) one
 objects_whole seen place n rest t (read_refused addr sent) one = refl
+objects_whole seen place n rest t (device_alerted alert) one = refl
+objects_whole seen place n rest t none_alerted one = refl
 
 -- ---- its text
 

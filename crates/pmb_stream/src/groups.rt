@@ -25,16 +25,16 @@ use pmb_table::laws::accepted_bus;
 use pmb_transaction::Transaction;
 use pmb_transaction::laws::{packet_ends_with_stop, packets_are_bytes};
 
-/// Whether a transaction is the write of a group.
+/// Whether a transaction is the write of a group, or what is refused after parts of one.
 #[inline]
 pub(crate) fn is_group(transaction: &Transaction) -> bool
     ensures { result ≡ false → HasOneStart (transaction_data transaction.now) }
 {
     match transaction {
         Transaction::Write { parts } => parts.len() > 1,
+        Transaction::Refused { parts, .. } => !parts.is_empty(),
         Transaction::Read { .. }
         | Transaction::Call { .. }
-        | Transaction::Refused { .. }
         | Transaction::Alert { .. }
         | Transaction::NoAlert => false,
     }

@@ -14,7 +14,7 @@ use std::test::Fail;
 /// A text, what is taken of it, and the line of the transaction.
 type Row = (&'static str, usize, usize, &'static str);
 
-const TAKEN: [Row; 18] = [
+const TAKEN: [Row; 28] = [
     ("S b0 A 03 A P\n", 14, 6, "write 58 03"),
     ("S b0 A 03 A 46 A P\nS b0", 19, 8, "write 58 03 pec"),
     ("S b0 A 21 A 00 A 10 A P\n", 24, 10, "write 58 21 00 10"),
@@ -81,9 +81,43 @@ const TAKEN: [Row; 18] = [
         13,
         "refused 58 1b 01 7a read",
     ),
+    // after parts of a group: an address, of no device and of one
+    ("S b0 A 03 A S 40 N P\n", 21, 9, "refused 58 03 + 20"),
+    ("S b0 A 03 A S b2 N P\nS", 21, 9, "refused 58 03 + 59"),
+    // a code, data, and where a packet error code may come, which is 46
+    (
+        "S b0 A 03 A S b2 A 03 N P\n",
+        26,
+        11,
+        "refused 58 03 + 59 03",
+    ),
+    (
+        "S b0 A 03 A S b2 A 21 A 00 N P\nS 19",
+        31,
+        13,
+        "refused 58 03 + 59 21 00",
+    ),
+    (
+        "S b2 A 03 A S b4 A 03 A 12 A S b0 A 03 A 47 N P\n",
+        48,
+        20,
+        "refused 59 03 + 5a 03 pec + 58 03 47",
+    ),
+    // a code that is no command's
+    (
+        "S b0 A 03 A S b2 A c8 N P\n",
+        26,
+        11,
+        "refused 58 03 + 59 c8",
+    ),
+    // an answer at the Alert Response Address, of a device or of none, and no answer
+    ("S 19 A b0 N P\n", 14, 6, "alert b0"),
+    ("S 19 A 41 N P\nS b0 ", 14, 6, "alert 41"),
+    ("S 19 A b0 A f3 N P\n", 19, 8, "alert b0 pec"),
+    ("S 19 N P\n", 9, 4, "alert none"),
 ];
 
-const NOT_TAKEN: [&str; 62] = [
+const NOT_TAKEN: [&str; 74] = [
     "",
     "S",
     "S b0 A 03 A P",
@@ -144,10 +178,9 @@ const NOT_TAKEN: [&str; 62] = [
     "S b0 A 03 A S ae A 03 A P\n",
     "S b0 A 03 A S b2 A P\n",
     "S b0 A 03 A S P\n",
-    // a group that is cut off, and one whose last byte is not acknowledged
+    // a group that is cut off
     "S b0 A 03 A S b2 A 03 A P",
     "S b0 A 03 A S b2 A 03 A ",
-    "S b0 A 03 A S b2 A 03 N P\n",
     // a read after a part
     "S b0 A 03 A S b2 A 88 A S b3 A 00 A 08 N P\n",
     // a part after what looks like a read
@@ -168,13 +201,34 @@ const NOT_TAKEN: [&str; 62] = [
     "S b0 A 1b A 01 A 7a A S b1 A 01 A 10 A 7b N P\n",
     // no code is sent, and no reply
     "S b0 A S b1 A 01 A 10 N P\n",
-    // a group in which something is refused
-    "S b0 A 03 A S 40 N P\n",
-    "S b0 A 03 A S b2 N P\n",
+    // what is refused after a part, spelled in another way or cut off
+    "S b0 A 03 A S 40 N P",
+    "S b0 A 03 A S 40 N  P\n",
+    "S b0 A 03 A S 4O N P\n",
+    "S b0 A 03 A S b2 A 03 N P ",
+    // and then more than STOP
+    "S b0 A 03 A S 40 N S b2 A 03 A P\n",
+    // the device of the part, for its address and for a byte
+    "S b0 A 03 A S b0 N P\n",
+    "S b0 A 03 A S b0 A 03 N P\n",
+    // no device is at 57h, and a code that is no command's was acknowledged
+    "S b0 A 03 A S ae A 03 N P\n",
+    "S b0 A 03 A S b2 A c8 A 00 N P\n",
+    // the data of a call, which no part comes before
+    "S b2 A 03 A S b0 A 30 A 02 N P\n",
+    // the packet error code of the part is 46
+    "S b0 A 03 A 47 A S 40 N P\n",
+    // to be read
     "S b0 A 03 A S b2 A 88 A S b3 N P\n",
-    // the Alert Response Address
-    "S 19 A b0 N P\n",
-    "S 19 N P\n",
+    // an alert that is cut off, and one whose byte is acknowledged
+    "S 19 A b0 N P",
+    "S 19 A b0 A P\n",
+    "S 19 A P\n",
+    // a byte more, and a wrong packet error code
+    "S 19 A b0 A f3 A 00 N P\n",
+    "S 19 A b0 A 00 N P\n",
+    // the Alert Response Address is not written
+    "S 18 A b0 N P\n",
 ];
 
 #[test]
@@ -216,15 +270,15 @@ fn devices(alloc: Global, count: u8) -> Result<String, AllocError> {
     Ok(text)
 }
 
-/// A group of so many parts, to the devices with these address bytes.
-fn group(alloc: Global, count: u8) -> Result<String, AllocError> {
+/// A group of so many parts, to the devices with these address bytes, and what ends it.
+fn group(alloc: Global, count: u8, end: &str) -> Result<String, AllocError> {
     let mut text = String::new(alloc);
     for index in 0..count {
         let to_write = index.wrapping_add(0x10).wrapping_mul(2);
         let part = format!(in alloc; "S {to_write:02x} A 03 A ")?;
         text.push_str(part.as_str())?;
     }
-    text.push_str("P\n")?;
+    text.push_str(end)?;
     Ok(text)
 }
 
@@ -239,11 +293,40 @@ fn takes_sixteen_parts(rt: HostRuntime) -> Result<(), Fail> {
         events: 81,
     };
     assert_eq!(rt;
-        common.take(&mut kept, &profile, group(alloc, 16)?.as_bytes()),
+        common.take(&mut kept, &profile, group(alloc, 16, "P\n")?.as_bytes()),
         Some(sixteen)
     );
     assert_eq!(rt;
-        common.take(&mut kept, &profile, group(alloc, 17)?.as_bytes()),
+        common.take(&mut kept, &profile, group(alloc, 17, "P\n")?.as_bytes()),
+        None
+    );
+    Ok(())
+}
+
+#[test]
+fn takes_what_is_refused_after_fifteen_parts(rt: HostRuntime) -> Result<(), Fail> {
+    let alloc = rt.alloc();
+    let profile = Profile::from_toml(alloc, devices(alloc, 17)?.as_bytes())?;
+    let mut common = Common::new();
+    let mut kept = Kept::new();
+    let refused = Taken {
+        used: 189,
+        events: 79,
+    };
+    assert_eq!(rt;
+        common.take(
+            &mut kept,
+            &profile,
+            group(alloc, 15, "S 40 N P\n")?.as_bytes()
+        ),
+        Some(refused)
+    );
+    assert_eq!(rt;
+        common.take(
+            &mut kept,
+            &profile,
+            group(alloc, 16, "S 40 N P\n")?.as_bytes()
+        ),
         None
     );
     Ok(())

@@ -4,6 +4,8 @@ use Rattle.pmb_transaction.specs.declared.transaction.Transaction.{Transaction}
 use Rattle.pmb_transaction.specs.declared.transaction.Transaction.TheVariants as kinds
 use Rattle.pmb_transaction.specs.Transaction.{transaction_data}
 use Rattle.pmb_kept.specs.declared.kept.Kept.TheInside.{Inside}
+use Rattle.pmb_kept.specs.declared.kept.Last.{Last}
+use Rattle.pmb_kept.specs.declared.kept.Last.TheVariants.{Single, Of}
 use Rattle.pmb_kept.specs.declared.kind.Kind.{Kind}
 use Rattle.pmb_kept.specs.declared.kind.Kind.TheVariants.{Write, Read, Call, Refused, Alert, NoAlert}
 use Rattle.pmb_kept.specs.Kind.{parts_of}
@@ -18,9 +20,14 @@ of_kind Refused kept = kept.refused
 of_kind Alert kept = kept.alert
 of_kind NoAlert kept = kept.no_alert
 
+-- the one that ended last
+abbrev pub of_last : Last → Inside → Transaction
+of_last Single kept = kept.single
+of_last (Of kind) kept = of_kind kind kept
+
 -- The first parts of the write are those of the packet under way; those after them are left over.
 abbrev pub kept_data : Inside → KeptData
-kept_data kept = record { parts = take kept.count (parts_of kept.write); last = transaction_data (of_kind kept.last kept) }
+kept_data kept = record { parts = take kept.count (parts_of kept.write); last = transaction_data (of_last kept.last kept) }
 
 -- The write has so many, and nobody answered in the transaction that says so.
 pub record IsKept (kept : Inside) : Type 0 where

@@ -10,12 +10,12 @@ use Rattle.pmb_transaction.specs.Transaction.{TransactionData, Write, Read, Call
 use Rattle.pmb_stream.specs.declared.stream.Stream.{Stream}
 use Rattle.pmb_stream.specs.Stream.{StreamStands}
 
--- one START says all of its packet's place: it is no group
+-- one START says all of its packet's place: no part of a group comes before another leg
 abbrev pub HasOneStart : TransactionData → Type 0
 HasOneStart (Write parts) = length parts ≤ 1
 HasOneStart (Read t) = ⊤
 HasOneStart (Call t) = ⊤
-HasOneStart (Refused t) = ⊤
+HasOneStart (Refused t) = length t.parts ≡ 0
 HasOneStart (Alert t) = ⊤
 HasOneStart NoAlert = ⊤
 

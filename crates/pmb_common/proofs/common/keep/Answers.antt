@@ -3,7 +3,7 @@ use Rattle.pmb_bus.specs.Event.{canonical_text}
 use Rattle.pmb_common.specs.declared.legs.Legs.{Legs}
 use Rattle.pmb_common.specs.declared.legs.Legs.TheVariants.{Both, Nacked, Written}
 use Rattle.pmb_common.specs.Groups.{SaysPart}
-use Rattle.pmb_common.specs.Legs.{BeginsWithLegs, SayBoth, SayLegs, SaysNacked, least, leg_events}
+use Rattle.pmb_common.specs.Legs.{BeginsWithLegs, SayBoth, SayLegs, SaysAlone, least, leg_events}
 use Rattle.pmb_common.proofs.common.keep.Goals as goal
 
 pub returns-in-Written-clause-takes : goal.returns-in-Written-clause-takes
@@ -32,7 +32,7 @@ keep_both-requires-clause-enough c =
 
 pub returns-in-Nacked-clause-answers : goal.returns-in-Nacked-clause-answers
 returns-in-Nacked-clause-answers c say =
-    c.keep_nacked.ensures.answers (subst (SaysNacked c.args.profile.now) (sym c.as_slice-in-Nacked.ensures.value)
+    c.keep_nacked.ensures.answers (subst (SaysAlone c.args.profile.now) (sym c.as_slice-in-Nacked.ensures.value)
     (subst (λ (legs : Legs). SayLegs c.args.profile.now c.args.text.now legs c.args.bytes.now.items) c.in-Nacked.is say))
 
 pub returns-in-Written-clause-answers : goal.returns-in-Written-clause-answers

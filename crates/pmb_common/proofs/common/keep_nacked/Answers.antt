@@ -1,50 +1,34 @@
-use Rattle.std.proofs.Common.{◌≡◌, ℕ, false, inl, inr, List, [], ◌∷◌, ◌∙◌, arith}
-use Rattle.pmb_bus.specs.Address.{write_address}
-use Rattle.pmb_command.specs.Parts.{DeviceParts}
-use Rattle.pmb_transaction.specs.Transaction.{Refused}
-use Rattle.pmb_common.specs.Common.{OneByteRefused}
-use Rattle.pmb_common.specs.Legs.{SaysNacked}
-use Rattle.pmb_common.proofs.Beginnings.{not_there}
-use Rattle.pmb_common.proofs.CommonLegs.{refused_alone, takes_address, takes_byte}
-use Rattle.pmb_common.proofs.Wires.{small_items}
+use Rattle.std.proofs.Common.{List, [], ◌∷◌, ◌++◌, ap, length, length-append, subst, sym, ◌∙◌, arith}
+use Rattle.pmb_bus.specs.declared.event.Event.TheVariants.{Stop}
+use Rattle.pmb_bus.specs.Event.{canonical_text}
+use Rattle.pmb_transaction.specs.Transaction.{PartData}
+use Rattle.pmb_common.specs.Common.{nacked_leg}
+use Rattle.pmb_common.specs.Nacked.{IsOfNacked, SaysNacked}
+use Rattle.pmb_common.proofs.Alone.{refused_there, takes_alert}
+use Rattle.pmb_common.proofs.Ends.{length-nacked_leg_text}
+use Rattle.pmb_common.proofs.Groups.{none_taken}
+use Rattle.pmb_common.proofs.RefusedLegs.{takes_refused}
 use Rattle.pmb_common.proofs.common.keep_nacked.Goals as goal
 
--- where no address is refused, a byte is
-byte_says : (profile : List DeviceParts) (bytes : List ℕ) → ((address : ℕ) → bytes ≡ write_address address ∷ [] → ⊥) → SaysNacked profile bytes
-    → (address : ℕ) × (sent : List ℕ) × OneByteRefused profile address sent bytes
-byte_says profile bytes none (inl (address, seven, spelled)) = absurd (none address spelled)
-byte_says profile bytes none (inr says) = says
-
--- ---- an address
-
-pub returns-in-Some-clause-takes : goal.returns-in-Some-clause-takes
-returns-in-Some-clause-takes c text rest split =
-    let address = c.in-Some.address in
-    let last : c.end_refused.new.self.last ≡ Refused (record { parts = []; addr = address; sent = []; at_read = false }) =
-    c.end_refused.ensures ∙ refused_alone c.begin.new.self.parts address [] false c.begin.ensures in
-    rw last
-    (
-    takes_address c.args.profile.now text rest address c.args.bytes.now _ _ c.in-Some.ensures.says.0 c.in-Some.ensures.says.1 split
+pub returns-then-keep_alert-clause-takes : goal.returns-then-keep_alert-clause-takes
+returns-then-keep_alert-clause-takes c text rest split =
+    takes_alert c.args.profile.now text rest c.keep_alert.new.kept.last c.args.bytes.now _ _ (c.keep_alert.ensures.keeps c.if-keep_alert.true) split
     c.one_leg.ensures.used c.one_leg.ensures.events
-    )
 
--- ---- a byte
-
-pub returns-in_err-sent-clause-answers : goal.returns-in_err-sent-clause-answers
-returns-in_err-sent-clause-answers c say =
-    let none : (address : ℕ) → c.args.bytes.now ≡ write_address address ∷ [] → ⊥ =
-    λ address is. not_there c.refused_address.result (c.refused_address.ensures.found address is) c.in_default.not-Some in
-    let says = byte_says c.args.profile.now c.args.bytes.now none say in
-    absurd (cc (c.in_err-sent.ensures.found says.0 says.1 says.2))
+pub returns-then-not-keep_refused-clause-answers : goal.returns-then-not-keep_refused-clause-answers
+returns-then-not-keep_refused-clause-answers c say =
+    let profile = c.args.profile.now in
+    let bytes = c.args.bytes.now in
+    let refused = refused_there profile bytes (λ t says. cc (sym (c.keep_alert.ensures.found t says) ∙ c.if-keep_alert.false)) say in
+    let says = subst (λ (parts : List PartData). SaysNacked profile parts bytes) (sym c.begin.ensures) refused in
+    absurd (cc (sym (c.keep_refused.ensures.found says) ∙ c.if-not-keep_refused.true))
 
 pub returns-clause-takes : goal.returns-clause-takes
 returns-clause-takes c text rest split =
-    let sent = c.in_ok-sent.sent in
-    let small = small_items c.args.bytes.now (λ k. omega (arith, c.type_inv.bytes k)) in
-    let last : c.end_refused-2.new.self.last ≡ Refused (record { parts = []; addr = sent.address; sent = sent.bytes.now; at_read = false }) =
-    c.end_refused-2.ensures ∙ refused_alone c.begin.new.self.parts sent.address sent.bytes.now false c.begin.ensures in
-    rw last
-    (
-    takes_byte c.args.profile.now text rest sent.address sent.bytes.now c.args.bytes.now _ _ small
-    c.in_ok-sent.ensures.says split c.one_leg-2.ensures.used c.one_leg-2.ensures.events
-    )
+    let bytes = c.args.bytes.now in
+    let last = c.keep_refused.new.kept.last in
+    let keeps : IsOfNacked c.args.profile.now [] bytes last =
+    subst (λ (parts : List PartData). IsOfNacked c.args.profile.now parts bytes last) c.begin.ensures (c.keep_refused.ensures.keeps c.if-not-keep_refused.false) in
+    takes_refused c.args.profile.now text [] 1 text bytes rest last _ _ (none_taken c.args.profile.now text) keeps split
+    (omega (arith, c.one_leg-2.ensures.used, ap length split, length-append (canonical_text (nacked_leg bytes ++ Stop ∷ [])) rest, length-nacked_leg_text bytes))
+    (omega (arith, c.one_leg-2.ensures.events))

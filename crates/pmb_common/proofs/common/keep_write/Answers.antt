@@ -1,5 +1,3 @@
-use Rattle.std.proofs.Common.{◌≡◌, List, [], ◌∷◌, ◌++◌, ap, ◌∙◌}
-use Rattle.pmb_transaction.specs.Transaction.{PartData, Write}
 use Rattle.pmb_common.proofs.CommonLegs.{takes_write}
 use Rattle.pmb_common.proofs.common.keep_write.Goals as goal
 
@@ -9,10 +7,7 @@ returns-in_err-said-clause-answers c say = absurd (cc (c.in_err-said.ensures.fou
 pub returns-clause-takes : goal.returns-clause-takes
 returns-clause-takes c text rest split =
     let said = c.in_ok-said.said in
-    let part : PartData = record { addr = said.address; code = said.code; bytes = said.data.bytes.now; pec = said.data.pec } in
-    let last : c.end_write.new.self.last ≡ Write (part ∷ []) =
-    c.end_write.ensures ∙ ap (λ (l : List PartData). Write l) (c.push_part.ensures ∙ ap (λ (l : List PartData). l ++ part ∷ []) c.begin.ensures) in
-    rw last
+    rw c.end_single.ensures
     (
     takes_write c.args.profile.now text rest said.address said.code said.data.bytes.now said.data.pec c.args.bytes.now _ _
     c.in_ok-said.ensures.says split c.one_leg.ensures.used c.one_leg.ensures.events

@@ -1,4 +1,6 @@
 use Rattle.std.proofs.Common.{[], ◌∷◌, ◌++◌, refl, sym, ◌∙◌}
+use Rattle.pmb_bus.specs.declared.event.Event.TheVariants.{Byte}
+use Rattle.pmb_bus.specs.Event.{canonical_text}
 use Rattle.pmb_common.specs.declared.legs.Legs.TheVariants.{Written, Both, Group, Nacked}
 use Rattle.pmb_common.specs.Front.{acked_text, end_text}
 use Rattle.pmb_common.proofs.Beginnings.{both_first, both_second, group_first, group_is_even, is_both, is_nacked, nacked_first, nacked_last, not_there, read_is_odd, start_or_stop, written_first}
@@ -71,7 +73,7 @@ returns-in_default-behind_start-clause-found c Group all rest are follows split 
     let one =
     group_first c.args.text.now c.in_ok-first.first.now c.take_acked-behind.result.now c.clear.new.self.items c.take_acked-behind.new.bytes.items
     c.clear.ensures c.in_ok-first.ensures.spelled c.take_acked-behind.ensures.all all rest are follows split in
-    absurd (not_there c.behind_start-2.result (c.behind_start-2.ensures.found (acked_text (follows.byte ∷ []) ++ follows.more) (one.1 ∙ follows.split)) c.in_default-behind_start.not-Some)
+    absurd (not_there c.behind_start-2.result (c.behind_start-2.ensures.found (canonical_text (Byte follows.byte ∷ []) ++ follows.more) (one.1 ∙ follows.split)) c.in_default-behind_start.not-Some)
 returns-in_default-behind_start-clause-found c Nacked all rest are follows split =
     let one =
     nacked_first c.args.text.now c.in_ok-first.first.now c.take_acked-behind.result.now c.clear.new.self.items c.take_acked-behind.new.bytes.items

@@ -1,0 +1,38 @@
+//! A leg whose last byte has NACK, after the parts of a group or without any.
+
+ghost use Rattle.std.specs.Prelude.{◌≡◌, true};
+ghost use Rattle.pmb_common.specs.Nacked.{IsOfNacked, SaysNacked};
+
+use crate::refused::{refused_address, refused_byte};
+use pmb_kept::Kept;
+use pmb_table::Profile;
+
+/// How many parts may come before what is refused.
+const PARTS: usize = 15;
+
+/// Keeps what is refused in a leg of these bytes after the parts that are kept, its address or the last
+/// one of the bytes sent, and returns whether it is one that may stand there.
+pub(crate) fn keep_refused(kept: &mut Kept, profile: &Profile, bytes: &[u8]) -> bool
+    ensures keeps { result ≡ true → IsOfNacked profile.now kept.old.parts bytes.now kept.new.last }
+    ensures found { SaysNacked profile.now kept.old.parts bytes.now → result ≡ true }
+{
+    let before = kept.part_count();
+    if before > PARTS {
+        return false;
+    }
+    if let Some(address) = refused_address(bytes) {
+        if kept.has_part_at(address) {
+            return false;
+        }
+        kept.end_refused(address, &[], None, false);
+        return true;
+    }
+    let Some(sent) = refused_byte(profile, bytes, before) else {
+        return false;
+    };
+    if kept.has_part_at(sent.address) {
+        return false;
+    }
+    kept.end_refused(sent.address, sent.bytes, None, false);
+    true
+}
