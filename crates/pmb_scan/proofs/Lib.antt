@@ -1,3 +1,4 @@
+pub mod Blanks
 pub mod Passing
 pub mod Reporting
 pub mod Following

@@ -63,6 +63,11 @@ word_spells n text events piece used lexer event word =
     subst (λ (t : List ℕ). Spells t (events ++ event ∷ [])) (sym all)
     (byte_spells (text ++ front) last events event word.before (subst (λ (t : List ℕ). EndedWordsSpell t (events ++ event ∷ [])) all word.stands.ended))
 
+-- what was used of a piece and what is left of it, with more of it used
+split_more : (piece used rest left : List ℕ) (more : ℕ) → piece ≡ used ++ rest → left ≡ drop more rest → piece ≡ (used ++ take more rest) ++ left
+split_more piece used rest left more split left_is =
+    split ∙ (ap (λ l. used ++ l) (sym (take-append-drop more rest) ∙ ap (λ l. take more rest ++ l) (sym left_is)) ∙ sym (append_assoc used (take more rest) left))
+
 -- what is nothing is none
 pub none_of : {A : Type 0} (x : Option A) → ((a : A) → x ≡ Some a → ⊥) → x ≡ None
 none_of None never = refl
@@ -159,8 +164,7 @@ module _ {V : Type 0} (Stands : V → V → Reached → List ℕ → Type 0) whe
           used = so_far.used ++ take used rest;
           there = taken.holds.there;
           more = so_far.more ++ taken.text;
-          split = so_far.split ∙ (ap (λ l. so_far.used ++ l) (sym (take-append-drop used rest) ∙ ap (λ l. take used rest ++ l) (sym left_is))
-              ∙ sym (append_assoc so_far.used (take used rest) left));
+          split = split_more piece so_far.used rest left used so_far.split left_is;
           profile = taken.holds.profile ∙ so_far.profile;
           is_text = sym text_is ∙ (ap (λ l. l ++ take used rest) so_far.is_text ∙ append_assoc reached.text so_far.used (take used rest));
           stands = record {
@@ -228,13 +232,29 @@ module _ {V : Type 0} (Stands : V → V → Reached → List ℕ → Type 0) whe
         used = so_far.used ++ take used rest;
         there = behind;
         more = so_far.more ++ puts.text;
-        split = so_far.split ∙ (ap (λ l. so_far.used ++ l) (sym (take-append-drop used rest) ∙ ap (λ l. take used rest ++ l) (sym left_is))
-            ∙ sym (append_assoc so_far.used (take used rest) left));
+        split = split_more piece so_far.used rest left used so_far.split left_is;
         profile = so_far.profile;
         is_text = ap (λ l. there.text ++ l) bytes_are ∙ (ap (λ l. l ++ take used rest) so_far.is_text ∙ append_assoc reached.text so_far.used (take used rest));
         stands = subst (λ (l : List ℕ). ScanStandsAt after (behind_whole there taken.n l taken.events t)) (sym bytes_are) taken.stands;
         puts = writes_then _ _ _ _ _ _ _ _ so_far.puts puts.writes;
         visited = subst (λ (l : List ℕ). Stands start v1 behind l) (append_assoc text so_far.more puts.text) puts.holds;
+      }
+
+  -- bytes of it that spell nothing are passed over
+  pub up_to_blank : (start v0 v1 : V) (reached : Reached) (piece rest left bytes : List ℕ) (used : ℕ) (h0 h1 : Option (List ℕ)) (w0 w1 text : List ℕ) (scan after : Scan)
+      → (so_far : UpTo start v0 reached piece rest h0 w0 h1 w1 text scan) → ScanStandsAt after (behind_bytes so_far.there (take used rest))
+      → Told v0 v1 bytes → bytes ≡ take used rest → left ≡ drop used rest → UpTo start v1 reached piece left h0 w0 h1 w1 text after
+  up_to_blank start v0 v1 reached piece rest left bytes used h0 h1 w0 w1 text scan after so_far stands told bytes_are left_is =
+      let there = so_far.there in record {
+        used = so_far.used ++ take used rest;
+        there = behind_bytes there (take used rest);
+        more = so_far.more;
+        split = split_more piece so_far.used rest left used so_far.split left_is;
+        profile = so_far.profile;
+        is_text = ap (λ l. l ++ take used rest) so_far.is_text ∙ append_assoc reached.text so_far.used (take used rest);
+        stands = stands;
+        puts = so_far.puts;
+        visited = subst (λ (l : List ℕ). Stands start v1 (behind_bytes there l) (text ++ so_far.more)) bytes_are (told start there (text ++ so_far.more) so_far.visited);
       }
 
   -- all of it is taken

@@ -18,6 +18,7 @@
 //! ```
 #![tactic(auto)]
 
+mod blank;
 pub mod laws;
 mod reported;
 mod scan;

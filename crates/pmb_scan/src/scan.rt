@@ -4,7 +4,7 @@
 //! that are not inlined, so that no other event pays for it. In each turn `take_words` takes a
 //! whole common packet, where one lies in front, or a byte and its ACK, or one word.
 
-ghost use Rattle.std.specs.Prelude.{◌≡◌, ◌++◌, ◌∷◌, [], ◌≤◌, ◌<◌, ℕ, List, None, OnOk, IfOk, IfSome, length, drop};
+ghost use Rattle.std.specs.Prelude.{◌≡◌, ◌++◌, ◌∷◌, [], ◌≤◌, ◌<◌, ℕ, List, None, OnOk, IfOk, IfSome, length, drop, take};
 ghost use Rattle.pmb_bus.specs.declared.event.Event.{Event as BusEvent};
 ghost use Rattle.pmb_bus.specs.Text.{EndsBetween, Spells};
 ghost use Rattle.pmb_bus.specs.declared.event.Event.TheVariants.{Ack, Byte};
@@ -12,12 +12,13 @@ ghost use Rattle.pmb_io.specs.Calls.{WriterTells};
 ghost use Rattle.pmb_io.specs.Engines.{PutsOut};
 ghost use Rattle.pmb_reader.specs.Reader.{Open, last_read};
 ghost use Rattle.pmb_reader.specs.Refusal.{refusal_data};
-ghost use Rattle.pmb_scan.specs.Reached.{Reached, IsWhole, at_start, behind_packet, behind_refusal, behind_whole};
+ghost use Rattle.pmb_scan.specs.Reached.{Reached, IsWhole, at_start, behind_bytes, behind_packet, behind_refusal, behind_whole};
 ghost use Rattle.pmb_scan.specs.Scan.{HasRead, ScanStandsAt, TakesEnd, TakesEvent, TakesPiece, Truncates};
 ghost use Rattle.pmb_scan.specs.machine.Whole.{TakesWhole};
 ghost use Rattle.pmb_transaction.specs.Packet.{Packet};
 ghost use Rattle.pmb_transaction.specs.Reading.{RefusedAt};
 
+use crate::blank::front_blank;
 use crate::reported::report;
 use crate::visitor::Visitor;
 use pmb_bus::{Event, LexFault, Lexer, Step};
@@ -86,6 +87,12 @@ impl<'p> Scan<'p> {
                 rest = &rest[whole.used..];
                 continue;
             }
+            let blank = self.pass_blank(rest);
+            if blank > 0 {
+                visitor.visit_bytes(&rest[..blank]);
+                rest = &rest[blank..];
+                continue;
+            }
             // Up to the next STOP no packet begins.
             'words: loop {
                 match self.lexer.feed_acked(rest) {
@@ -143,6 +150,20 @@ impl<'p> Scan<'p> {
         let whole = self.reader.take_common(&mut self.common, piece)?;
         self.lexer.skip(&piece[..whole.used]);
         Some(whole)
+    }
+
+    /// Passes over separators and comments at the front of a piece, between two words, so that a
+    /// packet after them can be taken at once. It returns how many bytes they are.
+    fn pass_blank(&mut self, piece: &[u8]) -> usize
+        ensures stands { (reached : Reached) → ScanStandsAt self.old reached → ScanStandsAt self.new (behind_bytes reached (take result piece.now)) }
+        ensures within { result ≤ length piece.now }
+    {
+        if !self.lexer.is_between() {
+            return 0;
+        }
+        let blank = front_blank(piece);
+        self.lexer.skip(&piece[..blank]);
+        blank
     }
 
     /// Takes the end of the text, which ends a word under way, and answers the fault of one that is
@@ -244,13 +265,20 @@ impl<'p> Scan<'p> {
 }
 
 /// Whether a piece begins as a common packet does: with START, an address byte that is acknowledged
-/// and a byte with its answer, or an address byte that is refused. The leg of an alert begins with
-/// 19, and is none.
+/// and a byte with its answer, or an address byte that is refused. Most begin with two bytes that
+/// are acknowledged.
 #[inline(always)]
 fn begins_common(piece: &[u8]) -> bool {
     match piece {
         [b'S', _, _, _, _, b'A', _, _, _, _, b'A', ..] => true,
-        [b'S', _, b'1', b'9', ..] => false,
+        _ => begins_refused(piece),
+    }
+}
+
+/// Whether a piece begins with START and a leg of one byte or two, the last of which is refused.
+#[inline(never)]
+fn begins_refused(piece: &[u8]) -> bool {
+    match piece {
         [b'S', _, _, _, _, b'N', ..] | [b'S', _, _, _, _, b'A', _, _, _, _, b'N', ..] => true,
         _ => false,
     }

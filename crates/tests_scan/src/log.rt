@@ -17,6 +17,8 @@ pub struct Log {
     pub events: ArrayVec<u8, 128>,
     /// The places of the refusals.
     pub places: ArrayVec<u64, 8>,
+    /// How many packets were taken at once.
+    pub wholes: usize,
 }
 
 impl Log {
@@ -54,6 +56,7 @@ impl Visitor for Log {
         _waiting: &mut Waiting,
         _writer: &mut W,
     ) -> Result<(), RunFault> {
+        self.wholes = self.wholes.saturating_add(1);
         let _ = self.bytes.try_extend_from_slice(bytes);
         self.append(bytes.strip_suffix(b"P\n").unwrap_or(bytes));
         self.append(b"packet ");

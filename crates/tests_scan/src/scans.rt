@@ -25,9 +25,13 @@ struct Row {
 }
 
 #[rattlefmt::skip]
-static ROWS: [Row; 8] = [
+static ROWS: [Row; 10] = [
     // two packets, the last word at the end of the text
     Row { capture: b"S b0 A 03 A P # a comment\nS 40 N P", events: b"S b0 A 03 A packet S 40 N packet ", places: &[], used: 34, bad: None, end: None },
+    // comments and separators before a packet, and after it
+    Row { capture: b"# 1\n\t#2\r\nS b0 A 03 A P\n\r\n# 3", events: b"S b0 A 03 A packet ", places: &[], used: 28, bad: None, end: None },
+    // a comment before a word that is no token
+    Row { capture: b" # S\nS4 A P\n", events: b"", places: &[], used: 6, bad: Some(5), end: None },
     // the byte of a byte and its ACK is refused
     Row { capture: b"S b1 A 21 A P S b0 A 03 A P ", events: b"S !b1 A 21 A P\nS b0 A 03 A packet ", places: &[1], used: 28, bad: None, end: None },
     // the ACK is: the error code of a write of nothing is wrong
@@ -104,6 +108,34 @@ fn rows_are_told(rt: HostRuntime) -> Result<(), Fail> {
             let (front, back) = row.capture.split_at(cut);
             check_row(&rt, rt.alloc(), &profile, row, front, back)?;
         }
+    }
+    Ok(())
+}
+
+/// Captures, and how many of their packets are taken at once.
+static WHOLES: [(&[u8], usize); 7] = [
+    (b"S b0 A 03 A P\nS b0 A 03 A P\n", 2),
+    // after comments and separators
+    (b"# 1\n \t\r\n# 2\nS b0 A 03 A P\n", 1),
+    (b"S b0 A 03 A P\n\nS b0 A 03 A P\n", 2),
+    // the first ends in another way
+    (b"S b0 A 03 A P # 1\nS b0 A 03 A P\n", 1),
+    (b"S b0 A 03 A P\r\nS b0 A 03 A P\n", 1),
+    // in a comment, and in one that a piece ends in
+    (b"# S b0 A 03 A P\n", 0),
+    (b"S b0 A 03 A P\n# S b0 A 03 A P", 1),
+];
+
+#[test]
+fn packets_behind_comments_are_taken_at_once(rt: HostRuntime) -> Result<(), Fail> {
+    let profile = Profile::from_toml(rt.alloc(), SAMPLE.as_bytes())?;
+    for (capture, wholes) in WHOLES {
+        let mut scan = Scan::new(&profile);
+        let mut log = Log::default();
+        let mut writer = Io::new(Vec::new(rt.alloc()));
+        let _ = scan.take_words(capture, &mut log, &mut Waiting::new(), &mut writer)?;
+        assert_eq!(rt; log.wholes, wholes);
+        assert_eq!(rt; log.bytes.as_slice(), capture);
     }
     Ok(())
 }

@@ -1,0 +1,42 @@
+//! What stands between two words of a text: separators and comments.
+
+ghost use Rattle.std.specs.Prelude.{◌≤◌, [], IfSome, length, take};
+ghost use Rattle.pmb_bus.specs.Text.{EndsBetween, Spells};
+ghost use Rattle.pmb_scan.specs.machine.Blank.{Passes};
+
+/// Whether a text ends in a comment after one more byte, given whether it did before; `None` where
+/// a word begins with that byte.
+#[inline(always)]
+fn pass(in_comment: bool, byte: u8) -> Option<bool>
+    ensures { IfSome result (λ after. Passes in_comment byte after) }
+{
+    if in_comment {
+        return Some(byte != b'\n');
+    }
+    match byte {
+        b' ' | b'\t' | b'\n' | b'\r' => Some(false),
+        b'#' => Some(true),
+        _ => None,
+    }
+}
+
+/// How many bytes at the front of a text are separators and comments, each with the LF that ends
+/// it. A comment that goes on after the text is not counted.
+pub(crate) fn front_blank(text: &[u8]) -> usize
+    ensures within { result ≤ length text.now }
+    ensures between { EndsBetween (take result text.now) }
+    ensures spells { Spells (take result text.now) [] }
+{
+    let mut blank = 0;
+    let mut in_comment = false;
+    for (i, byte) in text.iter().enumerate() {
+        let Some(after) = pass(in_comment, *byte) else {
+            return blank;
+        };
+        in_comment = after;
+        if !in_comment {
+            blank = i + 1;
+        }
+    }
+    blank
+}
