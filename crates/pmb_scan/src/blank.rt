@@ -20,8 +20,18 @@ fn pass(in_comment: bool, byte: u8) -> Option<bool>
     }
 }
 
+/// Whether a text begins with a separator or a comment.
+#[inline(always)]
+pub(crate) fn begins_blank(text: &[u8]) -> bool {
+    match text {
+        [b' ' | b'\t' | b'\n' | b'\r' | b'#', ..] => true,
+        _ => false,
+    }
+}
+
 /// How many bytes at the front of a text are separators and comments, each with the LF that ends
 /// it. A comment that goes on after the text is not counted.
+#[inline(never)]
 pub(crate) fn front_blank(text: &[u8]) -> usize
     ensures within { result ≤ length text.now }
     ensures between { EndsBetween (take result text.now) }

@@ -18,7 +18,7 @@ ghost use Rattle.pmb_scan.specs.machine.Whole.{TakesWhole};
 ghost use Rattle.pmb_transaction.specs.Packet.{Packet};
 ghost use Rattle.pmb_transaction.specs.Reading.{RefusedAt};
 
-use crate::blank::front_blank;
+use crate::blank::{begins_blank, front_blank};
 use crate::reported::report;
 use crate::visitor::Visitor;
 use pmb_bus::{Event, LexFault, Lexer, Step};
@@ -154,10 +154,14 @@ impl<'p> Scan<'p> {
 
     /// Passes over separators and comments at the front of a piece, between two words, so that a
     /// packet after them can be taken at once. It returns how many bytes they are.
+    #[inline(always)]
     fn pass_blank(&mut self, piece: &[u8]) -> usize
         ensures stands { (reached : Reached) → ScanStandsAt self.old reached → ScanStandsAt self.new (behind_bytes reached (take result piece.now)) }
         ensures within { result ≤ length piece.now }
     {
+        if !begins_blank(piece) {
+            return 0;
+        }
         if !self.lexer.is_between() {
             return 0;
         }
