@@ -12,11 +12,11 @@ use Rattle.pmb_transaction.specs.Transaction.{PartData, ReadData, CallData, Aler
 use Rattle.pmb_transaction.specs.Body.{forms, checked, WriteBody, IsInsideBody, IsRequest}
 use Rattle.pmb_transaction.specs.Packet.{Packet, leg, nacked}
 
--- The table of the transactions whose packets are taken at once, in every form of their data, with
--- or without a packet error code (SMBus 3.0 section 6.5). Each byte is acknowledged, but for the
--- last one that is read, and for what a row says is refused. Parts of a group may come before that,
--- but not before a device that refuses to be read. At the Alert Response Address a device answers, or
--- none does.
+-- The table of the transactions whose packets are taken at once. Each packet has its row, as the law
+-- `packets_are_common` says. Data have any form, with or without a packet error code (SMBus 3.0
+-- section 6.5). Each byte is acknowledged, but for the last one that is read, and for what a row says
+-- is refused. Parts of a group may come before that, but not before a device that refuses to be read.
+-- At the Alert Response Address a device answers, or none does.
 pub data IsCommon : TransactionData → Type 0 where
   -- S addr+W A code A data A .. [pec A] [S addr+W A code A data A .. [pec A]] .. P
   parts_written : (parts : List PartData) → IsCommon (Write parts)

@@ -10,7 +10,7 @@ use Rattle.pmb_transaction.specs.Packet.{acked}
 abbrev pub lower_digit : ℕ → ℕ
 lower_digit value = slice_index lower_digits value
 
--- the canonical text of the last byte that is read, with NACK and STOP
+-- the canonical text of a packet's last byte, with NACK and STOP
 abbrev pub end_text : ℕ → List ℕ
 end_text last = canonical_text (Byte last ∷ Nack ∷ Stop ∷ [])
 

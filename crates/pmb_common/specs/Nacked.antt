@@ -19,7 +19,7 @@ pub record SaysNacked (profile : List DeviceParts) (parts : List PartData) (byte
   pub another : IsNew address (addresses parts)
   pub refused : IsRefused profile parts address bytes
 
--- The transaction is that of some parts and of a leg with these bytes after them.
+-- The transaction is that of some parts and of a leg with these bytes after them, the last one refused.
 pub record IsOfNacked (profile : List DeviceParts) (parts : List PartData) (bytes : List ℕ) (t : TransactionData) : Type 0 where
   pub address : ℕ
   pub sent : List ℕ

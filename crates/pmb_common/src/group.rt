@@ -1,5 +1,5 @@
-//! Group commands: writes of several parts, each to a device of its own. After some of them a leg may
-//! end the group in which something is refused.
+//! Group commands: writes of several parts, each to a device of its own. A leg in which something is
+//! refused may end the group.
 //!
 //! Each part is kept as soon as its leg is read, so that the bytes of one leg alone are collected.
 

@@ -1,13 +1,15 @@
-//! The law of common packets: each function is its contract, and does nothing.
+//! The laws of common packets: each function is its contract, and does nothing.
 
 ghost use Rattle.std.specs.Prelude.{◌≡◌, ◌∷◌, [], List, ℕ, take};
 ghost use Rattle.pmb_bus.specs.Event.{canonical_text};
 ghost use Rattle.pmb_bus.specs.Text.{EndsBetween, Spells};
 ghost use Rattle.pmb_command.specs.Parts.{DeviceParts};
 ghost use Rattle.pmb_command.specs.Bus.{IsBus};
+ghost use Rattle.pmb_bus.specs.declared.event.Event.{Event};
+ghost use Rattle.pmb_transaction.specs.Packet.{Packet};
 ghost use Rattle.pmb_transaction.specs.Reading.{Accepted, Reading};
 ghost use Rattle.pmb_transaction.specs.Transaction.{TransactionData};
-ghost use Rattle.pmb_common.specs.Common.{TakesPacket};
+ghost use Rattle.pmb_common.specs.Common.{IsCommon, TakesPacket};
 
 use pmb_bus::laws::{canonical_text_spells, texts_may_be_cut_between_words};
 use pmb_transaction::laws::{captures_read_as_written, packet_ends_with_stop, packets_are_bytes};
@@ -30,3 +32,8 @@ pub fn common_packets_are_read()
     packet_ends_with_stop();
     captures_read_as_written();
 }
+
+/// Each packet is a common one: it is taken at once where its canonical text lies whole in front.
+pub fn packets_are_common()
+    ensures { (profile : List DeviceParts) (t : TransactionData) (events : List Event) → Packet profile t events → IsCommon t }
+{}

@@ -10,8 +10,8 @@ use pmb_table::Profile;
 /// How many parts may come before what is refused.
 const PARTS: usize = 15;
 
-/// Keeps what is refused in a leg of these bytes after the parts that are kept, its address or the last
-/// one of the bytes sent, and returns whether it is one that may stand there.
+/// Keeps the refused packet of the parts that are kept and of a leg with these bytes after them, in
+/// which its address is refused or the last byte sent, and returns whether there is one.
 pub(crate) fn keep_refused(kept: &mut Kept, profile: &Profile, bytes: &[u8]) -> bool
     ensures keeps { result ≡ true → IsOfNacked profile.now kept.old.parts bytes.now kept.new.last }
     ensures found { SaysNacked profile.now kept.old.parts bytes.now → result ≡ true }

@@ -1,4 +1,4 @@
-//! The transactions that are kept, one of each kind, and a write of one part besides.
+//! The transactions that are kept, one of each kind, and a write that has no part but one.
 //!
 //! The parts of the packet under way are the first ones of the kept write. Of a kept transaction of
 //! another kind nothing counts until its packet ends.
@@ -17,7 +17,7 @@ use std::marker::Model;
 /// Which of those that are kept ended last.
 #[derive(Clone, Copy)]
 enum Last {
-    /// The write of one part, in `single`.
+    /// The write in `single`.
     Single,
     /// That of a kind.
     Of(Kind),
@@ -30,7 +30,7 @@ pub struct Kept {
     write: Transaction,
     /// How many these are.
     count: usize,
-    /// A write of one part, which leaves the parts of the group before it where they are.
+    /// The write of one part that `end_single` keeps: the parts of `write` stay where they are.
     single: Transaction,
     read: Transaction,
     call: Transaction,
@@ -162,7 +162,7 @@ impl Kept {
         parts.truncate(count);
     }
 
-    /// The packet was the write of one part, which was not added before.
+    /// The packet was the write of one part, which is given here and was not added before.
     #[inline]
     pub fn end_single(&mut self, address: u8, command: u8, data_bytes: &[u8], with_pec: bool)
         requires { length data_bytes.now ≤ 255 }

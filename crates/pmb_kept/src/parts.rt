@@ -65,6 +65,7 @@ pub(crate) fn copy_bytes<const N: usize>(bytes: &[u8], into: &mut ArrayVec<u8, N
     ensures { into.new.items ≡ bytes.now }
 {
     match bytes {
+        [] => into.clear(),
         [byte] => copy_one(*byte, into),
         [first, second] => copy_two(*first, *second, into),
         _ => copy_many(bytes, into),

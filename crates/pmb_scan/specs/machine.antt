@@ -1,4 +1,5 @@
--- What private fields say of what was given so far. No public contract needs these to be understood.
+-- What private fields say of what was given so far, and what private functions promise. No public
+-- contract needs these to be understood.
 pub mod Blank
 pub mod Standing
 pub mod Reported

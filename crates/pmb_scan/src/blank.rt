@@ -29,8 +29,8 @@ pub(crate) fn begins_blank(text: &[u8]) -> bool {
     }
 }
 
-/// How many bytes at the front of a text are separators and comments, each with the LF that ends
-/// it. A comment that goes on after the text is not counted.
+/// How many bytes at the front of a text are separators and whole comments, each comment with its
+/// LF.
 #[inline(never)]
 pub(crate) fn front_blank(text: &[u8]) -> usize
     ensures within { result ≤ length text.now }

@@ -2,7 +2,8 @@
 //!
 //! Most events complete nothing. What is done for a packet or a refusal is in functions of its own
 //! that are not inlined, so that no other event pays for it. In each turn `take_words` takes a
-//! whole common packet, where one lies in front, or a byte and its ACK, or one word.
+//! whole common packet, where one lies in front, or the separators and comments there, or a byte and
+//! its ACK, or one word.
 
 ghost use Rattle.std.specs.Prelude.{◌≡◌, ◌++◌, ◌∷◌, [], ◌≤◌, ◌<◌, ℕ, List, None, OnOk, IfOk, IfSome, length, drop, take};
 ghost use Rattle.pmb_bus.specs.declared.event.Event.{Event as BusEvent};
@@ -63,7 +64,8 @@ impl<'p> Scan<'p> {
     /// Takes the words of the next piece of the text, and tells a visitor what comes of them, up to
     /// a word that is no token.
     ///
-    /// After a fault the scan takes nothing more. A packet that is under way there is not reported.
+    /// A packet that is under way at a fault is not reported. What follows is for a new scan: nothing
+    /// is said of what this one takes then.
     ///
     /// # Errors
     ///
@@ -93,7 +95,7 @@ impl<'p> Scan<'p> {
                 rest = &rest[blank..];
                 continue;
             }
-            // Up to the next STOP no packet begins.
+            // What comes up to the next STOP is taken word by word.
             'words: loop {
                 match self.lexer.feed_acked(rest) {
                     Some(byte) => {
@@ -268,9 +270,8 @@ impl<'p> Scan<'p> {
     }
 }
 
-/// Whether a piece begins as a common packet does: with START, an address byte that is acknowledged
-/// and a byte with its answer, or an address byte that is refused. Most begin with two bytes that
-/// are acknowledged.
+/// Whether a piece begins as a common packet does: with START, an address byte that has ACK and a
+/// byte with its answer, or an address byte that has NACK. Most begin with two bytes that have ACK.
 #[inline(always)]
 fn begins_common(piece: &[u8]) -> bool {
     match piece {
@@ -279,7 +280,7 @@ fn begins_common(piece: &[u8]) -> bool {
     }
 }
 
-/// Whether a piece begins with START and a leg of one byte or two, the last of which is refused.
+/// Whether a piece begins with START and a leg of one byte or two, the last of which has NACK.
 #[inline(never)]
 fn begins_refused(piece: &[u8]) -> bool {
     match piece {

@@ -29,7 +29,7 @@ of_last (Of kind) kept = of_kind kind kept
 abbrev pub kept_data : Inside → KeptData
 kept_data kept = record { parts = take kept.count (parts_of kept.write); last = transaction_data (of_last kept.last kept) }
 
--- The write has so many, and nobody answered in the transaction that says so.
+-- The write has at least so many, and nobody answered in the transaction that says so.
 pub record IsKept (kept : Inside) : Type 0 where
   pub within : kept.count ≤ length (parts_of kept.write)
   pub none : kept.no_alert ≡ kinds.NoAlert
