@@ -1,26 +1,108 @@
-# What Total Phase's Data Center exports of a Beagle I2C analyzer as CSV, as capture text: a packet a
-# line.
+# What Total Phase's Data Center exports of a Beagle I2C analyzer as CSV, as capture text: a packet
+# a line.
 #
 #   awk -f convert/beagle.awk export.csv
 #
-# The line that names the columns begins with `Level,Index` (or with `# Level,Index`); these are read:
-# the time (m:s.ms.us), S/P, Addr, Record, Data. A row is a transaction: the address in seven bits,
-# `Write Transaction` or `Read Transaction`, and its bytes; `*` after the address or a byte is a
-# NACK. S in the column S/P is a START and P a STOP, so that a row with S alone goes on in the next
-# one with a repeated START. A comment after each packet has the time of its first row.
+# The line that names the columns begins with `Level,Index` (or with `# Level,Index`); these are
+# read: the time (m:s.ms.us), Len, Err, S/P, Addr, Record, Data. Fields may be in quotes. A row is a
+# transaction: the address in seven bits, `Write Transaction` or `Read Transaction`, and its bytes;
+# `*` after the address or a byte is a NACK. S in the column S/P is a START and P a STOP, so that a
+# row with S alone goes on in the next one with a repeated START. A comment after each packet has
+# the time of its first row. Rows of other records are passed over, if they have no address, bytes,
+# START or STOP.
 #
-# Rows of other records, as those that tell when the capture started and stopped, are passed over.
+# What the export doesn't show, so that it can't be seen here either: the bits of a byte that is
+# cut. The analyzer marks such a row in Err, if that column is exported.
+#
+# These are comments in the capture, `# left out, ..`, and lines on standard error: a packet in
+# which the capture starts or stops, or the file ends and another one begins; one whose START is
+# missing; one with something in Err, or with another number of bytes than Len; a row of an unknown
+# record with an address, bytes, START or STOP, and the packet that it is in. Such a packet goes on
+# up to its STOP, since a repeated START looks like any other in the export. A packet in which the
+# export ends is written as far as it goes, and `pmb` reports it as truncated.
+#
+# Exit status: 0 if all transactions are in the capture; 1 if a packet was left out, if there is no
+# packet, or at a row that makes no sense, with which reading ends.
+
+function say(text) {
+    print "beagle.awk: " text > "/dev/stderr"
+    fflush("/dev/stderr")
+}
+
+# Each line goes out at once, so that an export can be watched while it is written.
+function put_line(text) {
+    print text
+    fflush()
+}
+
+function place() {
+    return (FNR == NR ? "" : FILENAME ": ") "line " FNR ": "
+}
 
 # A row that makes no sense: the unfinished packet is not written, and nothing after it is read.
 function fail(why) {
-    print "beagle.awk: line " NR ": " why > "/dev/stderr"
+    say(place() why)
     failed = 1
     exit 1
 }
 
-function end_packet() {
-    print packet (time == "" ? "" : " # " time)
+function counted(count, noun) {
+    return count " " noun (count == 1 ? "" : "s")
+}
+
+# What can't be said as a packet is a comment.
+function leave_out(why) {
+    put_line("# left out, " why (time == "" ? "" : ", " time) ": " packet)
+    say(place() why ": a packet is left out")
+    status = 1
     packet = ""
+    wrong = ""
+}
+
+function end_packet() {
+    if (wrong != "") leave_out(wrong)
+    else {
+        put_line(packet (time == "" ? "" : " # " time))
+        packets++
+        packet = ""
+    }
+}
+
+# The packet that the row belongs to isn't a whole one. The first reason is the one that is told.
+function spoil(why) {
+    if (wrong == "") wrong = why
+}
+
+# The words of a row.
+function put(words) {
+    if (packet == "") time = column("m:s.ms.us")
+    packet = packet (packet == "" ? "" : " ") words
+    if (column("S/P") ~ /P/) {
+        packet = packet " P"
+        end_packet()
+    } else if (wrong != "" && length(packet) > 1000) {
+        # What has no STOP may go on for long.
+        why = wrong
+        leave_out(why)
+        wrong = why
+        packet = ".."
+    }
+}
+
+# The fields of the row. What is in quotes may have commas in it, and two quotes for one.
+function split_row(row,    parts, count, i, hidden) {
+    if (!index(row, "\"")) return split(row, fields, ",")
+    count = split(row, parts, "\"")
+    if (count % 2 == 0) fail("a quote that doesn't end")
+    row = parts[1]
+    for (i = 2; i <= count; i++) {
+        if (i % 2 == 0) hidden += gsub(/,/, "\001", parts[i])
+        else if (parts[i] == "" && i < count) parts[i] = "\""
+        row = row parts[i]
+    }
+    count = split(row, fields, ",")
+    if (hidden) for (i = 1; i <= count; i++) gsub(/\001/, ",", fields[i])
+    return count
 }
 
 function column(name) {
@@ -44,36 +126,91 @@ function answered(word, is_nack) {
     return " " word (is_nack ? " N" : " A")
 }
 
-{ sub(/\r$/, "") }
-/^#? *Level,Index/ {
-    sub(/^# */, "")
-    count = split($0, names, ",")
-    for (i = 1; i <= count; i++) columns[names[i]] = i
-    next
-}
-/^#/ || /^$/ { next }
-!("Record" in columns) { fail("a row before the line that names the columns") }
-{ split($0, fields, ","); record = column("Record") }
-record != "Write Transaction" && record != "Read Transaction" { next }
-{
-    is_read = record == "Read Transaction"
-    starts = column("S/P") ~ /S/
-    if (!starts) fail("a transaction without START")
-    if (packet == "") time = column("m:s.ms.us")
+# The words of a transaction.
+function transaction(is_read,    address, is_nack, words, count, bytes, i) {
     address = column("Addr")
     is_nack = sub(/\*$/, "", address)
-    packet = packet (packet == "" ? "S" : " S") answered(addressed(address, is_read), is_nack)
+    words = answered(addressed(address, is_read), is_nack)
     count = split(column("Data"), bytes, " ")
     for (i = 1; i <= count; i++) {
         is_nack = sub(/\*$/, "", bytes[i])
         if (bytes[i] !~ /^[0-9a-fA-F][0-9a-fA-F]$/) fail("`" bytes[i] "' is no byte")
-        packet = packet answered(tolower(bytes[i]), is_nack)
+        words = words answered(tolower(bytes[i]), is_nack)
     }
-    if (column("S/P") ~ /P/) {
-        packet = packet " P"
-        end_packet()
-    }
+    check_row(count)
+    if (column("S/P") ~ /S/) return "S" words
+    spoil(packet == "" ? "its START is missing" : "a row without START")
+    return substr(words, 2)
 }
 
-# A packet that is not finished is written as far as it goes: `pmb` reports it as truncated.
-END { if (!failed && packet != "") end_packet() }
+# An error, and whether the row has the bytes that it counts.
+function check_row(count,    text) {
+    if ("Err" in columns && column("Err") ~ /[^ ]/) spoil("Err is `" column("Err") "'")
+    if (!("Len" in columns)) return
+    text = column("Len")
+    gsub(/,/, "", text)
+    if (text !~ /^[0-9]+ *B?$/) fail("`" text "' is no number of bytes")
+    if (text + 0 != count)
+        spoil("Len is " text + 0 ", and there " (count == 1 ? "is 1 byte" : "are " count " bytes"))
+}
+
+FNR == 1 {
+    sub(/^\357\273\277/, "")
+    if (packet != "") leave_out("its file ends")
+    split("", columns)
+}
+{
+    sub(/\r$/, "")
+    count = split_row($0)
+}
+fields[1] ~ /^#? *Level$/ && fields[2] == "Index" {
+    sub(/^# */, "", fields[1])
+    width = count
+    split("", columns)
+    for (i = 1; i <= width; i++) columns[fields[i]] = i
+    if (!("Err" in columns)) say(place() "there is no column `Err', so errors can't be seen")
+    if (!("Len" in columns)) say(place() "there is no column `Len', so bytes that are missing can't be seen")
+    next
+}
+fields[1] ~ /^#/ || /^$/ { next }
+!("Record" in columns) { fail("a row before the line that names the columns, `Level,Index,..': is this an export of Data Center?") }
+{ record = column("Record") }
+record == "Write Transaction" || record == "Read Transaction" {
+    if (count != width) fail("the row has " count " fields, and there are " width " columns")
+    put(transaction(record == "Read Transaction"))
+    next
+}
+record ~ /^Capture (started|stopped)/ {
+    if (packet != "") leave_out("the capture " (record ~ /stopped/ ? "stopped" : "started") " in it")
+    next
+}
+# An unknown row may stand for a part of a packet.
+column("S/P") column("Addr") column("Data") ~ /[^ ]/ {
+    spoil("a row of the unknown record `" record "'")
+    if (packet == "" && column("S/P") !~ /S/) {
+        packet = "(" record ")"
+        time = column("m:s.ms.us")
+        leave_out(wrong)
+    } else put("(" record ")")
+    next
+}
+{ if (others[record]++ == 0) other_records[++records] = record }
+
+function no_packet() {
+    if (status) return "see the lines before this one"
+    if (NR == 0) return "the input is empty"
+    if (!("Record" in columns)) return "there is no line that names the columns, `Level,Index,..': is this an export of Data Center?"
+    return "there are no rows of the records `Write Transaction' and `Read Transaction'"
+}
+
+END {
+    if (failed) exit failed
+    if (packet != "") end_packet()
+    for (i = 1; i <= records; i++)
+        say("passed over: " counted(others[other_records[i]], "row") " of the record `" other_records[i] "'")
+    if (!packets) {
+        say("no packet: " no_packet())
+        status = 1
+    }
+    exit status
+}

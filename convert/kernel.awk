@@ -2,32 +2,82 @@
 # from any system that runs Linux, without an analyser:
 #
 #   echo 1 > /sys/kernel/tracing/events/i2c/enable; cat /sys/kernel/tracing/trace_pipe > trace.txt
-#   awk -f convert/kernel.awk trace.txt        (or: trace-cmd report | awk -f convert/kernel.awk)
+#   awk -f convert/kernel.awk trace.txt    (or: trace-cmd report | awk -f convert/kernel.awk)
 #
-# It reads i2c_write, i2c_read, i2c_reply and i2c_result, and passes over other events. With more
-# than one bus in the trace say -v bus=NUMBER; else it is that of the first event. A comment after
-# each packet has the time stamp of its first event.
+# It reads i2c_write, i2c_read, i2c_reply and i2c_result as trace, trace_pipe, `trace-cmd report`
+# and `perf script` print them, and passes over other events. A comment after each packet has the
+# time stamp of its first event.
+#
+#   -v bus=NUMBER   the adapter, if there are several: 3 for i2c-3; else that of the first i2c event
 #
 # What the kernel can't tell, and how it is settled:
-# - Bits on the wire. A transfer of several messages is taken for one packet: a repeated START before
-#   each message but the first, and STOP at the end.
-# - ACK and NACK. A transfer whose result is the number of its messages went through: so each byte is
-#   taken as acknowledged, but for the last one read, which gets the host's NACK.
-# - Where a transfer failed. The kernel says that it did, but not at which byte: it becomes a comment
-#   with its messages and its error, and no packet.
-# - SMBus transfers that the adapter makes by itself have other events (smbus_write and so on),
-#   which have no bytes as on the wire. They are counted on standard error.
+# - Bits on the wire. A transfer of several messages is taken for one packet: a repeated START
+#   before each message but the first, and STOP at the end.
+# - ACK and NACK. A transfer whose result is the number of its messages went through: so each byte
+#   is taken as acknowledged, but for the last one read, which gets the host's NACK.
+# - Where a transfer failed. The kernel says that it did, but not at which byte: it becomes a
+#   comment with its messages and its error, and no packet.
+# - How often a transfer was tried. After a lost arbitration the kernel tries again, and tells of it
+#   once.
+# - What was in a full buffer before: the kernel overwrites the first events, and the file `trace`
+#   says how many. That is reported, and the capture begins with the next whole transfer.
+# - Where events were lost. Each processor has a buffer of its own, and its loss is reported before
+#   its next event, so on several processors a loss may have happened earlier than its line tells.
+# - SMBus transfers that the adapter makes by itself: their events (smbus_write and so on) don't
+#   have the bytes as on the wire. Each becomes a comment. Where the kernel makes an SMBus transfer
+#   of messages there are i2c events between those of smbus, and these have its bytes.
+#
+# These are comments in the capture, `# left out, ..`, and lines on standard error:
+# - the transfer that is under way when events are lost, when the trace ends or another file begins;
+# - one whose beginning is missing, or whose events don't belong together;
+# - one with a message of more than 64 bytes, of which the kernel prints 64, with a flag that
+#   changes what is on the wire, or with an address of ten bits.
+#
+# Exit status: 0 if all I2C events of the bus are in the capture, as packets or as transfers that
+# failed; 1 if a transfer was left out, if events were lost, if there is no packet, or at a line
+# that makes no sense, with which reading ends; 2 if an option has a value that it can't have.
+
+function say(text) {
+    print "kernel.awk: " text > "/dev/stderr"
+    fflush("/dev/stderr")
+}
+
+# Each line goes out at once, so that a live trace can be watched.
+function put_line(text) {
+    print text
+    fflush()
+}
+
+function end_with(exit_status, text) {
+    say(text)
+    failed = exit_status
+    exit exit_status
+}
+
+function place() {
+    return (FNR == NR ? "" : FILENAME ": ") "line " FNR ": "
+}
 
 # A line that makes no sense: nothing of the unfinished transfer is written, and nothing after it is
 # read.
 function fail(why) {
-    print "kernel.awk: line " NR ": " why > "/dev/stderr"
-    failed = 1
-    exit 1
+    end_with(1, place() why)
+}
+
+function counted(count, noun) {
+    return count " " noun (count == 1 ? "" : "s")
+}
+
+function check_options() {
+    sub(/^i2c-/, "", bus)
+    if (bus !~ /^[0-9]*$/)
+        end_with(2, "bus=" bus " is no number of an adapter: say -v bus=3 for i2c-3")
+    # busybox awk takes 010 for eight.
+    while (bus ~ /^0[0-9]/) bus = substr(bus, 2)
 }
 
 function digit(letter) {
-    return index("0123456789abcdef", tolower(letter)) - 1
+    return index("0123456789abcdef", letter) - 1
 }
 
 # What comes after `name=` in the event.
@@ -36,9 +86,16 @@ function field(name) {
     return substr(event, RSTART + length(name) + 2, RLENGTH - length(name) - 2)
 }
 
+function whole_number(name,    text) {
+    text = field(name)
+    if (text !~ /^-?[0-9]+$/) fail(name "=" text " is no number")
+    return text + 0
+}
+
 # The byte that addresses a device, from three digits of an address.
 function addressed(address, direction) {
-    if (address !~ /^0[0-7][0-9a-f]$/) fail("the address " address " has more than seven bits")
+    if (address !~ /^[0-9a-f][0-9a-f][0-9a-f]$/) fail("a=" address " is no address")
+    if (address !~ /^0[0-7]/) unsaid = "its address " address " has more than seven bits"
     return sprintf("%02x", 32 * digit(substr(address, 2, 1)) + 2 * digit(substr(address, 3, 1)) + direction)
 }
 
@@ -47,7 +104,10 @@ function bytes(last,    text, list, count, i, words) {
     if (!match(event, /\[[^]]*\]/)) fail("the event has no bytes")
     text = substr(event, RSTART + 1, RLENGTH - 2)
     count = split(text, list, "-")
-    if (count != field("l") + 0) fail("there are " count " bytes, and l=" field("l"))
+    if (count == 64 && whole_number("l") > 64)
+        unsaid = "the kernel prints 64 of its " field("l") " bytes"
+    else if (count != whole_number("l"))
+        fail("there are " count " bytes, and l=" field("l"))
     for (i = 1; i <= count; i++) {
         if (list[i] !~ /^[0-9a-f][0-9a-f]$/) fail("`" list[i] "' is no byte")
         words = words " " list[i] " " (i < count ? "A" : last)
@@ -55,18 +115,13 @@ function bytes(last,    text, list, count, i, words) {
     return words
 }
 
-# The flags of a message: 0001 to read, 0400 a length that the device gives, 0200 the bytes are safe
-# for DMA. Others change what is on the wire.
-function is_read(flags) {
-    if (flags !~ /^0[0246][0-9a-f][01]$/ || flags ~ /^..[^0]/) fail("flags " flags " change what is on the wire")
-    return flags ~ /1$/
-}
-
-function forget() {
-    messages = 0
-    said = ""
-    split("", heads)
-    split("", bodies)
+# The flags of a message: 0001 to read, 0004 its device has packet error codes, 0200 the bytes are
+# safe for DMA, 0400 a length that the device gives. Others change what is on the wire.
+function check_flags(flags, direction) {
+    if (flags !~ /^[0-9a-f][0-9a-f][0-9a-f][0-9a-f]$/) fail("f=" flags " are no flags")
+    if ((flags ~ /[13579bdf]$/) != direction)
+        fail("the flags " flags " are those of another direction")
+    if (flags !~ /^0[0246]0[0145]$/) unsaid = "its flags " flags " change what is on the wire"
 }
 
 # The number of the message that an event is about.
@@ -75,59 +130,236 @@ function message() {
     return substr(event, RSTART + 2, RLENGTH - 3) + 0
 }
 
-# A message begins, with the byte that addresses its device.
-function begin(direction) {
-    if (message() != messages) fail("message " message() " where " messages " should come")
-    if (is_read(field("f")) != direction) fail("the flags " field("f") " are those of another direction")
-    if (messages == 0) time = stamp
-    heads[messages] = "S " addressed(field("a"), direction) " A"
-    said = said (direction ? " read" : " write") " a=" field("a")
+function forget() {
+    messages = 0
+    said = ""
+    unsaid = ""
+    split("", heads)
+    split("", bodies)
+    split("", asked)
 }
 
-# The packet of the messages.
+function when(stamp) {
+    return stamp == "" ? "" : ", " stamp " s"
+}
+
+# What can't be said as a packet is a comment.
+function leave_out(why) {
+    put_line("# left out, " why when(time) ":" said)
+    say(place() why ": a transfer is left out")
+    status = 1
+    forget()
+}
+
+# An event of a transfer whose first message is missing. It is reported once for each transfer: its
+# other events, up to the result, are `stray` too.
+function pass_stray() {
+    if (!stray) {
+        put_line("# left out, its beginning is missing" when(stamp) ": " event)
+        say(place() "the beginning of a transfer is missing: it is left out")
+    }
+    stray = kind != "i2c_result"
+    status = 1
+}
+
+# The transfer can't be told from here on.
+function break_off(why) {
+    leave_out(why)
+    stray = kind != "i2c_result"
+}
+
+# A message begins, with the byte that addresses its device. The kernel tells of all messages of a
+# transfer before it makes it, and then of the replies.
+function begin(direction,    number, address, flags, expected) {
+    number = message()
+    address = field("a")
+    flags = field("f")
+    if (number == 0) {
+        if (messages > 0) leave_out("it has no result")
+        stray = 0
+        time = stamp
+    } else if (messages == 0) {
+        pass_stray()
+        return
+    } else if (number != messages || has_replies) {
+        expected = has_replies ? "a reply" : "message " messages
+        break_off("message " number " where " expected " was expected")
+        return
+    }
+    has_replies = 0
+    check_flags(flags, direction)
+    heads[messages] = "S " addressed(address, direction) " A"
+    said = said (direction ? " read" : " write") " a=" address
+    # A reply has the length that was asked for, unless the device gives it.
+    if (direction) asked[messages] = address " " (flags ~ /^.[4567]/ ? "any" : whole_number("l"))
+    else bodies[messages] = bytes("A")
+    messages++
+}
+
+function take_reply(    number, reply) {
+    number = message()
+    if (messages == 0) {
+        pass_stray()
+        return
+    }
+    if (!(number in asked) || number in bodies) {
+        break_off("a reply to message " number ", which asked for none")
+        return
+    }
+    reply = field("a") " " (asked[number] ~ /any$/ ? "any" : whole_number("l"))
+    if (reply != asked[number]) {
+        break_off("the reply to message " number " is not the one that it asked for")
+        return
+    }
+    check_flags(field("f"), 1)
+    has_replies = 1
+    bodies[number] = bytes("N")
+}
+
+# The packet of the messages, or nothing if one has no reply.
 function packet(    i, words) {
     for (i = 0; i < messages; i++) {
-        if (!(i in bodies)) fail("message " i " has no reply")
+        if (!(i in bodies)) return ""
         words = words heads[i] bodies[i] " "
     }
     return words "P"
 }
 
-BEGIN { forget() }
+function take_result(    count, result, words) {
+    count = whole_number("n")
+    result = whole_number("ret")
+    if (messages == 0) {
+        pass_stray()
+        return
+    }
+    words = packet()
+    if (count != messages)
+        break_off("its result counts " count " messages, and there are " messages)
+    else if (result != count) {
+        put_line("# failed with " result ":" said (time == "" ? "" : " # " time " s"))
+        failures++
+        forget()
+    } else if (words == "")
+        break_off("not each of its reads has a reply")
+    else if (unsaid != "")
+        break_off(unsaid)
+    else {
+        put_line(words (time == "" ? "" : " # " time " s"))
+        packets++
+        forget()
+    }
+}
 
-{ sub(/\r$/, ""); kind = "" }
-/ smbus_(read|write|reply|result): / { skipped++ }
-match($0, / i2c_(write|read|reply|result): i2c-[0-9]+ /) {
+# A transfer of SMBus has no bytes as on the wire unless there is one of messages within it.
+function take_smbus(number) {
+    if (kind == "smbus_write" || kind == "smbus_read") has_messages[number] = 0
+    else if (kind == "smbus_result" && number in has_messages) {
+        if (!has_messages[number]) {
+            alone[number]++
+            sub(/^smbus_result: +/, "", event)
+            if (bus == "" || number == bus)
+                put_line("# left out, the adapter makes SMBus transfers by itself" when(stamp) ": " event)
+        }
+        delete has_messages[number]
+    }
+}
+
+# After a loss or a joint, nothing that was under way goes on.
+function begin_anew(why) {
+    if (messages > 0) leave_out(why)
+    stray = 0
+    split("", has_messages)
+}
+
+BEGIN { forget(); check_options() }
+
+FNR == 1 {
+    check_options()
+    if (NR > 1) begin_anew("its file ends")
+}
+{ sub(/\r$/, "") }
+
+match($0, / (i2c:|smbus:)?(i2c|smbus)_(write|read|reply|result): +i2c-[0-9]+ /) {
     event = substr($0, RSTART + 1)
     stamp = ""
-    if (match(substr($0, 1, RSTART - 1), /[0-9]+\.[0-9]+:$/)) stamp = substr($0, RSTART, RLENGTH - 1)
+    if (match(substr($0, 1, RSTART - 1), /[0-9]+\.[0-9]+: *$/)) {
+        stamp = substr($0, RSTART, RLENGTH)
+        sub(/: *$/, "", stamp)
+    }
+    sub(/^(i2c|smbus):/, "", event)
     kind = event
     sub(/:.*/, "", kind)
     number = event
-    sub(/^[a-z0-9_]+: i2c-/, "", number)
+    sub(/^[a-z0-9_]+: +i2c-/, "", number)
     sub(/ .*/, "", number)
+    if (kind ~ /^smbus/) {
+        smbus_events++
+        take_smbus(number)
+        next
+    }
+    if (kind == "i2c_result") has_messages[number] = 1
     if (bus == "") bus = number
-    if (number != bus) next
+    if (number != bus) {
+        if (others[number]++ == 0) other_buses = other_buses " " number
+        next
+    }
+    if (kind == "i2c_write") begin(0)
+    else if (kind == "i2c_read") begin(1)
+    else if (kind == "i2c_reply") take_reply()
+    else take_result()
+    next
 }
-kind == "i2c_write" { begin(0); bodies[messages++] = field("l") + 0 ? bytes("A") : "" }
-kind == "i2c_read" { begin(1); messages++ }
-kind == "i2c_reply" {
-    if (heads[message()] == "" || message() in bodies) fail("a reply to message " message() ", which asked for none")
-    bodies[message()] = bytes("N")
+
+# Lost events, as the kernel, trace-cmd and perf report them.
+/^ *CPU:[0-9]+ \[(LOST|LOST [0-9]+|[0-9]+)? ?EVENTS( DROPPED)?\]/ || /PERF_RECORD_LOST/ {
+    loss = $0
+    sub(/^ +/, "", loss)
+    begin_anew("events were lost")
+    put_line("# events were lost: " loss)
+    say(place() "events were lost: " loss)
+    status = 1
+    next
 }
-kind == "i2c_result" {
-    if (messages == 0) fail("a result without a message")
-    behind = time == "" ? "" : " # " time " s"
-    if (field("ret") + 0 == messages) print packet() behind
-    else print "# failed with " field("ret") ":" said behind
-    forget()
+
+# The first line of a trace: two may have been put together.
+/^# tracer: / || /^cpus=[0-9]+$/ { begin_anew("its trace ends"); next }
+
+# The head of the file `trace`: a full buffer loses its first events, and the trace begins later.
+/^# entries-in-buffer\/entries-written: [0-9]+\/[0-9]+ / {
+    split($3, entries, "/")
+    if (entries[1] + 0 < entries[2] + 0) {
+        lost_first = counted(entries[2] - entries[1], "event") " before the first one were overwritten"
+        put_line("# " lost_first)
+        say(place() lost_first)
+    }
+    next
+}
+
+!/^#/ && !/^ *$/ { passed_over++ }
+
+function no_packet() {
+    if (failures) return counted(failures, "transfer") " failed, and no other was made"
+    if (status) return "see the lines before this one"
+    if (other_buses != "") return "there are no i2c events of i2c-" bus
+    if (smbus_events) return "there are smbus events alone: the adapter makes SMBus transfers by itself, or events/i2c/enable is 0"
+    return "there are no events i2c_write, i2c_read, i2c_reply, i2c_result: is this a trace, and is events/i2c/enable 1?"
 }
 
 END {
-    if (failed) exit 1
-    if (skipped) print "kernel.awk: " skipped " events of SMBus transfers passed over" > "/dev/stderr"
-    if (messages > 0) {
-        print "kernel.awk: the trace ends in a transfer, which is left out" > "/dev/stderr"
-        exit 1
+    if (failed) exit failed
+    begin_anew("the trace ends in it")
+    count = split(other_buses, list, " ")
+    for (i = 1; i <= count; i++)
+        say("passed over: " counted(others[list[i]], "event") " of i2c-" list[i] " (-v bus=" list[i] " reads them)")
+    if (passed_over) say("passed over: " counted(passed_over, "line") " without an event of I2C")
+    if (smbus_events) say("passed over: " counted(smbus_events, "smbus event"))
+    if (bus in alone) {
+        say(counted(alone[bus], "SMBus transfer") " left out: the adapter makes them by itself, and the kernel doesn't tell their bytes on the wire")
+        status = 1
     }
+    if (!packets) {
+        say("no packet: " no_packet())
+        status = 1
+    }
+    exit status
 }
