@@ -20,7 +20,7 @@
 # - How often a transfer was tried. After a lost arbitration the kernel tries again, and tells of it
 #   once.
 # - What was in a full buffer before: the kernel overwrites the first events, and the file `trace`
-#   says how many. That is reported, and the capture begins with the next whole transfer.
+#   says how many. That is a loss, and the capture begins with the next whole transfer.
 # - Where events were lost. Each processor has a buffer of its own, and its loss is reported before
 #   its next event, so on several processors a loss may have happened earlier than its line tells.
 # - SMBus transfers that the adapter makes by itself: their events (smbus_write and so on) don't
@@ -331,6 +331,7 @@ match($0, / (i2c:|smbus:)?(i2c|smbus)_(write|read|reply|result): +i2c-[0-9]+ /) 
         lost_first = counted(entries[2] - entries[1], "event") " before the first one were overwritten"
         put_line("# " lost_first)
         say(place() lost_first)
+        status = 1
     }
     next
 }
