@@ -134,7 +134,7 @@ LTC3880_TEXT = example("profiles/ltc3880.toml")
 LTC3880 = Profile((device(0x4F, "optional", pages=2, vout_mode=0x14),))
 
 PFE1100_TEXT = example("profiles/pfe1100.toml")
-PFE1100 = Profile((device(0x58, "optional"),))
+PFE1100 = Profile((device(0x58, "optional", vout_mode=0x16),))
 
 BENCH_TEXT = example("transactions/bench_setup.toml")
 BENCH = Profile((

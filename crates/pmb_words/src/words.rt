@@ -34,7 +34,7 @@ fn pmb_command<'a>(alloc: Global) -> Result<Command<'a>, AllocError>
         "profile",
         "Shows the bus that a profile makes: its devices and their commands",
         "Standard input is the profile, up to a line '%%' or to its end. If the profile is wrong, this says why.\n\n\
-         Example:\n  ./pmb profile < examples/profiles/ltc3880.toml",
+         Example:\n  pmb profile < examples/profiles/ltc3880.toml",
         sample_flag(alloc),
     )?;
     let encoding = with_leaf(
@@ -42,8 +42,10 @@ fn pmb_command<'a>(alloc: Global) -> Result<Command<'a>, AllocError>
         describing,
         "encode",
         "Writes the code of each quantity, one a line",
-        "The quantities come on standard input, one a line.\n\n\
-         Example:\n  echo 12 | ./pmb encode linear11",
+        "The quantities come on standard input, one a line. A code is a number of four hexadecimal \
+         digits, its high byte first. On the bus the low byte comes first: the code 1800 goes out as \
+         00 18, as in 'write 58 21 00 18'.\n\n\
+         Example:\n  echo 12 | pmb encode linear11",
         format_word(alloc),
     )?;
     with_leaf(
@@ -51,8 +53,10 @@ fn pmb_command<'a>(alloc: Global) -> Result<Command<'a>, AllocError>
         encoding,
         "decode",
         "Writes the quantity of each code, one a line",
-        "The codes come on standard input, one a line.\n\n\
-         Example:\n  echo d300 | ./pmb decode linear11",
+        "The codes come on standard input, one a line. A code is a number of four hexadecimal \
+         digits, its high byte first. On the bus and in the lines of 'show' the low byte comes \
+         first: 'read 58 88 : 00 d3' has the code d300.\n\n\
+         Example:\n  echo d300 | pmb decode linear11",
         format_word(alloc),
     )
 }
@@ -68,7 +72,7 @@ fn traffic_command<'a>(alloc: Global) -> Result<Command<'a>, AllocError>
         "Writes the bus events of transaction lines, a packet a line",
         "Standard input is a profile, a line '%%' and transaction lines, or with --sample the lines \
          alone. 'pmb profile' shows what a profile makes, or what is wrong with it.\n\n\
-         Example:\n  echo 'write 58 21 00 18 pec' | ./pmb build --sample",
+         Example:\n  echo 'write 58 21 00 18 pec' | pmb build --sample",
         sample_flag(alloc),
     )?;
     with_leaf(
@@ -78,7 +82,7 @@ fn traffic_command<'a>(alloc: Global) -> Result<Command<'a>, AllocError>
         "Runs requests on simulated devices: a packet and its result for each",
         "Standard input is a profile, a line '%%' and request lines, or with --sample the lines \
          alone. 'pmb profile' shows what a profile makes, or what is wrong with it.\n\n\
-         Example:\n  echo 'set 58 21 12' | ./pmb run --sample",
+         Example:\n  echo 'set 58 21 12' | pmb run --sample",
         sample_flag(alloc),
     )
 }
@@ -93,8 +97,10 @@ fn capture_command<'a>(alloc: Global) -> Result<Command<'a>, AllocError>
         "show",
         "Writes the transactions and the refusals of a capture, one a line",
         "Standard input is a profile, a line '%%' and the capture, or with --sample the capture \
-         alone. 'pmb profile' shows what a profile makes, or what is wrong with it.\n\n\
-         Example:\n  echo 'S b0 A 21 A 00 A 18 A P' | ./pmb show --sample",
+         alone. 'pmb profile' shows what a profile makes, or what is wrong with it. A capture \
+         consists of words: S and P for START and STOP, A and N for ACK and NACK, two hexadecimal \
+         digits for a byte.\n\n\
+         Example:\n  echo 'S b0 A 21 A 00 A 18 A P' | pmb show --sample",
         sample_flag(alloc),
     )?;
     let checking = with_leaf(
@@ -104,7 +110,7 @@ fn capture_command<'a>(alloc: Global) -> Result<Command<'a>, AllocError>
         "Writes the refusals of a capture, one a line, and the numbers of packets and of refusals",
         "Standard input is a profile, a line '%%' and the capture, or with --sample the capture \
          alone. 'pmb profile' shows what a profile makes, or what is wrong with it.\n\n\
-         Example:\n  echo 'S b0 A 03 A 47 A P' | ./pmb check --sample",
+         Example:\n  echo 'S b0 A 03 A 47 A P' | pmb check --sample",
         sample_flag(alloc),
     )?;
     checking.subcommand(json_command(alloc)?)
@@ -118,8 +124,10 @@ fn top_command<'a>(alloc: Global) -> Command<'a>
         .version("0.1.0")
         .about("Reads and writes PMBus traffic, and converts between codes and quantities")
         .after_help(
-            "All read standard input.\n\n\
-             Example:\n  echo 'S b0 A 21 A 00 A 18 A P' | ./pmb show --sample",
+            "All read standard input. The exit status is 0 if all went well; 1 if there was a refusal, a \
+             bad token, a bad line or a request that failed; 2 for a wrong command line, FORMAT or \
+             profile; 3 if reading or writing failed; and 4 if there was no memory.\n\n\
+             Example:\n  echo 'S b0 A 21 A 00 A 18 A P' | pmb show --sample",
         )
         .subcommand_required(true)
         .arg_required_else_help(true)
@@ -152,7 +160,7 @@ fn json_command<'a>(alloc: Global) -> Result<Command<'a>, AllocError>
         "Writes what a capture says, as lines of JSON",
         "Standard input is a profile, a line '%%' and the capture, or with --sample the capture \
          alone. 'pmb profile' shows what a profile makes, or what is wrong with it.\n\n\
-         Example:\n  echo 'S b0 A 21 A 00 A 18 A P' | ./pmb json --sample",
+         Example:\n  echo 'S b0 A 21 A 00 A 18 A P' | pmb json --sample",
     );
     bare.arg(sample_flag(alloc))?
         .arg(flag(

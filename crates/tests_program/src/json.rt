@@ -42,7 +42,7 @@ const HELP: &str = "Writes what a capture says, as lines of JSON\n\n\
     \x20     --device <HH>      Of the objects that name a device, write only those of the device at this address of seven bits, in two hexadecimal digits; may be given more than once\n\
     \x20 -h, --help             Print help\n\n\
     Standard input is a profile, a line '%%' and the capture, or with --sample the capture alone. 'pmb profile' shows what a profile makes, or what is wrong with it.\n\n\
-    Example:\n  echo 'S b0 A 21 A 00 A 18 A P' | ./pmb json --sample\n";
+    Example:\n  echo 'S b0 A 21 A 00 A 18 A P' | pmb json --sample\n";
 
 #[test]
 fn prints_its_help_word_for_word(rt: HostRuntime) {

@@ -49,26 +49,49 @@ const ABOUT: &str = "Reads and writes PMBus traffic, and converts between codes 
     \x20 encode   Writes the code of each quantity, one a line\n\
     \x20 decode   Writes the quantity of each code, one a line\n";
 
-const SHOW_EXAMPLE: &str = "Example:\n  echo 'S b0 A 21 A 00 A 18 A P' | ./pmb show --sample\n";
+// The exit statuses are said here.
+const LAST: &str = "Print version\n\n\
+    All read standard input. The exit status is 0 if all went well; 1 if there was a refusal, a bad \
+    token, a bad line or a request that failed; 2 for a wrong command line, FORMAT or profile; 3 if \
+    reading or writing failed; and 4 if there was no memory.\n\n\
+    Example:\n  echo 'S b0 A 21 A 00 A 18 A P' | pmb show --sample\n";
+
+// What a capture is.
+const SHOW_LAST: &str = "A capture consists of words: S and P for START and STOP, A and N for ACK \
+    and NACK, two hexadecimal digits for a byte.\n\n\
+    Example:\n  echo 'S b0 A 21 A 00 A 18 A P' | pmb show --sample\n";
 
 const RUN_ABOUT: &str =
     "Runs requests on simulated devices: a packet and its result for each\n\nUsage: pmb run [OPTIONS]\n";
 
-const RUN_EXAMPLE: &str = "Example:\n  echo 'set 58 21 12' | ./pmb run --sample\n";
+const RUN_EXAMPLE: &str = "Example:\n  echo 'set 58 21 12' | pmb run --sample\n";
+
+// Which of a code's bytes comes first is said here, since it is the other one on the bus.
+const ENCODE_LAST: &str = "Print help\n\n\
+    The quantities come on standard input, one a line. A code is a number of four hexadecimal digits, \
+    its high byte first. On the bus the low byte comes first: the code 1800 goes out as 00 18, as in \
+    'write 58 21 00 18'.\n\n\
+    Example:\n  echo 12 | pmb encode linear11\n";
+
+const DECODE_LAST: &str = "Print help\n\n\
+    The codes come on standard input, one a line. A code is a number of four hexadecimal digits, its \
+    high byte first. On the bus and in the lines of 'show' the low byte comes first: \
+    'read 58 88 : 00 d3' has the code d300.\n\n\
+    Example:\n  echo d300 | pmb decode linear11\n";
 
 /// A name, words that ask to be told of the program, and what is printed first and last.
 #[rattlefmt::skip]
 static ASKING: [(&str, &[&str], &str, &str); 11] = [
-    ("help", &["pmb", "--help"], ABOUT, SHOW_EXAMPLE),
-    ("the subcommand help", &["pmb", "help"], ABOUT, SHOW_EXAMPLE),
-    ("help on show", &["pmb", "show", "--help"], "Writes the transactions and the refusals of a capture, one a line\n\nUsage: pmb show [OPTIONS]\n", SHOW_EXAMPLE),
-    ("help on check", &["pmb", "check", "--help"], "Writes the refusals of a capture, one a line, and the numbers of packets and of refusals\n\nUsage: pmb check [OPTIONS]\n", "Example:\n  echo 'S b0 A 03 A 47 A P' | ./pmb check --sample\n"),
-    ("help on build", &["pmb", "build", "--help"], "Writes the bus events of transaction lines, a packet a line\n\nUsage: pmb build [OPTIONS]\n", "Example:\n  echo 'write 58 21 00 18 pec' | ./pmb build --sample\n"),
+    ("help", &["pmb", "--help"], ABOUT, LAST),
+    ("the subcommand help", &["pmb", "help"], ABOUT, LAST),
+    ("help on show", &["pmb", "show", "--help"], "Writes the transactions and the refusals of a capture, one a line\n\nUsage: pmb show [OPTIONS]\n", SHOW_LAST),
+    ("help on check", &["pmb", "check", "--help"], "Writes the refusals of a capture, one a line, and the numbers of packets and of refusals\n\nUsage: pmb check [OPTIONS]\n", "Example:\n  echo 'S b0 A 03 A 47 A P' | pmb check --sample\n"),
+    ("help on build", &["pmb", "build", "--help"], "Writes the bus events of transaction lines, a packet a line\n\nUsage: pmb build [OPTIONS]\n", "Example:\n  echo 'write 58 21 00 18 pec' | pmb build --sample\n"),
     ("help on run", &["pmb", "run", "--help"], RUN_ABOUT, RUN_EXAMPLE),
     ("the subcommand help on run", &["pmb", "help", "run"], RUN_ABOUT, RUN_EXAMPLE),
-    ("help on profile", &["pmb", "profile", "--help"], "Shows the bus that a profile makes: its devices and their commands\n\nUsage: pmb profile [OPTIONS]\n", "Example:\n  ./pmb profile < examples/profiles/ltc3880.toml\n"),
-    ("help on encode", &["pmb", "encode", "--help"], "Writes the code of each quantity, one a line\n\nUsage: pmb encode <FORMAT>\n", "Example:\n  echo 12 | ./pmb encode linear11\n"),
-    ("help on decode", &["pmb", "decode", "--help"], "Writes the quantity of each code, one a line\n\nUsage: pmb decode <FORMAT>\n", "Example:\n  echo d300 | ./pmb decode linear11\n"),
+    ("help on profile", &["pmb", "profile", "--help"], "Shows the bus that a profile makes: its devices and their commands\n\nUsage: pmb profile [OPTIONS]\n", "Example:\n  pmb profile < examples/profiles/ltc3880.toml\n"),
+    ("help on encode", &["pmb", "encode", "--help"], "Writes the code of each quantity, one a line\n\nUsage: pmb encode <FORMAT>\n", ENCODE_LAST),
+    ("help on decode", &["pmb", "decode", "--help"], "Writes the quantity of each code, one a line\n\nUsage: pmb decode <FORMAT>\n", DECODE_LAST),
     ("the version", &["pmb", "--version"], "pmb 0.1.0\n", "pmb 0.1.0\n"),
 ];
 

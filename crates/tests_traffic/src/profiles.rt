@@ -96,12 +96,15 @@ S 20 A 88 A 00 A 00 A P
 [[device]]
 address = 0x58
 pec = "optional"
+vout_mode = 0x16 # 10110b, the exponent -10: output voltages in steps of 1/1024 V
 %%
 # FAN_COMMAND_1 50: e320h in LINEAR11, 800 * 2^-4.
 S b0 A 3b A 20 A e3 A P
+# READ_VOUT 2ffah = 12282, in steps of 2^-10 by the profile: 12282 / 1024 = 11.994140625.
+S b0 A 8b A S b1 A fa A 2f N P
 # Nobody answers at 59h.
 S b2 N P
-"#, "write 58 3b 20 e3 # FAN_COMMAND_1 50\nrefused 59 # address refused\n", "", 0),
+"#, "write 58 3b 20 e3 # FAN_COMMAND_1 50\nread 58 8b : fa 2f # READ_VOUT 11.994140625\nrefused 59 # address refused\n", "", 0),
 ];
 
 #[rattlefmt::skip]
