@@ -1,21 +1,11 @@
 //! What helps with forms that do not go together.
 
+use crate::coded::code_of;
 use crate::keyed::Keyed;
 use crate::lines::Hints;
-use crate::ranges::unknown_word;
-use crate::twice::code_of;
 use pmb_command::{Form, Kind, standard};
 use std::fmt::Write;
 use toml::Table;
-
-/// The words of `write`.
-const WRITE: [&str; 7] = ["none", "zero", "one", "two", "four", "eight", "block"];
-
-/// The words of `read`.
-const READ: [&str; 6] = ["none", "one", "two", "four", "eight", "block"];
-
-/// The words of `call`.
-const CALL: [&str; 3] = ["none", "two", "block"];
 
 /// The parts of a command, in the words of a profile.
 #[derive(Clone, Copy)]
@@ -132,16 +122,13 @@ impl Parts<'_> {
     }
 }
 
-/// Writes a word that is no form, or which parts do not go together.
-pub(crate) fn form_hint(keyed: Keyed<'_>, lines: &mut Hints) {
-    if unknown_word(keyed, "write", &WRITE, lines)
-        || unknown_word(keyed, "read", &READ, lines)
-        || unknown_word(keyed, "call", &CALL, lines)
-    {
-        return;
-    }
-    if let Some(parts) = parts_of(keyed) {
-        let _ = ways_hint(&parts, lines) || kept_hint(&parts, lines) || kind_hint(&parts, lines);
+/// Writes which parts of a command do not go together.
+pub(crate) fn form_hint(keyed: Keyed<'_>, lines: &mut Hints) -> bool {
+    match parts_of(keyed) {
+        Some(parts) => ways_hint(&parts, lines)
+            || kept_hint(&parts, lines)
+            || kind_hint(&parts, lines),
+        None => false,
     }
 }
 

@@ -7,9 +7,9 @@ use arrayvec::ArrayString;
 use std::fmt::Write;
 
 /// Writes what is wrong with the bytes that a command begins with.
-pub(crate) fn initial_hint(keyed: Keyed<'_>, lines: &mut Hints) {
+pub(crate) fn initial_hint(keyed: Keyed<'_>, lines: &mut Hints) -> bool {
     let (Some(parts), Some(text)) = (parts_of(keyed), keyed.text("initial")) else {
-        return;
+        return false;
     };
     let (_, form) = parts.value_form();
     match parts.code {
@@ -44,7 +44,7 @@ fn is_digits(text: &str) -> bool {
 }
 
 /// Writes how many bytes there are, and how many the form has.
-fn count_hint(keyed: Keyed<'_>, form: &str, count: usize, lines: &mut Hints) {
+fn count_hint(keyed: Keyed<'_>, form: &str, count: usize, lines: &mut Hints) -> bool {
     let room = match form {
         "one" => "1 byte",
         "two" => "2 bytes",
@@ -54,5 +54,5 @@ fn count_hint(keyed: Keyed<'_>, form: &str, count: usize, lines: &mut Hints) {
     };
     let mut rule = ArrayString::<96>::new();
     let _ = write!(rule, "the form \"{form}\" has {room}, not {count}");
-    keyed.rule("initial", rule.as_str(), lines);
+    keyed.rule("initial", rule.as_str(), lines)
 }

@@ -17,12 +17,13 @@ pub(crate) struct Place<'a> {
 }
 
 impl<'a> Place<'a> {
-    /// A table at this place.
-    pub(crate) fn keys_of(self, table: &'a Table) -> Keyed<'a> {
+    /// A table at this place, and the tables before it in its array.
+    pub(crate) fn keys_of(self, table: &'a Table, before: &'a [Value]) -> Keyed<'a> {
         Keyed {
             place: self,
             prefix: "",
             table,
+            before,
         }
     }
 }
@@ -34,16 +35,20 @@ pub(crate) struct Keyed<'a> {
     /// What comes before its keys where they are written.
     pub(crate) prefix: &'static str,
     pub(crate) table: &'a Table,
+    /// The tables before it in the array that it is in: devices, or commands of its device.
+    pub(crate) before: &'a [Value],
 }
 
 impl<'a> Keyed<'a> {
-    /// A table that is the value of a key.
-    pub(crate) fn below(&self, prefix: &'static str, table: &'a Table) -> Keyed<'a> {
-        Keyed {
+    /// The table `vout_direct` of a device, if it has one.
+    pub(crate) fn direct(&self) -> Option<Keyed<'a>> {
+        let table = self.get("vout_direct")?.as_table()?;
+        Some(Keyed {
             place: self.place,
-            prefix,
+            prefix: "vout_direct.",
             table,
-        }
+            before: self.before,
+        })
     }
 
     /// The value of a key.
@@ -56,9 +61,22 @@ impl<'a> Keyed<'a> {
         self.table.get(key)?.as_str()
     }
 
+    /// Whether a key has a word, in either case.
+    pub(crate) fn has_word(&self, key: &str, word: &str) -> bool {
+        match self.text(key) {
+            Some(text) => text.eq_ignore_ascii_case(word),
+            None => false,
+        }
+    }
+
     /// The number that a key has.
     pub(crate) fn number(&self, key: &str) -> Option<i64> {
         self.table.get(key)?.as_integer()
+    }
+
+    /// The items of the array that a key has.
+    pub(crate) fn items(&self, key: &str) -> Option<&'a [Value]> {
+        Some(self.get(key)?.as_array()?.as_slice())
     }
 
     /// A value as it is shown: a number as it stands in the text if it is found there.
@@ -71,12 +89,14 @@ impl<'a> Keyed<'a> {
         shown(value)
     }
 
-    /// Writes a key, its value and a rule on a line.
-    pub(crate) fn rule(&self, key: &str, rule: &str, lines: &mut Hints) {
-        if let Some(value) = self.table.get(key) {
-            let shown = self.shown(key, value);
-            let prefix = self.prefix;
-            let _ = write!(lines, "  {prefix}{key} = {}: {rule}\n", shown.as_str());
-        }
+    /// Writes a key, its value and a rule on a line if the key is there, and returns whether it is.
+    pub(crate) fn rule(&self, key: &str, rule: &str, lines: &mut Hints) -> bool {
+        let Some(value) = self.table.get(key) else {
+            return false;
+        };
+        let shown = self.shown(key, value);
+        let prefix = self.prefix;
+        let _ = write!(lines, "  {prefix}{key} = {}: {rule}\n", shown.as_str());
+        true
     }
 }

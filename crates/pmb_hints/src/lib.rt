@@ -3,7 +3,7 @@
 //!
 //! [`hints`] reads the text anew and looks for the fault, of which only its name and its place are
 //! known. What it writes is for people, and no program should read it. No clause says which lines
-//! they are: `tests_hints` does.
+//! they are: the rows of `tests/rows/hints.txt` do.
 //!
 //! ```rust
 //! let text = b"[[device]]\naddress = 0xb0\npec = \"on\"\n";
@@ -13,18 +13,17 @@
 //! ```
 #![tactic(auto)]
 
-mod command;
-mod device;
+mod coded;
 mod forms;
 mod initial;
 mod keyed;
 mod keys;
 mod lines;
-mod ranges;
-mod similar;
+mod mistakes;
+mod numbers;
 mod spelling;
 mod syntax;
-mod twice;
 mod values;
+mod words;
 
 pub use lines::{Hints, hints};

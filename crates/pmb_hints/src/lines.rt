@@ -3,9 +3,8 @@
 ghost use Rattle.std.specs.Prelude.{◌≡◌, []};
 ghost use Rattle.pmb_keys.specs.declared.fault.FaultKind.TheVariants.{OutOfMemory};
 
-use crate::command::command_hint;
-use crate::device::{device_hint, top_hint};
 use crate::keyed::Place;
+use crate::mistakes::{EACH_COMMAND, EACH_DEVICE, command_hint, device_hint, top_hint};
 use crate::syntax::{syntax_hint, utf8_hint};
 use arrayvec::ArrayString;
 use pmb_table::{FaultKind, ProfileFault};
@@ -47,32 +46,41 @@ fn table_hint(text: &str, table: &Table, fault: ProfileFault, lines: &mut Hints)
         command: None,
     };
     let Some(number) = fault.device else {
-        top_hint(place.keys_of(table), fault.what, lines);
+        top_hint(place.keys_of(table, &[]), fault.what, lines);
         return;
     };
-    let device = usize::from(number);
-    place.device = Some(device);
-    let Some(devices) = items(table, "device") else {
+    place.device = Some(usize::from(number));
+    let Some((device, before)) = item(table, "device", usize::from(number)) else {
+        return;
+    };
+    let Some(device) = device.as_table() else {
+        let _ = lines.try_push_str(EACH_DEVICE);
         return;
     };
     match fault.command {
-        None => device_hint(place, devices, device, fault.what, lines),
-        Some(command) => {
-            let command = usize::from(command);
-            place.command = Some(command);
-            if let Some(commands) = commands_of(devices, device) {
-                command_hint(place, commands, command, fault.what, lines);
-            }
+        None => device_hint(place.keys_of(device, before), fault.what, lines),
+        Some(number) => {
+            place.command = Some(usize::from(number));
+            in_command(place, device, usize::from(number), fault.what, lines);
         }
     }
 }
 
-/// The items of the array that a key has.
-fn items<'a>(table: &'a Table, key: &str) -> Option<&'a [Value]> {
-    Some(table.get(key)?.as_array()?.as_slice())
+/// What helps with the fault of a command of a device.
+fn in_command(place: Place<'_>, device: &Table, number: usize, what: FaultKind, lines: &mut Hints) {
+    let Some((command, before)) = item(device, "command", number) else {
+        return;
+    };
+    match command.as_table() {
+        Some(table) => command_hint(place.keys_of(table, before), what, lines),
+        None => {
+            let _ = lines.try_push_str(EACH_COMMAND);
+        }
+    }
 }
 
-/// The commands of a device.
-fn commands_of(devices: &[Value], device: usize) -> Option<&[Value]> {
-    items(devices.get(device)?.as_table()?, "command")
+/// An item of the array that a key has, and those before it.
+fn item<'a>(table: &'a Table, key: &str, number: usize) -> Option<(&'a Value, &'a [Value])> {
+    let items = table.get(key)?.as_array()?.as_slice();
+    Some((items.get(number)?, items.get(..number)?))
 }

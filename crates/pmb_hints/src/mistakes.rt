@@ -1,0 +1,286 @@
+//! The mistakes that the keys of a profile can have, as one table, and what is written of each.
+//!
+//! A fault says what is wrong and in which table of the profile. Its rows are tried in their order,
+//! and the first mistake that the keys have is written. So a new rule of `pmb_keys` is a row here.
+
+use crate::coded::{address_twice, code_twice, name_hint};
+use crate::forms::form_hint;
+use crate::initial::initial_hint;
+use crate::keyed::Keyed;
+use crate::keys::{missing_code, missing_key, unknown_key, wrong_type};
+use crate::lines::Hints;
+use crate::numbers::{address_hint, many_hint, out_of_range, unknown_word};
+use crate::words::{
+    BEFORE_DIRECT, CALL, COEFFICIENTS, COMMAND, DEVICE, KIND, PEC, READ, TOP, WRITE, Words,
+};
+use pmb_table::FaultKind;
+
+/// A mistake, with the rule that is written after the key and its value.
+#[derive(Clone, Copy)]
+enum Mistake {
+    /// The table has a key that is none of these.
+    UnknownKey(Words),
+    /// One of these keys is not there.
+    MissingKey(Words),
+    /// The value of one of these keys has another type than it needs.
+    WrongType(Words),
+    /// The number of a key is not from one to the other.
+    OutOfRange(&'static str, i64, i64),
+    /// The word of a key is none of these.
+    UnknownWord(&'static str, Words),
+    /// A key has this number.
+    Number(&'static str, i64, &'static str),
+    /// A key has this word, in either case.
+    Word(&'static str, &'static str, &'static str),
+    /// A key is there.
+    Key(&'static str, &'static str),
+    /// A key is there, and the kind is not `direct`.
+    KeyOfDirect(&'static str),
+    /// Neither `code` nor `name` is there.
+    NoCode,
+    /// There are too many devices.
+    TooManyDevices,
+    /// An address is none of seven bits, or reserved.
+    Address,
+    /// A device before this one has its address.
+    AddressTwice,
+    /// A command before this one has its code.
+    CodeTwice,
+    /// No standard command has the name.
+    UnknownName,
+    /// The forms don't go together.
+    Forms,
+    /// The bytes at first are not those of the form.
+    Initial,
+    /// Whatever the keys are, this line is written.
+    Always(&'static str),
+}
+
+/// How each device begins.
+pub(crate) const EACH_DEVICE: &str = "  device: each device begins with a line [[device]]\n";
+
+/// How each command begins.
+pub(crate) const EACH_COMMAND: &str =
+    "  command: each command begins with a line [[device.command]]\n";
+
+/// What is wrong outside of all devices.
+const NO_DEVICE: &[Mistake] = &[Mistake::Always(
+    "  device is missing: each device begins with a line [[device]], and a profile without any is \
+     device = []\n",
+)];
+
+const UNKNOWN_AT_TOP: &[Mistake] = &[Mistake::UnknownKey(TOP)];
+
+const NO_ARRAY_OF_DEVICES: &[Mistake] = &[Mistake::Always(EACH_DEVICE)];
+
+const TOO_MANY_DEVICES: &[Mistake] = &[Mistake::TooManyDevices];
+
+/// What is wrong with the keys of a device.
+const UNKNOWN_OF_DEVICE: &[Mistake] = &[Mistake::UnknownKey(DEVICE)];
+
+const MISSING_OF_DEVICE: &[Mistake] = &[Mistake::MissingKey(&["address", "pec"])];
+
+const TYPES_OF_DEVICE: &[Mistake] = &[Mistake::WrongType(BEFORE_DIRECT)];
+
+const VALUES_OF_DEVICE: &[Mistake] = &[
+    Mistake::UnknownWord("pec", PEC),
+    Mistake::OutOfRange("vout_mode", 0, 255),
+];
+
+const ADDRESS: &[Mistake] = &[Mistake::Address];
+
+const ADDRESS_TWICE: &[Mistake] = &[Mistake::AddressTwice];
+
+const PAGES: &[Mistake] = &[Mistake::OutOfRange("pages", 1, 32)];
+
+/// What is wrong with the keys of `vout_direct`, which are checked after those of their device.
+const UNKNOWN_OF_DIRECT: &[Mistake] = &[Mistake::UnknownKey(COEFFICIENTS)];
+
+const TYPES_OF_DIRECT: &[Mistake] = &[Mistake::WrongType(COEFFICIENTS)];
+
+/// What is wrong with coefficients that are missing, or have no sound values, in either place.
+const MISSING_COEFFICIENT: &[Mistake] = &[Mistake::MissingKey(COEFFICIENTS)];
+
+const BAD_COEFFICIENTS: &[Mistake] = &[
+    Mistake::Number(
+        "m",
+        0,
+        "a number from -32768 to 32767 other than 0 is needed",
+    ),
+    Mistake::OutOfRange("m", -32768, 32767),
+    Mistake::OutOfRange("b", -32768, 32767),
+    Mistake::OutOfRange("r", -9, 9),
+];
+
+/// What is wrong with the keys of a command.
+const UNKNOWN_OF_COMMAND: &[Mistake] = &[
+    Mistake::UnknownKey(COMMAND),
+    Mistake::KeyOfDirect("m"),
+    Mistake::KeyOfDirect("b"),
+    Mistake::KeyOfDirect("r"),
+    Mistake::Key(
+        "exponent",
+        "this key goes with kind = \"linear11\" alone, from the key or the standard",
+    ),
+];
+
+const MISSING_OF_COMMAND: &[Mistake] = &[Mistake::NoCode, Mistake::MissingKey(COEFFICIENTS)];
+
+const TYPES_OF_COMMAND: &[Mistake] = &[Mistake::WrongType(COMMAND)];
+
+const VALUES_OF_COMMAND: &[Mistake] = &[
+    Mistake::OutOfRange("code", 0, 255),
+    Mistake::Word("kind", "slinear16", SLINEAR16),
+    Mistake::Word("kind", "linear16", ULINEAR16),
+    Mistake::Word("kind", "ulinear16", ULINEAR16),
+    Mistake::UnknownWord("kind", KIND),
+    Mistake::OutOfRange("exponent", -16, 15),
+];
+
+const SLINEAR16: &str = "it is kind = \"vout_signed\", and vout_mode has the exponent";
+
+const ULINEAR16: &str = "it is kind = \"vout\", and vout_mode has the exponent";
+
+const UNKNOWN_NAME: &[Mistake] = &[Mistake::UnknownName];
+
+const BAD_NAME: &[Mistake] = &[Mistake::Key("name", "a name is 1 to 32 of A to Z, 0 to 9 and _")];
+
+const BAD_FORM: &[Mistake] = &[
+    Mistake::UnknownWord("write", WRITE),
+    Mistake::UnknownWord("read", READ),
+    Mistake::UnknownWord("call", CALL),
+    Mistake::Forms,
+];
+
+const CODE_TWICE: &[Mistake] = &[Mistake::CodeTwice];
+
+const BAD_INITIAL: &[Mistake] = &[Mistake::Initial];
+
+/// The rows of a fault outside of all devices.
+fn rows_of_top(what: FaultKind) -> &'static [Mistake] {
+    match what {
+        FaultKind::UnknownKey => UNKNOWN_AT_TOP,
+        FaultKind::MissingKey => NO_DEVICE,
+        FaultKind::WrongType => NO_ARRAY_OF_DEVICES,
+        FaultKind::TooManyDevices => TOO_MANY_DEVICES,
+        _ => &[],
+    }
+}
+
+/// The rows of a fault of a device's own keys.
+fn rows_of_device(what: FaultKind) -> &'static [Mistake] {
+    match what {
+        FaultKind::UnknownKey => UNKNOWN_OF_DEVICE,
+        FaultKind::MissingKey => MISSING_OF_DEVICE,
+        FaultKind::WrongType => TYPES_OF_DEVICE,
+        FaultKind::BadValue => VALUES_OF_DEVICE,
+        FaultKind::BadAddress => ADDRESS,
+        FaultKind::AddressTwice => ADDRESS_TWICE,
+        FaultKind::BadPages => PAGES,
+        _ => &[],
+    }
+}
+
+/// The rows of a fault of the keys of `vout_direct`.
+fn rows_of_direct(what: FaultKind) -> &'static [Mistake] {
+    match what {
+        FaultKind::UnknownKey => UNKNOWN_OF_DIRECT,
+        FaultKind::MissingKey => MISSING_COEFFICIENT,
+        FaultKind::WrongType => TYPES_OF_DIRECT,
+        FaultKind::BadCoefficients => BAD_COEFFICIENTS,
+        _ => &[],
+    }
+}
+
+/// The rows of a fault of a command.
+fn rows_of_command(what: FaultKind) -> &'static [Mistake] {
+    match what {
+        FaultKind::UnknownKey => UNKNOWN_OF_COMMAND,
+        FaultKind::MissingKey => MISSING_OF_COMMAND,
+        FaultKind::WrongType => TYPES_OF_COMMAND,
+        FaultKind::BadValue => VALUES_OF_COMMAND,
+        FaultKind::UnknownName => UNKNOWN_NAME,
+        FaultKind::BadName => BAD_NAME,
+        FaultKind::BadForm => BAD_FORM,
+        FaultKind::BadCoefficients => BAD_COEFFICIENTS,
+        FaultKind::CodeTwice => CODE_TWICE,
+        FaultKind::BadInitial => BAD_INITIAL,
+        _ => &[],
+    }
+}
+
+impl Mistake {
+    /// Writes the mistake if the keys have it, and returns whether they do.
+    fn is_written(self, keyed: Keyed<'_>, lines: &mut Hints) -> bool {
+        match self {
+            Mistake::UnknownKey(keys) => unknown_key(keyed, keys, lines),
+            Mistake::MissingKey(keys) => missing_key(keyed, keys, lines),
+            Mistake::WrongType(keys) => wrong_type(keyed, keys, lines),
+            Mistake::OutOfRange(key, least, most) => out_of_range(keyed, key, least, most, lines),
+            Mistake::UnknownWord(key, words) => unknown_word(keyed, key, words, lines),
+            Mistake::Number(key, number, rule) => {
+                keyed.number(key) == Some(number) && keyed.rule(key, rule, lines)
+            }
+            Mistake::Word(key, word, rule) => {
+                keyed.has_word(key, word) && keyed.rule(key, rule, lines)
+            }
+            Mistake::Key(key, rule) => keyed.rule(key, rule, lines),
+            Mistake::KeyOfDirect(key) => {
+                keyed.text("kind") != Some("direct")
+                    && keyed.rule(key, "this key goes with kind = \"direct\" alone", lines)
+            }
+            _ => self.is_found(keyed, lines),
+        }
+    }
+
+    /// The same for the mistakes that have a function of their own.
+    fn is_found(self, keyed: Keyed<'_>, lines: &mut Hints) -> bool {
+        match self {
+            Mistake::NoCode => missing_code(keyed, lines),
+            Mistake::TooManyDevices => many_hint(keyed, lines),
+            Mistake::Address => address_hint(keyed, lines),
+            Mistake::AddressTwice => address_twice(keyed, lines),
+            Mistake::CodeTwice => code_twice(keyed, lines),
+            Mistake::UnknownName => name_hint(keyed, lines),
+            Mistake::Forms => form_hint(keyed, lines),
+            Mistake::Initial => initial_hint(keyed, lines),
+            Mistake::Always(line) => lines.try_push_str(line).is_ok(),
+            _ => false,
+        }
+    }
+}
+
+/// Writes the first of some mistakes that the keys have, and returns whether there is one.
+fn first_of(rows: &[Mistake], keyed: Keyed<'_>, lines: &mut Hints) -> bool {
+    for mistake in rows {
+        if mistake.is_written(keyed, lines) {
+            return true;
+        }
+    }
+    false
+}
+
+/// What helps with a fault outside of all devices.
+pub(crate) fn top_hint(keyed: Keyed<'_>, what: FaultKind, lines: &mut Hints) {
+    let _ = first_of(rows_of_top(what), keyed, lines);
+}
+
+/// What helps with a fault of a device, outside of its commands.
+pub(crate) fn device_hint(keyed: Keyed<'_>, what: FaultKind, lines: &mut Hints) {
+    if first_of(rows_of_device(what), keyed, lines) {
+        return;
+    }
+    if let Some(direct) = keyed.direct() {
+        if first_of(rows_of_direct(what), direct, lines) {
+            return;
+        }
+    }
+    if what == FaultKind::WrongType {
+        let _ = lines.try_push_str(EACH_COMMAND);
+    }
+}
+
+/// What helps with a fault of a command.
+pub(crate) fn command_hint(keyed: Keyed<'_>, what: FaultKind, lines: &mut Hints) {
+    let _ = first_of(rows_of_command(what), keyed, lines);
+}

@@ -1,0 +1,80 @@
+//! What is written of numbers that are outside of their ranges, and of words that are unknown.
+
+use crate::keyed::Keyed;
+use crate::lines::Hints;
+use crate::words::{Words, is_among, similar};
+use arrayvec::ArrayString;
+use std::fmt::Write;
+
+/// A rule as it is written after a key and its value.
+type Rule = ArrayString<128>;
+
+/// Writes the value of a key whose number is outside of two, if it is, and its rule.
+pub(crate) fn out_of_range(
+    keyed: Keyed<'_>,
+    key: &str,
+    least: i64,
+    most: i64,
+    lines: &mut Hints,
+) -> bool {
+    let Some(number) = keyed.number(key) else {
+        return false;
+    };
+    if least <= number && number <= most {
+        return false;
+    }
+    let mut rule = Rule::new();
+    let _ = write!(rule, "a number from {least} to {most} is needed");
+    keyed.rule(key, rule.as_str(), lines)
+}
+
+/// Writes the value of a key whose word is none of some, if it is, and the one that may have been
+/// meant.
+pub(crate) fn unknown_word(keyed: Keyed<'_>, key: &str, words: Words, lines: &mut Hints) -> bool {
+    let Some(text) = keyed.text(key) else {
+        return false;
+    };
+    if is_among(words, text) {
+        return false;
+    }
+    let mut rule = Rule::new();
+    if let Some(meant) = similar(text, words) {
+        let _ = write!(rule, "did you mean \"{meant}\"?");
+    } else {
+        let _ = rule.try_push_str("it is one of");
+        for word in words {
+            let _ = write!(rule, " \"{word}\"");
+        }
+    }
+    keyed.rule(key, rule.as_str(), lines)
+}
+
+/// Writes how many devices there are, where they are too many.
+pub(crate) fn many_hint(keyed: Keyed<'_>, lines: &mut Hints) -> bool {
+    let Some(devices) = keyed.items("device") else {
+        return false;
+    };
+    let count = devices.len();
+    let _ = write!(lines, "  device: there are {count}, and 64 are the most\n");
+    true
+}
+
+/// Writes an address that no device may have, and the one of 7 bits, if it has 8.
+pub(crate) fn address_hint(keyed: Keyed<'_>, lines: &mut Hints) -> bool {
+    let Some(number) = keyed.number("address") else {
+        return false;
+    };
+    let _ = keyed.rule(
+        "address",
+        "an address of 7 bits is needed, from 0x08 to 0x77, but not 0x0c",
+        lines,
+    );
+    if number >= 0x78 && number <= 0xef {
+        let seven = number / 2;
+        let _ = write!(
+            lines,
+            "  0x{number:02x} is the 8-bit form of {seven:02x}h: address = 0x{seven:02x}\n"
+        );
+    }
+    true
+}
