@@ -4,11 +4,21 @@ examples, and on random inputs from a fixed seed.
     python3 .ci/calls.py PROGRAM [COUNT]
 """
 
+import array
+import bisect
+import concurrent.futures
+import copy
+import functools
 import glob
 import json
+import math
+import multiprocessing
 import os
+import pickle
 import random
 import re
+import runpy
+import struct
 import subprocess
 import sys
 import threading
@@ -172,6 +182,7 @@ def compare_whole(program, command, profile, text, options={}):
     except pmb.ProfileError as error:
         place = "" if error.place == "profile" else " in " + error.place
         check(said == f"pmb: profile: {error.fault}{place}", f"{what}: {error}, and not {said}")
+        compare_fault(program, profile, error)
         return
     except pmb.LineError as error:
         line = right.partition(f"# line {error.line}: ")
@@ -184,6 +195,17 @@ def compare_whole(program, command, profile, text, options={}):
         objects = [json.loads(line) for line in right.splitlines()]
         objects = [it for it in objects if it["kind"] not in ("device", "end")]
         check(list(pmb.transactions(profile, text, **options)) == objects, f"transactions: {what}")
+
+
+def compare_fault(program, profile, error):
+    """A profile's fault, beside what `pmb profile` says of it."""
+    done = subprocess.run([program, "profile"], input=profile, capture_output=True)
+    first, _, hint = done.stderr.decode().partition("\n")
+    place = "" if error.place == "profile" else " in " + error.place
+    check(first == f"pmb: profile: {error.fault}{place}", f"the fault of {profile[:60]!r}: {error}")
+    check(error.hint == hint.rstrip("\n"), f"the hint of {profile[:60]!r}: {error.hint!r}")
+    right = "\n".join([f"{error.fault} in {error.place}"] + hint.splitlines())
+    check(str(error) == right, f"the text of {profile[:60]!r}: {error}")
 
 
 def read(*names):
@@ -295,8 +317,7 @@ def compare_kinds():
         ((pmb.Format.direct(0, 0, 99), 1), ("ZeroSlope", "format")),
         ((pmb.Format.direct(1, 0, 999), 1), ("BadFormat", "format")),
         ((pmb.Format(7), 1), ("BadFormat", "format")),
-        (("linear11", 1 << 80), ("TooLarge", "quantity")),
-        (("linear11", Fraction(1, 1 << 62)), ("TooLarge", "quantity")),
+        (("linear11", "1" + "0" * 20), ("TooLarge", "quantity")),
         (("linear11", 33521665), ("Above", "quantity")),
         (("ulinear16:16", "x"), ("BadExponent", "format")),
     ):
@@ -305,9 +326,361 @@ def compare_kinds():
         except pmb.Error as error:
             found = (error.fault, error.place)
         check(found == right, f"{given}: {found}, and not {right}")
+    for number in (1 << 80, Fraction(1, 1 << 62), 1e300):
+        check(answer(pmb.quantity_text, number) == "! TooLarge", f"the text of {number}")
     for code in (-1, 65536):
         check(answer(pmb.decode, "linear11", code) == "! BadCode", f"the code {code}")
     check(pmb.command_name(256) is None and pmb.bit_name(0x79, -1) is None, "no such code")
+
+
+def compare_floats():
+    """Numbers of any size and of any number of digits, beside the nearest value of all codes."""
+    # By hand: LINEAR11 with the exponent -16 has multiples of 1/65536, and 0.0001 is 6.55 of these,
+    # 1e-5 is 0.66. 12.3 V at VOUT_MODE 17h is 6297.6 of 1/512.
+    for form, number, right in (
+        ("linear11", 0.0001, 0x8007),
+        ("linear11", -0.0001, 0x87F9),
+        ("linear11", 1e-5, 0x8001),
+        ("linear11", -1e-5, 0x87FF),
+        ("linear11", 7e-6, 0x0000),
+        ("linear11", 5e-324, 0x0000),
+        ("linear11", -5e-324, 0x0000),
+        ("linear11", Decimal("1e-999999999"), 0x0000),
+        ("linear11", 1e300, "! Above"),
+        ("linear11", -1e300, "! Below"),
+        ("linear11", sys.float_info.max, "! Above"),
+        ("linear11", 10**5000, "! Above"),
+        ("linear11", -(10**5000), "! Below"),
+        ("linear11", Decimal("1e999999999"), "! Above"),
+        ("linear11", Decimal("-1e999999999"), "! Below"),
+        ("linear11", 33521664.0, 0x7BFF),
+        ("linear11", Fraction(33521664 * 3**200 + 1, 3**200), "! Above"),
+        ("vout:17", 12.3, 6298),
+        ("vout:17", -5e-324, "! Below"),
+        ("vout:17", Decimal("-1e-999999999"), "! Below"),
+        ("slinear16:-9", -5e-324, 0x0000),
+        # (2/3 of a code is 1, and half a code is 0, the even one, but for a little more)
+        ("ulinear16:0", Fraction(2 * 10**300 + 1, 3 * 10**300), 1),
+        ("ulinear16:0", Fraction(10**300 + 1, 2 * 10**300), 1),
+        ("ulinear16:0", Fraction(10**300 - 1, 2 * 10**300), 0),
+        ("ulinear16:0", 0.5, 0),
+        ("ulinear16:0", 1.5, 2),
+        ("ulinear16:0", True, 1),
+        ("direct:1,0,-9", 1e10, 10),
+        ("direct:1,0,-9", Fraction(10**400 + 1, 10**400), 0),
+        # (0 is worth (0 - 32767) / -32768)
+        ("direct:-32768,32767,9", Fraction(32767, 32768), 0),
+        ("direct:-32768,32767,9", Fraction(32767 * 10**100 + 1, 32768 * 10**100), 0),
+        ("ulinear16:16", 1e300, "! BadExponent"),
+        ("direct:0,0,0", 1e300, "! ZeroSlope"),
+        ("direct:1,0,10", 5e-324, "! BadScale"),
+        ("vout:40", 1e300, "! NoCoefficients"),
+    ):
+        found = answer(pmb.encode, form, number)
+        kind = type(number).__name__
+        check(found == right, f"encode {form} of a {kind}: {found}, and not {right}")
+    for number in (math.nan, math.inf, -math.inf, Decimal("nan"), Decimal("snan"), Decimal("-inf")):
+        for call in (functools.partial(pmb.encode, "linear11"), pmb.quantity_text):
+            try:
+                found = call(number)
+            except ValueError as error:
+                found = "finite" in str(error) and not isinstance(error, pmb.Error)
+            check(found is True, f"{number}: {found}")
+
+
+def compare_neighbours():
+    """On both sides of each quantity at which the nearest code changes, ever so little beside
+    it."""
+    r = random.Random(53)
+    for form in (
+        "linear11",
+        "linear11:-3",
+        "vout:17",
+        "ulinear16:15",
+        "slinear16:-16",
+        "direct:3,2,1",
+        "direct:-32768,32767,-9",
+        "direct:-7,32767,9",
+    ):
+        # (LINEAR11 with one exponent has the codes whose bits 15:11 are that)
+        codes = range(29 << 11, 30 << 11) if form == "linear11:-3" else range(65536)
+        values = sorted({pmb.decode(form, code) for code in codes})
+        # each such quantity, with what is encoded on either side of it
+        ends = [(values[0], "! Below", values[0]), (values[-1], values[-1], "! Above")]
+        places = [0, 1, len(values) // 2, len(values) - 2]
+        places += [bisect.bisect(values, 0) + i for i in (-2, -1, 0, 1)]
+        places += [r.randrange(len(values) - 1) for _ in range(60)]
+        for at in places:
+            if 0 <= at < len(values) - 1:
+                below, above = values[at], values[at + 1]
+                ends.append(((below + above) / 2, below, above))
+        for middle, below, above in ends:
+            for little in (Fraction(1, 10**400), Fraction(1, 2**1074), Fraction(1, 3**60)):
+                for quantity, near in ((middle - little, below), (middle + little, above)):
+                    found = answer(pmb.encode, form, quantity)
+                    found = pmb.decode(form, found) if isinstance(found, int) else found
+                    check(found == near, f"encode {form} beside {middle}: {found}, and not {near}")
+        # any float: its nearest value, and the even code of two that are equally near
+        for _ in range(300):
+            number = struct.unpack("d", struct.pack("Q", r.getrandbits(64)))[0]
+            if r.randrange(3):
+                number = math.ldexp(r.random() - 0.5, r.randrange(-40, 50))
+            if not math.isfinite(number):
+                continue
+            exact = Fraction(number)
+            if exact < values[0] or exact > values[-1]:
+                right = {"! Below"} if exact < values[0] else {"! Above"}
+            else:
+                at = bisect.bisect(values, exact)
+                near = values[max(at - 1, 0) : at + 1]
+                least = min(abs(value - exact) for value in near)
+                right = {value for value in near if abs(value - exact) == least}
+            found = answer(pmb.encode, form, number)
+            found = pmb.decode(form, found) if isinstance(found, int) else found
+            check(found in right, f"encode {form} of {number!r}: {found}, and not {right}")
+
+
+PLAIN = '[[device]]\naddress = 0x58\npec = "optional"\n'
+
+
+def compare_wrong_types():
+    """What is not an argument: a TypeError, and a ValueError where only its value is wrong."""
+    words = array.array("H", [1])
+    for wrong, call, *given in (
+        (TypeError, pmb.pec, 0xB0),
+        (TypeError, pmb.pec, "b0"),
+        (TypeError, pmb.pec, None),
+        (TypeError, pmb.pec, 1.5),
+        (TypeError, pmb.pec, words),
+        (TypeError, pmb.pec, b"", 1.0),
+        (TypeError, pmb.pec, b"", "0"),
+        (ValueError, pmb.pec, b"", 256),
+        (ValueError, pmb.pec, b"", -1),
+        (ValueError, pmb.pec, [256]),
+        (TypeError, pmb.encode, None, 1),
+        (TypeError, pmb.encode, b"linear11", 1),
+        (TypeError, pmb.encode, "linear11", None),
+        (TypeError, pmb.encode, "linear11", 1j),
+        (TypeError, pmb.encode, "linear11", b"1"),
+        (TypeError, pmb.encode, "linear11", [1]),
+        (TypeError, pmb.encode, pmb.Format("x"), 1),
+        (TypeError, pmb.encode, pmb.Format(1, 1.5), 1),
+        (TypeError, pmb.Format.parse, 5),
+        (TypeError, pmb.Format.vout, 0x40, False, 5),
+        (TypeError, pmb.decode, "linear11", 3.0),
+        (TypeError, pmb.decode, "linear11", "d300"),
+        (TypeError, pmb.decode, None, 3),
+        (TypeError, pmb.quantity, 5),
+        (TypeError, pmb.quantity_text, None),
+        (TypeError, pmb.command_name, 136.0),
+        (TypeError, pmb.command_name, "88"),
+        (TypeError, pmb.bit_name, 0x79, "15"),
+        (TypeError, pmb.events, 5),
+        (TypeError, list, pmb.events([5])),
+        (TypeError, pmb.build, PLAIN, ["write 58 03"]),
+    ):
+        check_raises(wrong, call, *given)
+    for call in (pmb.show, pmb.check, pmb.build, pmb.run, pmb.json, pmb.transactions):
+        for given in ((PLAIN, 5), (PLAIN, None), (PLAIN, [83, 32]), (5, ""), (None, "")):
+            check_raises(TypeError, call, *given)
+    for wrong, options in (
+        (TypeError, {"devices": 0x58}),
+        (TypeError, {"devices": "58"}),
+        (TypeError, {"devices": [5.0]}),
+        (TypeError, {"devices": [None]}),
+        (ValueError, {"devices": [0xD8]}),
+        (ValueError, {"devices": [0x58, 0x80]}),
+        (ValueError, {"devices": [-1]}),
+        (ValueError, {"devices": [1 << 70]}),
+        (ValueError, {"devices": ["d8"]}),
+        (ValueError, {"devices": ["058"]}),
+        (ValueError, {"devices": ["5g"]}),
+        (ValueError, {"digits": 13}),
+        (ValueError, {"digits": -1}),
+        (TypeError, {"digits": 6.0}),
+        (TypeError, {"digits": "6"}),
+        (ValueError, {"fixed_vout_mode": True}),
+    ):
+        for call in (pmb.json, pmb.transactions):
+            check_raises(wrong, functools.partial(call, **options), PLAIN, "")
+    # .. and what is one
+    byte = b"\xb0"
+    for data in (byte, bytearray(byte), memoryview(byte), array.array("B", byte), [0xB0], iter(byte)):
+        check(pmb.pec(data) == 0x19, f"pec of {data!r}")
+    packets = "S b0 A 03 A P S b2 A 03 A P"
+    for devices in ([0x58], ["58"], b"\x58", {0x58}, (each for each in (0x58, "20")), [0x58, 0x7F]):
+        found = [it["device"] for it in pmb.transactions(PLAIN, packets, devices)]
+        check(found == ["58"], f"devices {devices!r}: {found}")
+    for given in (bytearray(b"S b0 A 03 A P"), memoryview(b"S b0 A 03 A P")):
+        check(pmb.check(PLAIN, given).packets == 1, f"{given!r}")
+        check([event.kind for event in pmb.events(given)][:2] == ["start", "byte"], f"{given!r}")
+    check(pmb.json(PLAIN, "x\nS b0 A 03 A P", keep_going=2).packets == 1, "keep_going=2")
+    check(pmb.command_name(True) == "OPERATION", "an int is a bool too")
+
+
+def check_raises(wrong, call, *given):
+    try:
+        found = call(*given)
+    except Exception as error:
+        # (a plain one, since no name of the program says so)
+        found = None if type(error) is wrong and str(error) else f"{type(error).__name__}: {error}"
+    check(found is None, f"{call}{given!r}: {found!r}, and no {wrong.__name__}")
+
+
+def told(error):
+    return type(error), str(error), error.args, sorted(error.__dict__.items())
+
+
+def compare_copies():
+    """Each class, copied and pickled, is as it was."""
+    errors = []
+    for call, *given in (
+        (pmb.encode, "linear11", "128x"),
+        (pmb.encode, "linear11", 1e300),
+        (pmb.build, PLAIN, "\nwrite 58"),
+        (pmb.show, PLAIN + "x = 1", ""),
+        (pmb.show, PLAIN.replace("0x58", "0xb0"), ""),
+        (lambda text: list(pmb.events(text)), "S hm"),
+    ):
+        try:
+            call(*given)
+        except pmb.Error as error:
+            errors.append(error)
+    kinds = [pmb.Error, pmb.Error, pmb.LineError, pmb.ProfileError, pmb.ProfileError, pmb.TokenError]
+    check([type(error) for error in errors] == kinds, f"{errors}")
+    for error, right in zip(errors[2:], ("BadWord at 8 in line 2", "UnknownKey in device 0\n")):
+        check(str(error).startswith(right), f"{error}, and not {right}")
+    check(errors[2].line == 2 and errors[5].at == 2, f"{errors}")
+    check(str(errors[4]).startswith("BadAddress in device 0\n"), str(errors[4]))
+    check("0xb0 is the 8-bit form of 58h" in errors[4].hint, str(errors[4]))
+    check(str(errors[5]) == "BadToken in byte 2", str(errors[5]))
+    text = pmb.show(PLAIN, "S b0 A 03 A P S")
+    others = [text, pmb.Event("byte", 5), pmb.Format.parse("direct:3,2,1")]
+    others += [pmb.decode("linear11", 0xD301), *pmb.transactions(PLAIN, "S b0 A 03 A P S")]
+    ways = [copy.copy, copy.deepcopy]
+    for protocol in range(pickle.HIGHEST_PROTOCOL + 1):
+        ways.append(lambda it, protocol=protocol: pickle.loads(pickle.dumps(it, protocol)))
+    for way in ways:
+        for error in errors:
+            error.note = "kept"
+            check(told(way(error)) == told(error), f"{error!r} becomes {way(error)!r}")
+        for it in others:
+            check(way(it) == it and type(way(it)) is type(it), f"{it!r} becomes {way(it)!r}")
+        again = way(text)
+        check((again.packets, again.refusals) == (1, 1), f"{again!r}")
+
+
+def bad_token(text):
+    return list(pmb.events(text))
+
+
+def compare_pools():
+    """Calls in pools of processes, whose arguments, results and errors are pickled."""
+    captures = ["", "S b0 A 03 A P", "S b0 A 03 A P x", "S S"]
+    right = [pmb.show(PLAIN, capture) for capture in captures]
+    bad = PLAIN.replace("0x58", "0xb0")
+    for kind in ("fork", "spawn"):
+        context = multiprocessing.get_context(kind)
+        with context.Pool(2) as pool:
+            found = pool.map_async(functools.partial(pmb.show, PLAIN), captures).get(60)
+            packets = [it.packets for it in found]
+            check(found == right and packets == [0, 1, 1, 0], f"{kind}: {found}")
+            for call, given, fault in (
+                (functools.partial(pmb.show, bad), "", pmb.ProfileError),
+                (bad_token, "S hm", pmb.TokenError),
+                (functools.partial(pmb.build, PLAIN), "write", pmb.LineError),
+            ):
+                try:
+                    pool.apply_async(call, (given,)).get(60)
+                    check(False, f"{kind}: no {fault}")
+                except pmb.Error as error:
+                    try:
+                        call(given)
+                    except pmb.Error as here:
+                        check(type(error) is fault and str(error) == str(here), f"{kind}: {error}")
+        with concurrent.futures.ProcessPoolExecutor(2, context) as pool:
+            found = list(pool.map(functools.partial(pmb.json, PLAIN), captures, timeout=60))
+            check(found == [pmb.json(PLAIN, capture) for capture in captures], f"{kind}: futures")
+
+
+def compare_rooms():
+    """The library is called once, also for the inputs whose text is longest; and where the room was
+    too small after all, the text is the same."""
+    block = '[[device.command]]\ncode = 0xe0\nname = "X"\nread = "block"\n'
+    block += 'initial = "' + "00" * 255 + '"\n'
+    addresses = range(0x20, 0x60)
+    many = "".join(f"[[device]]\naddress = {address}\npec = 'on'\n" for address in addresses)
+    wide = "".join(f"S {address << 1:02x} A 03 A 00 N P\n" for address in addresses)
+    for call, name, profile, text in (
+        (pmb.show, "_SHOW", PLAIN, "P " * 50000),
+        (pmb.check, "_CHECK", PLAIN, "P\n" * 50000),
+        (pmb.json, "_JSON", PLAIN, "P\n" * 50000),
+        (pmb.json, "_JSON", PLAIN, "P " * 50000),
+        (pmb.json, "_JSON", many, wide),
+        (functools.partial(pmb.build, strict=False), "_BUILD", PLAIN, "x\n" * 50000),
+        (pmb.run, "_RUN", PLAIN + block, "read 58 e0\n" * 2000),
+        (pmb.show, "_SHOW", PLAIN, ""),
+    ):
+        function, times = getattr(pmb, name)
+        made = []
+
+        def counted(*given):
+            made.append(given)
+            return function(*given)
+
+        try:
+            setattr(pmb, name, (counted, times))
+            right = call(profile, text)
+            check(len(made) == 1, f"{name} of {text[:12]!r} is called {len(made)} times")
+            made.clear()
+            setattr(pmb, name, (counted, 0))
+            check(call(profile, text) == right, f"{name} of {text[:12]!r} in a small room")
+            calls = 1 if len(right) <= pmb._BESIDES else 2
+            check(len(made) == calls, f"{name} in a small room: {len(made)} calls")
+        finally:
+            setattr(pmb, name, (function, times))
+    # objects of a text of some 20 MB, of which what is read is given back
+    packets = "S b0 A 03 A P\n" * 150000
+    found = pmb.transactions(PLAIN, packets)
+    for at, it in enumerate(found):
+        if it["line"] != at + 1 or it["command"] != "CLEAR_FAULTS":
+            break
+    check(at == 149999 and it["line"] == 150000, f"object {at}: {it}")
+
+
+def compare_messages():
+    """The messages of built packets: no byte of a reply is sent to a device."""
+    folder = os.path.join(ROOT, "examples", "python")
+    sys.path.insert(0, folder)
+    try:
+        messages = runpy.run_path(os.path.join(folder, "build_and_check.py"))["messages"]
+    finally:
+        sys.path.remove(folder)
+    profile = PLAIN + '[[device.command]]\ncode = 0xe0\nname = "X"\ncall = "two"\n'
+    for line, right in (
+        ("write 58 03", [(0x58, 0, [0x03])]),
+        ("write 58 21 00 18", [(0x58, 0, [0x21, 0x00, 0x18])]),
+        ("read 58 88 : 00 d3", [(0x58, 0, [0x88]), (0x58, 1, [0, 0])]),
+        ("read 58 88 : 00 d3 pec", [(0x58, 0, [0x88]), (0x58, 1, [0, 0, 0])]),
+        # (a block comes with its count)
+        ("read 58 99 : 41 42", [(0x58, 0, [0x99]), (0x58, 1, [0, 0, 0])]),
+        ("call 58 e0 01 02 : 05 06", [(0x58, 0, [0xE0, 0x01, 0x02]), (0x58, 1, [0, 0])]),
+        ("refused 58 88 read", [(0x58, 0, [0x88]), (0x58, 1, [])]),
+        # (the Alert Response Address is 0ch)
+        ("alert b0", [(0x0C, 1, [0])]),
+    ):
+        found = [(it.addr, it.flags, list(it)) for it in messages(pmb.build(profile, line))]
+        check(found == right, f"the messages of {line}: {found}, and not {right}")
+
+
+def compare_package():
+    """What the package says of itself."""
+    names = {}
+    exec("from json import *; import json; from pmb import *", names)
+    check(names["json"] is json, "from pmb import * replaces json")
+    check(pmb.__version__ == pmb.version(), pmb.__version__)
+    for name in ("pyproject.toml", "wheel_of_clone.py"):
+        check(f'"{pmb.__version__}"' in read("python", name).decode(), f"the version in {name}")
 
 
 def compare_threads():
@@ -338,6 +711,14 @@ def main():
     compare_wholes(program, int(sys.argv[2]) if len(sys.argv) > 2 else 10000)
     compare_events(int(sys.argv[2]) if len(sys.argv) > 2 else 10000)
     compare_kinds()
+    compare_floats()
+    compare_neighbours()
+    compare_wrong_types()
+    compare_copies()
+    compare_pools()
+    compare_rooms()
+    compare_messages()
+    compare_package()
     compare_threads()
     ran = subprocess.run([program, "--version"], capture_output=True)
     check(ran.stdout.decode().split()[-1] == pmb.version(), f"the version {pmb.version()}")

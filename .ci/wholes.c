@@ -244,6 +244,55 @@ static int faults(void)
     return is_refused(many, strlen(many), PMB_TOO_MANY_DEVICES, -1, -1);
 }
 
+/* Profiles with a fault, the first line that is written of it, and a word of those that help. */
+static const struct explained {
+    const char *toml;
+    int fault, device, command;
+    const char *first, *helps;
+} explained_profiles[] = {
+    {"[[device]]\naddress = 0xb0\npec = \"on\"\n", PMB_BAD_ADDRESS, 0, -1,
+     "pmb: profile: BadAddress in device 0\n", "8-bit form of 58h"},
+    {"\nx = \n", PMB_NOT_TOML, -1, -1, "pmb: profile: NotToml\n", "line 2: "},
+    {DEVICE COMMAND "code = 0xd0\nname = \"X\"\nwrite = \"wrod\"\n", PMB_BAD_FORM, 0, 0,
+     "pmb: profile: BadForm in device 0 command 0\n", "wrod"},
+};
+
+static int is_explained(const struct explained *it)
+{
+    const size_t toml = strlen(it->toml), first = strlen(it->first);
+    char whole[MOST], bytes[MOST];
+    pmb_result told;
+    const size_t length = pmb_profile_fault(it->toml, toml, whole, sizeof whole - 1, &told);
+    size_t room;
+    EXPECT(length > first && length < sizeof whole - 1 && whole[length - 1] == '\n');
+    whole[length] = 0;
+    EXPECT(memcmp(whole, it->first, first) == 0 && strstr(whole + first, it->helps) != NULL);
+    for (room = 0; room <= length + 2; room++) {
+        const size_t kept = room < length ? room : length;
+        memset(bytes, '~', sizeof bytes);
+        memset(&told, 0x5a, sizeof told);
+        EXPECT(pmb_profile_fault(it->toml, toml, bytes + 1, room, &told) == length);
+        EXPECT(tells(&told, PMB_BAD_PROFILE, it->fault, it->device, it->command, length, 0, 0));
+        EXPECT(bytes[0] == '~' && memcmp(bytes + 1, whole, kept) == 0);
+        EXPECT(all_are(bytes + 1 + kept, sizeof bytes - 1 - kept, '~'));
+    }
+    return 0;
+}
+
+static int explanations(void)
+{
+    char bytes[] = "~~~~~~~";
+    pmb_result told;
+    size_t i;
+    for (i = 0; i < sizeof explained_profiles / sizeof *explained_profiles; i++)
+        if (is_explained(&explained_profiles[i]))
+            return fail(explained_profiles[i].first, __LINE__);
+    /* Of a profile without a fault nothing is written. */
+    EXPECT(pmb_profile_fault(profile, sizeof profile - 1, bytes, sizeof bytes, &told) == 0);
+    EXPECT(tells(&told, PMB_OK, 0, -1, -1, 0, 0, 0) && strcmp(bytes, "~~~~~~~") == 0);
+    return 0;
+}
+
 /* Arrays, tables and dotted keys may be 80 deep, which takes most of the stack. */
 static int nested(void)
 {
@@ -293,11 +342,31 @@ static int choices(void)
     return 0;
 }
 
+/* An address has seven bits: a list with another byte is refused, before the profile is read. */
+static int addresses(void)
+{
+    unsigned address, at;
+    for (address = 0; address < 256; address++)
+        for (at = 0; at < 3; at++) {
+            uint8_t devices[3] = {0, 0x58, 0x7f};
+            char bytes[8] = "~~~~~~~";
+            pmb_result told;
+            devices[at] = (uint8_t)address;
+            pmb_json("", 0, "", 0, &usual, devices, 3, bytes, sizeof bytes, &told);
+            EXPECT(strcmp(bytes, "~~~~~~~") == 0);
+            if (address < 0x80)
+                EXPECT(tells(&told, PMB_BAD_PROFILE, PMB_MISSING_KEY, -1, -1, 0, 0, 0));
+            else
+                EXPECT(tells(&told, PMB_BAD_CHOICE, 0, -1, -1, 0, 0, 0));
+        }
+    return 0;
+}
+
 /* Which objects are wanted, what is known at first, and where reading goes on. */
 static int json_as_chosen(void)
 {
     static const char end[] = "{\"kind\":\"end\",\"packets\":2,\"refusals\":0,\"bad_tokens\":0}\n";
-    static const uint8_t others[] = {0x59, 0xff, 0};
+    static const uint8_t others[] = {0x59, 0x7f, 0};
     pmb_choice choice = usual;
     char bytes[MOST];
     pmb_result told;
@@ -376,11 +445,41 @@ static int refusals_of(const input *it)
     return 0;
 }
 
+/* Without memory to read a profile again there are fewer lines, and without any nothing is said. */
+static int refusals_of_fault(const struct explained *it)
+{
+    long most;
+    char bytes[MOST];
+    pmb_result told;
+    allocations = live = refused = 0;
+    pmb_profile_fault(it->toml, strlen(it->toml), bytes, sizeof bytes, &told);
+    most = allocations;
+    EXPECT(told.status == PMB_BAD_PROFILE && live == 0 && most > 0);
+    for (refused = 1; refused <= most; refused++) {
+        memset(bytes, '~', sizeof bytes);
+        allocations = 0;
+        pmb_profile_fault(it->toml, strlen(it->toml), bytes, sizeof bytes, &told);
+        EXPECT(live == 0 && all_are(bytes + told.length, sizeof bytes - told.length, '~'));
+        EXPECT(refused > 1 || told.status == PMB_NO_MEMORY);
+        if (told.status == PMB_NO_MEMORY) {
+            EXPECT(tells(&told, PMB_NO_MEMORY, 0, -1, -1, 0, 0, 0));
+        } else {
+            EXPECT(tells(&told, PMB_BAD_PROFILE, it->fault, it->device, it->command, told.length, 0,
+                         0));
+            EXPECT(memcmp(bytes, it->first, strlen(it->first)) == 0);
+        }
+    }
+    return 0;
+}
+
 static int refusals(void)
 {
     size_t i;
     int failed = 0;
     counting = 1;
+    for (later = 0; later <= 1 && !failed; later++)
+        for (i = 0; i < sizeof explained_profiles / sizeof *explained_profiles && !failed; i++)
+            failed = refusals_of_fault(&explained_profiles[i]);
     for (later = 0; later <= 1 && !failed; later++)
         for (i = 0; i < sizeof inputs / sizeof *inputs && !failed; i++)
             if (refusals_of(&inputs[i])) failed = fail(inputs[i].right, __LINE__);
@@ -391,7 +490,8 @@ static int refusals(void)
 
 static void *all(void *result)
 {
-    *(int *)result = rooms() || faults() || nested() || choices() || json_as_chosen() || large();
+    *(int *)result = rooms() || faults() || explanations() || nested() || choices() ||
+                     addresses() || json_as_chosen() || large();
     return result;
 }
 

@@ -6,12 +6,15 @@
  *  - It keeps nothing between calls and starts nothing. It may be called from several threads side by
  *    side. Two calls at one time may not write to the same place.
  *  - No pointer may be null, also where a length is 0. Behind a pointer with a length there are
- *    that many bytes, up to 2^63 - 1. What a call writes to does not overlap what it reads.
+ *    that many bytes, up to 2^63 - 1. What a call writes to overlaps neither what it reads nor what
+ *    else it writes to.
  *  - Every value is allowed. A status says what is out of range.
  *
  * There are two parts. Up to the line "whole inputs" below, for each function:
- *  - It takes no memory from the heap, and uses less than 2 KB of stack. It needs memcpy and memmove
- *    of the C library, and nothing else of it. It may be called from a signal handler.
+ *  - It takes no memory from the heap, and uses less than 2 KB of stack. Of the C library it calls
+ *    memcpy and memmove alone. It may be called from a signal handler. (libpmb.a is one object, so
+ *    that linking it asks for what the second part needs too, unless the linker leaves out what
+ *    isn't called: with --gc-sections memcpy, memmove and the compiler's own library suffice.)
  *  - A call whose status is not PMB_OK leaves what it would have written as it was. Only `length`,
  *    `used` and a lexer are written always.
  */
@@ -72,7 +75,8 @@ enum pmb_status {
     PMB_BAD_PROFILE = 17,
     /* malloc or realloc had no memory. */
     PMB_NO_MEMORY = 18,
-    /* The choice: one of its numbers is none that its field has. */
+    /* The choice: one of its numbers is none that its field has, or the address of a device that is
+     * wanted has more than seven bits. */
     PMB_BAD_CHOICE = 19,
     /* No event has ended in the text so far. */
     PMB_NO_EVENT = 20,
@@ -167,9 +171,8 @@ typedef struct pmb_event {
 
 /* A lexer of a capture's text (docs/text.md): where the text so far has ended. It has 24 bytes and
  * no pointers, and may be copied. With all numbers 0, as of `pmb_lexer lexer = { 0 }`, it is one at
- * the start of a text. Other numbers than those that a call left do no harm: a place of 2 or 3 stands
- * for a text of the bytes `first`, or `first` and `second`; where no text begins so, or an event ends
- * in it, and with a place above 4, it is as with 4. */
+ * the start of a text. Numbers that no call left do no harm: no call reads or writes outside of
+ * what it is given. But its events are those of no text, and need not be the same for each cut. */
 typedef struct pmb_lexer {
     uint64_t used;  /* how many bytes of the text were used; stays at 2^64 - 1 */
     uint64_t at;    /* the offset of the first byte of the word under way, or that is no token */
@@ -206,7 +209,7 @@ int32_t pmb_lex_end(pmb_lexer *lexer, pmb_event *event);
  *  - It takes memory for the profile by malloc and realloc, pmb_run for its devices too, and frees
  *    all of it before it returns; what is read and written takes none. It uses less than 448 KB of
  *    stack. It may not be called from a signal handler.
- *  - It needs malloc, realloc and free of the C library, memcpy and the like.
+ *  - Of the C library it calls malloc, realloc, free, memcpy, memmove and memset.
  */
 
 /* What is wrong with a profile (docs/profiles.md has the rules in their order). */
@@ -277,11 +280,23 @@ typedef struct pmb_choice {
 } pmb_choice;
 
 /* Writes the objects of a capture (docs/json.md), each as a line of JSON. Of packets and refusals
- * those of devices at the given addresses are wanted, and all where no address is given.
- * The status is PMB_BAD_CHOICE, before all others, for a choice that says nothing. */
+ * those of devices at the given addresses are wanted, and all where no address is given. An address
+ * has seven bits: 58h, and not b0h.
+ * The status is PMB_BAD_CHOICE, before all others, for a choice that says nothing, and for an
+ * address over 7fh. */
 size_t pmb_json(const char *profile, size_t profile_length, const char *capture,
                 size_t capture_length, const pmb_choice *choice, const uint8_t *devices,
                 size_t devices_length, char *out, size_t room, pmb_result *told);
+
+/* The most bytes that pmb_profile_fault writes. */
+#define PMB_MOST_FAULT_TEXT 2048
+
+/* Writes what `pmb profile` reports of a profile that has a fault: a line with the fault and its
+ * place, and lines that help, each with its LF. They are for people, and may change with each
+ * version. The status is PMB_BAD_PROFILE, with the fault and its place, also where the text doesn't
+ * fit; or PMB_OK for a profile without a fault, of which nothing is written; or PMB_NO_MEMORY. */
+size_t pmb_profile_fault(const char *profile, size_t profile_length, char *out, size_t room,
+                         pmb_result *told);
 
 #ifdef __cplusplus
 }

@@ -18,11 +18,12 @@ Version: {}
 Summary: The proved PMBus codec: numbers, packets, captures and simulated devices
 Requires-Python: >=3.8
 """.format(VERSION)
+# What the library needs is in glibc 2.17 and in musl.
+SYSTEMS = ("manylinux_2_17_x86_64", "manylinux2014_x86_64", "musllinux_1_1_x86_64")
 WHEEL = """Wheel-Version: 1.0
 Generator: wheel_of_clone
 Root-Is-Purelib: false
-Tag: py3-none-linux_x86_64
-"""
+""" + "".join("Tag: py3-none-{}\n".format(system) for system in SYSTEMS)
 
 
 def read(path):
@@ -42,7 +43,7 @@ def files():
 
 
 def build_wheel(wheel_directory, config_settings=None, metadata_directory=None):
-    name = "pmb-{}-py3-none-linux_x86_64.whl".format(VERSION)
+    name = "pmb-{}-py3-none-{}.whl".format(VERSION, ".".join(SYSTEMS))
     record = ""
     with zipfile.ZipFile(os.path.join(wheel_directory, name), "w", zipfile.ZIP_DEFLATED) as wheel:
         for path, content in files():

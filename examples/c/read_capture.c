@@ -57,8 +57,10 @@ static int show(const text *profile, const text *capture, text *shown, pmb_resul
 
 int main(int count, char **words)
 {
+    static char lines[PMB_MOST_FAULT_TEXT];
     text profile, capture, shown;
     pmb_result told;
+    size_t length;
     if (count != 3) {
         fprintf(stderr, "usage: read_capture PROFILE CAPTURE\n");
         return 2;
@@ -71,8 +73,8 @@ int main(int count, char **words)
                 (unsigned long long)told.refusals);
         return told.refusals != 0;
     case PMB_BAD_PROFILE:
-        fprintf(stderr, "fault %d in device %d command %d of %s\n", (int)told.fault,
-                (int)told.device, (int)told.command, words[1]);
+        length = pmb_profile_fault(profile.bytes, profile.length, lines, sizeof lines, &told);
+        fwrite(lines, 1, length, stderr);
         return 2;
     default:
         fprintf(stderr, "no memory\n");

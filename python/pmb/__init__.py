@@ -16,17 +16,28 @@ devices under a profile.
     >>> [event.byte for event in pmb.events("S b0 A 21 A P") if event.kind == "byte"]
     [176, 33]
 
-Every call may be made from several threads side by side.
+Every call may be made from several threads side by side. What is returned, and each error, can be
+pickled and copied, and so goes through pools of processes. An argument of a type that is not named
+here is a `TypeError`.
 """
 
 import ctypes
 import json as _json
+import math
+import mmap
+import numbers
+import operator
 import os
+import platform
 import re
+import sys
 from decimal import Decimal
 from fractions import Fraction
-from typing import Any, Dict, Iterable, Iterator, NamedTuple, Optional, Union
+from typing import Any, Dict, Iterable, Iterator, NamedTuple, Optional, Tuple, Union
 
+__version__ = "0.1.0"
+
+# (not `json`, which `from pmb import *` would put in the place of Python's own)
 __all__ = [
     "Error",
     "Event",
@@ -42,7 +53,6 @@ __all__ = [
     "decode",
     "encode",
     "events",
-    "json",
     "pec",
     "quantity",
     "quantity_text",
@@ -96,12 +106,23 @@ class Error(ValueError):
         self.fault = fault
         self.place = place
 
+    # An exception is pickled and copied by the arguments of its class, which are not its text.
+    def __reduce__(self) -> Tuple[Any, ...]:
+        return type(self), self._arguments(), self.__dict__
+
+    def _arguments(self) -> Tuple[Any, ...]:
+        return self.fault, self.place
+
 
 class ProfileError(Error):
     """A profile has a fault: `fault` is its name, as `BadPages`, and `place` is `profile`, or `device
-    0`, or `device 0 command 2`. `device` and `command` are the numbers, counted from 0, or `None`."""
+    0`, or `device 0 command 2`. `device` and `command` are the numbers, counted from 0, or `None`.
+    `hint` has the lines with which `pmb profile` helps, and may be empty. The error's text has them
+    too."""
 
-    def __init__(self, fault: str, device: Optional[int], command: Optional[int]) -> None:
+    def __init__(
+        self, fault: str, device: Optional[int], command: Optional[int], hint: str = ""
+    ) -> None:
         place = "profile"
         if device is not None:
             place = "device {}".format(device)
@@ -110,6 +131,13 @@ class ProfileError(Error):
         super().__init__(fault, place)
         self.device = device
         self.command = command
+        self.hint = hint
+
+    def __str__(self) -> str:
+        return "\n".join([super().__str__()] + self.hint.splitlines())
+
+    def _arguments(self) -> Tuple[Any, ...]:
+        return self.fault, self.device, self.command, self.hint
 
 
 class LineError(Error):
@@ -120,6 +148,9 @@ class LineError(Error):
         super().__init__(fault, "line {}".format(line))
         self.line = line
 
+    def _arguments(self) -> Tuple[Any, ...]:
+        return self.fault, self.line
+
 
 class TokenError(Error):
     """A word of a capture's text is no token: `fault` is `BadToken`, and `place` is `byte 5`. `at` is
@@ -128,6 +159,9 @@ class TokenError(Error):
     def __init__(self, at: int) -> None:
         super().__init__("BadToken", "byte {}".format(at))
         self.at = at
+
+    def _arguments(self) -> Tuple[Any, ...]:
+        return (self.at,)
 
 
 class Event(NamedTuple):
@@ -149,6 +183,10 @@ class Text(str):
         made.packets = packets
         made.refusals = refusals
         return made
+
+    # (the arguments with which a copy is made)
+    def __getnewargs__(self) -> Tuple[str, int, int]:  # type: ignore[override]
+        return str(self), self.packets, self.refusals
 
 
 class Format(NamedTuple):
@@ -172,6 +210,8 @@ class Format(NamedTuple):
 
         Any other text, or a number of more than 8 bits (16 for M and B), is a `BadFormat`.
         """
+        if not isinstance(text, str):
+            raise _wrong_type("a format", "a str or a pmb.Format", text)
         if text == "linear11":
             return cls(_LINEAR11)
         kinds = {"linear11": _LINEAR11_FIXED, "ulinear16": _ULINEAR16, "slinear16": _SLINEAR16}
@@ -197,6 +237,8 @@ class Format(NamedTuple):
         """The format that a VOUT_MODE names, for a command whose linear words are unsigned, as
         VOUT_COMMAND, or signed, as VOUT_TRIM; with the coefficients of a DIRECT format, if any."""
         kind = _VOUT_SIGNED if signed else _VOUT
+        if not (direct is None or isinstance(direct, Format)):
+            raise _wrong_type("direct", "a pmb.Format", direct)
         if direct is None:
             return cls(kind, mode=mode)
         return cls(kind, mode=mode, m=direct.m, b=direct.b, r=direct.r)
@@ -205,6 +247,9 @@ class Format(NamedTuple):
 # What is taken as a quantity. A text is read as the program reads it, as "12", "-1.5" or "2/3". A
 # float is the exact number that it holds.
 Number = Union[Fraction, int, Decimal, float, str]
+
+# A text, such as a capture's or a profile's.
+Content = Union[str, bytes, bytearray, memoryview]
 
 
 class _Format(ctypes.Structure):
@@ -260,12 +305,19 @@ def _load() -> ctypes.CDLL:
     here = os.path.dirname(os.path.abspath(__file__))
     beside = os.path.join(here, "libpmb.so")
     in_clone = os.path.join(here, os.pardir, os.pardir, "release", "libpmb.so")
-    library = ctypes.CDLL(beside if os.path.exists(beside) else in_clone)
+    try:
+        library = ctypes.CDLL(beside if os.path.exists(beside) else in_clone)
+    except OSError as error:
+        raise ImportError(
+            "pmb needs 64-bit Python on Linux and x86-64, and this is {} on {}: {}".format(
+                sys.platform, platform.machine(), error
+            )
+        ) from None
     status, byte, size = ctypes.c_int32, ctypes.c_uint8, ctypes.c_size_t
     format_at, quantity_at = ctypes.POINTER(_Format), ctypes.POINTER(_Quantity)
     code_at, size_at, text = ctypes.POINTER(ctypes.c_uint16), ctypes.POINTER(size), ctypes.c_char_p
     lexer_at, event_at = ctypes.POINTER(_Lexer), ctypes.POINTER(_Event)
-    room = [text, size, ctypes.POINTER(_Result)]
+    room = [ctypes.c_void_p, size, ctypes.POINTER(_Result)]
     whole = [text, size, text, size]
     choice = [ctypes.POINTER(_Choice), text, size]
     for name, result, arguments in (
@@ -284,6 +336,7 @@ def _load() -> ctypes.CDLL:
         ("pmb_build", size, whole + room),
         ("pmb_run", size, whole + room),
         ("pmb_json", size, whole + choice + room),
+        ("pmb_profile_fault", size, [text, size] + room),
     ):
         function = getattr(library, name)
         function.restype = result
@@ -300,33 +353,35 @@ def version() -> str:
     return "{}.{}.{}".format(number >> 16, number >> 8 & 0xFF, number & 0xFF)
 
 
-def pec(data: bytes, crc: int = 0) -> int:
+def pec(data: Union[bytes, Iterable[int]], crc: int = 0) -> int:
     """The packet error code (SMBus 3.0 section 6.4) of bytes, after others whose code is `crc`.
 
     In a packet it covers every byte before it, address bytes included.
     """
-    if not 0 <= crc < 256:
-        raise ValueError("crc is not a byte")
-    data = bytes(data)
-    return int(_LIBRARY.pmb_pec(crc, data, len(data)))
+    if not 0 <= _index("crc", crc) < 256:
+        raise ValueError("crc is a byte, 0 to 255, and this is {}".format(crc))
+    found = _data(data)
+    return int(_LIBRARY.pmb_pec(crc, found, len(found)))
 
 
 def encode(format: Union[str, Format], quantity: Number) -> int:
     """The code of two bytes that is nearest to a quantity, the even one where two are equally near.
 
-    Raises an `Error` with what is wrong with the format, or else with the quantity, or else `Below`
-    or `Above` for a quantity outside the format's range.
+    A number may have any size and any number of digits; one that is not finite is a `ValueError`.
+    Raises an `Error` with what is wrong with the format, or else with the quantity's text, or else
+    `Below` or `Above` for a quantity outside the format's range.
     """
     named = _format(format)
     code = ctypes.c_uint16()
     try:
         number = _quantity(quantity)
-    except Error:
+    except Error as error:
         # The format's fault comes before the quantity's.
         _raise_fault(_LIBRARY.pmb_decode(ctypes.byref(named), 0, ctypes.byref(_Quantity())))
-        raise
-    status = _LIBRARY.pmb_encode(ctypes.byref(named), number, ctypes.byref(code))
-    _raise_fault(status)
+        if isinstance(quantity, str) or error.fault != "TooLarge":
+            raise
+        number = _as_near(_exact(quantity), _unit(named))
+    _raise_fault(_LIBRARY.pmb_encode(ctypes.byref(named), number, ctypes.byref(code)))
     return code.value
 
 
@@ -338,7 +393,7 @@ def decode(format: Union[str, Format], code: int) -> Fraction:
     """
     named = _format(format)
     quantity = _Quantity()
-    in_range = 0 <= code < 1 << 16
+    in_range = 0 <= _index("a code", code) < 1 << 16
     status = _LIBRARY.pmb_decode(
         ctypes.byref(named), code if in_range else 0, ctypes.byref(quantity)
     )
@@ -348,7 +403,7 @@ def decode(format: Union[str, Format], code: int) -> Fraction:
     return Fraction(quantity.numerator, quantity.denominator)
 
 
-def quantity(text: Union[str, bytes]) -> Fraction:
+def quantity(text: Content) -> Fraction:
     """The quantity that a text spells: an optional `-`, digits, and then nothing, a point and
     digits, or a slash and digits. Raises an `Error`: `Empty`, `BadDigit`, `ZeroDenominator` or
     `TooLarge`."""
@@ -358,7 +413,8 @@ def quantity(text: Union[str, bytes]) -> Fraction:
 
 def quantity_text(quantity: Number) -> str:
     """The text of a quantity: its shortest exact decimal where one has at most 24 digits after the
-    point, as `-1.5`, and otherwise numerator and denominator, as `-2/3`."""
+    point, as `-1.5`, and otherwise numerator and denominator, as `-2/3`. One with a number of 2^62
+    or more in lowest terms is `TooLarge`."""
     number = _quantity(quantity)
     room, length = ctypes.create_string_buffer(46), ctypes.c_size_t()
     _raise_fault(_LIBRARY.pmb_quantity_text(number, room, len(room), ctypes.byref(length)))
@@ -368,7 +424,7 @@ def quantity_text(quantity: Number) -> str:
 def command_name(code: int) -> Optional[str]:
     """The name of a standard command (PMBus Part II Appendix I), as `READ_VIN` of 0x88; `None`
     where the standard has none."""
-    if not 0 <= code < 256:
+    if not 0 <= _index("a code", code) < 256:
         return None
     room, length = ctypes.create_string_buffer(33), ctypes.c_size_t()
     status = _LIBRARY.pmb_command_name(code, room, len(room), ctypes.byref(length))
@@ -378,25 +434,30 @@ def command_name(code: int) -> Optional[str]:
 def bit_name(code: int, bit: int) -> Optional[str]:
     """The name of a bit of a status command (PMBus Part II section 17), as `VOUT` of bit 15 of
     0x79, STATUS_WORD; `None` where it has none. Bits are counted from 0 at the lowest."""
-    if not (0 <= code < 256 and 0 <= bit < 256):
+    if not (0 <= _index("a code", code) < 256 and 0 <= _index("a bit", bit) < 256):
         return None
     room, length = ctypes.create_string_buffer(33), ctypes.c_size_t()
     status = _LIBRARY.pmb_bit_name(code, bit, room, len(room), ctypes.byref(length))
     return None if status == _NO_NAME else room.value.decode("ascii")
 
 
-def events(text: Union[str, bytes, Iterable[Union[str, bytes]]]) -> Iterator[Event]:
+def events(text: Union[Content, Iterable[Content]]) -> Iterator[Event]:
     """The events of a capture's text, each as soon as its word has ended.
 
     The text may come in pieces, cut anywhere: those of a list, or the lines of an open file. Raises a
     `TokenError` at the first word that is no token.
     """
-    pieces = [text] if isinstance(text, (str, bytes, bytearray)) else text
+    if isinstance(text, (str, bytes, bytearray, memoryview)):
+        return _events(iter([text]))
+    return _events(iter(text))
+
+
+def _events(pieces: Iterator[Content]) -> Iterator[Event]:
     lexer, event, used = _Lexer(), _Event(), ctypes.c_size_t()
     status = _NO_EVENT
     for piece in pieces:
         given = _bytes(piece)
-        at, end = ctypes.cast(given, ctypes.c_void_p).value or 0, len(given)
+        at, end = ctypes.cast(ctypes.c_char_p(given), ctypes.c_void_p).value or 0, len(given)
         while True:
             status = _LIBRARY.pmb_lex(
                 ctypes.byref(lexer), at, end, ctypes.byref(used), ctypes.byref(event)
@@ -414,26 +475,26 @@ def events(text: Union[str, bytes, Iterable[Union[str, bytes]]]) -> Iterator[Eve
         yield _event(event)
 
 
-def show(profile: Union[str, bytes], capture: Union[str, bytes]) -> Text:
+def show(profile: Content, capture: Content) -> Text:
     """What `pmb show` writes of a capture: a line for each packet, with what it says, and for each
     refusal. Raises a `ProfileError`."""
-    return _whole(_LIBRARY.pmb_show, profile, capture)
+    return _text(_SHOW, profile, capture)
 
 
-def check(profile: Union[str, bytes], capture: Union[str, bytes]) -> Text:
+def check(profile: Content, capture: Content) -> Text:
     """What `pmb check` writes of a capture: a line for each refusal, and one with the numbers of
     packets and refusals, which the text has as `packets` and `refusals` too. Raises a
     `ProfileError`."""
-    return _whole(_LIBRARY.pmb_check, profile, capture)
+    return _text(_CHECK, profile, capture)
 
 
-def build(profile: Union[str, bytes], lines: Union[str, bytes], strict: bool = True) -> Text:
+def build(profile: Content, lines: Content, strict: bool = True) -> Text:
     """The events of the packets of transaction lines, as `pmb build` writes them.
 
     Raises a `ProfileError`, and a `LineError` for the first line that has a fault. Where it is not
     `strict` the text has a comment for each such line.
     """
-    text = _whole(_LIBRARY.pmb_build, profile, lines)
+    text = _text(_BUILD, profile, lines)
     if strict and text.refusals:
         found = re.search("^# line ([0-9]+): (.*)$", text, re.MULTILINE)
         if found:
@@ -441,16 +502,16 @@ def build(profile: Union[str, bytes], lines: Union[str, bytes], strict: bool = T
     return text
 
 
-def run(profile: Union[str, bytes], requests: Union[str, bytes]) -> Text:
+def run(profile: Content, requests: Content) -> Text:
     """What `pmb run` writes of request lines: what is recorded of each on a bus of simulated devices,
     and its result. Raises a `ProfileError`."""
-    return _whole(_LIBRARY.pmb_run, profile, requests)
+    return _text(_RUN, profile, requests)
 
 
 def json(
-    profile: Union[str, bytes],
-    capture: Union[str, bytes],
-    devices: Iterable[int] = (),
+    profile: Content,
+    capture: Content,
+    devices: Iterable[Union[int, str]] = (),
     digits: int = 6,
     late: bool = False,
     fixed_vout_mode: bool = False,
@@ -458,36 +519,55 @@ def json(
 ) -> Text:
     """What `pmb json` writes of a capture: JSON Lines.
 
-    The objects of these devices are wanted, and all where none is named. Numbers have at most so many
-    digits after the point, 0 to 12. `late` says that the capture begins in the middle, so that PAGE
-    and VOUT_MODE are unknown at first; `fixed_vout_mode`, beside it, that VOUT_MODE is the profile's;
-    `keep_going` that reading goes on with the next line after a word that is no token. Raises a
-    `ProfileError`.
+    The objects of these devices are wanted, and all where none is named: addresses of seven bits,
+    as 0x58, or in two hexadecimal digits, as an object has its `device`, "58". Numbers have at most
+    so many digits after the point, 0 to 12. `late` says that the capture begins in the middle, so
+    that PAGE and VOUT_MODE are unknown at first; `fixed_vout_mode`, beside it, that VOUT_MODE is
+    the profile's; `keep_going` that reading goes on with the next line after a word that is no
+    token. Raises a `ProfileError`.
     """
-    if not 0 <= digits <= 12:
-        raise ValueError("digits are from 0 to 12")
-    if fixed_vout_mode and not late:
-        raise ValueError("fixed_vout_mode needs late")
-    start = (1 if fixed_vout_mode else 2) if late else 0
-    choice = _Choice(digits, start, int(keep_going))
-    wanted = bytes(devices)
-    return _whole(_LIBRARY.pmb_json, profile, capture, ctypes.byref(choice), wanted, len(wanted))
+    choice = _choice(devices, digits, late, fixed_vout_mode, keep_going)
+    return _text(_JSON, profile, capture, *choice)
 
 
 def transactions(
-    profile: Union[str, bytes],
-    capture: Union[str, bytes],
-    devices: Iterable[int] = (),
+    profile: Content,
+    capture: Content,
+    devices: Iterable[Union[int, str]] = (),
     digits: int = 6,
     late: bool = False,
     fixed_vout_mode: bool = False,
     keep_going: bool = False,
 ) -> Iterator[Dict[str, Any]]:
     """The packets of a capture in their order, and its refusals and bad words: dicts, those of `pmb
-    json` without the counts at the end. Arguments and errors are those of `json`."""
-    text = json(profile, capture, devices, digits, late, fixed_vout_mode, keep_going)
-    objects = (_json.loads(line) for line in text.splitlines())
-    return (it for it in objects if it["kind"] not in ("device", "end"))
+    json` without the counts at the end. Arguments and errors are those of `json`. Each is made when
+    it is asked for, from the text of `json`, whose memory goes back as it is read."""
+    choice = _choice(devices, digits, late, fixed_vout_mode, keep_going)
+    room, told = _whole(_JSON, profile, capture, *choice)
+    return _objects(room, told.length)
+
+
+def _objects(room: Union[bytearray, mmap.mmap], length: int) -> Iterator[Dict[str, Any]]:
+    read, at, back = _json.JSONDecoder().raw_decode, 0, 0
+    while at < length:
+        end = room.find(b"\n", at) + 1
+        it = read(room[at:end].decode("ascii"))[0]
+        if it["kind"] not in ("device", "end"):
+            yield it
+        at = end
+        if at - back >= _STEP and isinstance(room, mmap.mmap):
+            _give_back(room, back, at - at % _STEP - back)
+            back = at - at % _STEP
+
+
+def _give_back(room: mmap.mmap, start: int, length: int) -> None:
+    """Gives pages back whose text is read. Nothing depends on it but how much memory is in use."""
+    advise = getattr(room, "madvise", None)
+    if advise is not None and hasattr(mmap, "MADV_DONTNEED"):
+        try:
+            advise(mmap.MADV_DONTNEED, start, length)
+        except OSError:
+            pass
 
 
 def _event(event: _Event) -> Event:
@@ -495,26 +575,174 @@ def _event(event: _Event) -> Event:
     return Event(kind, event.byte if kind == "byte" else None)
 
 
-def _bytes(text: Union[str, bytes]) -> bytes:
-    return text.encode("utf-8", "surrogatepass") if isinstance(text, str) else bytes(text)
+# ---- arguments
 
 
-def _whole(function: Any, profile: Union[str, bytes], text: Union[str, bytes], *more: Any) -> Text:
-    toml, given, told = _bytes(profile), _bytes(text), _Result()
-    size = 4096 + 4 * len(given)
+def _wrong_type(what: str, wanted: str, given: Any) -> TypeError:
+    return TypeError("{} is {}, not {}".format(what, wanted, type(given).__name__))
+
+
+def _index(what: str, number: Any) -> int:
+    try:
+        return operator.index(number)
+    except TypeError:
+        raise _wrong_type(what, "an int", number) from None
+
+
+def _bytes(text: Any, what: str = "a text") -> bytes:
+    """The bytes of a text."""
+    if isinstance(text, str):
+        return text.encode("utf-8", "surrogatepass")
+    if isinstance(text, bytes):
+        return text
+    if isinstance(text, (bytearray, memoryview)):
+        return bytes(text)
+    raise _wrong_type(what, "a str or bytes", text)
+
+
+def _data(data: Any) -> bytes:
+    """Bytes of a bus. (`bytes(3)` would be three zeros.)"""
+    if isinstance(data, bytes):
+        return data
+    if isinstance(data, (str, numbers.Number)):
+        raise _wrong_type("data", "bytes", data)
+    try:
+        itemsize = memoryview(data).itemsize
+    except TypeError:
+        return bytes(data)
+    if itemsize != 1:
+        raise TypeError("data is bytes, and this has items of {} bytes".format(itemsize))
+    return bytes(data)
+
+
+def _address(device: Any) -> int:
+    if isinstance(device, str) and re.fullmatch("[0-9A-Fa-f]{2}", device):
+        address = int(device, 16)
+    elif isinstance(device, str):
+        raise ValueError("the address {!r} does not have two hexadecimal digits".format(device))
+    else:
+        address = _index("an address", device)
+    if 0x80 <= address < 0x100:
+        raise ValueError(
+            "an address has seven bits: 0x{:02x} is the 8-bit form of 0x{:02x}".format(
+                address, address >> 1
+            )
+        )
+    if not 0 <= address < 0x80:
+        raise ValueError("an address has seven bits, 0 to 0x7f, and this is {}".format(address))
+    return address
+
+
+def _choice(
+    devices: Any, digits: int, late: bool, fixed_vout_mode: bool, keep_going: bool
+) -> Tuple[Any, bytes, int]:
+    if isinstance(devices, str):
+        raise _wrong_type("devices", "a list of addresses", devices)
+    try:
+        each = iter(devices)
+    except TypeError:
+        raise _wrong_type("devices", "a list of addresses", devices) from None
+    wanted = bytes(_address(device) for device in each)
+    if not 0 <= _index("digits", digits) <= 12:
+        raise ValueError("digits are from 0 to 12, and these are {}".format(digits))
+    if fixed_vout_mode and not late:
+        raise ValueError("fixed_vout_mode needs late")
+    start = (1 if fixed_vout_mode else 2) if late else 0
+    return ctypes.byref(_Choice(digits, start, 1 if keep_going else 0)), wanted, len(wanted)
+
+
+# ---- whole inputs
+
+# The functions over whole inputs, with how many bytes a byte of input comes to at most, as far as
+# is known: for captures where each word is a refused STOP, for lines of one letter, and for a block
+# of 255 bytes that `run` reads. Most inputs come to less, and one that comes to more is read twice.
+# It is address space that is asked for, and only what is written takes memory.
+_SHOW = (_LIBRARY.pmb_show, 32)
+_CHECK = (_LIBRARY.pmb_check, 32)
+_BUILD = (_LIBRARY.pmb_build, 32)
+_RUN = (_LIBRARY.pmb_run, 208)
+_JSON = (_LIBRARY.pmb_json, 80)
+
+# How many bytes may be had besides, such as the objects of 64 devices at the end of `json`.
+_BESIDES = 16384
+# From how many bytes on memory is asked for that is not written to at once.
+_LARGE = 1 << 16
+# How many read bytes are given back at a time: whole pages.
+_STEP = 1 << 22
+
+
+def _room(size: int) -> Union[bytearray, mmap.mmap]:
+    """A room of so many bytes. Those of a large one take memory only once they are written."""
+    if size < _LARGE:
+        return bytearray(size)
+    unreserved = getattr(mmap, "MAP_NORESERVE", 0x4000)
+    return mmap.mmap(-1, size, mmap.MAP_PRIVATE | mmap.MAP_ANONYMOUS | unreserved)
+
+
+def _first_room(times: int, length: int) -> Union[bytearray, mmap.mmap]:
+    """A room that has place for what an input of so many bytes comes to; or, where so much address
+    space can't be had, for what most inputs come to."""
+    for each in (times, 6, 1):
+        try:
+            return _room(_BESIDES + each * length)
+        except (OSError, OverflowError, ValueError):
+            continue
+    return bytearray(_BESIDES)
+
+
+def _whole(
+    function: Tuple[Any, int], profile: Content, text: Content, *more: Any
+) -> Tuple[Union[bytearray, mmap.mmap], _Result]:
+    """What a function writes, in its room, and what it tells."""
+    toml, given, told = _bytes(profile, "a profile"), _bytes(text), _Result()
+    call, times = function
+    room = _first_room(times, len(given))
     while True:
-        room = ctypes.create_string_buffer(size)
-        function(toml, len(toml), given, len(given), *more, room, size, ctypes.byref(told))
+        start = ctypes.c_char.from_buffer(room)
+        call(
+            toml, len(toml), given, len(given), *more,
+            ctypes.addressof(start), len(room), ctypes.byref(told),
+        )
+        del start
         if told.status != _NO_ROOM:
             break
-        size = told.length
+        # (the text is longer than was thought)
+        try:
+            room = _room(told.length)
+        except OSError:
+            raise MemoryError("no memory for {} bytes".format(told.length)) from None
     if told.status == _NO_MEMORY:
         raise MemoryError("no memory for the profile")
     if told.status == _BAD_PROFILE:
-        device = None if told.device < 0 else told.device
-        command = None if told.command < 0 else told.command
-        raise ProfileError(_PROFILE_FAULTS[told.fault - 1], device, command)
-    return Text(room.raw[: told.length].decode("ascii"), told.packets, told.refusals)
+        raise _profile_error(toml)
+    if told.status != _OK:
+        raise RuntimeError("the library's status is {}".format(told.status))
+    return room, told
+
+
+def _text(function: Tuple[Any, int], profile: Content, text: Content, *more: Any) -> Text:
+    room, told = _whole(function, profile, text, *more)
+    with memoryview(room) as whole, whole[: told.length] as written:
+        text = str(written, "ascii")
+    # (a Text is a copy, and two of a long text are enough)
+    del room
+    return Text(text, told.packets, told.refusals)
+
+
+def _profile_error(toml: bytes) -> Exception:
+    """The fault of a profile, with the lines that help."""
+    room, told = ctypes.create_string_buffer(4096), _Result()
+    _LIBRARY.pmb_profile_fault(toml, len(toml), room, len(room), ctypes.byref(told))
+    if told.status != _BAD_PROFILE:
+        return MemoryError("no memory for the profile")
+    # (the first line has the fault and its place)
+    lines = room.raw[: told.length].decode("utf-8", "replace").partition("\n")[2]
+    device = None if told.device < 0 else told.device
+    command = None if told.command < 0 else told.command
+    return ProfileError(_PROFILE_FAULTS[told.fault - 1], device, command, lines.rstrip("\n"))
+
+
+# ---- formats and quantities
 
 
 def _integer(text: str, bits: int) -> int:
@@ -528,16 +756,17 @@ def _integer(text: str, bits: int) -> int:
 
 
 def _fitting(number: int, bits: int) -> int:
-    if not -(1 << bits - 1) <= number < 1 << bits - 1:
+    if not -(1 << bits - 1) <= _index("a number of a format", number) < 1 << bits - 1:
         raise Error("BadFormat", "format")
     return number
 
 
 def _format(format: Union[str, Format]) -> _Format:
-    if isinstance(format, str):
+    if not isinstance(format, Format):
         format = Format.parse(format)
-    if not (0 <= format.kind < 256 and 0 <= format.mode < 256):
-        raise Error("BadFormat", "format")
+    for number in (format.kind, format.mode):
+        if not 0 <= _index("a number of a format", number) < 256:
+            raise Error("BadFormat", "format")
     return _Format(
         format.kind,
         _fitting(format.exponent, 8),
@@ -548,18 +777,65 @@ def _format(format: Union[str, Format]) -> _Format:
     )
 
 
-def _parse(text: Union[str, bytes]) -> _Quantity:
-    if isinstance(text, str):
-        text = text.encode("utf-8", "surrogatepass")
-    found = _Quantity()
-    _raise_fault(_LIBRARY.pmb_quantity_parse(text, len(text), ctypes.byref(found)))
+def _parse(text: Content) -> _Quantity:
+    given, found = _bytes(text), _Quantity()
+    _raise_fault(_LIBRARY.pmb_quantity_parse(given, len(given), ctypes.byref(found)))
     return found
+
+
+# 10^60 is beyond the range of each format, and 10^-60 nearer to 0 than each quantity at which the
+# nearest code changes, but 0 itself.
+_MOST = 60
+
+
+def _exact(quantity: Any) -> Fraction:
+    """The exact value of a number. For a Decimal that may have more digits than there is memory
+    for, such as 1e999999999, it is another one with the same nearest code."""
+    if isinstance(quantity, Decimal):
+        if quantity.is_finite() and quantity and abs(quantity.adjusted()) > _MOST:
+            sign = -1 if quantity < 0 else 1
+            return sign * Fraction(10) ** (_MOST if quantity.adjusted() > 0 else -_MOST)
+    elif isinstance(quantity, numbers.Integral):
+        return Fraction(int(quantity))
+    elif isinstance(quantity, numbers.Rational):
+        return Fraction(int(quantity.numerator), int(quantity.denominator))
+    elif not (isinstance(quantity, numbers.Real) and hasattr(quantity, "as_integer_ratio")):
+        raise _wrong_type("a quantity", "a number or a str", quantity)
+    try:
+        numerator, denominator = quantity.as_integer_ratio()
+    except (OverflowError, ValueError):
+        raise ValueError("a quantity is a finite number, and this is {}".format(quantity)) from None
+    return Fraction(int(numerator), int(denominator))
+
+
+def _unit(named: _Format) -> Fraction:
+    """A number of which each value of a format is a multiple, by less than 2^47 in size."""
+    if named.kind == _DIRECT or named.kind in (_VOUT, _VOUT_SIGNED) and named.mode >> 5 == 2:
+        return Fraction(1, abs(named.m) * 10 ** max(named.r, 0))
+    # (y * 2^n with n from -16 on)
+    return Fraction(1, 1 << 16)
+
+
+def _as_near(exact: Fraction, unit: Fraction) -> _Quantity:
+    """A quantity with the same nearest code, or on the same side of the range, whose numbers are
+    below 2^62, as the library needs them.
+
+    The answer changes at the ends of the range, and in the middle between two values. Each of these
+    is a multiple of half the unit. So a quantity that is such a multiple stays as it is; another
+    one lies between two neighbouring multiples, and all that lie there have the answer of the
+    quantity in the middle. Each value is less than 2^48 halves from 0, so what is further away has
+    the answer of what is that far.
+    """
+    halves = exact / (unit / 2)
+    below = min(max(math.floor(halves), -1 << 48), 1 << 48)
+    near = Fraction(2 * below + (0 if halves == below else 1), 4) * unit
+    return _Quantity(near.numerator, near.denominator)
 
 
 def _quantity(quantity: Number) -> _Quantity:
     if isinstance(quantity, str):
         return _parse(quantity)
-    exact = Fraction(quantity)
+    exact = _exact(quantity)
     # (a number of 64 bits would lose what is above)
     if abs(exact.numerator) >= 1 << 62 or exact.denominator >= 1 << 62:
         raise Error("TooLarge", "quantity")

@@ -1,5 +1,6 @@
 -- What C chooses of JSON.
-use Rattle.std.specs.Prelude.{ℕ, ◌==◌, nat_le, if◌then◌else◌, Option, Some, None}
+use Rattle.std.specs.List.{list_all}
+use Rattle.std.specs.Prelude.{ℕ, Bool, ◌==◌, nat_le, nat_lt, if◌then◌else◌, List, Option, Some, None}
 use Rattle.pmb_c.specs.declared.choice.Chosen.{Chosen}
 use Rattle.pmb_c.specs.declared.choice.PmbChoice.{PmbChoice}
 use Rattle.pmb_json.specs.declared.bad_words.BadWords.{BadWords}
@@ -25,6 +26,13 @@ chosen_by digits (Some start) (Some bad_words) = Some (record { digits = digits;
 chosen_by digits (Some start) None = None
 chosen_by digits None bad_words = None
 
--- each of the numbers has to say something
-abbrev pub chosen : PmbChoice → Option Chosen
-chosen choice = if nat_le choice.digits 12 then chosen_by choice.digits (start_of choice.start) (bad_words_of choice.bad_words) else None
+-- the address of a device has seven bits
+abbrev pub is_address : ℕ → Bool
+is_address byte = nat_lt byte 0x80
+
+abbrev pub chosen_numbers : PmbChoice → Option Chosen
+chosen_numbers choice = if nat_le choice.digits 12 then chosen_by choice.digits (start_of choice.start) (bad_words_of choice.bad_words) else None
+
+-- each of the numbers has to say something, and each of the bytes to be an address
+abbrev pub chosen : PmbChoice → List ℕ → Option Chosen
+chosen choice devices = if list_all is_address devices then chosen_numbers choice else None

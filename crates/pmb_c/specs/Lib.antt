@@ -1,3 +1,4 @@
 pub mod Choice
 pub mod Result
+pub mod Explain
 pub mod Whole

@@ -39,14 +39,14 @@ place_of None = negsuc 0
 abbrev pub result_of_status : Status → PmbResult
 result_of_status why = record { status = number_of why; fault = pos 0; device = negsuc 0; command = negsuc 0; length = 0; packets = 0; refusals = 0 }
 
--- the profile has a fault
-abbrev pub result_of_fault : ProfileFault → PmbResult
-result_of_fault fault = record {
+-- the profile has a fault, and this is the length of what is written of it
+abbrev pub result_of_fault : ProfileFault → ℕ → PmbResult
+result_of_fault fault length = record {
   status = number_of status.BadProfile;
   fault = fault_number fault.what;
   device = place_of fault.device;
   command = place_of fault.command;
-  length = 0;
+  length = length;
   packets = 0;
   refusals = 0;
 }
@@ -65,6 +65,6 @@ result_of_put room put = record {
 
 abbrev pub result_of : ℕ → Result Put WholeFault → PmbResult
 result_of room (Ok put) = result_of_put room put
-result_of room (Err (Profile fault)) = result_of_fault fault
+result_of room (Err (Profile fault)) = result_of_fault fault 0
 result_of room (Err Memory) = result_of_status status.NoMemory
 result_of room (Err Write) = result_of_status status.NoMemory

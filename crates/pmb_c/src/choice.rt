@@ -1,7 +1,8 @@
 //! What C chooses of JSON.
 
+ghost use Rattle.std.specs.List.{list_all};
 ghost use Rattle.std.specs.Prelude.{◌≡◌, option_map};
-ghost use Rattle.pmb_c.specs.Choice.{bad_words_of, chosen, start_of};
+ghost use Rattle.pmb_c.specs.Choice.{bad_words_of, chosen, is_address, start_of};
 
 use pmb_decimal::Digits;
 use pmb_json::BadWords;
@@ -29,10 +30,14 @@ pub(crate) struct Chosen {
 }
 
 impl PmbChoice {
-    /// What it chooses; `None` where one of its numbers says nothing.
-    pub(crate) fn chosen(&self) -> Option<Chosen>
-        ensures { result ≡ chosen self.now }
+    /// What it chooses, of devices at these addresses; `None` where one of its numbers is none that
+    /// its field has, or an address has more than seven bits.
+    pub(crate) fn chosen(&self, devices: &[u8]) -> Option<Chosen>
+        ensures { result ≡ chosen self.now devices.now }
     {
+        if !are_addresses(devices) {
+            return None;
+        }
         let Some(digits) = Digits::new(self.digits) else {
             return None;
         };
@@ -48,6 +53,13 @@ impl PmbChoice {
             bad_words,
         })
     }
+}
+
+/// Whether each has seven bits, as the address of a device has.
+fn are_addresses(devices: &[u8]) -> bool
+    ensures { result ≡ list_all is_address devices.now }
+{
+    devices.iter().all(|device| *device < 0x80)
 }
 
 /// What is known where the capture begins.

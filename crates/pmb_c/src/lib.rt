@@ -4,7 +4,7 @@
 //! of quantities, the names of commands and of status bits, and the events of a capture's text
 //! ([`firmware`]), with the library's version ([`version`]). With memory for a profile, and the
 //! caller's room for what is written, there are `show`, `check`, `build`, `run` and `json` over
-//! whole inputs ([`whole`]).
+//! whole inputs ([`whole`]), and what helps with a fault of a profile ([`explain`]).
 //!
 //! A C caller is checked by nobody, so no export has a premise on values: each is itself the test
 //! of what it is given. What a C type can't say is the header's to say: no pointer is null, and
@@ -19,6 +19,7 @@
 #![tactic(auto)]
 
 mod choice;
+pub mod explain;
 pub mod firmware;
 mod result;
 pub mod version;

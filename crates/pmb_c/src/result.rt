@@ -34,7 +34,7 @@ impl PmbResult {
     {
         match outcome {
             Ok(put) => PmbResult::of_put(put, room),
-            Err(WholeFault::Profile(fault)) => PmbResult::of_fault(fault),
+            Err(WholeFault::Profile(fault)) => PmbResult::of_fault(fault, 0),
             Err(WholeFault::Memory | WholeFault::Write) => PmbResult::of_status(Status::NoMemory),
         }
     }
@@ -74,16 +74,16 @@ impl PmbResult {
         }
     }
 
-    /// The profile has a fault.
-    fn of_fault(fault: ProfileFault) -> PmbResult
-        ensures { result ≡ result_of_fault fault }
+    /// The profile has a fault, of which a text of so many bytes is written.
+    pub(crate) fn of_fault(fault: ProfileFault, length: usize) -> PmbResult
+        ensures { result ≡ result_of_fault fault length }
     {
         PmbResult {
             status: Status::BadProfile.number(),
             fault: number_of(fault.what),
             device: device_of(fault.device),
             command: command_of(fault.command),
-            length: 0,
+            length,
             packets: 0,
             refusals: 0,
         }

@@ -87,7 +87,7 @@ pub extern "C" fn pmb_run(
 }
 
 /// Writes the objects of a capture, each as a line of JSON, as `pmb json` does. Those of devices at
-/// these addresses are wanted, and of all devices where there is none.
+/// these addresses, of seven bits each, are wanted, and of all devices where there is none.
 #[unsafe(no_mangle)]
 pub extern "C" fn pmb_json(
     alloc: Global,
@@ -98,10 +98,10 @@ pub extern "C" fn pmb_json(
     room: &mut [u8],
     told: &mut PmbResult,
 ) -> usize
-    ensures wrote { AnswersJson (chosen choice.now) devices.now profile.now capture.now room.old room.new told.new }
+    ensures wrote { AnswersJson (chosen choice.now devices.now) devices.now profile.now capture.now room.old room.new told.new }
     ensures length { result ≡ told.new.length }
 {
-    match choice.chosen() {
+    match choice.chosen(devices) {
         Some(chosen) => {
             let size = room.len();
             let choice = Choice {

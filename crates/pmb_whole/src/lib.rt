@@ -23,5 +23,5 @@ mod work;
 pub use fault::WholeFault;
 pub use put::Put;
 pub use rooms::{put_json, put_whole};
-pub use whole::{write_json, write_whole};
+pub use whole::{read_profile, write_json, write_whole};
 pub use work::Work;

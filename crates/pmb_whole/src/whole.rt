@@ -72,7 +72,11 @@ pub fn write_json<'c, W: Sink>(
 }
 
 /// The profile of a text.
-fn read_profile(alloc: Global, text: &[u8]) -> Result<Profile, WholeFault>
+///
+/// # Errors
+///
+/// `Profile` where the text has a fault. `Memory` where there was none.
+pub fn read_profile(alloc: Global, text: &[u8]) -> Result<Profile, WholeFault>
     ensures { IsProfile text.now result }
 {
     match Profile::from_toml(alloc, text) {

@@ -1,0 +1,38 @@
+-- What is said of a profile's fault.
+use Rattle.std.specs.Prelude.{◌≡◌, ℕ, Result, Ok, Err, List, length}
+use Rattle.pmb_command.specs.Parts.{DeviceParts}
+use Rattle.pmb_io.specs.Count.{capped}
+use Rattle.pmb_room.specs.Laid.{laid}
+use Rattle.pmb_table.specs.declared.fault.ProfileFault.{ProfileFault}
+use Rattle.pmb_whole.specs.Profile.{IsProfile}
+use Rattle.pmb_whole.specs.declared.fault.WholeFault.{WholeFault}
+use Rattle.pmb_whole.specs.declared.fault.WholeFault.TheVariants.{Profile, Memory, Write}
+use Rattle.pmb_c.specs.declared.result.PmbResult.{PmbResult}
+use Rattle.pmb_firmware.specs.declared.status.Status.TheVariants.{Done, NoMemory}
+use Rattle.pmb_c.specs.Result.{result_of_fault, result_of_status}
+
+-- Some text stands in the room, as far as it fits, and this is its length. It is for people, and no
+-- definition says which text it is.
+pub record IsLaid (before after : List ℕ) (count : ℕ) : Type 0 where
+  pub text : List ℕ
+  pub room : after ≡ laid text before
+  pub counted : count ≡ capped (length text)
+
+-- the fault is told, with the length of its text
+pub record TellsFault (fault : ProfileFault) (before after : List ℕ) (told : PmbResult) : Type 0 where
+  pub count : ℕ
+  pub laid : IsLaid before after count
+  pub tells : told ≡ result_of_fault fault count
+
+-- only a fault has a text
+abbrev pub ExplainsOutcome : Result (List DeviceParts) WholeFault → List ℕ → List ℕ → PmbResult → Type 0
+ExplainsOutcome (Ok devices) before after told = (after ≡ before) × (told ≡ result_of_status Done)
+ExplainsOutcome (Err (Profile fault)) before after told = TellsFault fault before after told
+ExplainsOutcome (Err Memory) before after told = (after ≡ before) × (told ≡ result_of_status NoMemory)
+ExplainsOutcome (Err Write) before after told = ⊥
+
+-- of the profile of a text
+pub record Explains (profile before after : List ℕ) (told : PmbResult) : Type 0 where
+  pub outcome : Result (List DeviceParts) WholeFault
+  pub is_profile : IsProfile profile outcome
+  pub explains : ExplainsOutcome outcome before after told

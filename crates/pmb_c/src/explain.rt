@@ -1,0 +1,59 @@
+//! What helps with a fault of a profile, in the caller's room.
+
+ghost use Rattle.std.specs.Prelude.{◌≡◌};
+ghost use Rattle.pmb_c.specs.Explain.{Explains, IsLaid};
+
+use crate::result::PmbResult;
+use pmb_firmware::Status;
+use pmb_front::explain_profile;
+use pmb_room::{Filled, Place, Room};
+use pmb_table::ProfileFault;
+use pmb_whole::{WholeFault, read_profile};
+use std::alloc::Global;
+use std::marker::Brand;
+
+/// Writes what `pmb profile` reports of a profile that has a fault: the fault with its place, and
+/// lines that help. Where it has none nothing is written.
+#[unsafe(no_mangle)]
+pub extern "C" fn pmb_profile_fault(
+    alloc: Global,
+    profile: &[u8],
+    room: &mut [u8],
+    told: &mut PmbResult,
+) -> usize
+    ensures wrote { Explains profile.now room.old room.new told.new }
+    ensures length { result ≡ told.new.length }
+{
+    *told = match read_profile(alloc, profile) {
+        Ok(_) => PmbResult::of_status(Status::Done),
+        Err(WholeFault::Profile(fault)) => {
+            PmbResult::of_fault(fault, put_lines(alloc, profile, fault, room))
+        }
+        Err(WholeFault::Memory | WholeFault::Write) => PmbResult::of_status(Status::NoMemory),
+    };
+    told.length
+}
+
+/// Puts the lines on a fault into the room as far as they fit, and returns how many bytes they have.
+fn put_lines(alloc: Global, profile: &[u8], fault: ProfileFault, room: &mut [u8]) -> usize
+    ensures { IsLaid room.old room.new result }
+{
+    put_lines_at::<Brand>(alloc, profile, fault, room).count
+}
+
+/// Puts the lines into the room of a place.
+fn put_lines_at<'r, P: Place>(
+    alloc: Global,
+    profile: &[u8],
+    fault: ProfileFault,
+    room: &'r mut [u8],
+) -> Filled<'r>
+    requires same { room.ghost_name ≡ P.name }
+    requires before { room.old ≡ P.before }
+    ensures same { result.room.ghost_name ≡ room.entry.ghost_name }
+    ensures laid { IsLaid room.old result.room.now result.count }
+{
+    let mut writer: Room<'r, P> = Room::new(room);
+    let _ = explain_profile(alloc, profile, fault, &mut writer);
+    writer.into_filled()
+}
