@@ -89,6 +89,28 @@ pub if_none : (o : Option ℕ) (P : Type 0) → P → IfNone o P
 if_none None P holds = holds
 if_none (Some n) P holds = tt
 
+-- a number has one place
+one_place : (numbers : List ℕ) (i j n : ℕ) → IsDistinct nat_eq numbers → slice_get numbers i ≡ Some n → slice_get numbers j ≡ Some n → i ≡ j
+one_place [] i j n own here there = cc
+one_place (m ∷ ms) zero zero n own here there = refl
+one_place (m ∷ ms) zero (suc j) n own here there = absurd (both_ways (nat_eq m n) (other_than_first m ms j n own there) (eq-eqb m n (same_Some m n here)))
+one_place (m ∷ ms) (suc i) zero n own here there = absurd (both_ways (nat_eq m n) (other_than_first m ms i n own here) (eq-eqb m n (same_Some m n there)))
+one_place (m ∷ ms) (suc i) (suc j) n own here there = ap suc (one_place ms i j n (IsDistinct-tail nat_eq m ms own) here there)
+
+-- a number that is written at its place, while the others stay at theirs
+pub ArePlaces-set : (places before after : List ℕ) (n place : ℕ) → ArePlaces places before → IsDistinct nat_eq after → slice_get after place ≡ Some n
+    → ((i m : ℕ) → slice_get after i ≡ Some m → (m ≡ n → ⊥) → slice_get before i ≡ Some m) → n < length places → ArePlaces (set places n place) after
+ArePlaces-set places before after n place at own there others within i m here = by (nat_eq m n) refl
+  where
+    by : (b : Bool) → nat_eq m n ≡ b → slice_index (set places n place) m ≡ i
+    by true is =
+        let same : m ≡ n = eqb-true m n is in
+        let first : slice_get after i ≡ Some n = here ∙ ap (λ k. Some k) same in
+        subst (λ k. slice_index (set places n place) k ≡ i) (sym same) (get_or-set_same places n place 0 within ∙ one_place after place i n own there first)
+    by false is =
+        let other : m ≡ n → ⊥ = λ same. both_ways (nat_eq m n) is (eq-eqb m n same) in
+        get_or-set_other places n m place 0 other ∙ at i m (others i m here other)
+
 -- what stands in a list with one more item at its end
 last_or_earlier : (numbers : List ℕ) (n i m : ℕ) → slice_get (numbers ++ n ∷ []) i ≡ Some m → (slice_get numbers i ≡ Some m) ⊎ ((i ≡ length numbers) × (n ≡ m))
 last_or_earlier [] n zero m here = inr (refl, cc)

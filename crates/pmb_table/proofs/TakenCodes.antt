@@ -22,9 +22,13 @@ below (c ∷ codes) all q any =
 pub AreTaken-push : (codes : List ℕ) (c : ℕ) → AreTaken codes → IsNew c codes → c < 256 → AreTaken (codes ++ c ∷ [])
 AreTaken-push codes c taken free small = (IsDistinct-push nat_eq_equiv codes c taken.0 free, All-push (λ code. code < 256) codes c taken.1 small)
 
--- and there is room for it
+-- there are no more than a byte can be
+pub at_most_all : (codes : List ℕ) → AreTaken codes → length codes ≤ 256
+at_most_all codes taken = length-le_from_distinct_below codes 256 taken.0 (below codes taken.1)
+
+-- so there is room for one more
 pub room : (codes : List ℕ) (c : ℕ) → AreTaken codes → IsNew c codes → c < 256 → length codes < 256
 room codes c taken free small =
     let after : AreTaken (codes ++ c ∷ []) = AreTaken-push codes c taken free small in
-    let all : length (codes ++ c ∷ []) ≤ 256 = length-le_from_distinct_below (codes ++ c ∷ []) 256 after.0 (below (codes ++ c ∷ []) after.1) in
+    let all : length (codes ++ c ∷ []) ≤ 256 = at_most_all (codes ++ c ∷ []) after in
     omega (arith, length_push codes c)
