@@ -5,7 +5,7 @@
 //! At a word that is no token the scan stops, and says how many bytes of the piece it used.
 //!
 //! ```rust
-//! // A visitor that keeps the events: `Log` of the crate `tests_scan`.
+//! // A visitor that keeps the events: `Log` of the crate `tests_reader`.
 //! let mut log = Log::default();
 //! let profile = Profile::from_toml(rt.alloc(), SAMPLE.as_bytes())?;
 //! let mut scan = Scan::new(&profile);
