@@ -1,4 +1,5 @@
 //! The value of every code is encoded by a code of that value.
+use compare::{ensure, same};
 use pmb_value::{Direct, Format, Linear11, Linear11Fixed, Slinear16, Steps, Ulinear16};
 use std::process::Abort;
 
@@ -14,8 +15,8 @@ fn check_every<F: Format>(rt: &impl Abort, name: &str, format: &F) {
         let mut steps = Steps::new();
         if let Ok(code) = format.encode(&quantity, &mut steps) {
             let taken = steps.taken();
-            assert!(rt; taken >= 1 && taken <= 33, "{name} at {word}");
-            assert_eq!(rt; format.decode(code), quantity, "{name} at {word}");
+            ensure(rt, (name, "at", word), taken >= 1 && taken <= 33);
+            same(rt, (name, "at", word), format.decode(code), quantity);
         }
     }
 }
@@ -57,7 +58,7 @@ fn linear11_fixed_codes(rt: &impl Abort) {
             let word = (field as u16) * 2048 + index;
             let quantity = format.decode(word);
             let code = format.encode(&quantity, &mut Steps::new());
-            assert_eq!(rt; code, Ok(word), "at {exponent}");
+            same(rt, ("at", exponent), code, Ok(word));
         }
     }
 }

@@ -1,4 +1,5 @@
 //! How the data of each form go over the bus, by hand from SMBus 3.0 section 6.5.
+use compare::{ensure, same};
 use pmb_table::Form;
 
 /// The bytes that rows take their data from.
@@ -17,28 +18,28 @@ const LENGTHS: [(Form, Option<usize>); 6] = [
 #[test]
 fn each_form_takes_its_length(rt: HostRuntime) {
     for (form, length) in LENGTHS {
-        assert_eq!(rt; form.length(), length, "{form:?}");
+        same(&rt, form, form.length(), length);
         for count in 0..=9 {
             let taken = match length {
                 Some(length) => count == length,
                 None => true,
             };
-            assert_eq!(rt; form.takes(count), taken, "{form:?}, {count}");
-            assert_eq!(rt; form.fits(&BYTES[..count]), taken, "{form:?}, {count}");
+            same(&rt, (form, count), form.takes(count), taken);
+            same(&rt, (form, count), form.fits(&BYTES[..count]), taken);
         }
-        assert_eq!(rt; form.takes(255), length.is_none(), "{form:?}");
-        assert!(rt; !form.takes(256), "{form:?}");
+        same(&rt, form, form.takes(255), length.is_none());
+        ensure(&rt, form, !form.takes(256));
     }
 }
 
 #[test]
 fn blocks_have_a_count_in_front(rt: HostRuntime) {
-    assert_eq!(rt; Form::Block.count(&[]), Some(0));
-    assert_eq!(rt; Form::Block.count(&BYTES[..6]), Some(6));
-    assert_eq!(rt; Form::Block.count(&[0x5a; 255]), Some(255));
-    assert_eq!(rt; Form::Zero.count(&[]), None);
-    assert_eq!(rt; Form::Two.count(&BYTES[..2]), None);
-    assert_eq!(rt; Form::Eight.count(&BYTES[..8]), None);
+    same(&rt, "no bytes", Form::Block.count(&[]), Some(0));
+    same(&rt, "six bytes", Form::Block.count(&BYTES[..6]), Some(6));
+    same(&rt, "255 bytes", Form::Block.count(&[0x5a; 255]), Some(255));
+    same(&rt, "zero", Form::Zero.count(&[]), None);
+    same(&rt, "two", Form::Two.count(&BYTES[..2]), None);
+    same(&rt, "eight", Form::Eight.count(&BYTES[..8]), None);
 }
 
 /// A form, the first bytes of a wire, and how many it has.
@@ -57,18 +58,29 @@ const WIRES: [(Form, &[u8], usize); 9] = [
 #[test]
 fn wires_have_their_length(rt: HostRuntime) {
     for (form, bytes, length) in WIRES {
-        assert_eq!(rt; form.wire_length(bytes), length, "{form:?}, {bytes:?}");
+        same(&rt, (form, bytes), form.wire_length(bytes), length);
     }
 }
 
 #[test]
 fn data_stand_behind_the_count(rt: HostRuntime) {
     let word: [u8; 2] = [0x06, 0xd3];
-    assert!(rt; Form::Zero.data_within(&[]).is_empty());
-    assert_eq!(rt; Form::Two.data_within(&[0x06, 0xd3]), word.as_slice());
-    assert!(rt; Form::Block.data_within(&[0x00]).is_empty());
-    assert_eq!(rt;
+    ensure(&rt, "zero", Form::Zero.data_within(&[]).is_empty());
+    same(
+        &rt,
+        "two",
+        Form::Two.data_within(&[0x06, 0xd3]),
+        word.as_slice(),
+    );
+    ensure(
+        &rt,
+        "a block of none",
+        Form::Block.data_within(&[0x00]).is_empty(),
+    );
+    same(
+        &rt,
+        "a block of two",
         Form::Block.data_within(&[0x02, 0x06, 0xd3]),
-        word.as_slice()
+        word.as_slice(),
     );
 }

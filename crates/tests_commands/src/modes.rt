@@ -1,4 +1,5 @@
 //! Which packets carry a packet error code, by each mode.
+use compare::same;
 use pmb_table::PecMode;
 
 /// A mode, and whether it allows a packet without a code, and one with it.
@@ -11,8 +12,8 @@ const MODES: [(PecMode, bool, bool); 3] = [
 #[test]
 fn each_mode_allows_what_it_says(rt: HostRuntime) {
     for (mode, without, with) in MODES {
-        assert_eq!(rt; mode.allows(false), without, "{mode:?}");
-        assert_eq!(rt; mode.allows(true), with, "{mode:?}");
-        assert_eq!(rt; mode.may_carry(), with, "{mode:?}");
+        same(&rt, mode, mode.allows(false), without);
+        same(&rt, mode, mode.allows(true), with);
+        same(&rt, mode, mode.may_carry(), with);
     }
 }

@@ -5,6 +5,7 @@ use crate::shapes::{
     BLOCK, BYTE, CALL_WORD, FOUR, MASK, READ_BLOCK, READ_BYTE, READ_EIGHT, READ_WORD,
     SEND_AND_READ_BYTE, SNAPSHOT, WORD, WRITE_BLOCK, WRITE_EIGHT, WRITE_WORD,
 };
+use compare::same;
 use pmb_table::{Entry, Profile, Shape};
 use std::alloc::Global;
 use std::process::Abort;
@@ -31,11 +32,17 @@ pub(crate) struct Parts(pub u8, pub &'static str, pub Shape, pub Meaning, pub bo
 pub(crate) fn check_entry(rt: &impl Abort, row: &str, entry: Option<&Entry>, parts: &Parts) {
     let Parts(code, name, shape, meaning, paged) = *parts;
     let entry = entry.expect(rt, row);
-    assert_eq!(rt; (entry.code, entry.name.as_str()), (code, name), "at {row}");
-    assert_eq!(rt;
+    same(
+        rt,
+        ("at", row),
+        (entry.code, entry.name.as_str()),
+        (code, name),
+    );
+    same(
+        rt,
+        ("at", row),
         (entry.shape, entry.kind, entry.paged),
         (shape, kind_of(rt, meaning), paged),
-        "at {row}"
     );
 }
 
@@ -88,6 +95,6 @@ fn commands(rt: HostRuntime) {
         check_entry(&rt, keys, device.entry(parts.0), parts);
         check_entry(&rt, keys, device.entry_at(0), parts);
         let found = (device.len(), device.initial(parts.0));
-        assert_eq!(rt; found, (1, *initial), "at {keys}");
+        same(&rt, ("at", keys), found, (1, *initial));
     }
 }

@@ -3,6 +3,7 @@
 use crate::meanings::Meaning::Direct;
 use crate::parts::{PAGE, Parts, READ_VIN, check_entry, code_of, profile_of};
 use crate::shapes::WORD;
+use compare::same;
 use pmb_table::{DeviceProfile, PecMode, SAMPLE, laws};
 
 /// The number of commands that the standard has.
@@ -100,10 +101,11 @@ static DEVICES: [Device; 5] = [
 fn devices(rt: HostRuntime) {
     for Device(name, text, index, address, pec, pages, vout_mode, direct, len) in &DEVICES {
         let profile = profile_of(&rt, rt.alloc(), text);
-        assert_eq!(rt;
+        same(
+            &rt,
+            name,
             address_of(profile.device_at(*index)),
             Some(*address),
-            "{name}"
         );
         laws::accepted_bus(&profile);
         let device = profile.device(*address).expect(&rt, name);
@@ -113,12 +115,12 @@ fn devices(rt: HostRuntime) {
             None => None,
         };
         let found = (device.address(), device.pec(), device.pages());
-        assert_eq!(rt; found, (*address, *pec, *pages), "{name}");
+        same(&rt, name, found, (*address, *pec, *pages));
         let found = (device.vout_mode(), device.vout_direct());
-        assert_eq!(rt; found, (*vout_mode, coefficients), "{name}");
+        same(&rt, name, found, (*vout_mode, coefficients));
         let behind = code_of(device.entry_at(*len));
         let found = (device.len(), behind, code_of(device.entry(0xc8)));
-        assert_eq!(rt; found, (*len, None, None), "{name}");
+        same(&rt, name, found, (*len, None, None));
     }
 }
 
@@ -128,10 +130,15 @@ static NO_ADDRESSES: [u8; 5] = [0x00, 0x20, 0x57, 0x5b, 0xff];
 #[test]
 fn no_device(rt: HostRuntime) {
     let profile = profile_of(&rt, rt.alloc(), SAMPLE);
-    assert_eq!(rt; profile.len(), 3);
-    assert_eq!(rt; address_of(profile.device_at(3)), None);
+    same(&rt, "devices", profile.len(), 3);
+    same(
+        &rt,
+        "behind the last",
+        address_of(profile.device_at(3)),
+        None,
+    );
     for address in &NO_ADDRESSES {
-        assert_eq!(rt; address_of(profile.device(*address)), None, "{address:02x}");
+        same(&rt, address, address_of(profile.device(*address)), None);
     }
 }
 
@@ -162,10 +169,10 @@ fn sample_commands(rt: HostRuntime) {
         let device = profile.device(*address).expect(&rt, name);
         check_entry(&rt, name, device.entry_at(*index), parts);
         check_entry(&rt, name, device.entry(parts.0), parts);
-        assert_eq!(rt; device.initial(parts.0), *initial, "{name}");
+        same(&rt, name, device.initial(parts.0), *initial);
         let last = code_of(device.entry_at(STANDARD - 1));
         let found = (last, device.initial(0x21), device.initial(0xc8));
-        assert_eq!(rt; found, (Some(0xc2), None, None), "{name}");
+        same(&rt, name, found, (Some(0xc2), None, None));
     }
 }
 
@@ -177,9 +184,9 @@ fn order_of_the_sample(rt: HostRuntime) {
     let last = profile.device(0x5a).expect(&rt, "a device");
     for index in 0..STANDARD {
         let code = code_of(first.entry_at(index));
-        assert_eq!(rt; code, code_of(last.entry_at(index)), "at {index}");
+        same(&rt, ("at", index), code, code_of(last.entry_at(index)));
     }
-    assert_eq!(rt; code_of(last.entry(0xd0)), None);
+    same(&rt, "RATIO", code_of(last.entry(0xd0)), None);
 }
 
 /// Two devices whose commands are tables in the order d1h, 88h, d0h.
@@ -207,7 +214,7 @@ fn order_of_commands(rt: HostRuntime) {
     let profile = profile_of(&rt, rt.alloc(), ORDER);
     for (name, address, index, code) in &PLACES {
         let device = profile.device(*address).expect(&rt, name);
-        assert_eq!(rt; code_of(device.entry_at(*index)), *code, "{name}");
+        same(&rt, name, code_of(device.entry_at(*index)), *code);
     }
 }
 
@@ -222,7 +229,7 @@ fn ordered_devices(rt: HostRuntime) {
     let profile = profile_of(&rt, rt.alloc(), ORDER);
     for (name, address, len, initial) in &ORDERED {
         let device = profile.device(*address).expect(&rt, name);
-        assert_eq!(rt; device.len(), *len, "{name}");
-        assert_eq!(rt; device.initial(0x88), Some(*initial), "{name}");
+        same(&rt, name, device.len(), *len);
+        same(&rt, name, device.initial(0x88), Some(*initial));
     }
 }

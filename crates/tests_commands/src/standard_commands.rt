@@ -4,6 +4,7 @@ use crate::parts::{Parts, check_entry};
 use crate::shapes::{
     BLOCK, BYTE, CALL_BLOCK, MASK, READ_BLOCK, READ_BYTE, READ_WORD, SEND_BYTE, WORD, WRITE_BLOCK,
 };
+use compare::{ensure, same};
 use pmb_table::{by_name, laws, standard};
 
 /// Commands as the standard has them.
@@ -49,21 +50,21 @@ fn commands(rt: HostRuntime) {
     for parts in &COMMANDS {
         let Parts(code, name, ..) = *parts;
         check_entry(&rt, name, standard(code).as_ref(), parts);
-        assert_eq!(rt; by_name(name), Some(code), "{name}");
+        same(&rt, name, by_name(name), Some(code));
     }
 }
 
 #[test]
 fn codes_of_no_command(rt: HostRuntime) {
     for code in &NO_CODES {
-        assert!(rt; standard(*code).is_none(), "{code:02x}");
+        ensure(&rt, code, standard(*code).is_none());
     }
 }
 
 #[test]
 fn names_of_no_command(rt: HostRuntime) {
     for name in &NO_NAMES {
-        assert_eq!(rt; by_name(name), None, "{name}");
+        same(&rt, name, by_name(name), None);
     }
 }
 
@@ -71,7 +72,7 @@ fn names_of_no_command(rt: HostRuntime) {
 #[test]
 fn counts_the_standard_commands(rt: HostRuntime) {
     let count = (0..=255u8).filter(|code| standard(*code).is_some()).count();
-    assert_eq!(rt; count, 156);
+    same(&rt, "all commands", count, 156);
 }
 
 #[test]

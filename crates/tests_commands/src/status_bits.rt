@@ -1,4 +1,5 @@
 //! The names of status bits, by hand from PMBus Part II section 17.
+use compare::same;
 use pmb_table::bit_name;
 
 /// A code, a bit counted from 0 at the lowest, and the bit's name if it has one.
@@ -81,6 +82,6 @@ static BITS: [(u8, u8, Option<&str>); 73] = [
 #[test]
 fn bits(rt: HostRuntime) {
     for (code, bit, name) in &BITS {
-        assert_eq!(rt; bit_name(*code, *bit), *name, "bit {bit} of {code:02x}");
+        same(&rt, ("bit", bit, "of", code), bit_name(*code, *bit), *name);
     }
 }

@@ -1,19 +1,10 @@
-//! Tests of simulated devices and their bus: sessions told by hand, the programs of
-//! `docs/devices.md`, and random signals beside devices by the rules in words and beside what a
-//! reader reads of the events.
+//! Tests of registers (`pmb_registers`), and of simulated devices and their bus (`pmb_device`,
+//! `pmb_devices`), by hand and beside devices by the rules in words.
 #![tactic(auto)]
 
 #[cfg(test)]
-mod bench;
+mod devices;
 #[cfg(test)]
-mod calls;
+mod plain;
 #[cfg(test)]
-mod compared;
-#[cfg(test)]
-mod memory;
-#[cfg(test)]
-mod random;
-#[cfg(test)]
-mod sessions;
-#[cfg(test)]
-mod signals;
+mod registers;

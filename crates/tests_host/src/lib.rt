@@ -1,18 +1,8 @@
-//! Tests of the host, over the public names of `pmb_host`: tables of requests and answers, each with the
-//! signals that are sent and the end, told by hand.
+//! Tests of the host (`pmb_host`), and of requests on simulated devices (`pmb_exchange`), by hand and
+//! beside a host by the rules in words.
 #![tactic(auto)]
 
 #[cfg(test)]
-mod answers;
+mod exchange;
 #[cfg(test)]
-mod ends;
-#[cfg(test)]
-mod faults;
-#[cfg(test)]
-mod longest;
-#[cfg(test)]
-mod plain;
-#[cfg(test)]
-mod random;
-#[cfg(test)]
-mod requests;
+mod host;

@@ -1,14 +1,14 @@
-//! Tests of transaction lines, over the public names of `pmb_line`: tables of lines, each with the
-//! line that is written for what it spells, or its first fault, told by hand.
+//! Tests of lines: of transactions (`pmb_line`), of requests (`pmb_request`), their notes (`pmb_note`),
+//! what is known where a capture begins in the middle (`pmb_late`), and each name of `pmb_packet`.
 #![tactic(auto)]
 
 #[cfg(test)]
-mod laws;
+mod late;
 #[cfg(test)]
-mod long;
+mod lines;
 #[cfg(test)]
-mod rows;
+mod names;
 #[cfg(test)]
-mod says;
+mod notes;
 #[cfg(test)]
-mod words;
+mod requests;

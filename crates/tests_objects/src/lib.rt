@@ -1,14 +1,10 @@
-//! Tests of JSON lines, over the public names of `pmb_object`: each byte in a string, each kind of
-//! member, and whole objects, told by hand.
+//! Tests of lines of JSON: members (`pmb_object`), what is said of a command's data (`pmb_fields`), and
+//! the objects of a capture (`pmb_objects`).
 #![tactic(auto)]
 
 #[cfg(test)]
-mod doc;
+mod fields;
 #[cfg(test)]
-mod laws;
-#[cfg(test)]
-mod numbers;
+mod object_lines;
 #[cfg(test)]
 mod objects;
-#[cfg(test)]
-mod strings;

@@ -1,7 +1,12 @@
-//! Tests of packets by the names of `pmb_packet` alone: each name once.
+//! Tests of packets by hand: transactions (`pmb_transaction`), their checks and their text
+//! (`pmb_writer`), the bytes of a leg (`pmb_leg`), and what events have said (`pmb_said`).
 #![tactic(auto)]
 
 #[cfg(test)]
-mod names;
+mod legs;
 #[cfg(test)]
-mod rows;
+mod said;
+#[cfg(test)]
+mod transactions;
+#[cfg(test)]
+mod writer;

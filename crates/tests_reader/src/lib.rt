@@ -1,9 +1,14 @@
-//! Tests of `pmb_reader`: captures with what they read as, told by hand, however they are cut.
+//! Tests of captures read: by the reader, by whole packets, by the engine of what reads a capture, beside
+//! a plain reader, and counted.
 #![tactic(auto)]
 
 #[cfg(test)]
-mod example;
+mod common;
 #[cfg(test)]
-mod rows;
+mod counts;
 #[cfg(test)]
-mod told;
+mod plain;
+#[cfg(test)]
+mod reader;
+#[cfg(test)]
+mod scan;

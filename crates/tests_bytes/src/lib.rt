@@ -1,0 +1,12 @@
+//! Tests of bytes: capture text, packet error codes and addresses (`pmb_bus`), places in a text
+//! (`pmb_places`), what firmware calls (`pmb_lexer`, `pmb_firmware`), readers and writers (`pmb_io`).
+#![tactic(auto)]
+
+#[cfg(test)]
+mod bus;
+#[cfg(test)]
+mod firmware;
+#[cfg(test)]
+mod io;
+#[cfg(test)]
+mod places;

@@ -1,8 +1,0 @@
-//! Tests of `pmb_count`: the packets and refusals of captures, counted by hand. And of `pmb_reader`
-//! on large captures: the longest group, events without sense, and one event over and over.
-#![tactic(auto)]
-
-#[cfg(test)]
-mod counted;
-#[cfg(test)]
-mod large;

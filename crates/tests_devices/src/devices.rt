@@ -1,0 +1,11 @@
+//! Tests of simulated devices and their bus: sessions told by hand, the programs of
+//! `docs/devices.md`, and random signals beside devices by the rules in words and beside what a
+//! reader reads of the events.
+
+mod bench;
+mod calls;
+mod compared;
+mod memory;
+mod random;
+mod sessions;
+mod signals;

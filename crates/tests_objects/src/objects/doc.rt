@@ -1,0 +1,24 @@
+//! The program of the crate's doc.
+
+use arrayvec::ArrayVec;
+use compare::same;
+use pmb_object::{Place, begin, begin_array, end, end_array, hex_member, number_member, text_item};
+
+#[test]
+fn the_program_of_the_doc(rt: HostRuntime) {
+    let mut out = ArrayVec::<u8, 256>::new();
+    begin(&mut out);
+    number_member(&mut out, Place::First, "at", 12);
+    hex_member(&mut out, Place::Later, "device", &[0x58]);
+    begin_array(&mut out, Place::Later, "bits");
+    text_item(&mut out, Place::First, b"VOUT");
+    text_item(&mut out, Place::Later, b"OFF");
+    end_array(&mut out);
+    end(&mut out);
+    same(
+        &rt,
+        "the line",
+        out.as_slice(),
+        &b"{\"at\":12,\"device\":\"58\",\"bits\":[\"VOUT\",\"OFF\"]}\n"[..],
+    );
+}

@@ -1,0 +1,5 @@
+//! Tests of `pmb_said`: what packets under way had said, told by hand, where an event is refused.
+
+mod example;
+mod rows;
+mod told;

@@ -1,0 +1,6 @@
+//! Tests of `pmb_common`: packets by hand, texts that are no whole common packet, and every capture
+//! with whole packets at once compared with event by event.
+
+mod compared;
+mod example;
+mod rows;

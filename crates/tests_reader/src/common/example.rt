@@ -1,0 +1,43 @@
+//! The program of `pmb_common`'s documentation, and its law.
+
+use compare::same;
+use pmb_common::{Common, Taken, laws};
+use pmb_kept::Kept;
+use pmb_line::line_of;
+use pmb_table::{Profile, SAMPLE};
+use std::test::Fail;
+
+#[test]
+fn takes_a_write(rt: HostRuntime) -> Result<(), Fail> {
+    let profile = Profile::from_toml(rt.alloc(), SAMPLE.as_bytes())?;
+    let mut common = Common::new();
+    let mut kept = Kept::new();
+    let taken = common.take(&mut kept, &profile, b"S b0 A 03 A P\nS b0 ");
+    same(
+        &rt,
+        "a packet",
+        taken,
+        Some(Taken {
+            used: 14,
+            events: 6,
+        }),
+    );
+    same(
+        &rt,
+        "its line",
+        line_of(kept.last()).as_str(),
+        "write 58 03",
+    );
+    same(
+        &rt,
+        "no whole packet",
+        common.take(&mut kept, &profile, b"S b0 "),
+        None,
+    );
+    Ok(())
+}
+
+#[test]
+fn calls_the_law() {
+    laws::common_packets_are_read();
+}

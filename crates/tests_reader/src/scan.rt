@@ -1,0 +1,5 @@
+//! What a scan tells its visitor of captures, worked out by hand, however they are cut.
+
+mod example;
+mod log;
+mod scans;
