@@ -1,7 +1,7 @@
 //! Packets by the rules in words, for tests to compare with: [`packet`] builds the events of a
 //! transaction rule by rule, and [`is_viable`] finds by trying transactions whether events may go
 //! on. Both are slow, and short enough to be believed: what writes and reads packets is compared
-//! with them, and they, in `tests_transactions`, with events that were written by hand.
+//! with them, and they, in `tests_packets`, with events that were written by hand.
 #![tactic(auto)]
 
 mod captures;
