@@ -5,9 +5,12 @@
 //   FAIL_LATER=1        and all later ones too
 //   FAIL_READ=K         the K-th read of standard input fails
 //   FAIL_WRITE=K        the K-th write of standard output fails
+//   FAIL_TELL=K         the K-th write of standard error fails
 //   FAIL_ERROR=E        those calls fail with the error E; else with EIO
 //   MOVE_AT_MOST=N      a read or a write moves N bytes at most
 //   MOVE_SEED=S         and how many of these is drawn for each call from the seed S
+//   CUT_AT=N            no read goes over the end of the first N bytes of standard input
+//   READ_AT_MOST=N      a read after those gives N bytes at most
 //   END_AFTER=SECONDS   a program that hangs is ended by SIGALRM
 //   COUNTS_TO=FD        where the program ends, a line is written to this descriptor: the numbers of
 //                       allocations, of reads, of writes and of bytes read, and the peak of memory in
@@ -28,7 +31,14 @@ extern void *__libc_realloc(void *old, size_t size);
 
 static int begun;
 static unsigned long fail_allocation, fail_later, fail_read, fail_write, fail_error, at_most, seed;
-static unsigned long counts_to, allocations, reads, writes, bytes_read;
+static unsigned long fail_tell, cut_at, read_at_most;
+static unsigned long counts_to, allocations, reads, writes, tells, bytes_read;
+
+// The calls themselves; tests/again.c has others in their place.
+#ifndef TAKE
+#define TAKE(bytes, size) syscall(SYS_read, 0, bytes, size)
+#define GIVE(file, bytes, size) syscall(SYS_write, file, bytes, size)
+#endif
 
 static unsigned long told(const char *name)
 {
@@ -42,6 +52,9 @@ __attribute__((constructor)) static void begin(void)
     fail_later = told("FAIL_LATER");
     fail_read = told("FAIL_READ");
     fail_write = told("FAIL_WRITE");
+    fail_tell = told("FAIL_TELL");
+    cut_at = told("CUT_AT");
+    read_at_most = told("READ_AT_MOST");
     fail_error = getenv("FAIL_ERROR") ? told("FAIL_ERROR") : EIO;
     at_most = told("MOVE_AT_MOST");
     seed = told("MOVE_SEED");
@@ -109,6 +122,13 @@ static size_t moved(size_t wanted)
     return wanted < most ? wanted : most;
 }
 
+// How many of so many bytes a read of standard input may give.
+static size_t given(size_t wanted)
+{
+    size_t most = bytes_read < cut_at ? cut_at - bytes_read : read_at_most;
+    return moved(most != 0 && most < wanted ? most : wanted);
+}
+
 ssize_t read(int file, void *bytes, size_t size)
 {
     if (!begun || file != 0) return syscall(SYS_read, file, bytes, size);
@@ -117,7 +137,7 @@ ssize_t read(int file, void *bytes, size_t size)
         errno = (int)fail_error;
         return -1;
     }
-    ssize_t length = syscall(SYS_read, file, bytes, moved(size));
+    ssize_t length = TAKE(bytes, given(size));
     if (length > 0) bytes_read += (unsigned long)length;
     return length;
 }
@@ -125,12 +145,12 @@ ssize_t read(int file, void *bytes, size_t size)
 ssize_t write(int file, const void *bytes, size_t size)
 {
     if (!begun || (file != 1 && file != 2)) return syscall(SYS_write, file, bytes, size);
-    if (file == 1) writes += 1;
-    if (file == 1 && writes == fail_write) {
+    unsigned long count = file == 1 ? ++writes : ++tells;
+    if (count == (file == 1 ? fail_write : fail_tell)) {
         errno = (int)fail_error;
         return -1;
     }
-    return syscall(SYS_write, file, bytes, moved(size));
+    return GIVE(file, bytes, moved(size));
 }
 
 ssize_t __read(int file, void *bytes, size_t size)

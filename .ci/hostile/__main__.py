@@ -1,8 +1,11 @@
-"""Tries the built program under hostile conditions, as `python3 .ci/hostile PROGRAM`: memory that is
-refused, streams that fail or stand in odd places, senseless input, hostile profiles. A shim
-(`../failing.c`), which the C compiler makes in a temporary folder, lets the calls fail. Prints a
-line for each subject and each failure; the status is 1 where anything failed."""
+"""Tries the built program under hostile conditions, as `python3 .ci/hostile PROGRAM [--share N]`:
+memory that is refused, streams that fail or stand in odd places, senseless input, hostile profiles.
+`--share` tries one of so many cases, and none of the largest inputs. A shim (`../failing.c`), which
+the C compiler makes in a temporary folder, lets the calls fail; without one all is skipped. Prints
+a line for each subject and each failure; the status is 1 where anything failed."""
 
+import argparse
+import ctypes
 import os
 import shutil
 import subprocess
@@ -34,16 +37,18 @@ SUBJECTS = [
 
 
 def compiled_shim(folder):
-    """Compiles the shim; returns its path, or None where that fails."""
+    """Compiles the shim; returns its path, or None without a C compiler, or where it doesn't load."""
     source = os.path.join(os.path.dirname(os.path.dirname(os.path.abspath(__file__))), "failing.c")
     shim = os.path.join(folder, "failing.so")
     compiler = shutil.which("cc") or shutil.which("gcc")
     if compiler is None:
         print("hostile: there is no C compiler (cc), so nothing was tried")
         return None
-    built = subprocess.run([compiler, "-O1", "-shared", "-fPIC", "-o", shim, source])
-    if built.returncode != 0:
-        print("hostile: the C compiler refuses .ci/failing.c, so nothing was tried")
+    subprocess.run([compiler, "-O1", "-shared", "-fPIC", "-o", shim, source], check=True)
+    try:
+        ctypes.CDLL(shim)
+    except OSError as fault:
+        print(f"hostile: .ci/failing.c doesn't load here, so nothing was tried: {fault}")
         return None
     return shim
 
@@ -53,23 +58,26 @@ def processor_seconds():
     return sum(os.times()[:4])
 
 
-def main(words):
-    if len(words) != 1 or not os.access(words[0], os.X_OK):
-        print("usage: python3 .ci/hostile PROGRAM")
-        return 2
+def main():
+    parser = argparse.ArgumentParser(prog="hostile")
+    parser.add_argument("program")
+    parser.add_argument("--share", type=int, default=1)
+    chosen = parser.parse_args()
     report = Report()
     with tempfile.TemporaryDirectory() as folder:
         shim = compiled_shim(folder)
         if shim is None:
-            return 1
-        program = Program(words[0], shim, folder)
+            print("hostile: 0 passed, 0 failed, 1 skipped")
+            return 0
+        program = Program(chosen.program, shim, folder, chosen.share)
         for subject in SUBJECTS:
             begun = processor_seconds()
             line, *figures = subject(program, report).split("\n")
             taken = f"({processor_seconds() - begun:.0f} s of processor time)"
             print("\n".join([f"{line} {taken}", *figures]), flush=True)
-    print(f"hostile: {report.passed} passed, {report.failed} failed")
+    skipped = f", {report.skipped} skipped" if report.skipped else ""
+    print(f"hostile: {report.passed} passed, {report.failed} failed{skipped}")
     return 1 if report.failed else 0
 
 
-sys.exit(main(sys.argv[1:]))
+sys.exit(main())

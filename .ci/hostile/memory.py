@@ -44,9 +44,9 @@ def is_explained_less(case, answer, ordinary):
 
 
 def refuse_each(program, report, case, ordinary, later):
-    """Refuses the first allocation, then the second, until a run meets none; returns how many were
-    refused, and how many runs did without."""
-    without, at = 0, 1
+    """Refuses the first allocation, then the next one of the share, until a run meets none; returns how
+    many were refused, and how many runs did without."""
+    without, refused, at = 0, 0, 1
     while True:
         faults = {**case.faults, "fail_allocation": at, **later}
         answer = program.run(case.words, case.text, **faults)
@@ -58,9 +58,10 @@ def refuse_each(program, report, case, ordinary, later):
                      "the ordinary answer, or status 4, 'pmb: no memory', nothing written or read",
                      (told(answer), answer.counts))
         if not met:
-            return at - 1, without
+            return refused, without
         without += is_ordinary
-        at += 1
+        refused += 1
+        at += program.share
 
 
 def refuse_memory(program, report):

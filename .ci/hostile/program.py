@@ -16,12 +16,17 @@ END_AFTER = 100
 class Program:
     """Runs the program with its streams on files, and with the shim loaded."""
 
-    def __init__(self, path, shim, folder):
+    def __init__(self, path, shim, folder, share=1):
+        self.share = share
         self.path = os.path.abspath(path)
         self.folder = folder
         self.shim = shim
         self.files = {}
         self.out, self.err, self.counts = (self.scratch(it) for it in ("out", "err", "counts"))
+
+    def some(self, cases):
+        """The share of some cases that is tried."""
+        return list(cases)[:: self.share]
 
     def scratch(self, name):
         return os.open(os.path.join(self.folder, name), os.O_RDWR | os.O_CREAT | os.O_TRUNC)
@@ -99,7 +104,7 @@ class Report:
     """Counts what held, and prints a line for each thing that did not."""
 
     def __init__(self):
-        self.passed = self.failed = 0
+        self.passed = self.failed = self.skipped = 0
 
     def holds(self, is_so, run, wanted, came):
         """Notes one thing that was wanted of a run."""

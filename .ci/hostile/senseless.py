@@ -29,6 +29,7 @@ def random_words(size, words, ends):
 
 KINDS = {
     "bytes": random_bytes,
+    "bytes after one that is no token": lambda size: b"\xff" + random_bytes(size - 1),
     "words": lambda size: random_words(size, WORDS, [b" ", b" ", b" ", b"\n"]),
     "events": lambda size: random_words(size, EVENTS, [b" ", b" ", b" ", b"\n"]),
     "one line of events": lambda size: random_words(size, EVENTS, [b" "]),
@@ -38,6 +39,35 @@ KINDS = {
     "CR": lambda size: b"\r" * size,
     "LF": lambda size: b"\n" * size,
 }
+
+
+# Words that are tokens but follow no pattern, and what may be shown of them.
+TOKENS = [b"S ", b"P\n", b"N ", b"b0 ", b"21 ", b"A ", b"A ", b"A "]
+SHOWN = (b"refused 58", b"write 58", b"# refusal at ")
+
+
+def tokens(count):
+    """So many of them, from a fixed seed."""
+    words, state = [], 0x2545F491
+    for _ in range(count):
+        state = (state * 1_664_525 + 1_013_904_223) % 2**32
+        words.append(TOKENS[state >> 29])
+    return b"".join(words)
+
+
+def senseless_tokens(program, report):
+    """What `show` says of 400,000 tokens is lines of their kinds, and `check` says the same."""
+    text = tokens(400_000)
+    shown = program.run_once(["show", "--sample"], text)
+    checked = program.run_once(["check", "--sample"], text)
+    lines = shown.out.splitlines(True)
+    refusals = [line for line in lines if line.startswith(b"#")]
+    report.same("pmb show --sample on tokens", (1, b""), (shown.status, shown.err))
+    others = [line for line in lines if not line.startswith(SHOWN)]
+    report.holds(lines and not others, "pmb show --sample on tokens", "lines of their kinds", others)
+    tally = b"packets %d refusals %d\n" % (len(lines) - len(refusals), len(refusals))
+    report.same("pmb check --sample on tokens", (1, b"".join(refusals) + tally, b""),
+                (checked.status, checked.out, checked.err))
 
 
 # Not tried in the largest size: each byte is a line, so the answers are eight times as long.
@@ -89,10 +119,12 @@ def linear(report, run, seconds):
 
 
 def senseless_inputs(program, report):
+    senseless_tokens(program, report)
     peak, slowest = 0, [0.0] * len(SIZES)
     for kind, make in KINDS.items():
         seconds = {}
-        for place, size in enumerate(SIZES[: -1 if kind in SMALLER else None]):
+        sizes = SIZES[: -1 if kind in SMALLER else None] if program.share == 1 else SIZES[:1]
+        for place, size in enumerate(sizes):
             source = program.scratch("senseless")
             os.write(source, make(size))
             for words, _ in UNDER_SAMPLE + CONVERSIONS[:2]:
@@ -114,6 +146,7 @@ def senseless_inputs(program, report):
             os.close(source)
         for run, taken in seconds.items():
             linear(report, run, taken)
-    times = ", ".join(f"{it:.1f}" for it in slowest)
-    return (f"senseless input: {len(KINDS)} kinds of 1, 10 and 100 MB through each subcommand, "
-            f"peak {peak} KB, at most {times} s of processor time")
+    times = ", ".join(f"{it:.1f}" for it in slowest[:place + 1])
+    sizes = "1, 10 and 100" if program.share == 1 else "1"
+    return (f"senseless input: {len(KINDS)} kinds of {sizes} MB through each subcommand, peak "
+            f"{peak} KB, at most {times} s of processor time")

@@ -61,7 +61,7 @@ def small_reads(program, report):
         text = front + b"".join(rows)
         ordinary = program.run(words, text)
         outs = answers_to_rows(program, words, front, rows)
-        for at in range(1, len(text) + 2):
+        for at in program.some(range(1, len(text) + 2)):
             faults = {"fail_read": at, "move_at_most": 1}
             answer = program.run(words, text, **faults)
             so_far = outs[rows_within(front, rows, at - 1)]
@@ -81,7 +81,7 @@ def profile_reads(program, report):
     for text, reads in ((SMALL_BUS, len(SMALL_BUS) + 1), (SMALL_BUS + b"%%\nP", len(SMALL_BUS) + 3)):
         ordinary = program.run(["profile"], text, move_at_most=1)
         report.same("pmb profile, reads", (0, reads), (ordinary.status, ordinary.counts.reads))
-        for at in range(1, reads + 1):
+        for at in program.some(range(1, reads + 1)):
             faults = {"fail_read": at, "move_at_most": 1}
             report.same(name_of(["profile"], faults), (3, b"", READ_FAILED),
                         told(program.run(["profile"], text, **faults)))
@@ -104,7 +104,7 @@ def small_writes(program, report):
     for words, front, rows in runs:
         text = front + b"".join(rows)
         ordinary = program.run(words, text)
-        for at in range(1, len(ordinary.out) + 1):
+        for at in program.some(range(1, len(ordinary.out) + 1)):
             faults = {"fail_write": at, "move_at_most": 1}
             answer = program.run(words, text, **faults)
             failed_write_holds(report, name_of(words, faults), answer, ordinary)
@@ -126,7 +126,7 @@ def interruptions(program, report):
         ordinary = program.run(words, text)
         calls = program.run(words, text, move_at_most=16).counts
         for kind, count in (("fail_read", calls.reads), ("fail_write", calls.writes)):
-            for at in range(1, count + 1):
+            for at in program.some(range(1, count + 1)):
                 faults = {kind: at, "fail_error": errno.EINTR, "move_at_most": 16}
                 answer = program.run(words, text, **faults)
                 report.same(name_of(words, faults), told(ordinary), told(answer))
@@ -137,7 +137,7 @@ def interruptions(program, report):
 def large_reads(program, report, words, text, ordinary):
     """Each read of a large input fails."""
     last = b""
-    for at in range(1, ordinary.counts.reads + 1):
+    for at in program.some(range(1, ordinary.counts.reads + 1)):
         faults = {"fail_read": at}
         answer = program.run(words, text, **faults)
         run = name_of(words, faults) + " on 3 MB"
@@ -151,7 +151,7 @@ def large_reads(program, report, words, text, ordinary):
 
 def large_writes(program, report, words, text, ordinary):
     """Each write of a large output fails."""
-    for at in range(1, ordinary.counts.writes + 1):
+    for at in program.some(range(1, ordinary.counts.writes + 1)):
         faults = {"fail_write": at}
         answer = program.run(words, text, **faults)
         failed_write_holds(report, name_of(words, faults) + " on 3 MB", answer, ordinary)
@@ -159,7 +159,7 @@ def large_writes(program, report, words, text, ordinary):
 
 
 def large_streams(program, report):
-    runs = large_inputs(program) + [(["profile"], all_commands(LIMIT).encode())]
+    runs = program.some(large_inputs(program) + [(["profile"], all_commands(LIMIT).encode())])
     reads = writes = 0
     for words, text in runs:
         ordinary = program.run(words, text)
@@ -169,7 +169,8 @@ def large_streams(program, report):
         writes += large_writes(program, report, words, text, ordinary)
         interrupted = [{kind: at, "fail_error": errno.EINTR}
                        for kind in ("fail_read", "fail_write") for at in INTERRUPTED]
-        for faults in [{"move_at_most": 1}, *RANDOM_MOVES[-2:], *interrupted]:
+        few = [{"move_at_most": 1}, *RANDOM_MOVES[-2:]] if program.share == 1 else RANDOM_MOVES[-1:]
+        for faults in [*few, *interrupted]:
             answer = program.run(words, text, **faults)
             report.same(name_of(words, faults) + " on 3 MB", told(ordinary), told(answer))
     return (f"failing streams of 3 MB, and a profile of 1 MB: {len(runs)} inputs, each of {reads} "

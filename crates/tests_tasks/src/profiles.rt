@@ -1,0 +1,84 @@
+//! Profiles, their keys, the bus that one makes, and what helps with a fault.
+
+use pmb_describe::describe;
+use pmb_hints::hints;
+use pmb_io::Io;
+use pmb_keys::{array_of, only, present, read_command, read_device_keys};
+use pmb_table::{
+    FaultKind, Form, PecMode, Profile, ProfileFault, SAMPLE, bit_name, by_name, standard,
+};
+use std::test::Fail;
+
+#[test]
+fn standard_commands_have_names(rt: HostRuntime) -> Result<(), Fail> {
+    let code = by_name("STATUS_WORD").ok_or("no command")?;
+    assert!(rt; code == 0x79);
+    let entry = standard(code).ok_or("no command")?;
+    assert!(rt; entry.shape.read == Some(Form::Two));
+    assert!(rt; Form::Two.takes(2));
+    assert!(rt; bit_name(code, 15) == Some("VOUT"));
+    Ok(())
+}
+
+#[test]
+fn keys_are_read(rt: HostRuntime) -> Result<(), Fail> {
+    let text = "device = { address = 16, pec = 'on', command = [{ name = 'READ_VIN' }] }";
+    let table = toml::table_from_str(rt.alloc(), text)?;
+    assert!(rt; only(&table, &["device"]) == Ok(()));
+    let value = present(&table, "device").map_err(|_| "no value")?;
+    let device = read_device_keys(value, &[]).map_err(|_| "no device")?;
+    assert!(rt; (device.address, device.pec) == (0x10, PecMode::On));
+    let inner = value.as_table().ok_or("no table")?;
+    let array = present(inner, "command").map_err(|_| "no commands")?;
+    let commands = array_of(array).map_err(|_| "no array")?;
+    let first = commands.first().ok_or("no command")?;
+    let command = read_command(rt.alloc(), first, &[]).map_err(|_| "a fault")?;
+    assert!(rt; command.entry.code == 0x88);
+    Ok(())
+}
+
+#[test]
+fn a_profile_has_devices(rt: HostRuntime) -> Result<(), Fail> {
+    let profile = Profile::from_toml(rt.alloc(), SAMPLE.as_bytes())?;
+    let device = profile.device(0x58).ok_or("no device")?;
+    assert!(rt; device.pec() == PecMode::Optional);
+    let entry = device.entry(0x88).ok_or("no command")?;
+    assert!(rt; entry.name.as_str() == "READ_VIN");
+    assert!(rt; device.initial(0x88) == Some(b"\x00\xd3".as_slice()));
+    Ok(())
+}
+
+#[test]
+fn a_bus_is_described(rt: HostRuntime) -> Result<(), Fail> {
+    let text = b"[[device]]\naddress = 0x20\npec = \"off\"\nstandard = false\n";
+    let profile = Profile::from_toml(rt.alloc(), text)?;
+    let mut written = Vec::new(rt.alloc());
+    let mut writer = Io::new(&mut written);
+    assert!(rt; describe(&profile, &mut writer) == Ok(()));
+    let first = b"devices     1\n\ndevice      0\naddress     20, as a byte 40 to write";
+    assert!(rt; written.as_slice().starts_with(first));
+    Ok(())
+}
+
+// Want of memory is a fault that no profile has, so nothing helps with it.
+#[test]
+fn a_fault_is_explained(rt: HostRuntime) -> Result<(), Fail> {
+    let text = b"[[device]]\naddress = 0xb0\npec = \"on\"\n";
+    let fault = Profile::from_toml(rt.alloc(), text)
+        .err()
+        .ok_or("no fault")?;
+    let lines = hints(rt.alloc(), text, fault);
+    assert!(rt;
+        lines
+            .as_str()
+            .ends_with("0xb0 is the 8-bit form of 58h: address = 0x58\n")
+    );
+    let want = ProfileFault {
+        what: FaultKind::OutOfMemory,
+        device: None,
+        command: None,
+    };
+    let nothing = hints(rt.alloc(), b"device = []", want);
+    assert!(rt; nothing.as_str() == "");
+    Ok(())
+}
