@@ -5,6 +5,8 @@
 #[cfg(test)]
 mod bus;
 #[cfg(test)]
+mod compare;
+#[cfg(test)]
 mod firmware;
 #[cfg(test)]
 mod io;

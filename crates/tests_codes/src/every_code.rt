@@ -1,5 +1,5 @@
 //! The value of every code is encoded by a code of that value.
-use compare::{ensure, same};
+use crate::compare::{ensure, same};
 use pmb_value::{Direct, Format, Linear11, Linear11Fixed, Slinear16, Steps, Ulinear16};
 use std::process::Abort;
 

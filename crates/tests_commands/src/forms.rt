@@ -1,5 +1,5 @@
 //! How the data of each form go over the bus, by hand from SMBus 3.0 section 6.5.
-use compare::{ensure, same};
+use crate::compare::{ensure, same};
 use pmb_table::Form;
 
 /// The bytes that rows take their data from.

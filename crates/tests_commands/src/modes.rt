@@ -1,5 +1,5 @@
 //! Which packets carry a packet error code, by each mode.
-use compare::same;
+use crate::compare::same;
 use pmb_table::PecMode;
 
 /// A mode, and whether it allows a packet without a code, and one with it.

@@ -5,7 +5,7 @@ use crate::shapes::{
     BLOCK, BYTE, CALL_WORD, FOUR, MASK, READ_BLOCK, READ_BYTE, READ_EIGHT, READ_WORD,
     SEND_AND_READ_BYTE, SNAPSHOT, WORD, WRITE_BLOCK, WRITE_EIGHT, WRITE_WORD,
 };
-use compare::same;
+use crate::compare::same;
 use pmb_table::{Entry, Profile, Shape};
 use std::alloc::Global;
 use std::process::Abort;

@@ -3,7 +3,7 @@
 use crate::meanings::Meaning::Direct;
 use crate::parts::{PAGE, Parts, READ_VIN, check_entry, code_of, profile_of};
 use crate::shapes::WORD;
-use compare::same;
+use crate::compare::same;
 use pmb_table::{DeviceProfile, PecMode, SAMPLE, laws};
 
 /// The number of commands that the standard has.

@@ -4,7 +4,7 @@ use crate::parts::{Parts, check_entry};
 use crate::shapes::{
     BLOCK, BYTE, CALL_BLOCK, MASK, READ_BLOCK, READ_BYTE, READ_WORD, SEND_BYTE, WORD, WRITE_BLOCK,
 };
-use compare::{ensure, same};
+use crate::compare::{ensure, same};
 use pmb_table::{by_name, laws, standard};
 
 /// Commands as the standard has them.

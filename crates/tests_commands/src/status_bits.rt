@@ -1,5 +1,5 @@
 //! The names of status bits, by hand from PMBus Part II section 17.
-use compare::same;
+use crate::compare::same;
 use pmb_table::bit_name;
 
 /// A code, a bit counted from 0 at the lowest, and the bit's name if it has one.

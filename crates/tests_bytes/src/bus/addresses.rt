@@ -1,6 +1,6 @@
 //! The bytes that address a device.
 
-use compare::same;
+use crate::compare::same;
 use pmb_bus::{ALERT_ADDRESS, read_address, write_address};
 
 /// An address, and the bytes that address it for writing and for reading.

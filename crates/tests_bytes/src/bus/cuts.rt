@@ -1,7 +1,7 @@
 //! Each way to hand over a text: whole, in pieces of one, two and three bytes, and cut in two at
 //! each place.
 
-use compare::same;
+use crate::compare::same;
 use pmb_bus::{Event, LexFault, Lexer, Step, event_text};
 use std::alloc::{AllocError, Global};
 use std::io;

@@ -1,6 +1,6 @@
 //! The program at the head of `pmb_bus`.
 
-use compare::{ensure, same};
+use crate::compare::{ensure, same};
 use pmb_bus::{
     ALERT_ADDRESS, Event, Kinds, Lexed, Lexer, Step, event_text, pec_next, pec_of, read_address,
     write_address,

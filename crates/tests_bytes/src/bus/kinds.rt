@@ -1,6 +1,6 @@
 //! Sets of event kinds.
 
-use compare::{ensure, same};
+use crate::compare::{ensure, same};
 use pmb_bus::{Event, Kinds};
 
 /// An event of each kind, its kind's name as a constant, and the bit.

@@ -1,6 +1,6 @@
 //! Packet error codes: known vectors, and the plain way to compute them, a bit at a time.
 
-use compare::same;
+use crate::compare::same;
 use pmb_bus::{pec_next, pec_of};
 
 /// Bytes and their code. After the check value of CRC-8 stand bytes of packets.

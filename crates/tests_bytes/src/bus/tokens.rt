@@ -1,7 +1,7 @@
 //! Each token with each separator, each pair of digits, and each byte that begins no token.
 
 use crate::bus::cuts::spells;
-use compare::same;
+use crate::compare::same;
 use pmb_bus::{Event, LexFault, Lexed, Lexer, Step, event_text};
 use std::io;
 

@@ -1,7 +1,7 @@
 //! Texts that are cut in two at each place: the events, and the fault, are those that `Lexer` finds in
 //! the whole text.
 
-use compare::same;
+use crate::compare::same;
 use pmb_bus::{Event, LexFault, Lexer, Step};
 use pmb_lexer::PmbLexer;
 use std::alloc::{AllocError, Global};

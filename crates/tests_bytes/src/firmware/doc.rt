@@ -1,6 +1,6 @@
 //! The programs at the heads of `pmb_lexer` and `pmb_firmware`.
 
-use compare::same;
+use crate::compare::same;
 use pmb_bus::{Event, Lexed, Step};
 use pmb_firmware::{PmbFormat, PmbQuantity, encode};
 use pmb_lexer::PmbLexer;

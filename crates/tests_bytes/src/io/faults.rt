@@ -1,6 +1,6 @@
 //! The texts of what ends the tool early.
 
-use compare::same;
+use crate::compare::same;
 use pmb_io::ToolFault;
 use std::alloc::AllocError;
 

@@ -1,6 +1,6 @@
 //! How many bytes a reader for tests gives.
 
-use compare::same;
+use crate::compare::same;
 use pmb_io::{Failing, Io, Source};
 
 /// Each read gives as many bytes as there are, as many as the reader was told and the buffer has

@@ -1,6 +1,6 @@
 //! Readers and writers of the standard library that are interrupted, take nothing, or fail.
 
-use compare::same;
+use crate::compare::same;
 use pmb_io::{Io, IoFault, Sink, Source};
 use std::io;
 use std::io::{ErrorKind, Read, Write};

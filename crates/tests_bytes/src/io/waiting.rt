@@ -1,6 +1,6 @@
 //! Text that waits for a writer, and is sent where there is no room after it.
 
-use compare::same;
+use crate::compare::same;
 use pmb_io::{Failing, Io, ROOM, RunFault, Waiting, make_room, put, send};
 use std::io;
 

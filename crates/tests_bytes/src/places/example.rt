@@ -1,6 +1,6 @@
 //! The program of the crate's page, and each law.
 
-use compare::same;
+use crate::compare::same;
 use pmb_places::{OpenWord, Place, Places, WORD, laws};
 
 #[test]

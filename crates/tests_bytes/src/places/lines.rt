@@ -1,6 +1,6 @@
 //! Rests of lines, each taken by its length alone.
 
-use compare::same;
+use crate::compare::same;
 use pmb_places::{Place, Places};
 
 /// A text that ends between words, the rest of its line, and line and column of the next byte, of

@@ -1,6 +1,6 @@
 //! Texts, and what is kept of the word under way at their ends.
 
-use compare::same;
+use crate::compare::same;
 use pmb_places::OpenWord;
 
 /// A text, and the first bytes of the word under way.

@@ -1,6 +1,6 @@
 //! Texts, and where they stand at their ends.
 
-use compare::same;
+use crate::compare::same;
 use pmb_places::{Place, Places};
 
 /// A text, and line and column of its next byte, of its last word, and after that.

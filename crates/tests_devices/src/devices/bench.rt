@@ -1,7 +1,7 @@
 //! The programs of `docs/devices.md`: a write, and a bench that plays what an analyser recorded of
 //! real devices to simulated ones, and tells the first event at which they differ.
 
-use compare::{ensure, same};
+use crate::compare::{ensure, same};
 use pmb_bus::Event;
 use pmb_bus::Event::{Ack, Byte, Nack, Start, Stop};
 use pmb_device::HostSignal;

@@ -1,6 +1,6 @@
 //! Each call of a bus, of a device, and of a device without its registers.
 
-use compare::{ensure, same};
+use crate::compare::{ensure, same};
 use pmb_bus::Event;
 use pmb_device::{Device, DeviceSignal, Exchange, Heard, HostSignal, Outcome};
 use pmb_devices::Bus;

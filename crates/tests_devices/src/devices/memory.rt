@@ -2,7 +2,7 @@
 //! anew after an error is as if nothing had been tried. `rt try --test --fail-alloc N` refuses the
 //! Nth.
 
-use compare::{ensure, same};
+use crate::compare::{ensure, same};
 use pmb_device::{Device, DeviceSignal, HostSignal};
 use pmb_devices::Bus;
 use pmb_table::{Profile, SAMPLE};

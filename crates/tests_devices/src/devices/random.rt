@@ -2,7 +2,7 @@
 
 use crate::devices::compared::Compared;
 use crate::plain::{EVERY_KIND, many_devices};
-use compare::{ensure, same};
+use crate::compare::{ensure, same};
 use plain_packets::Random;
 use pmb_bus::pec_of;
 use pmb_device::HostSignal;

@@ -1,6 +1,6 @@
 //! What is answered to reads and calls.
 
-use compare::ensure;
+use crate::compare::ensure;
 use pmb_registers::{CmlBit, Registers};
 use pmb_table::{Profile, SAMPLE};
 use std::test::Fail;

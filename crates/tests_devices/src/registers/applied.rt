@@ -2,7 +2,7 @@
 
 use crate::registers::held::holds;
 use arrayvec::ArrayVec;
-use compare::{ensure, same};
+use crate::compare::{ensure, same};
 use plain_packets::part;
 use pmb_registers::Registers;
 use pmb_table::{Profile, SAMPLE};

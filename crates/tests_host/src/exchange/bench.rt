@@ -1,6 +1,6 @@
 //! The program of docs/devices.md that makes a request on a bench.
 
-use compare::same;
+use crate::compare::same;
 use pmb_device::{DeviceSignal, HostSignal};
 use pmb_devices::Bus;
 use pmb_host::{Host, HostFault, Reply, Request, Wire, drive};

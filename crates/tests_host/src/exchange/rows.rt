@@ -1,7 +1,7 @@
 //! Requests, one after the other on one bus.
 
 use arrayvec::ArrayVec;
-use compare::{ensure, same};
+use crate::compare::{ensure, same};
 use plain_packets::part;
 use pmb_bus::event_text;
 use pmb_devices::Bus;

@@ -3,7 +3,7 @@
 use crate::host::answers::{Answering, Heard};
 use crate::host::plain::{Row, Told, form_of_reply, plain_end, plain_packet, recorded};
 use crate::host::requests::{Asked, request_of};
-use compare::{ensure, same};
+use crate::compare::{ensure, same};
 use plain_packets::{NoPacket, Random, data_like, push_wire};
 use pmb_bus::Event;
 use pmb_device::{DeviceSignal, HostSignal};

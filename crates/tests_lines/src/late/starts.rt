@@ -1,6 +1,6 @@
 //! What is known of PAGE and VOUT_MODE after transactions.
 
-use compare::{ensure, same};
+use crate::compare::{ensure, same};
 use pmb_late::KnownMode::{Known, NoPage, Unknown};
 use pmb_late::Start::{AllKnown, Late, LateFixedMode};
 use pmb_late::{KnownMode, Start};

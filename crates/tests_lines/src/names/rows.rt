@@ -1,6 +1,6 @@
 //! Lines, the packets of what they spell, and their notes.
 
-use compare::same;
+use crate::compare::same;
 use pmb_bus::{Event, event_text};
 use pmb_packet::{
     Context, Events, Feed, Note, Outcome, Reader, check, events_of, line_of, parse_line,

@@ -3,7 +3,7 @@
 
 use crate::notes::says::said;
 use arrayvec::ArrayVec;
-use compare::{ensure, same};
+use crate::compare::{ensure, same};
 use pmb_table::Profile;
 use std::test::Fail;
 

@@ -2,7 +2,7 @@
 
 use crate::notes::says::said;
 use arrayvec::ArrayVec;
-use compare::ensure;
+use crate::compare::ensure;
 use pmb_table::{Profile, SAMPLE};
 use std::test::Fail;
 

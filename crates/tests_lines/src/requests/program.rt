@@ -1,6 +1,6 @@
 //! The short program of the crate's page.
 
-use compare::ensure;
+use crate::compare::ensure;
 use pmb_line::LineFault;
 use pmb_note::Context;
 use pmb_quantity::QuantityFault;

@@ -1,5 +1,5 @@
 //! What the rows of a format are checked by.
-use compare::same;
+use crate::compare::same;
 use pmb_value::{Format, Quantity, RangeFault, Steps};
 use std::process::Abort;
 

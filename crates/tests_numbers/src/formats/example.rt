@@ -1,5 +1,5 @@
 //! The examples of the crates' pages.
-use compare::same;
+use crate::compare::same;
 use pmb_format::rounding;
 use pmb_linear::{Linear11, Linear11Fixed};
 use pmb_value::{Format, Quantity, Steps, vout_format};

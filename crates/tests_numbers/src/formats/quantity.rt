@@ -1,5 +1,5 @@
 //! Quantities of two numbers, and their texts.
-use compare::same;
+use crate::compare::same;
 use pmb_quantity::{Quantity, QuantityFault};
 
 /// A name, two numbers, and the numerator and denominator in lowest terms, or the fault.

@@ -1,5 +1,5 @@
 //! The count of an encoder's work.
-use compare::same;
+use crate::compare::same;
 use pmb_value::{Format, Linear11, Quantity, Steps};
 
 #[test]

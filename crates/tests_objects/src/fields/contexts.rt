@@ -2,7 +2,7 @@
 
 use crate::fields::contexts::Says::{Raw, Value};
 use crate::fields::says::{Text, raw, said, under, value};
-use compare::same;
+use crate::compare::same;
 use pmb_command::Kind;
 use pmb_late::Start::{AllKnown, Late};
 use pmb_late::{KnownMode, Start};

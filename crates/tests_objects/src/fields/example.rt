@@ -1,7 +1,7 @@
 //! The program of the crate's documentation.
 
 use arrayvec::ArrayVec;
-use compare::same;
+use crate::compare::same;
 use pmb_command::Kind;
 use pmb_decimal::Digits;
 use pmb_fields::{Access, DATA_MEMBERS, data_members, laws};

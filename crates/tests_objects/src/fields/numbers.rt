@@ -2,7 +2,7 @@
 //! section 7, worked out apart from the code.
 
 use crate::fields::says::{plain, said, under, value};
-use compare::same;
+use crate::compare::same;
 use pmb_command::Kind;
 use pmb_fields::Access;
 use pmb_late::KnownMode;

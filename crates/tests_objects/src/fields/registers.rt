@@ -2,7 +2,7 @@
 //! 17), worked out apart from the code. The names are those that `pmb_command` has.
 
 use crate::fields::says::{Text, joined, plain, push, said};
-use compare::same;
+use crate::compare::same;
 use pmb_command::Kind;
 use pmb_fields::Access;
 use pmb_fields::Access::{Read, Write};

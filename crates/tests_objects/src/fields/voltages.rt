@@ -2,7 +2,7 @@
 //! be read. The values are exact fractions, worked out apart from the code.
 
 use crate::fields::says::{raw, said, under, value};
-use compare::same;
+use crate::compare::same;
 use pmb_command::Kind;
 use pmb_late::KnownMode;
 use pmb_value::Direct;

@@ -2,7 +2,7 @@
 
 use crate::object_lines::seen::seen;
 use arrayvec::ArrayVec;
-use compare::same;
+use crate::compare::same;
 use pmb_late::{Late, Start};
 use pmb_line::parse_line;
 use pmb_objects::{

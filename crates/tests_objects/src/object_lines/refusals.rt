@@ -2,7 +2,7 @@
 
 use crate::object_lines::seen::seen;
 use arrayvec::ArrayVec;
-use compare::same;
+use crate::compare::same;
 use pmb_bus::{Event, Kinds};
 use pmb_late::{Late, Start};
 use pmb_objects::{OBJECT, refusal_line};

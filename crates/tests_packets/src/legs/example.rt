@@ -1,6 +1,6 @@
 //! The program of `pmb_leg`'s documentation.
 
-use compare::ensure;
+use crate::compare::ensure;
 use pmb_leg::{Answer, LegPlace, WrittenLeg};
 use pmb_table::{Profile, SAMPLE};
 use std::test::Fail;

@@ -1,6 +1,6 @@
 //! The program of `pmb_said`'s documentation, its law, and a leg as long as one can be.
 
-use compare::same;
+use crate::compare::same;
 use pmb_bus::Event;
 use pmb_said::{Said, laws};
 use pmb_transaction::Reason;

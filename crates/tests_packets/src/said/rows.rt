@@ -2,7 +2,7 @@
 //! what was said before. The reader gives each reason.
 
 use crate::said::told::told;
-use compare::same;
+use crate::compare::same;
 use plain_packets::events;
 use pmb_bus::Event;
 use pmb_reader::{Reader, Took};

@@ -1,6 +1,6 @@
 //! Events that no packet begins with, and which events may come instead.
 
-use compare::{ensure, same};
+use crate::compare::{ensure, same};
 use plain_packets::{LONG_FORMS, SEVENTEEN_DEVICES, events, is_viable, kinds_after};
 use pmb_bus::{Event, Kinds};
 use pmb_table::{Profile, SAMPLE};

@@ -2,7 +2,7 @@
 
 use crate::writer::says::Say::{Call, Read, Refused, Write};
 use crate::writer::says::{Row, Share, answer, rows_of, transaction};
-use compare::same;
+use crate::compare::same;
 use pmb_table::{Profile, SAMPLE};
 use std::test::Fail;
 

@@ -4,7 +4,7 @@ ghost use Rattle.std.specs.Prelude.{◌≤◌};
 
 use crate::writer::says::{answer, list};
 use arrayvec::ArrayVec;
-use compare::same;
+use crate::compare::same;
 use plain_packets::seventeen_devices;
 use pmb_table::{Profile, SAMPLE};
 use pmb_transaction::{Part, Transaction};

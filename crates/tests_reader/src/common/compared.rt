@@ -1,7 +1,7 @@
 //! Captures of every sort, as canonical text: a packet is taken at once exactly where the reader comes
 //! to one event by event, and it is the same.
 
-use compare::{ensure, same};
+use crate::compare::{ensure, same};
 use plain_packets::{CapturedRow, LONG, LONG_FORMS, PACKETS, REFUSALS, events};
 use pmb_bus::{Event, Lexer, Step, event_text};
 use pmb_common::Common;

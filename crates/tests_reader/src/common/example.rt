@@ -1,6 +1,6 @@
 //! The program of `pmb_common`'s documentation, and its law.
 
-use compare::same;
+use crate::compare::same;
 use pmb_common::{Common, Taken, laws};
 use pmb_kept::Kept;
 use pmb_line::line_of;

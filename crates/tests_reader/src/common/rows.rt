@@ -4,7 +4,7 @@
 //! codes allowed, one at 59h without, and one at 5ah that wants them. The codes are those of CRC-8
 //! over the bytes before them (SMBus 3.0 section 6.4), in a group over those of their own part.
 
-use compare::same;
+use crate::compare::same;
 use pmb_common::{Common, Taken};
 use pmb_kept::Kept;
 use pmb_line::line_of;

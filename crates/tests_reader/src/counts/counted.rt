@@ -1,7 +1,7 @@
 //! Captures, and how many packets and refusals they read as, counted by hand; and the program of
 //! `pmb_count`'s documentation.
 
-use compare::same;
+use crate::compare::same;
 use plain_packets::events;
 use pmb_bus::Event;
 use pmb_count::{Counter, Counts, count, laws};

@@ -1,7 +1,7 @@
 //! Large captures: the longest group, events without sense, and one event over and over.
 
 use arrayvec::ArrayVec;
-use compare::{ensure, same};
+use crate::compare::{ensure, same};
 use pmb_bus::Event;
 use pmb_reader::{Outcome, Reader, Took};
 use pmb_table::{Profile, SAMPLE};

@@ -2,7 +2,7 @@
 //! words.
 
 use crate::plain::compared::Compared;
-use compare::ensure;
+use crate::compare::ensure;
 use plain_packets::is_viable;
 use pmb_bus::Event;
 use pmb_table::Profile;

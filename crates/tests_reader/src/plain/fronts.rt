@@ -2,7 +2,7 @@
 //! words.
 
 use crate::plain::compared::first_difference;
-use compare::same;
+use crate::compare::same;
 use plain_packets::{CapturedRow, LONG, LONG_FORMS, PACKETS, REFUSALS, events};
 use pmb_table::{Profile, SAMPLE};
 use std::alloc::Global;

@@ -1,6 +1,6 @@
 //! The program of `pmb_reader`'s documentation, and its laws.
 
-use compare::same;
+use crate::compare::same;
 use pmb_bus::{Event, Kinds};
 use pmb_line::line_of;
 use pmb_reader::{Reader, Took, laws};
