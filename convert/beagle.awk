@@ -4,25 +4,29 @@
 #   awk -f convert/beagle.awk export.csv
 #
 # The line that names the columns begins with `Level,Index` (or with `# Level,Index`); these are
-# read: the time (m:s.ms.us), Len, Err, S/P, Addr, Record, Data. Fields may be in quotes. A row is a
-# transaction: the address in seven bits, `Write Transaction` or `Read Transaction`, and its bytes;
-# `*` after the address or a byte is a NACK. S in the column S/P is a START and P a STOP, so that a
-# row with S alone goes on in the next one with a repeated START. A comment after each packet has
-# the time of its first row. Rows of other records are passed over, if they have no address, bytes,
-# START or STOP.
+# read: the index of the row, the time (m:s.ms.us), Len, Err, S/P, Addr, Record, Data. Fields may be
+# in quotes. A row is a transaction: the address in seven bits, `Write Transaction` or `Read
+# Transaction`, and its bytes; `*` after the address or a byte is a NACK. S in the column S/P is a
+# START and P a STOP, so that a row with S alone goes on in the next one with a repeated START. A
+# comment after each packet has the time of its first row. Rows of other records are passed over, if
+# they have no address, bytes, START or STOP.
 #
-# What the export doesn't show, so that it can't be seen here either: the bits of a byte that is
-# cut. The analyzer marks such a row in Err, if that column is exported.
+# What the export doesn't show, so that it can't be seen here either:
+# - The bits of a byte that is cut. The analyzer marks such a row in Err, if that column is
+#   exported.
+# - A packet that had begun before the first row: if that row has a repeated START, what is left
+#   looks like a packet. Export all rows, without a filter.
 #
 # These are comments in the capture, `# left out, ..`, and lines on standard error: a packet in
-# which the capture starts or stops, or the file ends and another one begins; one whose START is
+# which the capture starts or stops, or the file ends and another one begins; one in which, or in
+# front of which, rows are missing, so that the index doesn't rise by one; one whose START is
 # missing; one with something in Err, or with another number of bytes than Len; a row of an unknown
 # record with an address, bytes, START or STOP, and the packet that it is in. Such a packet goes on
 # up to its STOP, since a repeated START looks like any other in the export. A packet in which the
 # export ends is written as far as it goes, and `pmb` reports it as truncated.
 #
-# Exit status: 0 if all transactions are in the capture; 1 if a packet was left out, if there is no
-# packet, or at a row that makes no sense, with which reading ends.
+# Exit status: 0 if all transactions are in the capture; 1 if a packet was left out, if rows are
+# missing, if there is no packet, or at a row that makes no sense, with which reading ends.
 
 function say(text) {
     print "beagle.awk: " text > "/dev/stderr"
@@ -59,6 +63,23 @@ function leave_out(why) {
     wrong = ""
 }
 
+# Rows that a filter hides, or that were lost: what they had may belong to the packet before them,
+# or to that of the next row, since a repeated START looks like any other.
+function check_index(    text, jump) {
+    text = column("Index")
+    gsub(/,/, "", text)
+    if (text !~ /^[0-9]+$/) fail("`" text "' is no index of a row")
+    if (index_before != "" && text + 0 != index_before + 1) {
+        jump = "rows are missing: index " text + 0 " comes after " index_before
+        if (packet != "") leave_out("rows are missing in it")
+        put_line("# " jump)
+        say(place() jump)
+        status = 1
+        after_gap = 1
+    }
+    index_before = text + 0
+}
+
 function end_packet() {
     if (wrong != "") leave_out(wrong)
     else {
@@ -75,7 +96,11 @@ function spoil(why) {
 
 # The words of a row.
 function put(words) {
-    if (packet == "") time = column("m:s.ms.us")
+    if (packet == "") {
+        time = column("m:s.ms.us")
+        if (after_gap) spoil("rows are missing in front of it")
+        after_gap = 0
+    }
     packet = packet (packet == "" ? "" : " ") words
     if (column("S/P") ~ /P/) {
         packet = packet " P"
@@ -154,10 +179,16 @@ function check_row(count,    text) {
         spoil("Len is " text + 0 ", and there " (count == 1 ? "is 1 byte" : "are " count " bytes"))
 }
 
+function begin_table() {
+    index_before = ""
+    after_gap = 0
+}
+
 FNR == 1 {
     sub(/^\357\273\277/, "")
     if (packet != "") leave_out("its file ends")
     split("", columns)
+    begin_table()
 }
 {
     sub(/\r$/, "")
@@ -165,6 +196,9 @@ FNR == 1 {
 }
 fields[1] ~ /^#? *Level$/ && fields[2] == "Index" {
     sub(/^# */, "", fields[1])
+    # Two exports may have been put together.
+    if (packet != "") leave_out("its export ends")
+    begin_table()
     width = count
     split("", columns)
     for (i = 1; i <= width; i++) columns[fields[i]] = i
@@ -174,7 +208,10 @@ fields[1] ~ /^#? *Level$/ && fields[2] == "Index" {
 }
 fields[1] ~ /^#/ || /^$/ { next }
 !("Record" in columns) { fail("a row before the line that names the columns, `Level,Index,..': is this an export of Data Center?") }
-{ record = column("Record") }
+{
+    check_index()
+    record = column("Record")
+}
 record == "Write Transaction" || record == "Read Transaction" {
     if (count != width) fail("the row has " count " fields, and there are " width " columns")
     put(transaction(record == "Read Transaction"))
@@ -182,6 +219,7 @@ record == "Write Transaction" || record == "Read Transaction" {
 }
 record ~ /^Capture (started|stopped)/ {
     if (packet != "") leave_out("the capture " (record ~ /stopped/ ? "stopped" : "started") " in it")
+    after_gap = 0
     next
 }
 # An unknown row may stand for a part of a packet.

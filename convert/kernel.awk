@@ -20,9 +20,14 @@
 # - How often a transfer was tried. After a lost arbitration the kernel tries again, and tells of it
 #   once.
 # - What was in a full buffer before: the kernel overwrites the first events, and the file `trace`
-#   says how many. That is a loss, and the capture begins with the next whole transfer.
+#   says how many. That is a loss, and the capture begins with the next whole transfer. Where the
+#   events of another processor begin later (`CPU 2 buffer started`), it is one more loss.
 # - Where events were lost. Each processor has a buffer of its own, and its loss is reported before
 #   its next event, so on several processors a loss may have happened earlier than its line tells.
+#   Then packets before that line may be joined from two transfers, and a comment says how many are
+#   in doubt. `perf script` reports losses only with --show-lost-events.
+# - Lines that were taken out of a trace afterwards. If the end of one transfer and the beginning of
+#   the next are gone, what is left may look like one.
 # - SMBus transfers that the adapter makes by itself: their events (smbus_write and so on) don't
 #   have the bytes as on the wire. Each becomes a comment. Where the kernel makes an SMBus transfer
 #   of messages there are i2c events between those of smbus, and these have its bytes.
@@ -116,12 +121,13 @@ function bytes(last,    text, list, count, i, words) {
 }
 
 # The flags of a message: 0001 to read, 0004 its device has packet error codes, 0200 the bytes are
-# safe for DMA, 0400 a length that the device gives. Others change what is on the wire.
+# safe for DMA, 0400 (of a read) a length that the device gives. Others change what is on the wire.
 function check_flags(flags, direction) {
     if (flags !~ /^[0-9a-f][0-9a-f][0-9a-f][0-9a-f]$/) fail("f=" flags " are no flags")
     if ((flags ~ /[13579bdf]$/) != direction)
         fail("the flags " flags " are those of another direction")
-    if (flags !~ /^0[0246]0[0145]$/) unsaid = "its flags " flags " change what is on the wire"
+    if (direction ? flags !~ /^0[0246]0[15]$/ : flags !~ /^0[02]0[04]$/)
+        unsaid = "its flags " flags " change what is on the wire"
 }
 
 # The number of the message that an event is about.
@@ -190,13 +196,24 @@ function begin(direction,    number, address, flags, expected) {
     check_flags(flags, direction)
     heads[messages] = "S " addressed(address, direction) " A"
     said = said (direction ? " read" : " write") " a=" address
-    # A reply has the length that was asked for, unless the device gives it.
-    if (direction) asked[messages] = address " " (flags ~ /^.[4567]/ ? "any" : whole_number("l"))
-    else bodies[messages] = bytes("A")
+    if (direction) {
+        asked[messages] = address
+        lengths[messages] = whole_number("l")
+        device_counts[messages] = flags ~ /^.[4567]/
+    } else bodies[messages] = bytes("A")
     messages++
 }
 
-function take_reply(    number, reply) {
+# The first byte of the event, or 0 if it has none.
+function first_byte() {
+    if (!match(event, /\[[0-9a-f][0-9a-f]/)) return 0
+    return 16 * digit(substr(event, RSTART + 1, 1)) + digit(substr(event, RSTART + 2, 1))
+}
+
+# A reply has the length that was asked for. With the flag 0400 the device gives its first byte as
+# the number of those that follow, and the adapter adds it: so an adapter that doesn't, and shows
+# a part of the bytes, is noticed.
+function take_reply(    number, expected) {
     number = message()
     if (messages == 0) {
         pass_stray()
@@ -206,8 +223,8 @@ function take_reply(    number, reply) {
         break_off("a reply to message " number ", which asked for none")
         return
     }
-    reply = field("a") " " (asked[number] ~ /any$/ ? "any" : whole_number("l"))
-    if (reply != asked[number]) {
+    expected = lengths[number] + (device_counts[number] ? first_byte() : 0)
+    if (field("a") != asked[number] || whole_number("l") != expected) {
         break_off("the reply to message " number " is not the one that it asked for")
         return
     }
@@ -255,13 +272,37 @@ function take_smbus(number) {
     if (kind == "smbus_write" || kind == "smbus_read") has_messages[number] = 0
     else if (kind == "smbus_result" && number in has_messages) {
         if (!has_messages[number]) {
-            alone[number]++
             sub(/^smbus_result: +/, "", event)
-            if (bus == "" || number == bus)
+            if (bus == "" || number == bus) {
                 put_line("# left out, the adapter makes SMBus transfers by itself" when(stamp) ": " event)
+                alone++
+            }
         }
         delete has_messages[number]
     }
+}
+
+# The number of the processor, as `[003]` in front of an event.
+function processor_of(text) {
+    return match(text, /\[[0-9]+\]/) ? substr(text, RSTART + 1, RLENGTH - 2) + 0 : ""
+}
+
+# How many packets there were when a processor had its last event.
+function change_processor(next_one) {
+    packets_at[processor] = packets
+    processor = next_one
+}
+
+# A processor has lost events at some time after its last one. Packets that were written since then
+# may be joined from two transfers, if these went from one processor to another.
+function doubt(lost_on,    count) {
+    change_processor(processor)
+    count = packets - (lost_on in packets_at ? packets_at[lost_on] : packets_before)
+    packets_at[lost_on] = packets
+    if (!count) return
+    count = counted(count, "packet") " before this, since events of CPU " lost_on " may be missing there"
+    put_line("# in doubt: " count)
+    say(place() "in doubt: " count)
 }
 
 # After a loss or a joint, nothing that was under way goes on.
@@ -271,21 +312,29 @@ function begin_anew(why) {
     split("", has_messages)
 }
 
+function begin_trace(why) {
+    begin_anew(why)
+    packets_before = packets
+    split("", packets_at)
+}
+
 BEGIN { forget(); check_options() }
 
 FNR == 1 {
     check_options()
-    if (NR > 1) begin_anew("its file ends")
+    if (NR > 1) begin_trace("its file ends")
 }
 { sub(/\r$/, "") }
 
 match($0, / (i2c:|smbus:)?(i2c|smbus)_(write|read|reply|result): +i2c-[0-9]+ /) {
     event = substr($0, RSTART + 1)
+    front = substr($0, 1, RSTART - 1)
     stamp = ""
-    if (match(substr($0, 1, RSTART - 1), /[0-9]+\.[0-9]+: *$/)) {
+    if (match(front, /[0-9]+\.[0-9]+: *$/)) {
         stamp = substr($0, RSTART, RLENGTH)
         sub(/: *$/, "", stamp)
     }
+    change_processor(processor_of(front))
     sub(/^(i2c|smbus):/, "", event)
     kind = event
     sub(/:.*/, "", kind)
@@ -311,18 +360,31 @@ match($0, / (i2c:|smbus:)?(i2c|smbus)_(write|read|reply|result): +i2c-[0-9]+ /) 
 }
 
 # Lost events, as the kernel, trace-cmd and perf report them.
-/^ *CPU:[0-9]+ \[(LOST|LOST [0-9]+|[0-9]+)? ?EVENTS( DROPPED)?\]/ || /PERF_RECORD_LOST/ {
+/^ *(CPU:[0-9]+ )?\[(LOST|LOST [0-9]+|[0-9]+)? ?EVENTS( DROPPED)?\]/ || /PERF_RECORD_LOST/ {
     loss = $0
     sub(/^ +/, "", loss)
     begin_anew("events were lost")
     put_line("# events were lost: " loss)
     say(place() "events were lost: " loss)
     status = 1
+    if (match(loss, /^CPU:[0-9]+/)) doubt(substr(loss, 5, RLENGTH - 4) + 0)
+    else if (processor_of(loss) != "") doubt(processor_of(loss))
+    next
+}
+
+# What the file `trace` writes where the events of a processor begin, if earlier ones were
+# overwritten.
+/^#+ CPU [0-9]+ buffer started #+$/ {
+    begin_anew("events were overwritten")
+    put_line("# events were overwritten before this: " $2 " " $3)
+    say(place() "events of " $2 " " $3 " were overwritten before this")
+    status = 1
+    doubt($3 + 0)
     next
 }
 
 # The first line of a trace: two may have been put together.
-/^# tracer: / || /^cpus=[0-9]+$/ { begin_anew("its trace ends"); next }
+/^# tracer: / || /^cpus=[0-9]+$/ { begin_trace("its trace ends"); next }
 
 # The head of the file `trace`: a full buffer loses its first events, and the trace begins later.
 /^# entries-in-buffer\/entries-written: [0-9]+\/[0-9]+ / {
@@ -354,13 +416,9 @@ END {
         say("passed over: " counted(others[list[i]], "event") " of i2c-" list[i] " (-v bus=" list[i] " reads them)")
     if (passed_over) say("passed over: " counted(passed_over, "line") " without an event of I2C")
     if (smbus_events) say("passed over: " counted(smbus_events, "smbus event"))
-    if (bus in alone) {
-        say(counted(alone[bus], "SMBus transfer") " left out: the adapter makes them by itself, and the kernel doesn't tell their bytes on the wire")
-        status = 1
-    }
-    if (!packets) {
-        say("no packet: " no_packet())
-        status = 1
-    }
+    if (alone)
+        say(counted(alone, "SMBus transfer") " left out: the adapter makes them by itself, and the kernel doesn't tell their bytes on the wire")
+    if (!packets) say("no packet: " no_packet())
+    if (alone || !packets) status = 1
     exit status
 }

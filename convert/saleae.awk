@@ -12,8 +12,11 @@
 # What the table doesn't show, so that it can't be seen here either:
 # - A byte that a START or STOP cuts before its eighth bit.
 # - Rows that a filter or a search of the table hides. Two things are noticed: a table without any
-#   stop, and one in which reads end without NACK and no row has a NACK. Where only some stops or
-#   NACKs are hidden, packets are joined or shorter. So export without a filter.
+#   stop, and one in which reads end without NACK and no row has a NACK (that may also be a read
+#   without bytes). Where only some stops or NACKs are hidden, or rows of bytes, packets are joined
+#   or shorter. So export without a filter.
+# - A packet that had begun before the first row: if that row is a repeated START, what is left
+#   looks like a packet.
 #
 # These are comments in the capture, `# left out, ..`, and lines on standard error: a packet whose
 # START is missing, as where a table is cut, or whose STOP is, as where another table begins; one

@@ -11,13 +11,18 @@
 #   -v rate=NUMBER    samples in a second: 24000000 or 24e6
 #   -v decoder=NAME   the decoder, if there are several: i2c-2; else the first one of I2C
 #   -v unshifted=1    the decoder has its option address_format=unshifted, so that an address is the
-#                     whole byte; without it an address has seven bits
+#                     whole byte; without it an address has seven bits. The wrong choice isn't
+#                     noticed where all whole bytes are below 80, or where all addresses of seven
+#                     bits end with the bit of their direction
 #
 # What the decoder doesn't show (libsigrokdecode 0.5), so that it can't be seen here either:
 # - A byte that a STOP or a repeated START cuts before its eighth bit: a write that is cut so looks
 #   whole, but shorter.
 # - A START or STOP within an address or an acknowledge: it is taken for nothing, and the bits
 #   before and after it are put together as one byte.
+# - A packet that had begun before the recording: its first repeated START is a START to the
+#   decoder, so what is left looks like a packet.
+# - Lines that were taken out of its text: without a byte and its ACK a packet is shorter.
 # - A glitch: a short pulse on SCL is a bit, and one on SDA may be a START or STOP. Record at
 #   several times the rate of the bus, and use a filter of the analyser if it has one.
 #
@@ -63,9 +68,14 @@ function counted(count, noun) {
 function check_options() {
     # busybox awk takes 010 for eight.
     while (rate ~ /^0[0-9]/) rate = substr(rate, 2)
+    check_unshifted()
     if (rate == "") return
-    if (rate !~ /^([0-9]+[.]?[0-9]*|[.][0-9]+)([eE][+]?[0-9]+)?$/ || rate + 0 == 0)
+    if (rate !~ /^([0-9]+[.]?[0-9]*|[.][0-9]+)([eE][+]?[0-9]+)?$/ || rate + 0 == 0 || rate + 0 > 1e12)
         end_with(2, "rate=" rate " is no number of samples in a second: say -v rate=24000000 for 24 MHz")
+}
+
+function check_unshifted() {
+    if (unshifted !~ /^[01]?$/) end_with(2, "unshifted=" unshifted " is neither 0 nor 1")
 }
 
 # What can't be said as a packet is a comment.
@@ -109,8 +119,16 @@ function digit(letter) {
     return index("0123456789abcdef", letter) - 1
 }
 
+# A byte after the address. The decoder writes it with the direction of the address before it, so
+# where they differ the lines between were not recorded.
+function put_byte(digits, direction) {
+    put(byte(digits), "byte")
+    if (packet != "" && wrong == "" && direction != is_read) wrong = "a START is missing"
+}
+
 # The byte that addresses a device.
 function addressed(address, direction) {
+    is_read = direction
     address = byte(address)
     high = digit(substr(address, 1, 1)); low = digit(substr(address, 2, 1))
     if (unshifted) {
@@ -145,8 +163,8 @@ FNR == 1 {
     if (!match(text, /^[A-Za-z0-9_]+-[0-9]+: /)) fail("this is no line of a decoder of sigrok")
     name = substr(text, 1, RLENGTH - 2)
     text = substr(text, RLENGTH + 1)
-    # With -l 4 and more: `start: "Start" "S"`.
-    if (match(text, /^[a-z-]+: "/)) {
+    # With -l 3: `"Start"`, and with -l 4 and more: `start: "Start" "S"`.
+    if (match(text, /^([a-z-]+: )?"/)) {
         text = substr(text, RLENGTH + 1)
         sub(/".*/, "", text)
     }
@@ -168,7 +186,8 @@ text == "ACK" { put("A", "answer"); next }
 text == "NACK" { put("N", "answer"); next }
 sub(/^Address write: /, "", text) { put(addressed(text, 0), "address"); next }
 sub(/^Address read: /, "", text) { put(addressed(text, 1), "address"); next }
-sub(/^Data (write|read): /, "", text) { put(byte(text), "byte"); next }
+sub(/^Data write: /, "", text) { put_byte(text, 0); next }
+sub(/^Data read: /, "", text) { put_byte(text, 1); next }
 text == "Read" || text == "Write" || text ~ /^[01]$/ { next }
 { fail("`" text "' is nothing that the decoder says of a bus") }
 
