@@ -281,7 +281,8 @@ def change_of(texts, before, after, homes):
             made.proofs.append(path)
             continue
         try:
-            if before[path] is None or after[path] is None:
+            # A file with no tokens, or that is none of code.
+            if before.get(path) is None or after.get(path) is None:
                 raise Unclear
             old, gaps_before = functions_of(before[path], module_of(path), homes)
             new, gaps_after = functions_of(after[path], module_of(path), homes)
@@ -290,7 +291,11 @@ def change_of(texts, before, after, homes):
             continue
         if words(gaps_before, CODE) != words(gaps_after, CODE):
             made.other.append(path)
-        if words(gaps_before, STATED) != words(gaps_after, STATED):
+        stated = [words(gaps, STATED) for gaps in (gaps_before, gaps_after)]
+        if len(old) != len(new):
+            # With a function more or less, clauses stand between other bodies, and may be the same.
+            stated = [sum(it, []) for it in stated]
+        if stated[0] != stated[1]:
             made.states.append(path)
         for one, two in zip(old, new):
             if [it.text for it in one.tokens] != [it.text for it in two.tokens]:

@@ -31,6 +31,13 @@ new:     let rooms = bytes.remaining_capacity().min(more.len());
 old:     let front = &more[..room];
 new:     let front = &more[..rooms];
 """),
+    # What the proof states of the loop has the name, so without it a goal is even false.
+    "only_the_name_of_a_loop_is_missing": ("refused by name only", """file: src/open_word.rt
+old:         for (i, byte) in bytes.iter().enumerate() {
+new:         for (at, byte) in bytes.iter().enumerate() {
+old:                 from = i + 1;
+new:                 from = at + 1;
+"""),
     "a_constant_is_wrong": ("refused by meaning", """file: src/open_word.rt
 old: pub const WORD: usize = 32;
 new: pub const WORD: usize = 33;
