@@ -1,11 +1,11 @@
 //! What an accepted profile says of a command, by hand from the rules in `docs/profiles.md`.
+use crate::compare::same;
 use crate::meanings::Meaning::{Direct, Linear11, Linear11Fixed, Raw, Status, Vout, VoutSigned};
 use crate::meanings::{Meaning, kind_of};
 use crate::shapes::{
     BLOCK, BYTE, CALL_WORD, FOUR, MASK, READ_BLOCK, READ_BYTE, READ_EIGHT, READ_WORD,
     SEND_AND_READ_BYTE, SNAPSHOT, WORD, WRITE_BLOCK, WRITE_EIGHT, WRITE_WORD,
 };
-use crate::compare::same;
 use pmb_table::{Entry, Profile, Shape};
 use std::alloc::Global;
 use std::process::Abort;

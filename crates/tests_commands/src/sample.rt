@@ -1,9 +1,9 @@
 //! What the sample and other accepted profiles say of their devices, by hand from the rules in
 //! `docs/profiles.md`.
+use crate::compare::same;
 use crate::meanings::Meaning::Direct;
 use crate::parts::{PAGE, Parts, READ_VIN, check_entry, code_of, profile_of};
 use crate::shapes::WORD;
-use crate::compare::same;
 use pmb_table::{DeviceProfile, PecMode, SAMPLE, laws};
 
 /// The number of commands that the standard has.

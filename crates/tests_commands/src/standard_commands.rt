@@ -1,10 +1,10 @@
 //! The standard's command table, by hand from PMBus Part II Appendix I.
+use crate::compare::{ensure, same};
 use crate::meanings::Meaning::{Linear11, Raw, Status, Vout, VoutSigned};
 use crate::parts::{Parts, check_entry};
 use crate::shapes::{
     BLOCK, BYTE, CALL_BLOCK, MASK, READ_BLOCK, READ_BYTE, READ_WORD, SEND_BYTE, WORD, WRITE_BLOCK,
 };
-use crate::compare::{ensure, same};
 use pmb_table::{by_name, laws, standard};
 
 /// Commands as the standard has them.

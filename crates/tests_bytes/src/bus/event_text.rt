@@ -1,7 +1,7 @@
 //! What events are written as.
 
-use Event::{Ack, Byte, Nack, Start, Stop};
 use crate::compare::same;
+use Event::{Ack, Byte, Nack, Start, Stop};
 use pmb_bus::{Event, event_text};
 
 static TEXTS: [(Event, &str); 9] = [

@@ -1,7 +1,7 @@
 //! How many bytes one call uses, and what it answers.
 
-use Event::{Ack, Byte, Start};
 use crate::compare::same;
+use Event::{Ack, Byte, Start};
 use pmb_bus::{Event, LexFault, Lexed, Lexer, Step};
 use std::io;
 

@@ -1,8 +1,8 @@
 //! Random lists of signals, from a fixed seed: packets, and packets that were broken.
 
+use crate::compare::{ensure, same};
 use crate::devices::compared::Compared;
 use crate::plain::{EVERY_KIND, many_devices};
-use crate::compare::{ensure, same};
 use plain_packets::Random;
 use pmb_bus::pec_of;
 use pmb_device::HostSignal;

@@ -1,7 +1,7 @@
 //! Sessions told by hand: signals, the events that are recorded, and what the devices hold then.
 
-use crate::devices::signals::signals;
 use crate::compare::ensure;
+use crate::devices::signals::signals;
 use plain_packets::{LONG_FORMS, events};
 use pmb_bus::Event;
 use pmb_devices::Bus;

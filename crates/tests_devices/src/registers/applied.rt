@@ -1,8 +1,8 @@
 //! What transactions make of a device's registers.
 
+use crate::compare::{ensure, same};
 use crate::registers::held::holds;
 use arrayvec::ArrayVec;
-use crate::compare::{ensure, same};
 use plain_packets::part;
 use pmb_registers::Registers;
 use pmb_table::{Profile, SAMPLE};

@@ -1,7 +1,7 @@
 //! The program of `pmb_registers`' documentation.
 
-use crate::registers::held::holds;
 use crate::compare::{ensure, same};
+use crate::registers::held::holds;
 use pmb_registers::Registers;
 use pmb_table::{Profile, SAMPLE};
 use std::test::Fail;

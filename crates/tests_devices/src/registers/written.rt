@@ -1,7 +1,7 @@
 //! What registers begin with, and what writes and notes make of them.
 
-use crate::registers::written::Step::{Holds, Lacks, Note, Page, Write};
 use crate::compare::{ensure, same};
+use crate::registers::written::Step::{Holds, Lacks, Note, Page, Write};
 use pmb_registers::{CmlBit, Registers};
 use pmb_table::{Profile, SAMPLE};
 use std::test::Fail;

@@ -1,7 +1,7 @@
 //! Requests, one after the other on one bus.
 
-use arrayvec::ArrayVec;
 use crate::compare::{ensure, same};
+use arrayvec::ArrayVec;
 use plain_packets::part;
 use pmb_bus::event_text;
 use pmb_devices::Bus;

@@ -1,7 +1,7 @@
 //! What a host sends, and how it ends.
 
-use crate::host::requests::{Asked, OTHER_FORMS, request_of};
 use crate::compare::same;
+use crate::host::requests::{Asked, OTHER_FORMS, request_of};
 use pmb_device::{DeviceSignal, HostSignal};
 use pmb_host::{Host, HostStep};
 use pmb_table::{Profile, SAMPLE};

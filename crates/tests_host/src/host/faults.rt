@@ -1,7 +1,7 @@
 //! Requests that no host is made for.
 
-use crate::host::requests::{Asked, OTHER_FORMS, request_of};
 use crate::compare::same;
+use crate::host::requests::{Asked, OTHER_FORMS, request_of};
 use pmb_host::{Host, HostFault};
 use pmb_table::{Profile, SAMPLE};
 use pmb_value::{ModeFault, RangeFault};

@@ -1,7 +1,7 @@
 //! The longest run of a host: a group of 16 blocks of 255 bytes, each with a packet error code.
 
-use arrayvec::ArrayVec;
 use crate::compare::same;
+use arrayvec::ArrayVec;
 use pmb_device::{DeviceSignal, HostSignal};
 use pmb_host::{Host, HostFault, HostStep, Reply, Request, Wire, drive};
 use pmb_table::Profile;

@@ -1,9 +1,9 @@
 //! Hosts of every kind against answers from a fixed seed: how each ends is found by the rules in words.
 
+use crate::compare::{ensure, same};
 use crate::host::answers::{Answering, Heard};
 use crate::host::plain::{Row, Told, form_of_reply, plain_end, plain_packet, recorded};
 use crate::host::requests::{Asked, request_of};
-use crate::compare::{ensure, same};
 use plain_packets::{NoPacket, Random, data_like, push_wire};
 use pmb_bus::Event;
 use pmb_device::{DeviceSignal, HostSignal};

@@ -1,7 +1,7 @@
 //! Long lines: a piece repeated, and where a list has no room for what comes.
 
-use crate::lines::says::answer;
 use crate::compare::ensure;
+use crate::lines::says::answer;
 use harness::repeated;
 use pmb_table::{Profile, SAMPLE};
 use std::test::Fail;

@@ -1,7 +1,7 @@
 //! Short lines: each kind, each fault, and how words are told apart.
 
-use crate::lines::says::{Row, answer, rows_of};
 use crate::compare::same;
+use crate::lines::says::{Row, answer, rows_of};
 use plain_packets::LONG_FORMS;
 use pmb_table::{Profile, SAMPLE};
 use std::test::Fail;

@@ -1,7 +1,7 @@
 //! Words of a line, from an offset on; a transaction that is kept; the least line.
 
-use arrayvec::ArrayVec;
 use crate::compare::{ensure, same};
+use arrayvec::ArrayVec;
 use pmb_line::{LineFault, LineReader, append_line, line_of, read_words, word_at};
 use pmb_table::{Profile, SAMPLE};
 use pmb_transaction::Transaction;

@@ -1,7 +1,7 @@
 //! Each other name once.
 
-use arrayvec::ArrayVec;
 use crate::compare::same;
+use arrayvec::ArrayVec;
 use pmb_bus::{Event, Kinds};
 use pmb_packet::{
     Context, FaultText, Invalid, Line, LineFault, LineReader, Part, Reader, Reason, Refusal, Took,

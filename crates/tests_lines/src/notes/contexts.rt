@@ -1,7 +1,7 @@
 //! PAGE and VOUT_MODE after transactions.
 
-use crate::notes::says::observe;
 use crate::compare::{ensure, same};
+use crate::notes::says::observe;
 use pmb_line::parse_line;
 use pmb_note::Context;
 use pmb_table::{Profile, SAMPLE};

@@ -1,9 +1,9 @@
 //! The note of the greatest length: a group of 16 parts, each with all bits of a register of two
 //! bytes that has the longest names.
 
+use crate::compare::{ensure, same};
 use crate::notes::says::said;
 use arrayvec::ArrayVec;
-use crate::compare::{ensure, same};
 use pmb_table::Profile;
 use std::test::Fail;
 

@@ -1,8 +1,8 @@
 //! Each status register with no bit, with each bit alone, and with all.
 
+use crate::compare::ensure;
 use crate::notes::says::said;
 use arrayvec::ArrayVec;
-use crate::compare::ensure;
 use pmb_table::{Profile, SAMPLE};
 use std::test::Fail;
 

@@ -1,7 +1,7 @@
 //! Each kind of transaction and of command, written and read, and output voltages by VOUT_MODE.
 
-use crate::notes::says::{Row, rows_of, said};
 use crate::compare::ensure;
+use crate::notes::says::{Row, rows_of, said};
 use pmb_table::{Profile, SAMPLE};
 use std::test::Fail;
 

@@ -1,7 +1,7 @@
 //! Long lines: a piece repeated, and where a list has no room for what comes.
 
-use crate::requests::says::answer;
 use crate::compare::ensure;
+use crate::requests::says::answer;
 use harness::repeated;
 use pmb_note::Context;
 use pmb_table::{Profile, SAMPLE};

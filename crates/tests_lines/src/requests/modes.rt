@@ -1,7 +1,7 @@
 //! The mode that a `set` and a `get` take from the context, after transactions.
 
-use crate::requests::says::{Row, answer, rows_of};
 use crate::compare::same;
+use crate::requests::says::{Row, answer, rows_of};
 use pmb_line::parse_line;
 use pmb_note::Context;
 use pmb_table::{Profile, SAMPLE};

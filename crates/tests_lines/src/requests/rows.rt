@@ -1,7 +1,7 @@
 //! Short lines: each kind of request, each fault, and how words are told apart.
 
-use crate::requests::says::{Row, answer, rows_of};
 use crate::compare::same;
+use crate::requests::says::{Row, answer, rows_of};
 use pmb_note::Context;
 use pmb_table::{Profile, SAMPLE};
 use std::test::Fail;

@@ -1,7 +1,7 @@
 //! Fractions from a fixed seed, beside a slow definition: long division as by hand, a digit at a
 //! time, and one more at the last digit where what is left asks for it.
-use arrayvec::ArrayVec;
 use crate::compare::same;
+use arrayvec::ArrayVec;
 use pmb_decimal::{Digits, append_decimal};
 use pmb_quantity::Quantity;
 

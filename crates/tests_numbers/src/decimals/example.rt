@@ -1,6 +1,6 @@
 //! The program of the crate's documentation.
-use arrayvec::ArrayVec;
 use crate::compare::same;
+use arrayvec::ArrayVec;
 use pmb_decimal::{Digits, append_decimal, laws};
 use pmb_quantity::Quantity;
 

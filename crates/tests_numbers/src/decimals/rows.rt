@@ -1,6 +1,6 @@
 //! Quantities and their nearest decimals, worked out by hand.
-use arrayvec::ArrayVec;
 use crate::compare::same;
+use arrayvec::ArrayVec;
 use pmb_decimal::{Digits, append_decimal};
 use pmb_quantity::Quantity;
 

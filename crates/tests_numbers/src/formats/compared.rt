@@ -1,7 +1,7 @@
 //! The encoders against the plain one: on the value of every 61st code, and on the middle between
 //! it and the next greater value.
-use crate::formats::plain::Definition;
 use crate::compare::same;
+use crate::formats::plain::Definition;
 use pmb_value::{Direct, Format, Linear11, Linear11Fixed, Quantity, Steps};
 use std::process::Abort;
 

@@ -1,6 +1,6 @@
 //! DIRECT, with rising and falling slopes.
-use crate::formats::checks::{ABOVE, BELOW, check_code, check_round_trip, check_text};
 use crate::compare::same;
+use crate::formats::checks::{ABOVE, BELOW, check_code, check_round_trip, check_text};
 use pmb_value::{Direct, DirectFault, RangeFault};
 
 /// Coefficients m, b and R.

@@ -1,6 +1,6 @@
 //! LINEAR11: rows of data sheets, the ends of its range, and ties.
-use crate::formats::checks::{ABOVE, BELOW, check_code, check_text};
 use crate::compare::same;
+use crate::formats::checks::{ABOVE, BELOW, check_code, check_text};
 use pmb_value::{Format, Linear11, RangeFault, Steps};
 
 /// A name, a text, and its code or fault.

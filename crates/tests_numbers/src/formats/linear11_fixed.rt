@@ -1,6 +1,6 @@
 //! LINEAR11 with one exponent: its ends, ties, and words with other exponents.
-use crate::formats::checks::{ABOVE, BELOW, check_code, check_text};
 use crate::compare::same;
+use crate::formats::checks::{ABOVE, BELOW, check_code, check_text};
 use pmb_value::{BadExponent, Linear11Fixed, RangeFault};
 
 /// A name, an exponent, a text, and its code or fault.

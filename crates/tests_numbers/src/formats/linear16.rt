@@ -1,6 +1,6 @@
 //! ULINEAR16 and SLINEAR16: the ends of their ranges at several exponents.
-use crate::formats::checks::{ABOVE, BELOW, check_code, check_round_trip};
 use crate::compare::same;
+use crate::formats::checks::{ABOVE, BELOW, check_code, check_round_trip};
 use pmb_value::{BadExponent, RangeFault, Slinear16, Ulinear16};
 
 /// A name, an exponent, a text, and its code or fault.

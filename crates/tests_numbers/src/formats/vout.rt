@@ -1,6 +1,6 @@
 //! The formats that VOUT_MODE names.
-use crate::formats::checks::{ABOVE, BELOW, check_code, check_text};
 use crate::compare::same;
+use crate::formats::checks::{ABOVE, BELOW, check_code, check_text};
 use pmb_value::{Direct, ModeFault, RangeFault, VoutFormat, vout_format};
 
 /// A name, a text, and its code or fault under VOUT_MODE 17h: exponent -9.

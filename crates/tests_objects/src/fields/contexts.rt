@@ -1,8 +1,8 @@
 //! An output voltage by what transactions have told of PAGE and VOUT_MODE, told by hand.
 
+use crate::compare::same;
 use crate::fields::contexts::Says::{Raw, Value};
 use crate::fields::says::{Text, raw, said, under, value};
-use crate::compare::same;
 use pmb_command::Kind;
 use pmb_late::Start::{AllKnown, Late};
 use pmb_late::{KnownMode, Start};

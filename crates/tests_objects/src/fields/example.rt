@@ -1,7 +1,7 @@
 //! The program of the crate's documentation.
 
-use arrayvec::ArrayVec;
 use crate::compare::same;
+use arrayvec::ArrayVec;
 use pmb_command::Kind;
 use pmb_decimal::Digits;
 use pmb_fields::{Access, DATA_MEMBERS, data_members, laws};

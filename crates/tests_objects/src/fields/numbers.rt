@@ -1,8 +1,8 @@
 //! LINEAR11, DIRECT, and data that are no number. The values are exact fractions by PMBus Part II 1.3
 //! section 7, worked out apart from the code.
 
-use crate::fields::says::{plain, said, under, value};
 use crate::compare::same;
+use crate::fields::says::{plain, said, under, value};
 use pmb_command::Kind;
 use pmb_fields::Access;
 use pmb_late::KnownMode;

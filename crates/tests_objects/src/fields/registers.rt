@@ -1,8 +1,8 @@
 //! Status registers that are read or written: the names of their set bits (PMBus Part II 1.3 section
 //! 17), worked out apart from the code. The names are those that `pmb_command` has.
 
-use crate::fields::says::{Text, joined, plain, push, said};
 use crate::compare::same;
+use crate::fields::says::{Text, joined, plain, push, said};
 use pmb_command::Kind;
 use pmb_fields::Access;
 use pmb_fields::Access::{Read, Write};

@@ -1,8 +1,8 @@
 //! Output voltages in the formats that VOUT_MODE names (PMBus Part II 1.3 section 8), and why one can't
 //! be read. The values are exact fractions, worked out apart from the code.
 
-use crate::fields::says::{raw, said, under, value};
 use crate::compare::same;
+use crate::fields::says::{raw, said, under, value};
 use pmb_command::Kind;
 use pmb_late::KnownMode;
 use pmb_value::Direct;

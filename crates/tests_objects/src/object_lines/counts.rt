@@ -1,7 +1,7 @@
 //! The last objects.
 
-use arrayvec::ArrayVec;
 use crate::compare::same;
+use arrayvec::ArrayVec;
 use pmb_line::parse_line;
 use pmb_objects::{Counts, OBJECT, device_line, end_line};
 use pmb_table::{Profile, SAMPLE};

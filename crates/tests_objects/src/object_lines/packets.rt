@@ -1,8 +1,8 @@
 //! The objects of packets.
 
+use crate::compare::same;
 use crate::object_lines::seen::seen;
 use arrayvec::ArrayVec;
-use crate::compare::same;
 use pmb_late::{Late, Start};
 use pmb_line::parse_line;
 use pmb_objects::{

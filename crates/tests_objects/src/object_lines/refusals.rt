@@ -1,8 +1,8 @@
 //! The objects of refusals.
 
+use crate::compare::same;
 use crate::object_lines::seen::seen;
 use arrayvec::ArrayVec;
-use crate::compare::same;
 use pmb_bus::{Event, Kinds};
 use pmb_late::{Late, Start};
 use pmb_objects::{OBJECT, refusal_line};

@@ -1,7 +1,7 @@
 //! The objects of words that are no token, and which objects are wanted.
 
-use arrayvec::ArrayVec;
 use crate::compare::same;
+use arrayvec::ArrayVec;
 use pmb_objects::{OBJECT, bad_token_line, is_wanted};
 use pmb_places::Place;
 

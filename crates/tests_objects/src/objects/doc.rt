@@ -1,7 +1,7 @@
 //! The program of the crate's doc.
 
-use arrayvec::ArrayVec;
 use crate::compare::same;
+use arrayvec::ArrayVec;
 use pmb_object::{Place, begin, begin_array, end, end_array, hex_member, number_member, text_item};
 
 #[test]

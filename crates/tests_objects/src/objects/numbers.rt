@@ -1,7 +1,7 @@
 //! Numbers, whole ones and those that a text spells.
 
-use arrayvec::ArrayVec;
 use crate::compare::same;
+use arrayvec::ArrayVec;
 use pmb_object::{Place, begin, end, number_member, number_text_member};
 
 /// A number, and the line of an object that has it alone.

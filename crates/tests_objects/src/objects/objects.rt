@@ -1,7 +1,7 @@
 //! Whole objects.
 
-use arrayvec::ArrayVec;
 use crate::compare::same;
+use arrayvec::ArrayVec;
 use pmb_object::{
     Place, begin, begin_array, bool_member, end, end_array, hex_member, null_member, number_member,
     text_item, text_member,

@@ -1,7 +1,7 @@
 //! Strings: each byte as it stands in one.
 
-use arrayvec::ArrayVec;
 use crate::compare::same;
+use arrayvec::ArrayVec;
 use pmb_object::{Place, begin, end, text_member};
 
 /// The first of sixteen bytes, and how the sixteen stand in a string.

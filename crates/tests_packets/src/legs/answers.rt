@@ -1,7 +1,7 @@
 //! Answers.
 
-use crate::legs::words::digits;
 use crate::compare::same;
+use crate::legs::words::digits;
 use plain_packets::LONG_FORMS;
 use pmb_leg::{Answer, LegPlace, WrittenLeg};
 use pmb_table::{Profile, SAMPLE};

@@ -1,7 +1,7 @@
 //! Legs that are written.
 
-use crate::legs::words::digits;
 use crate::compare::{ensure, same};
+use crate::legs::words::digits;
 use plain_packets::LONG_FORMS;
 use pmb_leg::{Asked, LegPlace, WrittenLeg};
 use pmb_table::{Profile, SAMPLE};

@@ -1,8 +1,8 @@
 //! Captures whose last event is refused, or that end inside a packet, under the sample profile, and
 //! what was said before. The reader gives each reason.
 
-use crate::said::told::told;
 use crate::compare::same;
+use crate::said::told::told;
 use plain_packets::events;
 use pmb_bus::Event;
 use pmb_reader::{Reader, Took};

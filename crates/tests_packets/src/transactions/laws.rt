@@ -1,7 +1,7 @@
 //! The laws of `pmb_transaction`, and the program of its documentation.
 
-use arrayvec::ArrayVec;
 use crate::compare::same;
+use arrayvec::ArrayVec;
 use pmb_transaction::{Part, Transaction, laws};
 use std::test::Fail;
 

@@ -1,7 +1,7 @@
 //! Transactions that have no packet, one rule broken in each.
 
-use crate::transactions::said::Said;
 use crate::compare::same;
+use crate::transactions::said::Said;
 use plain_packets::{NoPacket, packet};
 use pmb_table::{Profile, SAMPLE};
 use std::alloc::Global;

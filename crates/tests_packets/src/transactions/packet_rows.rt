@@ -1,7 +1,7 @@
 //! Transactions with their packets, told by hand.
 
-use crate::transactions::said::Said;
 use crate::compare::{ensure, same};
+use crate::transactions::said::Said;
 use plain_packets::{LONG_FORMS, events, is_viable, packet};
 use pmb_bus::Event;
 use pmb_table::{Profile, SAMPLE};

@@ -1,8 +1,8 @@
 //! The first fault of transactions without a packet, and two faults at once.
 
+use crate::compare::same;
 use crate::writer::says::Say::{Call, Read, Refused, Write};
 use crate::writer::says::{Row, Share, answer, rows_of, transaction};
-use crate::compare::same;
 use pmb_table::{Profile, SAMPLE};
 use std::test::Fail;
 

@@ -1,8 +1,8 @@
 //! The packets of transactions of all kinds.
 
+use crate::compare::same;
 use crate::writer::says::Say::{Alert, Call, NoAlert, Read, Refused, Write};
 use crate::writer::says::{Row, Share, answer, rows_of, transaction};
-use crate::compare::same;
 use pmb_table::{Profile, SAMPLE};
 use std::test::Fail;
 

@@ -2,9 +2,9 @@
 
 ghost use Rattle.std.specs.Prelude.{◌≤◌};
 
+use crate::compare::same;
 use crate::writer::says::{answer, list};
 use arrayvec::ArrayVec;
-use crate::compare::same;
 use plain_packets::seventeen_devices;
 use pmb_table::{Profile, SAMPLE};
 use pmb_transaction::{Part, Transaction};

@@ -1,7 +1,7 @@
 //! Large captures: the longest group, events without sense, and one event over and over.
 
-use arrayvec::ArrayVec;
 use crate::compare::{ensure, same};
+use arrayvec::ArrayVec;
 use pmb_bus::Event;
 use pmb_reader::{Outcome, Reader, Took};
 use pmb_table::{Profile, SAMPLE};

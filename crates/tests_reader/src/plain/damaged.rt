@@ -1,7 +1,7 @@
 //! Captures that were damaged at random, from a fixed seed, against a reader by the rules in words.
 
-use crate::plain::compared::first_difference;
 use crate::compare::same;
+use crate::plain::compared::first_difference;
 use plain_packets::{CapturedRow, LONG, LONG_FORMS, PACKETS, REFUSALS, Random, events};
 use pmb_bus::Event;
 use pmb_table::{Profile, SAMPLE};

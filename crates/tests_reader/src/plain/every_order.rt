@@ -1,8 +1,8 @@
 //! Events in every order, up to seven, under a small profile, against a reader by the rules in
 //! words.
 
-use crate::plain::compared::Compared;
 use crate::compare::ensure;
+use crate::plain::compared::Compared;
 use plain_packets::is_viable;
 use pmb_bus::Event;
 use pmb_table::Profile;

@@ -1,8 +1,8 @@
 //! Each front of captures of every sort, and each capture twice, against a reader by the rules in
 //! words.
 
-use crate::plain::compared::first_difference;
 use crate::compare::same;
+use crate::plain::compared::first_difference;
 use plain_packets::{CapturedRow, LONG, LONG_FORMS, PACKETS, REFUSALS, events};
 use pmb_table::{Profile, SAMPLE};
 use std::alloc::Global;

@@ -1,7 +1,7 @@
 //! Captures and what they read as, told by hand: whole, one event at a time and cut at each place.
 
-use crate::reader::told::{tell_end, tell_piece};
 use crate::compare::same;
+use crate::reader::told::{tell_end, tell_piece};
 use plain_packets::{CapturedRow, LONG, LONG_FORMS, PACKETS, REFUSALS, SEVENTEEN_DEVICES, events};
 use pmb_bus::Event;
 use pmb_reader::Reader;

@@ -1,7 +1,7 @@
 //! The program of `pmb_scan`'s documentation.
 
-use crate::scan::log::Log;
 use crate::compare::same;
+use crate::scan::log::Log;
 use pmb_bus::LexFault;
 use pmb_io::{Io, Waiting};
 use pmb_scan::{Scan, Taken};

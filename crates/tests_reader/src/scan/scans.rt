@@ -1,7 +1,7 @@
 //! Captures under the sample profile, with what a scan tells of them.
 
-use crate::scan::log::Log;
 use crate::compare::same;
+use crate::scan::log::Log;
 use pmb_bus::LexFault;
 use pmb_io::{Io, Waiting};
 use pmb_scan::{Scan, Taken};
