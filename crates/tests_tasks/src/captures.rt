@@ -2,7 +2,7 @@
 
 use pmb_capture::{check_capture, show};
 use pmb_cli::{BadWords, Choice, Digits, Start, front, json};
-use pmb_io::{Io, Tally};
+use pmb_io::{Io, Sink, Source, Tally, ToolFault};
 use pmb_table::{Profile, SAMPLE};
 use std::test::Fail;
 
@@ -43,24 +43,28 @@ fn checks_a_packet_error_code_that_was_taken(rt: HostRuntime) -> Result<(), Fail
     Ok(())
 }
 
-#[test]
-fn writes_the_objects_of_one_device(rt: HostRuntime) -> Result<(), Fail> {
-    let profile = Profile::from_toml(rt.alloc(), SAMPLE.as_bytes())?;
+/// Writes the objects of some devices, where PAGE and VOUT_MODE are unknown at first.
+fn late_objects<'p, R: Source, W: Sink>(
+    profile: &'p Profile,
+    devices: &'p [u8],
+    first: &[u8],
+    reader: &mut R,
+    writer: &mut W,
+) -> Result<Tally, ToolFault> {
     let choice = Choice {
         digits: Digits::default(),
         start: Start::Late,
-        devices: b"\x59",
+        devices,
     };
+    json(profile, choice, BadWords::End, first, reader, writer)
+}
+
+#[test]
+fn writes_the_objects_of_one_device(rt: HostRuntime) -> Result<(), Fail> {
+    let profile = Profile::from_toml(rt.alloc(), SAMPLE.as_bytes())?;
     let mut reader = Io::new(b"A 03 A P\nxyz".as_slice());
     let mut writer = Io::new(Vec::new(rt.alloc()));
-    let tally = json(
-        &profile,
-        choice,
-        BadWords::End,
-        b"S b0 ",
-        &mut reader,
-        &mut writer,
-    )?;
+    let tally = late_objects(&profile, b"\x59", b"S b0 ", &mut reader, &mut writer)?;
     assert!(rt;
         tally
             == Tally {

@@ -8,6 +8,7 @@ use pmb_table::{
     FaultKind, Form, PecMode, Profile, ProfileFault, SAMPLE, bit_name, by_name, standard,
 };
 use std::test::Fail;
+use toml::Value;
 
 #[test]
 fn standard_commands_have_names(rt: HostRuntime) -> Result<(), Fail> {
@@ -20,19 +21,26 @@ fn standard_commands_have_names(rt: HostRuntime) -> Result<(), Fail> {
     Ok(())
 }
 
+/// What the keys of a device say of its address and of packet error codes.
+fn address_and_pec(value: &Value) -> Result<(u8, PecMode), FaultKind> {
+    match read_device_keys(value, &[]) {
+        Ok(keys) => Ok((keys.address, keys.pec)),
+        Err(what) => Err(what),
+    }
+}
+
 #[test]
 fn keys_are_read(rt: HostRuntime) -> Result<(), Fail> {
     let text = "device = { address = 16, pec = 'on', command = [{ name = 'READ_VIN' }] }";
     let table = toml::table_from_str(rt.alloc(), text)?;
     assert!(rt; only(&table, &["device"]) == Ok(()));
-    let value = present(&table, "device").map_err(|_| "no value")?;
-    let device = read_device_keys(value, &[]).map_err(|_| "no device")?;
-    assert!(rt; (device.address, device.pec) == (0x10, PecMode::On));
+    let value = present(&table, "device")?;
+    assert!(rt; address_and_pec(value) == Ok((0x10, PecMode::On)));
     let inner = value.as_table().ok_or("no table")?;
-    let array = present(inner, "command").map_err(|_| "no commands")?;
-    let commands = array_of(array).map_err(|_| "no array")?;
+    let array = present(inner, "command")?;
+    let commands = array_of(array)?;
     let first = commands.first().ok_or("no command")?;
-    let command = read_command(rt.alloc(), first, &[]).map_err(|_| "a fault")?;
+    let command = read_command(rt.alloc(), first, &[])?;
     assert!(rt; command.entry.code == 0x88);
     Ok(())
 }
