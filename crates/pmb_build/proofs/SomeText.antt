@@ -10,21 +10,28 @@ use Rattle.pmb_transaction.specs.Transaction.{TransactionData}
 use Rattle.pmb_line.specs.LineFault.{IsLineFault, Parses}
 use Rattle.pmb_line.specs.declared.line_fault.LineFault.{LineFault}
 use Rattle.pmb_line.specs.declared.line_fault.LineFault.TheVariants as fault
-use Rattle.pmb_build.specs.Answer.{BuildAnswer, BuildsLine, BuildsText, Built, Refused, Nothing, is_built, is_refused, most_build_line}
+use Rattle.pmb_build.specs.Answer.{BuildAnswer, BuildsLine, BuildsText, Built, Refused, Nothing, is_built, is_refused}
+use Rattle.pmb_build.specs.Answer.{most_build_line}
 use Rattle.pmb_build.specs.Lines.{BuildsEach, BuildsInput, answers_behind}
 
-module _ (profile : List DeviceParts) (parse_or_fault : (line : List ℕ) → ((t : TransactionData) × Parses profile line t) ⊎ ((why : LineFault) × IsLineFault profile line why)) where
+module _ (profile : List DeviceParts) (parse_or_fault : (line : List ℕ)
+    → ((t : TransactionData) × Parses profile line t) ⊎ ((why : LineFault) × IsLineFault profile line why)) where
   -- the answer to a line with a fault, which is none where the line is blank
-  refused : (line : List ℕ) (why : LineFault) → IsLineFault profile line why → (answer : BuildAnswer) × BuildsText profile line answer
+  refused : (line : List ℕ) (why : LineFault) → IsLineFault profile line why
+      → (answer : BuildAnswer) × BuildsText profile line answer
   refused line fault.Blank is = (Nothing, is)
   refused line (fault.BadWord at) is = (Refused (fault.BadWord at), record { first = is; has_words = λ same. cc same })
   refused line (fault.TooLong at) is = (Refused (fault.TooLong at), record { first = is; has_words = λ same. cc same })
-  refused line (fault.Invalid invalid) is = (Refused (fault.Invalid invalid), record { first = is; has_words = λ same. cc same })
+  refused line (fault.Invalid invalid) is =
+      (Refused (fault.Invalid invalid), record { first = is; has_words = λ same. cc same })
 
   text_some : (line : List ℕ) → (answer : BuildAnswer) × BuildsText profile line answer
   text_some line =
       elim (parse_or_fault line) [
-        | inl parsed ↦ (Built parsed.1.packet.0, record { t = parsed.0; spells = parsed.1.spells; packet = parsed.1.packet.1 })
+        | inl parsed ↦ (
+          Built parsed.1.packet.0,
+          record { t = parsed.0; spells = parsed.1.spells; packet = parsed.1.packet.1 },
+        )
         | inr first ↦ refused line first.0 first.1
       ]
 

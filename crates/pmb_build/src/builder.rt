@@ -14,7 +14,7 @@ ghost use Rattle.pmb_build.specs.machine.Building.{BuilderStands, BuilderTakes};
 use crate::common_lines::QuickReader;
 use crate::fault_line::numbered_line;
 use crate::packet::put_packet;
-use pmb_io::{Line, LineTask, RunFault, Sink, Tally, Waiting, put};
+use pmb_io::{InputLine, LineTask, RunFault, Sink, Tally, Waiting, put};
 use pmb_line::LineFault;
 use pmb_table::Profile;
 
@@ -104,15 +104,15 @@ impl<'a> LineTask for Builder<'a> {
 
     fn take_line<W: Sink>(
         &mut self,
-        line: Line<'_>,
+        line: InputLine<'_>,
         waiting: &mut Waiting,
         writer: &mut W,
     ) -> Result<(), RunFault> {
         self.lines = self.lines.saturating_add(1);
         match line {
-            Line::Ended(text) => self.take_text(text, waiting, writer),
-            Line::Last(text) => self.take_text(text, waiting, writer),
-            Line::TooLong => self.take_fault(LineFault::TooLong(MOST_BYTES), waiting, writer),
+            InputLine::Ended(text) => self.take_text(text, waiting, writer),
+            InputLine::Last(text) => self.take_text(text, waiting, writer),
+            InputLine::TooLong => self.take_fault(LineFault::TooLong(MOST_BYTES), waiting, writer),
         }
     }
 

@@ -1,5 +1,6 @@
 -- Packet error codes as numbers and as the bits of bytes; one byte more, and more bytes after.
-use Rattle.std.proofs.Common.{◌≡◌, ℕ, ◌+◌, ◌<◌, ◌%◌, ◌^◌, zero, suc, Bool, true, false, ◌&&◌, ◌==◌, List, [], ◌∷◌, ◌++◌, length, refl, sym, ap, subst, ◌∙◌, append_assoc, arith}
+use Rattle.std.proofs.Common.{◌≡◌, ℕ, ◌+◌, ◌<◌, ◌%◌, ◌^◌, zero, suc, Bool, true, false, ◌&&◌, ◌==◌, List, [], ◌∷◌, ◌++◌}
+use Rattle.std.proofs.Common.{length, refl, sym, ap, subst, ◌∙◌, append_assoc, arith}
 use Rattle.std.specs.Prelude.{bit_xor}
 use Rattle.std.specs.Bool.{beq}
 use Rattle.std.proofs.Math.Nat.{pow-suc}
@@ -7,7 +8,8 @@ use Rattle.std.specs.Int.{bit_at}
 use Rattle.std.specs.Int.Bits.{xor_self}
 use Rattle.std.proofs.lemmas.Bool.{agree_below, agree_below_at, and_parts, eqb-true}
 use Rattle.std.proofs.lemmas.Nat.Bits.{bit_at_xor, bit_at-lt}
-use Rattle.pmb_bus.specs.Pec.{bits_of, message, number, differ, plus, divide_step, left_after, times_x8, remainder, pec, IsRemainder}
+use Rattle.pmb_bus.specs.Pec.{bits_of, message, number, differ, plus, divide_step, left_after, times_x8, remainder, pec}
+use Rattle.pmb_bus.specs.Pec.{IsRemainder}
 use Rattle.pmb_bus.proofs.Division.{remainder-append, length-remainder, remainder_is_one, one_remainder}
 
 -- ---- bits and numbers
@@ -36,9 +38,11 @@ for_each_at zero test [] passes long = passes
 for_each_at zero test (c ∷ p) passes long = absurd (omega arith)
 for_each_at (suc n) test [] passes long = absurd (omega arith)
 for_each_at (suc n) test (false ∷ p) passes long =
-    for_each_at n (λ q. test (false ∷ q)) p (and_parts (for_each n (λ q. test (false ∷ q))) (for_each n (λ q. test (true ∷ q))) passes).0 (omega arith)
+    for_each_at n (λ q. test (false ∷ q)) p (and_parts (for_each n (λ q. test (false ∷ q)))
+    (for_each n (λ q. test (true ∷ q))) passes).0 (omega arith)
 for_each_at (suc n) test (true ∷ p) passes long =
-    for_each_at n (λ q. test (true ∷ q)) p (and_parts (for_each n (λ q. test (false ∷ q))) (for_each n (λ q. test (true ∷ q))) passes).1 (omega arith)
+    for_each_at n (λ q. test (true ∷ q)) p (and_parts (for_each n (λ q. test (false ∷ q)))
+    (for_each n (λ q. test (true ∷ q))) passes).1 (omega arith)
 
 same_true : (p q : List Bool) → same p q ≡ true → p ≡ q
 same_true [] [] passes = refl
@@ -65,7 +69,8 @@ numbers_come_back = refl
 
 number_of_bits : (b : ℕ) → b < 256 → number (bits_of b) ≡ b
 number_of_bits b byte =
-    eqb-true (number (bits_of b)) b (agree_below_at (λ n. number (bits_of n) == n) (λ n. true) 256 b numbers_come_back byte)
+    eqb-true (number (bits_of b)) b (agree_below_at (λ n. number (bits_of n) == n) (λ n. true) 256 b numbers_come_back
+    byte)
 
 -- one bit of a bitwise xor
 sum_of_bits : (x y : ℕ) → x < 2 → y < 2 → ((x + y) % 2 == 1) ≡ differ (x == 1) (y == 1)
@@ -78,7 +83,8 @@ sum_of_bits (suc zero) (suc (suc y)) = λ s t. absurd (omega arith)
 sum_of_bits (suc (suc x)) y = λ s t. absurd (omega arith)
 
 bit_of_xor : (a b i : ℕ) → (bit_at (bit_xor a b) i == 1) ≡ differ (bit_at a i == 1) (bit_at b i == 1)
-bit_of_xor a b i = ap (λ n. n == 1) (bit_at_xor a b i) ∙ sum_of_bits (bit_at a i) (bit_at b i) (bit_at-lt a i) (bit_at-lt b i)
+bit_of_xor a b i = ap (λ n. n == 1) (bit_at_xor a b i) ∙ sum_of_bits (bit_at a i) (bit_at b i) (bit_at-lt a i)
+    (bit_at-lt b i)
 
 bits_of_xor : (a b : ℕ) → bits_of (bit_xor a b) ≡ plus (bits_of a) (bits_of b)
 unfolding plus
@@ -100,7 +106,8 @@ pub pec_small : (bytes : List ℕ) → pec bytes < 256
 unfolding pec
 pec_small bytes =
     let rest = remainder (message bytes) in
-    let fits : number rest < 2 ^ 8 = subst (λ n. number rest < 2 ^ n) (length-remainder (message bytes)) (number_fits rest) in
+    let fits : number rest < 2 ^ 8 = subst (λ n. number rest < 2 ^ n) (length-remainder (message bytes))
+    (number_fits rest) in
     fits
 
 -- the bits of a code are the remainder
@@ -114,10 +121,12 @@ pec_of_nothing = refl
 
 message-append : (a b : List ℕ) → message (a ++ b) ≡ message a ++ message b
 message-append [] b = refl
-message-append (x ∷ a) b = ap (λ m. bits_of x ++ m) (message-append a b) ∙ sym (append_assoc (bits_of x) (message a) (message b))
+message-append (x ∷ a) b = ap (λ m. bits_of x ++ m) (message-append a b)
+    ∙ sym (append_assoc (bits_of x) (message a) (message b))
 
 -- the code of bytes after others, by the remainder of these
-pec-append : (a b : List ℕ) → pec (a ++ b) ≡ number (left_after (length (message b)) (plus (bits_of (pec a)) (times_x8 (message b))))
+pec-append : (a b : List ℕ) → pec (a ++ b)
+    ≡ number (left_after (length (message b)) (plus (bits_of (pec a)) (times_x8 (message b))))
 unfolding pec
 pec-append a b =
     ap
@@ -162,7 +171,8 @@ pub pec_is_remainder : (bytes : List ℕ) (code : ℕ) → code ≡ pec bytes �
 pec_is_remainder bytes code same =
     subst (IsRemainder (message bytes)) (sym (ap bits_of same ∙ bits_of_pec bytes)) (remainder_is_one (message bytes))
 
-pub remainder_is_pec : (bytes : List ℕ) (code : ℕ) → code < 256 → IsRemainder (message bytes) (bits_of code) → code ≡ pec bytes
+pub remainder_is_pec : (bytes : List ℕ) (code : ℕ) → code < 256 → IsRemainder (message bytes) (bits_of code)
+    → code ≡ pec bytes
 unfolding pec
 remainder_is_pec bytes code byte is =
     sym (number_of_bits code byte) ∙ ap number (one_remainder (message bytes) (bits_of code) is)

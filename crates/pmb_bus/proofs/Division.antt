@@ -1,6 +1,8 @@
 -- Sums of polynomials, and long division by the generator.
-use Rattle.std.proofs.Common.{◌≡◌, ℕ, ◌+◌, ◌≤◌, zero, suc, Bool, true, false, List, [], ◌∷◌, ◌++◌, length, replicate, refl, sym, ap, ◌∙◌, append_assoc, arith, length-append}
-use Rattle.pmb_bus.specs.Pec.{generator, differ, plus, behind_highest, divide_step, left_after, times_x8, remainder, times, IsRemainder}
+use Rattle.std.proofs.Common.{◌≡◌, ℕ, ◌+◌, ◌≤◌, zero, suc, Bool, true, false, List, [], ◌∷◌, ◌++◌, length, replicate}
+use Rattle.std.proofs.Common.{refl, sym, ap, ◌∙◌, append_assoc, arith, length-append}
+use Rattle.pmb_bus.specs.Pec.{generator, differ, plus, behind_highest, divide_step, left_after, times_x8, remainder}
+use Rattle.pmb_bus.specs.Pec.{times, IsRemainder}
 
 -- ---- sums
 
@@ -70,7 +72,8 @@ length-plus [] (d ∷ q) short = absurd (omega arith)
 length-plus (c ∷ p) (d ∷ q) short = ap suc (length-plus p q (omega arith))
 
 -- a sum after zeros, and after the same coefficients
-plus_behind_zeros : (n : ℕ) (p q : List Bool) → plus (replicate n false ++ p) (replicate n false ++ q) ≡ replicate n false ++ plus p q
+plus_behind_zeros : (n : ℕ) (p q : List Bool) → plus (replicate n false ++ p) (replicate n false ++ q)
+    ≡ replicate n false ++ plus p q
 unfolding plus
 plus_behind_zeros zero p q = refl
 plus_behind_zeros (suc n) p q = ap (λ r. false ∷ r) (plus_behind_zeros n p q)
@@ -110,7 +113,8 @@ left_behind_product (suc n) (false ∷ q) t as_many long =
     let back = replicate n false ++ t in
     let enough : 8 ≤ length (plus (times q generator) back) =
     omega (arith, length-plus_right (times q generator) back, length-append (replicate n false) t) in
-    ap (left_after n) (plus-assoc (replicate 8 false) (times q generator) back ∙ plus_zeros 8 (plus (times q generator) back) enough)
+    ap (left_after n) (plus-assoc (replicate 8 false) (times q generator) back
+    ∙ plus_zeros 8 (plus (times q generator) back) enough)
     ∙ left_behind_product n q t (omega arith) long
 left_behind_product (suc n) (true ∷ q) t as_many long =
     let back = replicate n false ++ t in
@@ -164,7 +168,8 @@ product_and_left (suc n) (false ∷ p) long =
     let back = replicate n false ++ left_after n p in
     let rest : p ≡ plus part back = product_and_left n p (omega arith) in
     let enough : 8 ≤ length p = omega arith in
-    ap (λ q. false ∷ q) (sym (plus-assoc (replicate 8 false) part back ∙ ap (plus (replicate 8 false)) (sym rest) ∙ plus_zeros 8 p enough))
+    ap (λ q. false ∷ q) (sym (plus-assoc (replicate 8 false) part back ∙ ap (plus (replicate 8 false)) (sym rest)
+    ∙ plus_zeros 8 p enough))
 product_and_left (suc n) (true ∷ p) long =
     let next = plus p low in
     let part = times (quotient n next) generator in
@@ -195,7 +200,8 @@ left_with_tail m t long =
     ap (left_after n) (split ∙ joined) ∙ left_behind_product n q (plus rest t) (length-quotient n (times_x8 m)) enough
 
 -- the steps for two lists of coefficients, one after the other
-left_after-append : (m k p : List Bool) → left_after (length (m ++ k)) p ≡ left_after (length k) (left_after (length m) p)
+left_after-append : (m k p : List Bool) → left_after (length (m ++ k)) p
+    ≡ left_after (length k) (left_after (length m) p)
 unfolding left_after
 left_after-append [] k p = refl
 left_after-append (c ∷ m) k p = left_after-append m k (divide_step p)

@@ -1,5 +1,6 @@
 -- What a piece of a text comes to, one byte after the other.
-use Rattle.std.proofs.Common.{◌≡◌, ℕ, ◌+◌, ◌-◌, ◌<◌, List, [], ◌∷◌, ◌++◌, length, take, drop, get_or, refl, sym, ap, subst, ◌∙◌, arith}
+use Rattle.std.proofs.Common.{◌≡◌, ℕ, ◌+◌, ◌-◌, ◌<◌, List, [], ◌∷◌, ◌++◌, length, take, drop, get_or, refl, sym, ap}
+use Rattle.std.proofs.Common.{subst, ◌∙◌, arith}
 use Rattle.std.proofs.lemmas.List.{append_assoc, take_more, take_all, drop_more, take-append-drop}
 use Rattle.pmb_bus.specs.declared.event.Event.{Event}
 use Rattle.pmb_bus.specs.declared.lexer.LexFault.{LexFault}
@@ -17,11 +18,13 @@ pub record FedTo (before : Lexer) (piece : List ℕ) (i : ℕ) (now : Lexer) : T
       → LexerStandsAt now (n + i) (text ++ take i piece) events
   pub sound : (fault : LexFault) → IsFaulted before fault → ⊥
 
-module _ (before now : Lexer) (piece : List ℕ) (i d : ℕ) (fed : FedTo before piece i now) (within : i < length piece) where
+module _ (before now : Lexer) (piece : List ℕ) (i d : ℕ) (fed : FedTo before piece i now)
+    (within : i < length piece) where
   -- the text after one byte more
   one_more : (text : List ℕ) → (text ++ take i piece) ++ get_or piece i d ∷ [] ≡ text ++ take (i + 1) piece
   one_more text =
-      append_assoc text (take i piece) (get_or piece i d ∷ []) ∙ ap (λ (part : List ℕ). text ++ part) (sym (take_more piece i d within))
+      append_assoc text (take i piece) (get_or piece i d ∷ []) ∙ ap (λ (part : List ℕ). text ++ part)
+      (sym (take_more piece i d within))
 
   -- where a lexer stands after one byte more
   behind : (n : ℕ) (text : List ℕ) (events : List Event) (after : Lexer)
@@ -34,17 +37,21 @@ module _ (before now : Lexer) (piece : List ℕ) (i d : ℕ) (fed : FedTo before
 
   -- one byte more, and no word has ended
   pub fed_more : (after : Lexer)
-      → ((n : ℕ) (text : List ℕ) (events : List Event) → LexerStandsAt now n text events → Steps n text events (get_or piece i d) answers.Need after)
+      → ((n : ℕ) (text : List ℕ) (events : List Event) → LexerStandsAt now n text events
+      → Steps n text events (get_or piece i d) answers.Need after)
       → FedTo before piece (i + 1) after
   fed_more after steps = record {
-    stands = λ n text events stands. behind n text events after (steps (n + i) (text ++ take i piece) events (fed.stands n text events stands));
+    stands = λ n text events stands. behind n text events after
+        (steps (n + i) (text ++ take i piece) events (fed.stands n text events stands));
     sound = fed.sound;
   }
 
   -- one byte more ends a word
   pub fed_event : (after : Lexer) (event : Event)
-      → ((n : ℕ) (text : List ℕ) (events : List Event) → LexerStandsAt now n text events → Steps n text events (get_or piece i d) (answers.Event event) after)
-      → (n : ℕ) (text : List ℕ) (events : List Event) → LexerStandsAt before n text events → EndsWord n text events piece (i + 1) after event
+      → ((n : ℕ) (text : List ℕ) (events : List Event) → LexerStandsAt now n text events
+      → Steps n text events (get_or piece i d) (answers.Event event) after)
+      → (n : ℕ) (text : List ℕ) (events : List Event) → LexerStandsAt before n text events
+      → EndsWord n text events piece (i + 1) after event
   fed_event after event steps n text events stands =
       let here = fed.stands n text events stands in
       let last : i ≡ (i + 1) - 1 = omega arith in record {
@@ -62,13 +69,17 @@ module _ (before now : Lexer) (piece : List ℕ) (i d : ℕ) (fed : FedTo before
       let whole : take i piece ++ get_or piece i d ∷ drop (i + 1) piece ≡ piece =
       ap (λ (part : List ℕ). take i piece ++ part) (sym rest) ∙ take-append-drop i piece in
       append_assoc text (take i piece) (get_or piece i d ∷ (drop (i + 1) piece ++ more))
-      ∙ ap (λ (part : List ℕ). text ++ part) (sym (append_assoc (take i piece) (get_or piece i d ∷ drop (i + 1) piece) more) ∙ ap (λ (part : List ℕ). part ++ more) whole)
+      ∙ ap (λ (part : List ℕ). text ++ part) (sym
+      (append_assoc (take i piece) (get_or piece i d ∷ drop (i + 1) piece) more)
+      ∙ ap (λ (part : List ℕ). part ++ more) whole)
       ∙ sym (append_assoc text piece more)
 
   -- the next byte is refused
   pub fed_fault : (after : Lexer) (fault : LexFault)
-      → ((n : ℕ) (text : List ℕ) (events : List Event) → LexerStandsAt now n text events → Steps n text events (get_or piece i d) (answers.Fault fault) after)
-      → (n : ℕ) (text : List ℕ) (events : List Event) → LexerStandsAt before n text events → Refuses n text events piece i after fault
+      → ((n : ℕ) (text : List ℕ) (events : List Event) → LexerStandsAt now n text events
+      → Steps n text events (get_or piece i d) (answers.Fault fault) after)
+      → (n : ℕ) (text : List ℕ) (events : List Event) → LexerStandsAt before n text events
+      → Refuses n text events piece i after fault
   fed_fault after fault steps n text events stands =
       let here = fed.stands n text events stands in
       let stops = steps (n + i) (text ++ take i piece) events here in record {
@@ -85,8 +96,10 @@ module _ (before now : Lexer) (piece : List ℕ) (i d : ℕ) (fed : FedTo before
 
 -- the whole piece
 pub fed_all : (before now : Lexer) (piece : List ℕ) (i : ℕ) → FedTo before piece i now → i ≡ length piece
-    → (n : ℕ) (text : List ℕ) (events : List Event) → LexerStandsAt before n text events → NeedsMore n text events piece (length piece) now
+    → (n : ℕ) (text : List ℕ) (events : List Event) → LexerStandsAt before n text events
+    → NeedsMore n text events piece (length piece) now
 fed_all before now piece i fed last n text events stands =
     let whole : take i piece ≡ piece = take_all i piece (omega arith) in
-    let here = subst (λ (part : List ℕ). LexerStandsAt now (n + i) (text ++ part) events) whole (fed.stands n text events stands) in
+    let here = subst (λ (part : List ℕ). LexerStandsAt now (n + i) (text ++ part) events) whole
+    (fed.stands n text events stands) in
     record { all = refl; stands = subst (λ (k : ℕ). LexerStandsAt now (n + k) (text ++ piece) events) last here }

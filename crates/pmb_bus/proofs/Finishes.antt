@@ -4,8 +4,8 @@ use Rattle.std.specs.List.{filter}
 use Rattle.std.proofs.lemmas.List.{append-nil}
 use Rattle.pmb_bus.specs.declared.event.Event.{Event}
 use Rattle.pmb_bus.specs.declared.lexer.LexFault.{LexFault}
-use Rattle.pmb_bus.specs.declared.lexer.Place.{Place}
-use Rattle.pmb_bus.specs.declared.lexer.Place.TheVariants as places
+use Rattle.pmb_bus.specs.declared.lexer.LexerState.{LexerState}
+use Rattle.pmb_bus.specs.declared.lexer.LexerState.TheVariants as places
 use Rattle.pmb_bus.specs.declared.lexer.Lexer.{Lexer}
 use Rattle.pmb_bus.specs.Event.{event_of}
 use Rattle.pmb_bus.specs.Text.{is_separator, in_comment, ends_in_comment, is_word, open_word, AreTokens}
@@ -29,14 +29,16 @@ space_stays true = refl
 space_stays false = refl
 
 -- a lexer after the end of a text, as if a space of no bytes stood there
-stands_at_end : (before : Lexer) (n : ℕ) (text : List ℕ) (events found : List Event) (place : Place)
-    → LexerStandsAt before n text events → AreTokens (filter is_word (open_word text ∷ [])) found → IsPlace place n (text ++ 32 ∷ [])
+stands_at_end : (before : Lexer) (n : ℕ) (text : List ℕ) (events found : List Event) (place : LexerState)
+    → LexerStandsAt before n text events → AreTokens (filter is_word (open_word text ∷ [])) found
+    → IsPlace place n (text ++ 32 ∷ [])
     → LexerStandsAt (record before { place = place }) n (text ++ 32 ∷ []) (events ++ found)
 stands_at_end before n text events found place stands word here =
     let ended = ended_by text 32 events found (space_cuts (ends_in_comment text)) stands.ended word in record {
       ended = ended;
       begins = begins_spelled (text ++ 32 ∷ []) (events ++ found)
-          (spells_ended (text ++ 32 ∷ []) (events ++ found) ended (cut_by text 32 (space_cuts (ends_in_comment text))).opened);
+          (spells_ended (text ++ 32 ∷ []) (events ++ found) ended
+          (cut_by text 32 (space_cuts (ends_in_comment text))).opened);
       counted = stands.counted;
       place = here;
     }
@@ -50,7 +52,8 @@ comment_at_end : (text : List ℕ) → ends_in_comment (text ++ 32 ∷ []) ≡ e
 comment_at_end text = ends_in_comment_by text 32 ∙ space_stays (ends_in_comment text)
 
 -- between words and in a comment the place stays
-place_stays : (place : Place) (n : ℕ) (text : List ℕ) → IsPlace place n text → open_word text ≡ [] → IsPlace place n (text ++ 32 ∷ [])
+place_stays : (place : LexerState) (n : ℕ) (text : List ℕ) → IsPlace place n text → open_word text ≡ []
+    → IsPlace place n (text ++ 32 ∷ [])
 place_stays places.Between n text is none = (opened_at_end text, comment_at_end text ∙ is.1)
 place_stays places.Comment n text is none = (opened_at_end text, comment_at_end text ∙ is.1)
 place_stays (places.One at first) n text is none = cc (none, is.0)
@@ -63,12 +66,15 @@ pub finishes_between : (lexer : Lexer) (n : ℕ) (text : List ℕ) (events : Lis
 finishes_between lexer n text events stands none = record {
   spells = spells_ended text events stands.ended none;
   stands = subst (λ (all : List Event). LexerStandsAt lexer n (text ++ 32 ∷ []) all) (append-nil events)
-      (stands_at_end lexer n text events [] lexer.place stands (no_word text none) (place_stays lexer.place n text stands.place none));
+      (stands_at_end lexer n text events [] lexer.place stands (no_word text none)
+      (place_stays lexer.place n text stands.place none));
 }
 
 -- the word under way ends
-pub finishes_word : (lexer : Lexer) (n : ℕ) (text : List ℕ) (events : List Event) (event : Event) → LexerStandsAt lexer n text events
-    → event_of (open_word text) ≡ Some event → FinishesWord n text events (record lexer { place = places.Between }) event
+pub finishes_word : (lexer : Lexer) (n : ℕ) (text : List ℕ) (events : List Event) (event : Event)
+    → LexerStandsAt lexer n text events
+    → event_of (open_word text) ≡ Some event
+    → FinishesWord n text events (record lexer { place = places.Between }) event
 finishes_word lexer n text events event stands token = record {
   spells = spells_open text events event stands.ended token;
   stands = stands_at_end lexer n text events (event ∷ []) places.Between stands (one_word text event token)
@@ -76,8 +82,10 @@ finishes_word lexer n text events event stands token = record {
 }
 
 -- the word under way is no token
-pub finish_refuses : (lexer : Lexer) (n : ℕ) (text : List ℕ) (events : List Event) (fault : LexFault) → LexerStandsAt lexer n text events
-    → OpenWordComesTo n text (Err fault) → FinishRefuses n text events (record lexer { place = places.Faulted fault }) fault
+pub finish_refuses : (lexer : Lexer) (n : ℕ) (text : List ℕ) (events : List Event) (fault : LexFault)
+    → LexerStandsAt lexer n text events
+    → OpenWordComesTo n text (Err fault) → FinishRefuses n text events (record lexer { place = places.Faulted fault })
+    fault
 finish_refuses lexer n text events fault stands none =
     let bad = open_word_bad_here text events stands.ended none.0 none.1 in record {
       spells_none = λ others spells. bad_word_spells_none text events others bad.0 bad.2 spells;

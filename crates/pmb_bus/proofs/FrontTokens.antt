@@ -1,12 +1,14 @@
 -- A token at the front of a piece of text, and its separator, taken at once.
-use Rattle.std.proofs.Common.{◌≡◌, ◌↔◌, ℕ, ◌+◌, ◌-◌, ◌*◌, ◌≤◌, inl, inr, true, false, Option, Some, None, is_some, IsSome, IfSome, List, [], ◌∷◌, ◌++◌, length, take, drop, get_or, refl, sym, ap, subst, ◌∙◌, arith}
+use Rattle.std.proofs.Common.{◌≡◌, ◌↔◌, ℕ, ◌+◌, ◌-◌, ◌*◌, ◌≤◌, inl, inr, true, false, Option, Some, None, is_some}
+use Rattle.std.proofs.Common.{IsSome, IfSome, List, [], ◌∷◌, ◌++◌, length, take, drop, get_or, refl, sym, ap, subst}
+use Rattle.std.proofs.Common.{◌∙◌, arith}
 use Rattle.std.proofs.lemmas.List.{append_assoc, take_at, length-append}
 use Rattle.std.proofs.lemmas.Bool.{cases_eq, ne_eqb}
 use Rattle.hex.specs.Hex.{hex_digit_value, is_hex_digit}
 use Rattle.pmb_bus.specs.declared.event.Event.{Event}
 use Rattle.pmb_bus.specs.declared.event.Event.TheVariants.{Byte, Ack}
-use Rattle.pmb_bus.specs.declared.lexer.Place.{Place}
-use Rattle.pmb_bus.specs.declared.lexer.Place.TheVariants as places
+use Rattle.pmb_bus.specs.declared.lexer.LexerState.{LexerState}
+use Rattle.pmb_bus.specs.declared.lexer.LexerState.TheVariants as places
 use Rattle.pmb_bus.specs.declared.lexer.Lexer.{Lexer}
 use Rattle.pmb_bus.specs.Count.{capped}
 use Rattle.pmb_bus.specs.Event.{letter_event, byte_event, event_of}
@@ -101,7 +103,8 @@ front_acked_exactly (a ∷ b ∷ c ∷ d ∷ e ∷ rest) None long token space l
       let high : a ≡ begun.high = ap (λ (text : List ℕ). get_or text 0 0) begun.split in
       let low : b ≡ begun.low = ap (λ (text : List ℕ). get_or text 1 0) begun.split in
       absurd
-      (two_digits (hex_digit_value a) (hex_digit_value b) (ap is_hex_digit high ∙ begun.high_digit) (ap is_hex_digit low ∙ begun.low_digit) token)
+      (two_digits (hex_digit_value a) (hex_digit_value b) (ap is_hex_digit high ∙ begun.high_digit)
+      (ap is_hex_digit low ∙ begun.low_digit) token)
       ),
 )
 
@@ -118,22 +121,25 @@ separator_ends : (b : ℕ) → is_separator b ≡ true → ends_word b ≡ true
 separator_ends b separates = rw separates refl
 
 -- a lexer stands after a word that is a token, and that no byte has ended
-record BehindWord (now : Lexer) (n : ℕ) (text : List ℕ) (events : List Event) (word : List ℕ) (event : Event) (used : ℕ) : Type 0 where
+record BehindWord (now : Lexer) (n : ℕ) (text : List ℕ) (events : List Event) (word : List ℕ) (event : Event)
+    (used : ℕ) : Type 0 where
   stands : LexerStandsAt now (n + length word) (text ++ word) events
   outside : ends_in_comment (text ++ word) ≡ false
   token : event_of (open_word (text ++ word)) ≡ Some event
   counted : now.used ≡ capped (used + length word)
 
-module _ (before : Lexer) (n : ℕ) (text : List ℕ) (events : List Event) (stands : LexerStandsAt before n text events) (between : before.place ≡ places.Between) where
+module _ (before : Lexer) (n : ℕ) (text : List ℕ) (events : List Event) (stands : LexerStandsAt before n text events)
+    (between : before.place ≡ places.Between) where
   -- between words
   here : IsPlace places.Between n text
-  here = subst (λ (place : Place). IsPlace place n text) between stands.place
+  here = subst (λ (place : LexerState). IsPlace place n text) between stands.place
 
   -- after the first byte of a token
   behind_first : (b : ℕ) → ends_word b ≡ false → starts_token b ≡ true
       → LexerStandsAt (advanced before (places.One before.used b)) (n + 1) (text ++ b ∷ []) events
   behind_first b goes_on starts =
-      stands_longer before (advanced before (places.One before.used b)) n text b events (places.One before.used b) stands refl here.1 goes_on
+      stands_longer before (advanced before (places.One before.used b)) n text b events
+      (places.One before.used b) stands refl here.1 goes_on
       (lengthens_first n text b before.used stands.counted here.0 here.1 goes_on starts)
 
   -- after a letter that is a token
@@ -149,7 +155,8 @@ module _ (before : Lexer) (n : ℕ) (text : List ℕ) (events : List Event) (sta
 
   -- after the second digit of a token
   behind_second : (a b high low : ℕ) → hex_digit_value a ≡ Some high → hex_digit_value b ≡ Some low
-      → LexerStandsAt (advanced (advanced before (places.One before.used a)) (places.Two before.used (high * 16 + low))) (n + 2) (text ++ a ∷ b ∷ []) events
+      → LexerStandsAt (advanced (advanced before (places.One before.used a)) (places.Two before.used (high * 16 + low)))
+      (n + 2) (text ++ a ∷ b ∷ []) events
   behind_second a b high low is_high is_low =
       let value = high * 16 + low in
       let byte : byte_event (hex_digit_value a) (hex_digit_value b) ≡ Some (Byte value) = cc (is_high, is_low) in
@@ -157,7 +164,8 @@ module _ (before : Lexer) (n : ℕ) (text : List ℕ) (events : List Event) (sta
       let two = advanced one (places.Two before.used value) in
       let first = behind_first a (digit_goes_on a high is_high) (digit_starts a high is_high) in
       let goes_on = digit_goes_on b low is_low in
-      let second = stands_longer one two (n + 1) (text ++ a ∷ []) b events (places.Two before.used value) first refl first.place.1 goes_on
+      let second = stands_longer one two (n + 1) (text ++ a ∷ []) b events (places.Two before.used value) first refl
+      first.place.1 goes_on
       (lengthens_digit (n + 1) (text ++ a ∷ []) b before.used a value first.place first.place.1 goes_on (sym byte)) in
       let whole : (text ++ a ∷ []) ++ b ∷ [] ≡ text ++ a ∷ b ∷ [] = append_assoc text (a ∷ []) (b ∷ []) in
       let count : (n + 1) + 1 ≡ n + 2 = omega arith in
@@ -166,7 +174,8 @@ module _ (before : Lexer) (n : ℕ) (text : List ℕ) (events : List Event) (sta
 
   -- after two digits
   behind_digits : (a b high low : ℕ) → hex_digit_value a ≡ Some high → hex_digit_value b ≡ Some low
-      → BehindWord (advanced (advanced before (places.One before.used a)) (places.Two before.used (high * 16 + low))) n text events (a ∷ b ∷ []) (Byte (high * 16 + low)) before.used
+      → BehindWord (advanced (advanced before (places.One before.used a)) (places.Two before.used (high * 16 + low))) n
+      text events (a ∷ b ∷ []) (Byte (high * 16 + low)) before.used
   behind_digits a b high low is_high is_low =
       let second = behind_second a b high low is_high is_low in
       let word = second.place in record {
@@ -190,22 +199,28 @@ took_token : (piece word rest : List ℕ) (separator used : ℕ) → piece ≡ w
 took_token piece word rest separator used split counted =
     let whole : piece ≡ (word ++ separator ∷ []) ++ rest = split ∙ sym (append_assoc word (separator ∷ []) rest) in
     let long : length (word ++ separator ∷ []) ≡ length word + 1 = length-append word (separator ∷ []) in
-    let fits : length piece ≡ length word + length (separator ∷ rest) = ap (length {A = ℕ}) split ∙ length-append word (separator ∷ rest) in record {
+    let fits : length piece ≡ length word + length (separator ∷ rest) = ap (length {A = ℕ}) split
+    ∙ length-append word (separator ∷ rest) in record {
       word_is = ap (take (used - 1)) split ∙ take_at word (separator ∷ rest) (used - 1) (omega (arith, counted));
       all_is = ap (take used) whole ∙ take_at (word ++ separator ∷ []) rest used (omega (arith, long, counted));
       within = omega (arith, fits, counted);
     }
 
 -- after the separator
-ends_behind : (now after : Lexer) (n : ℕ) (text : List ℕ) (events : List Event) (word : List ℕ) (event : Event) (start : ℕ) (piece rest : List ℕ) (separator used : ℕ)
-    → BehindWord now n text events word event start → is_separator separator ≡ true → piece ≡ word ++ separator ∷ rest → used ≡ length word + 1
-    → after ≡ record { place = places.Between; used = capped (start + used) } → EndsWord n text events piece used after event
+ends_behind : (now after : Lexer) (n : ℕ) (text : List ℕ) (events : List Event) (word : List ℕ) (event : Event)
+    (start : ℕ) (piece rest : List ℕ) (separator used : ℕ)
+    → BehindWord now n text events word event start → is_separator separator ≡ true → piece ≡ word ++ separator ∷ rest
+    → used ≡ length word + 1
+    → after ≡ record { place = places.Between; used = capped (start + used) }
+    → EndsWord n text events piece used after event
 ends_behind now after n text events word event start piece rest separator used behind separates split counted is =
     let took = took_token piece word rest separator used split counted in
     let count : capped (start + used) ≡ capped (now.used + 1) = omega (arith, behind.counted, counted) in
-    let lexer : after ≡ advanced now (place_behind_word separator) = is ∙ cc (count, separator_behind separator separates) in
+    let lexer : after ≡ advanced now (place_behind_word separator) = is
+    ∙ cc (count, separator_behind separator separates) in
     let stands : LexerStandsAt after ((n + length word) + 1) ((text ++ word) ++ separator ∷ []) (events ++ event ∷ []) =
-    stands_end now after (n + length word) (text ++ word) separator events (event ∷ []) behind.stands lexer behind.outside
+    stands_end now after (n + length word) (text ++ word) separator events
+    (event ∷ []) behind.stands lexer behind.outside
     (separator_ends separator separates) (one_word (text ++ word) event behind.token) in
     let all : (text ++ word) ++ separator ∷ [] ≡ text ++ take used piece =
     append_assoc text word (separator ∷ []) ∙ ap (λ (part : List ℕ). text ++ part) (sym took.all_is) in
@@ -218,35 +233,42 @@ ends_behind now after n text events word event start piece rest separator used b
     }
 
 -- A token and a separator at the front of a piece: two or three steps are this one.
-pub front_token_ends : (before after : Lexer) (n : ℕ) (text : List ℕ) (events : List Event) (piece : List ℕ) (used : ℕ) (event : Event)
+pub front_token_ends : (before after : Lexer) (n : ℕ) (text : List ℕ) (events : List Event) (piece : List ℕ) (used : ℕ)
+    (event : Event)
     → LexerStandsAt before n text events → before.place ≡ places.Between → BeginsWithToken piece event used
-    → after ≡ record { place = places.Between; used = capped (before.used + used) } → EndsWord n text events piece used after event
+    → after ≡ record { place = places.Between; used = capped (before.used + used) }
+    → EndsWord n text events piece used after event
 front_token_ends before after n text events piece used event stands between begins is =
     by_word begins.word begins.split begins.token begins.counted
   where
-    by_word : (word : List ℕ) → piece ≡ word ++ begins.separator ∷ begins.rest → event_of word ≡ Some event → used ≡ length word + 1
+    by_word : (word : List ℕ) → piece ≡ word ++ begins.separator ∷ begins.rest → event_of word ≡ Some event
+        → used ≡ length word + 1
         → EndsWord n text events piece used after event
     by_word [] split token counted = cc token
     by_word (b ∷ []) split token counted =
-        ends_behind (advanced before (places.One before.used b)) after n text events (b ∷ []) event before.used piece begins.rest begins.separator used
+        ends_behind (advanced before (places.One before.used b)) after n text events
+        (b ∷ []) event before.used piece begins.rest begins.separator used
         (behind_letter before n text events stands between b event token) begins.separates split counted is
     by_word (a ∷ b ∷ []) split token counted =
         let digits = digits_of (hex_digit_value a) (hex_digit_value b) event token in
         let value = digits.first * 16 + digits.second in
         subst (λ (found : Event). EndsWord n text events piece used after found) (sym digits.event_is)
         (
-        ends_behind (advanced (advanced before (places.One before.used a)) (places.Two before.used value)) after n text events (a ∷ b ∷ []) (Byte value) before.used
-        piece begins.rest begins.separator used (behind_digits before n text events stands between a b digits.first digits.second digits.high_is digits.low_is)
+        ends_behind (advanced (advanced before (places.One before.used a)) (places.Two before.used value)) after n text
+        events (a ∷ b ∷ []) (Byte value) before.used
+        piece begins.rest begins.separator used (behind_digits before n text events stands between a b digits.first
+        digits.second digits.high_is digits.low_is)
         begins.separates split counted is
         )
     by_word (a ∷ b ∷ c ∷ more) split token counted = cc token
 
 -- A lexer that stands at a text between words is between words,
-pub between_there : (lexer : Lexer) (n : ℕ) (text : List ℕ) (events : List Event) → LexerStandsAt lexer n text events → EndsBetween text
+pub between_there : (lexer : Lexer) (n : ℕ) (text : List ℕ) (events : List Event) → LexerStandsAt lexer n text events
+    → EndsBetween text
     → lexer.place ≡ places.Between
 between_there lexer n text events stands between = by_place lexer.place stands.place
   where
-    by_place : (place : Place) → IsPlace place n text → place ≡ places.Between
+    by_place : (place : LexerState) → IsPlace place n text → place ≡ places.Between
     by_place places.Between is = refl
     by_place places.Comment is = cc (is.1, between.1)
     by_place (places.One at first) is = cc (is.0, between.0)
@@ -256,18 +278,22 @@ between_there lexer n text events stands between = by_place lexer.place stands.p
 -- and stands at no other text then.
 pub ends_between : (lexer : Lexer) (n : ℕ) (text : List ℕ) (events : List Event) → LexerStandsAt lexer n text events
     → lexer.place ≡ places.Between → EndsBetween text
-ends_between lexer n text events stands between = subst (λ (place : Place). IsPlace place n text) between stands.place
+ends_between lexer n text events stands between =
+    subst (λ (place : LexerState). IsPlace place n text) between stands.place
 
 -- A byte, ACK and a separator after each at the front of a piece: five steps are these two.
 pub front_acked_feeds : (before after : Lexer) (n : ℕ) (text : List ℕ) (events : List Event) (piece : List ℕ) (byte : ℕ)
-    → LexerStandsAt before n text events → before.place ≡ places.Between → BeginsWithToken piece (Byte byte) 3 × BeginsWithToken (drop 3 piece) Ack 2
-    → after ≡ record { place = places.Between; used = capped (before.used + 5) } → FeedsAcked n text events piece byte after
+    → LexerStandsAt before n text events → before.place ≡ places.Between → BeginsWithToken piece (Byte byte) 3
+    × BeginsWithToken (drop 3 piece) Ack 2
+    → after ≡ record { place = places.Between; used = capped (before.used + 5) }
+    → FeedsAcked n text events piece byte after
 front_acked_feeds before after n text events piece byte stands between begins is =
     let middle : Lexer = record { place = places.Between; used = capped (before.used + 3) } in
     let first = front_token_ends before middle n text events piece 3 (Byte byte) stands between begins.0 refl in
     let count : capped (before.used + 5) ≡ capped (middle.used + 2) = omega arith in record {
       between = middle;
       ends_byte = first;
-      ends_ack = front_token_ends middle after (n + 3) (text ++ take 3 piece) (events ++ Byte byte ∷ []) (drop 3 piece) 2 Ack first.stands refl begins.1
+      ends_ack = front_token_ends middle after (n + 3) (text ++ take 3 piece) (events ++ Byte byte ∷ [])
+          (drop 3 piece) 2 Ack first.stands refl begins.1
           (is ∙ ap (λ (k : ℕ). record { place = places.Between; used = k }) count);
     }

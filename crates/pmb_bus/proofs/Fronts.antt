@@ -1,23 +1,29 @@
 -- What stands before the word under way, and the first word of a text that is no token.
-use Rattle.std.proofs.Common.{◌≡◌, ℕ, Bool, true, false, inl, inr, None, List, [], ◌∷◌, ◌++◌, length, refl, sym, ap, subst, ◌∙◌}
+use Rattle.std.proofs.Common.{◌≡◌, ℕ, Bool, true, false, inl, inr, None, List, [], ◌∷◌, ◌++◌, length, refl, sym, ap}
+use Rattle.std.proofs.Common.{subst, ◌∙◌}
 use Rattle.std.specs.List.{filter}
 use Rattle.std.proofs.lemmas.List.{append-nil, append_assoc, length-append}
 use Rattle.std.proofs.lemmas.Bool.{cases_Bool, cases_eq, ne_eqb}
 use Rattle.pmb_bus.specs.declared.event.Event.{Event}
 use Rattle.pmb_bus.specs.Event.{event_of}
-use Rattle.pmb_bus.specs.Text.{is_separator, in_comment, ends_in_comment, runs, is_word, words, last_run, all_but_last, open_word, ended_words, first_run, front_word, AreTokens, Spells, EndedWordsSpell, FirstBadWord}
+use Rattle.pmb_bus.specs.Text.{is_separator, in_comment, ends_in_comment, runs, is_word, words, last_run, all_but_last}
+use Rattle.pmb_bus.specs.Text.{open_word, ended_words, first_run, front_word, AreTokens, Spells, EndedWordsSpell}
+use Rattle.pmb_bus.specs.Text.{FirstBadWord}
 use Rattle.pmb_bus.specs.LexFault.{OpenWordIsBad}
 use Rattle.pmb_bus.proofs.Splits.{glue, glue-nil}
-use Rattle.pmb_bus.proofs.Words.{runs_from, blank, blank_out, runs-append, words-append, words_split, comment_cuts, runs_from-kept, cut_by, longer_by, ends_in_comment_by}
+use Rattle.pmb_bus.proofs.Words.{runs_from, blank, blank_out, runs-append, words-append, words_split, comment_cuts}
+use Rattle.pmb_bus.proofs.Words.{runs_from-kept, cut_by, longer_by, ends_in_comment_by}
 use Rattle.pmb_bus.proofs.Tokens.{no_tokens}
 
 -- what holds of no bytes, and of one more, holds of every text
-pub from_the_front : (P : List ℕ → Type 0) → P [] → ((text : List ℕ) (b : ℕ) → P text → P (text ++ b ∷ [])) → (text : List ℕ) → P text
+pub from_the_front : (P : List ℕ → Type 0) → P [] → ((text : List ℕ) (b : ℕ) → P text → P (text ++ b ∷ []))
+    → (text : List ℕ) → P text
 from_the_front P none more text = onwards [] text none
   where
     onwards : (front back : List ℕ) → P front → P (front ++ back)
     onwards front [] holds = subst P (sym (append-nil front)) holds
-    onwards front (b ∷ back) holds = subst P (append_assoc front (b ∷ []) back) (onwards (front ++ b ∷ []) back (more front b holds))
+    onwards front (b ∷ back) holds = subst P (append_assoc front (b ∷ []) back)
+        (onwards (front ++ b ∷ []) back (more front b holds))
 
 -- a text that ends in a comment has no word under way
 abbrev OpensNone : List ℕ → Type 0
@@ -27,7 +33,8 @@ OpensNone text = ends_in_comment text ≡ true → open_word text ≡ []
 pub open_word_in_comment : (text : List ℕ) → OpensNone text
 open_word_in_comment =
     from_the_front OpensNone (λ inside. refl)
-    (λ text b before inside. (cut_by text b (comment_cuts (ends_in_comment text) b (sym (ends_in_comment_by text b) ∙ inside))).opened)
+    (λ text b before inside. (cut_by text b (comment_cuts (ends_in_comment text) b
+    (sym (ends_in_comment_by text b) ∙ inside))).opened)
 
 -- ---- the front of a text
 
@@ -75,7 +82,8 @@ pub runs-word : (word rest : List ℕ) → runs word ≡ word ∷ [] → ends_in
     → runs (word ++ rest) ≡ glue word (runs_from false rest)
 runs-word word rest solid clear =
     runs-append word rest
-    ∙ ap (λ (all : List (List ℕ)). all_but_last all ++ glue (last_run all) (runs_from (ends_in_comment word) rest)) solid
+    ∙ ap (λ (all : List (List ℕ)). all_but_last all ++ glue (last_run all) (runs_from (ends_in_comment word) rest))
+    solid
     ∙ ap (λ (inside : Bool). glue word (runs_from inside rest)) clear
 
 -- a byte of a word leaves the front as it is
@@ -152,7 +160,8 @@ pub words_between : (front back : List ℕ) → open_word front ≡ [] → ends_
     → words (front ++ back) ≡ words front ++ words back
 words_between front back none outside =
     words-append front back
-    ∙ ap (λ (word : List ℕ). ended_words front ++ filter is_word (glue word (runs_from (ends_in_comment front) back))) none
+    ∙ ap (λ (word : List ℕ). ended_words front ++ filter is_word (glue word (runs_from (ends_in_comment front) back)))
+    none
     ∙ ap (λ (inside : Bool). ended_words front ++ filter is_word (glue [] (runs_from inside back))) outside
     ∙ ap (λ (all : List (List ℕ)). ended_words front ++ filter is_word all) (glue-nil (runs back))
     ∙ ap (λ (ws : List (List ℕ)). ws ++ words back) (sym (words_ended front none))

@@ -1,10 +1,12 @@
 -- Two texts end to end, of which the first ends between words.
-use Rattle.std.proofs.Common.{◌≡◌, ℕ, ◌+◌, ◌-◌, ◌^◌, min, Bool, false, List, [], ◌∷◌, ◌++◌, length, refl, sym, ap, subst, ◌∙◌, arith}
+use Rattle.std.proofs.Common.{◌≡◌, ℕ, ◌+◌, ◌-◌, ◌^◌, min, Bool, false, List, [], ◌∷◌, ◌++◌, length, refl, sym, ap}
+use Rattle.std.proofs.Common.{subst, ◌∙◌, arith}
 use Rattle.std.proofs.lemmas.List.{append_assoc, length-append}
 use Rattle.pmb_bus.specs.declared.event.Event.{Event}
-use Rattle.pmb_bus.specs.Text.{AreTokens, EndsBetween, FirstBadWord, Spells, ends_in_comment, ends_in_comment_from, last_run, open_word}
-use Rattle.pmb_bus.specs.declared.lexer.Place.{Place}
-use Rattle.pmb_bus.specs.declared.lexer.Place.TheVariants as places
+use Rattle.pmb_bus.specs.Text.{AreTokens, EndsBetween, FirstBadWord, Spells, ends_in_comment, ends_in_comment_from}
+use Rattle.pmb_bus.specs.Text.{last_run, open_word}
+use Rattle.pmb_bus.specs.declared.lexer.LexerState.{LexerState}
+use Rattle.pmb_bus.specs.declared.lexer.LexerState.TheVariants as places
 use Rattle.pmb_bus.specs.declared.lexer.Lexer.{Lexer}
 use Rattle.pmb_bus.specs.Count.{capped}
 use Rattle.pmb_bus.specs.machine.Standing.{IsPlace, LexerStandsAt}
@@ -16,7 +18,8 @@ use Rattle.pmb_bus.proofs.Tokens.{AreTokens-append}
 use Rattle.pmb_bus.proofs.Words.{cut_by, ends_in_comment_by, ends_in_comment_from-append, open_word-append, runs_from}
 
 -- the events of both
-pub spelled : (front back : List ℕ) (events more : List Event) → EndsBetween front → Spells front events → Spells back more
+pub spelled : (front back : List ℕ) (events more : List Event) → EndsBetween front → Spells front events
+    → Spells back more
     → Spells (front ++ back) (events ++ more)
 spelled front back events more between first second =
     subst (λ (ws : List (List ℕ)). AreTokens ws (events ++ more)) (sym (words_between front back between.0 between.1))
@@ -30,11 +33,13 @@ between_behind front back first second = (
       ∙ ap (λ (inside : Bool). last_run (glue [] (runs_from inside back))) first.1
       ∙ ap last_run (glue-nil (runs_from false back))
       ∙ second.0,
-  ends_in_comment_from-append false front back ∙ ap (λ (inside : Bool). ends_in_comment_from inside back) first.1 ∙ second.1,
+  ends_in_comment_from-append false front back ∙ ap (λ (inside : Bool). ends_in_comment_from inside back) first.1
+      ∙ second.1,
 )
 
 -- between words there is one place
-between_stays : (place : Place) (n m : ℕ) (text longer : List ℕ) → EndsBetween text → IsPlace place n text → EndsBetween longer → IsPlace place m longer
+between_stays : (place : LexerState) (n m : ℕ) (text longer : List ℕ) → EndsBetween text → IsPlace place n text
+    → EndsBetween longer → IsPlace place m longer
 between_stays places.Between n m text longer between is here = here
 between_stays places.Comment n m text longer between is here = cc (between.1, is.1)
 between_stays (places.One at first) n m text longer between is here = cc (between.0, is.0)
@@ -46,8 +51,10 @@ counts_on : (used n more : ℕ) → used ≡ capped n → min (used + more) (2 ^
 counts_on used n more same = omega arith
 
 -- a lexer after bytes that were read elsewhere
-pub stands_behind_skipped : (before after : Lexer) (n : ℕ) (text bytes : List ℕ) (events more : List Event) → LexerStandsAt before n text events
-    → after ≡ record { place = before.place; used = min (before.used + length bytes) (2 ^ 64 - 1) } → EndsBetween text → EndsBetween bytes → Spells bytes more
+pub stands_behind_skipped : (before after : Lexer) (n : ℕ) (text bytes : List ℕ) (events more : List Event)
+    → LexerStandsAt before n text events
+    → after ≡ record { place = before.place; used = min (before.used + length bytes) (2 ^ 64 - 1) } → EndsBetween text
+    → EndsBetween bytes → Spells bytes more
     → LexerStandsAt after (n + length bytes) (text ++ bytes) (events ++ more)
 stands_behind_skipped before after n text bytes events more stands is first second spells =
     let here = between_behind text bytes first second in

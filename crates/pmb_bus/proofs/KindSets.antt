@@ -1,5 +1,6 @@
 -- Sets of kinds, bit by bit.
-use Rattle.std.proofs.Common.{◌≡◌, ℕ, ◌+◌, ◌*◌, ◌<◌, ◌^◌, zero, suc, max, Bool, true, ◌==◌, ◌||◌, refl, sym, ap, ◌∙◌, arith}
+use Rattle.std.proofs.Common.{◌≡◌, ℕ, ◌+◌, ◌*◌, ◌<◌, ◌^◌, zero, suc, max, Bool, true, ◌==◌, ◌||◌, refl, sym, ap, ◌∙◌}
+use Rattle.std.proofs.Common.{arith}
 use Rattle.std.specs.Prelude.{bit_and, bit_or, if◌then◌else◌}
 use Rattle.std.specs.Int.{bit_at}
 use Rattle.std.proofs.lemmas.Bool.{agree_below, agree_below_at, eqb-true}
@@ -29,18 +30,24 @@ place Stop = 4
 -- the greater of two bits is set where one of them is
 abbrev GreaterAt : ℕ → ℕ → Event → Type 0
 GreaterAt x y event =
-    (max x y * 2 ^ place event == 2 ^ place event) ≡ (x * 2 ^ place event == 2 ^ place event || y * 2 ^ place event == 2 ^ place event)
+    (max x y * 2 ^ place event == 2 ^ place event)
+    ≡ (x * 2 ^ place event == 2 ^ place event || y * 2 ^ place event == 2 ^ place event)
 
 greater_bit : (x y : ℕ) → x < 2 → y < 2 → (event : Event) → GreaterAt x y event
-greater_bit zero zero s t = λ event. elim event as (GreaterAt 0 0) [ Start ↦ refl | Byte b ↦ refl | Ack ↦ refl | Nack ↦ refl | Stop ↦ refl ]
-greater_bit zero (suc zero) s t = λ event. elim event as (GreaterAt 0 1) [ Start ↦ refl | Byte b ↦ refl | Ack ↦ refl | Nack ↦ refl | Stop ↦ refl ]
-greater_bit (suc zero) zero s t = λ event. elim event as (GreaterAt 1 0) [ Start ↦ refl | Byte b ↦ refl | Ack ↦ refl | Nack ↦ refl | Stop ↦ refl ]
-greater_bit (suc zero) (suc zero) s t = λ event. elim event as (GreaterAt 1 1) [ Start ↦ refl | Byte b ↦ refl | Ack ↦ refl | Nack ↦ refl | Stop ↦ refl ]
+greater_bit zero zero s t = λ event. elim event as
+    (GreaterAt 0 0) [ Start ↦ refl | Byte b ↦ refl | Ack ↦ refl | Nack ↦ refl | Stop ↦ refl ]
+greater_bit zero (suc zero) s t = λ event. elim event as
+    (GreaterAt 0 1) [ Start ↦ refl | Byte b ↦ refl | Ack ↦ refl | Nack ↦ refl | Stop ↦ refl ]
+greater_bit (suc zero) zero s t = λ event. elim event as
+    (GreaterAt 1 0) [ Start ↦ refl | Byte b ↦ refl | Ack ↦ refl | Nack ↦ refl | Stop ↦ refl ]
+greater_bit (suc zero) (suc zero) s t = λ event. elim event as
+    (GreaterAt 1 1) [ Start ↦ refl | Byte b ↦ refl | Ack ↦ refl | Nack ↦ refl | Stop ↦ refl ]
 greater_bit zero (suc (suc y)) s t = absurd (omega arith)
 greater_bit (suc zero) (suc (suc y)) s t = absurd (omega arith)
 greater_bit (suc (suc x)) y s t = absurd (omega arith)
 
-has_either : (a b : ℕ) (event : Event) → has (bit_or a b) (2 ^ place event) ≡ (has a (2 ^ place event) || has b (2 ^ place event))
+has_either : (a b : ℕ) (event : Event) → has (bit_or a b) (2 ^ place event)
+    ≡ (has a (2 ^ place event) || has b (2 ^ place event))
 has_either a b event =
     let k = place event in
     let whole = has_at (bit_or a b) k in
@@ -59,9 +66,12 @@ at_place Nack = refl
 at_place Stop = refl
 
 -- a union has a kind where one of the two has it
-pub union_holds : (a b c : Kinds) → bits c ≡ bit_or (bits a) (bits b) → (event : Event) → holds c event ≡ (holds a event || holds b event)
+pub union_holds : (a b c : Kinds) → bits c ≡ bit_or (bits a) (bits b) → (event : Event)
+    → holds c event ≡ (holds a event || holds b event)
 union_holds a b c is event =
-    let both : has (bit_or (bits a) (bits b)) (kind_of event) ≡ (has (bits a) (kind_of event) || has (bits b) (kind_of event)) = rw (at_place event) (has_either (bits a) (bits b) event) in
+    let both : has (bit_or (bits a) (bits b)) (kind_of event)
+    ≡ (has (bits a) (kind_of event) || has (bits b) (kind_of event)) =
+    rw (at_place event) (has_either (bits a) (bits b) event) in
     ap (λ n. has n (kind_of event)) is ∙ both
 
 -- all five kinds
@@ -91,8 +101,11 @@ of_bits n = record { 0 = n }
 pub same_kinds : (a b : Kinds) → bits a < 32 → bits b < 32 → ((event : Event) → holds a event ≡ holds b event) → a ≡ b
 unfolding of_bits
 same_kinds a b few few_too alike =
-    let first = eqb-true (by_kinds (bits a)) (bits a) (agree_below_at (λ n. by_kinds n == n) (λ n. true) 32 (bits a) sums_are_right few) in
-    let second = eqb-true (by_kinds (bits b)) (bits b) (agree_below_at (λ n. by_kinds n == n) (λ n. true) 32 (bits b) sums_are_right few_too) in
-    let same : by_kinds (bits a) ≡ by_kinds (bits b) = cc (alike Start, alike (Byte 0), alike Ack, alike Nack, alike Stop) in
+    let first = eqb-true (by_kinds (bits a)) (bits a)
+    (agree_below_at (λ n. by_kinds n == n) (λ n. true) 32 (bits a) sums_are_right few) in
+    let second = eqb-true (by_kinds (bits b)) (bits b)
+    (agree_below_at (λ n. by_kinds n == n) (λ n. true) 32 (bits b) sums_are_right few_too) in
+    let same : by_kinds (bits a) ≡ by_kinds (bits b) =
+    cc (alike Start, alike (Byte 0), alike Ack, alike Nack, alike Stop) in
     let bits_same : bits a ≡ bits b = sym first ∙ same ∙ second in
     ap of_bits bits_same

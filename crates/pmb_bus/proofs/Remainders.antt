@@ -14,7 +14,8 @@ table_is_right = refl
 -- each entry is the code of its byte
 pub entry : (b : ℕ) → b < 256 → get_or REMAINDERS b 0 ≡ pec (b ∷ [])
 entry b byte =
-    eqb-true (get_or REMAINDERS b 0) (pec (b ∷ [])) (agree_below_at (λ n. get_or REMAINDERS n 0 == pec (n ∷ [])) (λ n. true) 256 b table_is_right byte)
+    eqb-true (get_or REMAINDERS b 0) (pec (b ∷ []))
+    (agree_below_at (λ n. get_or REMAINDERS n 0 == pec (n ∷ [])) (λ n. true) 256 b table_is_right byte)
 
 -- the entry of the old code xor the new byte is the code of one byte more
 pub entry_goes_on : (bytes : List ℕ) (crc b : ℕ) → bit_xor crc b < 256 → pec bytes ≡ crc

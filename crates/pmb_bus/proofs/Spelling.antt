@@ -1,11 +1,15 @@
 -- A text spells one row of events, or has one first bad word, or neither yet.
-use Rattle.std.proofs.Common.{◌≡◌, ℕ, ◌+◌, ◌<◌, ◌≤◌, Bool, true, false, ◌⊎◌, inl, inr, Option, None, Some, map, List, [], ◌∷◌, ◌++◌, length, take, drop, refl, sym, ap, subst, ◌∙◌, arith, cond}
+use Rattle.std.proofs.Common.{◌≡◌, ℕ, ◌+◌, ◌<◌, ◌≤◌, Bool, true, false, ◌⊎◌, inl, inr, Option, None, Some, map, List}
+use Rattle.std.proofs.Common.{[], ◌∷◌, ◌++◌, length, take, drop, refl, sym, ap, subst, ◌∙◌, arith, cond}
 use Rattle.std.specs.List.{filter, onto_first, slice_split}
-use Rattle.std.proofs.lemmas.List.{append-nil, take_at, drop_at, take-append-le, drop-append-le, take-append-drop, length-append}
+use Rattle.std.proofs.lemmas.List.{append-nil, take_at, drop_at, take-append-le, drop-append-le, take-append-drop}
+use Rattle.std.proofs.lemmas.List.{length-append}
 use Rattle.std.proofs.lemmas.Bool.{cases_Bool, cases_order}
 use Rattle.pmb_bus.specs.declared.event.Event.{Event}
 use Rattle.pmb_bus.specs.Event.{event_of}
-use Rattle.pmb_bus.specs.Text.{is_separator, in_comment, blanked_from, ends_in_comment, runs, is_word, words, last_run, all_but_last, open_word, ended_words, first_run, front_word, AreTokens, Spells, EndedWordsSpell, FirstBadWord}
+use Rattle.pmb_bus.specs.Text.{is_separator, in_comment, blanked_from, ends_in_comment, runs, is_word, words, last_run}
+use Rattle.pmb_bus.specs.Text.{all_but_last, open_word, ended_words, first_run, front_word, AreTokens, Spells}
+use Rattle.pmb_bus.specs.Text.{EndedWordsSpell, FirstBadWord}
 use Rattle.pmb_bus.specs.LexFault.{OpenWordIsBad}
 use Rattle.pmb_bus.proofs.Splits.{glue, glue-nil, HasRuns, slice_split-HasRuns}
 use Rattle.pmb_bus.proofs.Words.{runs_from, blank, runs-append, words_split, open_word-append}
@@ -24,7 +28,8 @@ no_word text none = ap (λ (word : List ℕ). map event_of (filter is_word (word
 pub one_word : (text : List ℕ) (event : Event) → event_of (open_word text) ≡ Some event
     → AreTokens (filter is_word (open_word text ∷ [])) (event ∷ [])
 one_word text event token =
-    let row : filter is_word (open_word text ∷ []) ≡ open_word text ∷ [] = rw (is_word-token (open_word text) event token) refl in
+    let row : filter is_word (open_word text ∷ []) ≡ open_word text ∷ [] =
+    rw (is_word-token (open_word text) event token) refl in
     ap (λ (ws : List (List ℕ)). map event_of ws) row ∙ ap (λ (o : Option Event). o ∷ []) token
 
 -- the word under way is the token of one event more
@@ -38,8 +43,10 @@ spells_open text events event ended token =
     )
 
 -- where no word is under way, the words that have ended are all
-pub spells_ended : (text : List ℕ) (events : List Event) → EndedWordsSpell text events → open_word text ≡ [] → Spells text events
-spells_ended text events ended none = subst (λ (ws : List (List ℕ)). AreTokens ws events) (sym (words_ended text none)) ended
+pub spells_ended : (text : List ℕ) (events : List Event) → EndedWordsSpell text events → open_word text ≡ []
+    → Spells text events
+spells_ended text events ended none = subst (λ (ws : List (List ℕ)). AreTokens ws events)
+    (sym (words_ended text none)) ended
 
 -- a word is under way only outside comments
 pub outside_of_word : (text : List ℕ) → is_word (open_word text) ≡ true → ends_in_comment text ≡ false
@@ -61,7 +68,8 @@ open_word_bad_here text events ended some none =
 
 -- Words that have ended lead on.
 pub ended_words_lead_on : (text : List ℕ) (events : List Event) → EndedWordsSpell text events
-    → Spells text events ⊎ (((event : Event) × Spells text (events ++ event ∷ [])) ⊎ ((place : ℕ) × FirstBadWord text events place))
+    → Spells text events ⊎ (((event : Event) × Spells text (events ++ event ∷ []))
+    ⊎ ((place : ℕ) × FirstBadWord text events place))
 ended_words_lead_on text events ended =
     elim (cases_word (open_word text)) [
       | inl empty ↦ inl (spells_ended text events ended empty)
@@ -82,7 +90,8 @@ record Between (text front rest longer after : List ℕ) : Type 0 where
   long : length front + length more ≡ length longer
 
 -- of two fronts of a text the shorter is the front of the longer
-between : (text front rest longer after : List ℕ) → text ≡ front ++ rest → text ≡ longer ++ after → length front ≤ length longer
+between : (text front rest longer after : List ℕ) → text ≡ front ++ rest → text ≡ longer ++ after
+    → length front ≤ length longer
     → Between text front rest longer after
 between text front rest longer after first second shorter =
     let n = length front in
@@ -98,7 +107,8 @@ between text front rest longer after first second shorter =
     }
 
 -- one byte more leaves more than one empty run
-cut_not_empty : (cut : Bool) (b : ℕ) (all : List (List ℕ)) → HasRuns all → cond cut ([] ∷ all) (onto_first b all) ≡ [] ∷ [] → ⊥
+cut_not_empty : (cut : Bool) (b : ℕ) (all : List (List ℕ)) → HasRuns all → cond cut ([] ∷ all) (onto_first b all) ≡ []
+    ∷ [] → ⊥
 cut_not_empty true b all has same = cc (same, has.2)
 cut_not_empty false b all has same = cc (same, ap (onto_first b) has.2)
 
@@ -107,7 +117,8 @@ runs_some : (text : List ℕ) → 0 < length text → runs text ≡ [] ∷ [] �
 runs_some [] some same = omega arith
 runs_some (b ∷ text) some same =
     let rest = blanked_from (in_comment false b) text in
-    cut_not_empty (is_separator (blank false b)) (blank false b) (slice_split is_separator rest) (slice_split-HasRuns is_separator rest) same
+    cut_not_empty (is_separator (blank false b)) (blank false b) (slice_split is_separator rest)
+    (slice_split-HasRuns is_separator rest) same
 
 -- what follows the last run leaves the first
 first_stays : (run : List ℕ) (all more : List (List ℕ)) → last_run (run ∷ all) ≡ [] → (run ∷ all ≡ [] ∷ [] → ⊥)
@@ -116,7 +127,8 @@ first_stays run [] more none some = absurd (some (ap (λ (word : List ℕ). word
 first_stays run (next ∷ all) more none some = refl
 
 -- what goes on after the end of a word leaves the first word
-front_word_stays : (front back : List ℕ) → 0 < length front → open_word front ≡ [] → front_word (front ++ back) ≡ front_word front
+front_word_stays : (front back : List ℕ) → 0 < length front → open_word front ≡ []
+    → front_word (front ++ back) ≡ front_word front
 front_word_stays front back some none =
     let has = slice_split-HasRuns is_separator (blanked_from false front) in
     let more = glue (open_word front) (runs_from (ends_in_comment front) back) in
@@ -127,7 +139,8 @@ front_word_stays front back some none =
     ∙ sym (ap first_run has.2)
 
 -- what stands between two ends of words ends as the second does
-between_opens_none : (front more : List ℕ) → open_word front ≡ [] → ends_in_comment front ≡ false → open_word (front ++ more) ≡ []
+between_opens_none : (front more : List ℕ) → open_word front ≡ [] → ends_in_comment front ≡ false
+    → open_word (front ++ more) ≡ []
     → open_word more ≡ []
 between_opens_none front more none outside opened =
     sym (
@@ -138,12 +151,14 @@ between_opens_none front more none outside opened =
     ) ∙ opened
 
 -- no bad word stands before another
-no_bad_word_before : (text : List ℕ) (a b : List Event) (i j : ℕ) (first : FirstBadWord text a i) (second : FirstBadWord text b j)
+no_bad_word_before : (text : List ℕ) (a b : List Event) (i j : ℕ) (first : FirstBadWord text a i)
+    (second : FirstBadWord text b j)
     → length first.front < length second.front → ⊥
 no_bad_word_before text a b i j first second shorter =
     let part = between text first.front first.rest second.front second.rest first.split second.split (omega arith) in
     let opened : open_word part.more ≡ [] =
-    between_opens_none first.front part.more first.between.0 first.between.1 (sym (ap open_word part.onwards) ∙ second.between.0) in
+    between_opens_none first.front part.more first.between.0 first.between.1
+    (sym (ap open_word part.onwards) ∙ second.between.0) in
     let some : 0 < length part.more = omega (arith, part.long) in
     let same : front_word first.rest ≡ front_word part.more =
     ap front_word part.left ∙ front_word_stays part.more second.rest some opened in
@@ -160,7 +175,8 @@ no_bad_word_before text a b i j first second shorter =
     bad_word_spells_none second.front a b i earlier second.spells
 
 -- A text has one first bad word.
-pub one_bad_word : (text : List ℕ) (a b : List Event) (i j : ℕ) → FirstBadWord text a i → FirstBadWord text b j → (a ≡ b) × (i ≡ j)
+pub one_bad_word : (text : List ℕ) (a b : List Event) (i j : ℕ) → FirstBadWord text a i → FirstBadWord text b j
+    → (a ≡ b) × (i ≡ j)
 one_bad_word text a b i j first second =
     elim (cases_order (length first.front) (length second.front)) [
       | inl same ↦

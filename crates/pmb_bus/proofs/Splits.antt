@@ -45,7 +45,8 @@ onto_first-joined x (run ∷ next ∷ runs) first more = refl
 -- one more element before a list whose runs are `joined`
 joined-cons : (cut : Bool) (x : ℕ) (run : List ℕ) (runs : List (List ℕ)) (first : List ℕ) (more all : List (List ℕ))
     → all ≡ joined (run ∷ runs) (first ∷ more)
-    → cond cut ([] ∷ all) (onto_first x all) ≡ joined (cond cut ([] ∷ run ∷ runs) (onto_first x (run ∷ runs))) (first ∷ more)
+    → cond cut ([] ∷ all) (onto_first x all) ≡ joined (cond cut ([] ∷ run ∷ runs) (onto_first x (run ∷ runs)))
+    (first ∷ more)
 joined-cons true x run runs first more all same = ap (λ (rest : List (List ℕ)). [] ∷ rest) same
 joined-cons false x run runs first more all same =
     ap (onto_first x) same ∙ onto_first-joined x (run ∷ runs) first more
@@ -58,7 +59,8 @@ slice_split-append p (x ∷ xs) ys =
     let front = slice_split-HasRuns p xs in
     let back = slice_split-HasRuns p ys in
     let rest = slice_split-append p xs ys in
-    rw (front.2, back.2) (joined-cons (p x) x front.0 front.1 back.0 back.1 (slice_split p (xs ++ ys)) (rw (front.2, back.2) at rest))
+    rw (front.2, back.2) (joined-cons (p x) x front.0 front.1 back.0 back.1 (slice_split p (xs ++ ys))
+    (rw (front.2, back.2) at rest))
 
 -- the last of two rows of runs is that of the second
 pub last_run-append : (front : List (List ℕ)) (run : List ℕ) (runs : List (List ℕ))

@@ -1,5 +1,6 @@
 -- Which words are tokens, and rows of words that are.
-use Rattle.std.proofs.Common.{◌≡◌, ℕ, ◌+◌, ◌*◌, Bool, true, false, ◌||◌, ◌⊎◌, inl, inr, Option, Some, None, is_some, List, [], ◌∷◌, ◌++◌, map, refl, sym, ap, ◌∙◌, arith}
+use Rattle.std.proofs.Common.{◌≡◌, ℕ, ◌+◌, ◌*◌, Bool, true, false, ◌||◌, ◌⊎◌, inl, inr, Option, Some, None, is_some}
+use Rattle.std.proofs.Common.{List, [], ◌∷◌, ◌++◌, map, refl, sym, ap, ◌∙◌, arith}
 use Rattle.std.proofs.lemmas.List.{map-append}
 use Rattle.std.proofs.lemmas.Bool.{or_cases, or_parts}
 use Rattle.hex.specs.Hex.{hex_digit_value, is_hex_digit}
@@ -13,13 +14,15 @@ use Rattle.pmb_bus.specs.machine.Steps.{BeginsToken}
 -- ---- rows of tokens
 
 -- the tokens of two rows of events
-pub AreTokens-append : (front back : List (List ℕ)) (events more : List Event) → AreTokens front events → AreTokens back more
+pub AreTokens-append : (front back : List (List ℕ)) (events more : List Event) → AreTokens front events
+    → AreTokens back more
     → AreTokens (front ++ back) (events ++ more)
 AreTokens-append front back events more first second =
     map-append event_of front back ∙ cc (first, second) ∙ sym (map-append Some events more)
 
 -- a row with a word that is no token spells no events
-pub no_tokens : (front : List (List ℕ)) (word : List ℕ) (back : List (List ℕ)) (events : List Event) → event_of word ≡ None
+pub no_tokens : (front : List (List ℕ)) (word : List ℕ) (back : List (List ℕ)) (events : List Event)
+    → event_of word ≡ None
     → AreTokens (front ++ word ∷ back) events → ⊥
 no_tokens [] word back [] none same = cc same
 no_tokens [] word back (event ∷ events) none same = cc (none, same)
@@ -109,7 +112,8 @@ letter_starts b event letter = ap (λ (o : Option Event). is_some o || is_hex_di
 -- a digit starts a token
 pub digit_starts : (b v : ℕ) → hex_digit_value b ≡ Some v → starts_token b ≡ true
 digit_starts b v digit =
-    elim (is_some (letter_event b)) as (λ (v : Bool). (v || is_hex_digit b) ≡ true) [ true ↦ refl | false ↦ ap (is_some {T = ℕ}) digit ]
+    elim (is_some (letter_event b)) as (λ (v : Bool). (v || is_hex_digit b) ≡ true)
+    [ true ↦ refl | false ↦ ap (is_some {T = ℕ}) digit ]
 
 -- the two digits of a token
 pub record AreDigits (high low : Option ℕ) (event : Event) : Type 0 where
@@ -121,6 +125,7 @@ pub record AreDigits (high low : Option ℕ) (event : Event) : Type 0 where
 
 -- the digits that a byte's event is of
 pub digits_of : (high low : Option ℕ) (event : Event) → byte_event high low ≡ Some event → AreDigits high low event
-digits_of (Some h) (Some l) event token = record { first = h; second = l; high_is = refl; low_is = refl; event_is = cc token }
+digits_of (Some h) (Some l) event token =
+    record { first = h; second = l; high_is = refl; low_is = refl; event_is = cc token }
 digits_of (Some h) None event token = cc token
 digits_of None low event token = cc token

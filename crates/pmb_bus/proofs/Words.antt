@@ -5,9 +5,11 @@ use Rattle.std.proofs.lemmas.List.{append-nil}
 use Rattle.std.proofs.lemmas.List.Elements.{filter-append}
 use Rattle.std.proofs.lemmas.List.Splits.{slice_split-cons_yes, slice_split-cons_no}
 use Rattle.std.proofs.lemmas.Bool.{cases_eq, ne_eqb, or_parts, or_cases}
-use Rattle.pmb_bus.specs.Text.{is_separator, in_comment, blanked_from, ends_in_comment_from, ends_in_comment, runs, is_word, words, all_but_last, last_run, open_word, ended_words}
+use Rattle.pmb_bus.specs.Text.{is_separator, in_comment, blanked_from, ends_in_comment_from, ends_in_comment, runs}
+use Rattle.pmb_bus.specs.Text.{is_word, words, all_but_last, last_run, open_word, ended_words}
 use Rattle.pmb_bus.specs.machine.Bytes.{ends_word}
-use Rattle.pmb_bus.proofs.Splits.{glue, HasRuns, slice_split-HasRuns, slice_split-append, last_run-append, all_but_last-append, front_and_last}
+use Rattle.pmb_bus.proofs.Splits.{glue, HasRuns, slice_split-HasRuns, slice_split-append, last_run-append}
+use Rattle.pmb_bus.proofs.Splits.{all_but_last-append, front_and_last}
 
 -- the runs of what goes on with a text that ends in a comment or not
 abbrev pub runs_from : Bool → List ℕ → List (List ℕ)
@@ -19,7 +21,8 @@ blank before b = cond (in_comment before b) 32 b
 
 -- comments are blanked front and then back
 pub blanked_from-append : (before : Bool) (front back : List ℕ)
-    → blanked_from before (front ++ back) ≡ blanked_from before front ++ blanked_from (ends_in_comment_from before front) back
+    → blanked_from before (front ++ back) ≡ blanked_from before front
+    ++ blanked_from (ends_in_comment_from before front) back
 blanked_from-append before [] back = refl
 blanked_from-append before (b ∷ front) back =
     ap (λ (rest : List ℕ). blank before b ∷ rest) (blanked_from-append (in_comment before b) front back)
@@ -55,7 +58,8 @@ module _ (front back : List ℕ) where
   pub ended_words-append : ended_words (front ++ back) ≡ ended_words front ++ filter is_word (all_but_last going_on)
   ended_words-append =
       let has = going_on-HasRuns in
-      let split : all_but_last (all_but_last (runs front) ++ going_on) ≡ all_but_last (runs front) ++ all_but_last going_on =
+      let split : all_but_last (all_but_last (runs front) ++ going_on) ≡ all_but_last (runs front)
+      ++ all_but_last going_on =
       rw (has.2) (all_but_last-append (all_but_last (runs front)) has.0 has.1) in
       ap (λ (all : List (List ℕ)). filter is_word (all_but_last all)) runs-append
       ∙ ap (filter is_word) split
@@ -71,7 +75,8 @@ module _ (front back : List ℕ) where
 pub words_split : (text : List ℕ) → words text ≡ ended_words text ++ filter is_word (open_word text ∷ [])
 words_split text =
     let has = slice_split-HasRuns is_separator (blanked_from false text) in
-    let split : runs text ≡ all_but_last (runs text) ++ last_run (runs text) ∷ [] = rw (has.2) (front_and_last has.0 has.1) in
+    let split : runs text ≡ all_but_last (runs text) ++ last_run (runs text) ∷ [] =
+    rw (has.2) (front_and_last has.0 has.1) in
     ap (filter is_word) split ∙ filter-append is_word (all_but_last (runs text)) (last_run (runs text) ∷ [])
 
 -- a byte that is a separator, or is blanked to one, cuts
@@ -120,7 +125,8 @@ pub record Longer (text : List ℕ) (b : ℕ) : Type 0 where
   pub opened : open_word (text ++ b ∷ []) ≡ open_word text ++ b ∷ []
 
 -- another byte makes it longer
-pub longer_by : (text : List ℕ) (b : ℕ) → in_comment (ends_in_comment text) b ≡ false → is_separator b ≡ false → Longer text b
+pub longer_by : (text : List ℕ) (b : ℕ) → in_comment (ends_in_comment text) b ≡ false → is_separator b ≡ false
+    → Longer text b
 longer_by text b outside keeps =
     let after : going_on text (b ∷ []) ≡ (open_word text ++ b ∷ []) ∷ [] =
     ap (glue (open_word text)) (runs_from-kept (ends_in_comment text) b [] outside keeps) in record {
@@ -131,7 +137,8 @@ longer_by text b outside keeps =
     }
 
 -- whether a text with a byte more ends in a comment
-pub ends_in_comment_by : (text : List ℕ) (b : ℕ) → ends_in_comment (text ++ b ∷ []) ≡ in_comment (ends_in_comment text) b
+pub ends_in_comment_by : (text : List ℕ) (b : ℕ)
+    → ends_in_comment (text ++ b ∷ []) ≡ in_comment (ends_in_comment text) b
 ends_in_comment_by text b = ends_in_comment_from-append false text (b ∷ [])
 
 -- ---- bytes outside comments

@@ -1,6 +1,7 @@
 -- The events of a bus and the tokens that spell them (SMBus 3.0 section 4: START, STOP, ACK and
 -- NACK).
-use Rattle.std.specs.Prelude.{ℕ, ◌+◌, ◌*◌, ◌<◌, ◌==◌, Option, Some, None, if◌then◌else◌, List, [], ◌∷◌, ◌++◌, codes, slice_index}
+use Rattle.std.specs.Prelude.{ℕ, ◌+◌, ◌*◌, ◌<◌, ◌==◌, Option, Some, None, if◌then◌else◌, List, [], ◌∷◌, ◌++◌, codes}
+use Rattle.std.specs.Prelude.{slice_index}
 use Prim.Native.String.{String}
 use Rattle.std.specs.List.{flat_map}
 use Rattle.hex.specs.Hex.{hex_digit_value, encode_lower}

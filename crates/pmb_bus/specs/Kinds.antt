@@ -25,4 +25,5 @@ holds kinds event = bit_and (bits kinds) (kind_of event) == kind_of event
 pub record AreKindsOf (events : Event → Type 0) (kinds : Kinds) : Type 0 where
   pub known : bits kinds < 32
   pub each : (event : Event) → events event → holds kinds event ≡ true
-  pub only : (event : Event) → holds kinds event ≡ true → (other : Event) × (kind_of other ≡ kind_of event) × events other
+  pub only : (event : Event) → holds kinds event ≡ true → (other : Event) × (kind_of other ≡ kind_of event)
+      × events other

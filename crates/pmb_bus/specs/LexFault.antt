@@ -12,4 +12,5 @@ IsFaultOf n text (BadToken at) = WordBeginsAt n text at
 -- The word under way at the end of the part of a text that was used is the text's first that is no
 -- token.
 abbrev pub OpenWordIsBad : List ℕ → List ℕ → List Event → Type 0
-OpenWordIsBad used text events = (place : ℕ) × (place + length (open_word used) ≡ length used) × FirstBadWord text events place
+OpenWordIsBad used text events = (place : ℕ) × (place + length (open_word used) ≡ length used)
+    × FirstBadWord text events place

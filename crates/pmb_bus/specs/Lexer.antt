@@ -5,7 +5,8 @@
 -- it, and some text that spells events begins so. The end of the input stands in `text` as a space,
 -- and doesn't count in n. `IsFaulted lexer fault` says that the lexer has met a fault. What both
 -- say of a lexer's own fields is in `machine`, and nothing here needs it to be understood.
-use Rattle.std.specs.Prelude.{◌≡◌, ℕ, ◌+◌, ◌-◌, ◌<◌, ◌≤◌, true, Option, Some, None, Result, Ok, Err, List, [], ◌∷◌, ◌++◌, length, take, drop, codes}
+use Rattle.std.specs.Prelude.{◌≡◌, ℕ, ◌+◌, ◌-◌, ◌<◌, ◌≤◌, true, Option, Some, None, Result, Ok, Err, List, [], ◌∷◌}
+use Rattle.std.specs.Prelude.{◌++◌, length, take, drop, codes}
 use Rattle.hex.specs.Hex.{is_hex_digit}
 use Rattle.pmb_bus.specs.declared.event.Event.{Event}
 use Rattle.pmb_bus.specs.declared.event.Event.TheVariants.{Byte, Ack}
@@ -18,19 +19,22 @@ pub use Rattle.pmb_bus.specs.LexFault.{IsFaultOf, OpenWordIsBad}
 pub use Rattle.pmb_bus.specs.machine.Standing.{LexerStandsAt, IsFaulted}
 
 -- `Need`: all of the piece is used, and no further word has ended.
-pub record NeedsMore (n : ℕ) (text : List ℕ) (events : List Event) (piece : List ℕ) (used : ℕ) (after : Lexer) : Type 0 where
+pub record NeedsMore (n : ℕ) (text : List ℕ) (events : List Event) (piece : List ℕ) (used : ℕ)
+    (after : Lexer) : Type 0 where
   pub all : used ≡ length piece
   pub stands : LexerStandsAt after (n + used) (text ++ piece) events
 
 -- `Event`: the last byte used ends the word of that event.
-pub record EndsWord (n : ℕ) (text : List ℕ) (events : List Event) (piece : List ℕ) (used : ℕ) (after : Lexer) (event : Event) : Type 0 where
+pub record EndsWord (n : ℕ) (text : List ℕ) (events : List Event) (piece : List ℕ) (used : ℕ) (after : Lexer)
+    (event : Event) : Type 0 where
   pub some : 0 < used
   pub within : used ≤ length piece
   pub before : EndedWordsSpell (text ++ take (used - 1) piece) events
   pub stands : LexerStandsAt after (n + used) (text ++ take used piece) (events ++ event ∷ [])
 
 -- `Fault`: with the next byte, which is not used, no text that spells events begins so.
-pub record Refuses (n : ℕ) (text : List ℕ) (events : List Event) (piece : List ℕ) (used : ℕ) (after : Lexer) (fault : LexFault) : Type 0 where
+pub record Refuses (n : ℕ) (text : List ℕ) (events : List Event) (piece : List ℕ) (used : ℕ) (after : Lexer)
+    (fault : LexFault) : Type 0 where
   pub within : used < length piece
   pub before : EndedWordsSpell (text ++ take used piece) events
   pub begins : BeginsText (text ++ take used piece)
@@ -57,7 +61,8 @@ pub record BeginsAcked (piece : List ℕ) : Type 0 where
 
 -- A byte and its ACK are at the front of a piece, five bytes with what ends each word: what two
 -- calls of `feed` answer.
-pub record FeedsAcked (n : ℕ) (text : List ℕ) (events : List Event) (piece : List ℕ) (byte : ℕ) (after : Lexer) : Type 0 where
+pub record FeedsAcked (n : ℕ) (text : List ℕ) (events : List Event) (piece : List ℕ) (byte : ℕ)
+    (after : Lexer) : Type 0 where
   pub between : Lexer
   pub ends_byte : EndsWord n text events piece 3 between (Byte byte)
   pub ends_ack : EndsWord (n + 3) (text ++ take 3 piece) (events ++ Byte byte ∷ []) (drop 3 piece) 2 after Ack

@@ -2,7 +2,8 @@
 --
 -- A polynomial is the list of its coefficients, that of the highest power first; a coefficient is
 -- `true` for 1 and `false` for 0.
-use Rattle.std.specs.Prelude.{◌≡◌, ℕ, ◌+◌, ◌^◌, ◌==◌, ◌&&◌, zero, suc, Bool, true, false, not, if◌then◌else◌, List, [], ◌∷◌, ◌++◌, length, map, replicate, flat_map}
+use Rattle.std.specs.Prelude.{◌≡◌, ℕ, ◌+◌, ◌^◌, ◌==◌, ◌&&◌, zero, suc, Bool, true, false, not, if◌then◌else◌, List, []}
+use Rattle.std.specs.Prelude.{◌∷◌, ◌++◌, length, map, replicate, flat_map}
 use Rattle.std.specs.Int.{bit_at}
 
 -- x^8 + x^2 + x + 1

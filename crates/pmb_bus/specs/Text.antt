@@ -1,5 +1,6 @@
 -- What events a text spells.
-use Rattle.std.specs.Prelude.{◌≡◌, ℕ, ◌+◌, ◌==◌, ◌||◌, Bool, true, false, Some, None, if◌then◌else◌, List, [], ◌∷◌, ◌++◌, length, map, filter}
+use Rattle.std.specs.Prelude.{◌≡◌, ℕ, ◌+◌, ◌==◌, ◌||◌, Bool, true, false, Some, None, if◌then◌else◌, List, [], ◌∷◌}
+use Rattle.std.specs.Prelude.{◌++◌, length, map, filter}
 use Rattle.std.specs.List.{slice_split}
 use Rattle.pmb_bus.specs.declared.event.Event.{Event}
 use Rattle.pmb_bus.specs.Count.{capped}
@@ -17,7 +18,8 @@ in_comment before b = if b == character "\n" then false else (before || b == cha
 -- The text with a space in place of each byte of a comment.
 abbrev pub blanked_from : Bool → List ℕ → List ℕ
 blanked_from before [] = []
-blanked_from before (b ∷ rest) = (if in_comment before b then character " " else b) ∷ blanked_from (in_comment before b) rest
+blanked_from before (b ∷ rest) = (if in_comment before b then character " " else b)
+    ∷ blanked_from (in_comment before b) rest
 
 abbrev pub blanked : List ℕ → List ℕ
 blanked text = blanked_from false text

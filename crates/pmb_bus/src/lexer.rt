@@ -2,8 +2,8 @@
 //!
 //! A [`Lexer`] keeps where it is within a word and how many bytes it has used, and nothing else of
 //! the text. `feed_bytes` is a loop over `step`, which takes one byte: a byte ends the word under
-//! way, or it is one more byte of a word. What each `Place` says of the text is `IsPlace` of the
-//! specs: a new place needs its line there, and its arm in `Place::end` and `Place::lengthened`.
+//! way, or it is one more byte of a word. What each `LexerState` says of the text is `IsPlace` of the
+//! specs: a new place needs its line there, and its arm in `LexerState::end` and `LexerState::lengthened`.
 //!
 //! Most of a capture is tokens with one separator each. Between words `feed` takes such a token at
 //! once, where it and its separator lie in the next three bytes, and `feed_acked` a byte and its
@@ -51,7 +51,7 @@ pub struct Lexed {
 
 /// Where a lexer is.
 #[derive(Clone, Copy, Debug, PartialEq, Eq)]
-enum Place {
+enum LexerState {
     /// Between words.
     Between,
     /// In a comment, after its `#`.
@@ -64,16 +64,16 @@ enum Place {
     Faulted(LexFault),
 }
 
-impl Place {
+impl LexerState {
     // The place after a byte that ends a word.
     #[inline]
-    fn behind(byte: u8) -> Place
+    fn behind(byte: u8) -> LexerState
         ensures { result ≡ place_behind_word byte }
     {
         if byte == b'#' {
-            Place::Comment
+            LexerState::Comment
         } else {
-            Place::Between
+            LexerState::Between
         }
     }
 
@@ -81,30 +81,30 @@ impl Place {
     #[inline]
     fn end(self) -> Result<Option<Event>, LexFault>
         ensures ends { (n : ℕ) (text : List ℕ) → IsPlace self n text → OpenWordComesTo n text result }
-        ensures faulted { (fault : LexFault) → self ≡ Place.Faulted fault → result ≡ Err fault }
+        ensures faulted { (fault : LexFault) → self ≡ LexerState.Faulted fault → result ≡ Err fault }
     {
         match self {
-            Place::Between | Place::Comment => Ok(None),
-            Place::One { at, first } => match letter(first) {
+            LexerState::Between | LexerState::Comment => Ok(None),
+            LexerState::One { at, first } => match letter(first) {
                 Some(event) => Ok(Some(event)),
                 None => Err(LexFault::BadToken { at }),
             },
-            Place::Two { byte, .. } => Ok(Some(Event::Byte(byte))),
-            Place::Faulted(fault) => Err(fault),
+            LexerState::Two { byte, .. } => Ok(Some(Event::Byte(byte))),
+            LexerState::Faulted(fault) => Err(fault),
         }
     }
 
     // The place after one more byte of a word, the byte at offset `used`.
     #[inline]
-    fn lengthened(self, byte: u8, used: u64) -> Result<Place, LexFault>
+    fn lengthened(self, byte: u8, used: u64) -> Result<LexerState, LexFault>
         ensures lengthens { (n : ℕ) (text : List ℕ) → used ≡ capped n → IsPlace self n text
             → ends_in_comment text ≡ false → ends_word byte ≡ false → Lengthens n text byte result }
-        ensures faulted { (fault : LexFault) → self ≡ Place.Faulted fault → result ≡ Err fault }
+        ensures faulted { (fault : LexFault) → self ≡ LexerState.Faulted fault → result ≡ Err fault }
     {
         match self {
-            Place::Between | Place::Comment => {
+            LexerState::Between | LexerState::Comment => {
                 if starts_token(byte) {
-                    Ok(Place::One {
+                    Ok(LexerState::One {
                         at: used,
                         first: byte,
                     })
@@ -112,12 +112,12 @@ impl Place {
                     Err(LexFault::BadToken { at: used })
                 }
             }
-            Place::One { at, first } => match digits(first, byte) {
-                Some(byte) => Ok(Place::Two { at, byte }),
+            LexerState::One { at, first } => match digits(first, byte) {
+                Some(byte) => Ok(LexerState::Two { at, byte }),
                 None => Err(LexFault::BadToken { at }),
             },
-            Place::Two { at, .. } => Err(LexFault::BadToken { at }),
-            Place::Faulted(fault) => Err(fault),
+            LexerState::Two { at, .. } => Err(LexFault::BadToken { at }),
+            LexerState::Faulted(fault) => Err(fault),
         }
     }
 }
@@ -128,7 +128,7 @@ impl Place {
 /// Space, tab, CR and LF separate them. `#` ends a token too, and begins a comment up to the LF.
 #[derive(Clone, Copy, Debug, PartialEq, Eq)]
 pub struct Lexer {
-    place: Place,
+    place: LexerState,
     /// How many bytes were used since `new`; stays at the greatest `u64`.
     used: u64,
 }
@@ -139,7 +139,7 @@ impl Lexer {
         ensures { LexerStandsAt result 0 [] [] }
     {
         Lexer {
-            place: Place::Between,
+            place: LexerState::Between,
             used: 0,
         }
     }
@@ -158,7 +158,7 @@ impl Lexer {
         ensures within { result.used ≤ length bytes.now }
         ensures progress { (event : BusEvent) → result.step ≡ Step.Event event → 0 < result.used }
     {
-        if let Place::Between = self.place {
+        if let LexerState::Between = self.place {
             if let Some(token) = front_token(bytes) {
                 self.used = self.used.saturating_add(token.used as u64);
                 return Lexed {
@@ -187,7 +187,7 @@ impl Lexer {
         ensures faulted { (fault : LexFault) → IsFaulted self.old fault → result ≡ None }
         ensures same { result ≡ None → self.new ≡ self.old }
     {
-        let Place::Between = self.place else {
+        let LexerState::Between = self.place else {
             return None;
         };
         let byte = front_acked(bytes)?;
@@ -203,7 +203,7 @@ impl Lexer {
             → (result ≡ true) ↔ EndsBetween text }
         ensures faulted { (fault : LexFault) → IsFaulted self.now fault → result ≡ false }
     {
-        matches!(self.place, Place::Between)
+        matches!(self.place, LexerState::Between)
     }
 
     /// Passes over bytes of the text that were read elsewhere. They begin and end between words,
@@ -228,7 +228,7 @@ impl Lexer {
         ensures within { result.used ≤ length bytes.now }
         ensures progress { (event : BusEvent) → result.step ≡ Step.Event event → 0 < result.used }
     {
-        if let Place::Faulted(fault) = self.place {
+        if let LexerState::Faulted(fault) = self.place {
             return Lexed {
                 used: 0,
                 step: Step::Fault(fault),
@@ -268,11 +268,11 @@ impl Lexer {
         match self.place.end() {
             Ok(None) => Ok(None),
             Ok(Some(event)) => {
-                self.place = Place::Between;
+                self.place = LexerState::Between;
                 Ok(Some(event))
             }
             Err(fault) => {
-                self.place = Place::Faulted(fault);
+                self.place = LexerState::Faulted(fault);
                 Err(fault)
             }
         }
@@ -286,11 +286,11 @@ impl Lexer {
         ensures faulted { (fault : LexFault) → IsFaulted self.old fault
             → (result ≡ Step.Fault fault) × (self.new ≡ self.old) }
     {
-        if let Place::Comment = self.place {
+        if let LexerState::Comment = self.place {
             if byte == b'\n' {
-                self.advance(Place::Between);
+                self.advance(LexerState::Between);
             } else {
-                self.advance(Place::Comment);
+                self.advance(LexerState::Comment);
             }
             return Step::Need;
         }
@@ -311,11 +311,11 @@ impl Lexer {
     {
         match self.place.end() {
             Ok(None) => {
-                self.advance(Place::behind(byte));
+                self.advance(LexerState::behind(byte));
                 Step::Need
             }
             Ok(Some(event)) => {
-                self.advance(Place::behind(byte));
+                self.advance(LexerState::behind(byte));
                 Step::Event(event)
             }
             Err(fault) => self.fail(fault),
@@ -341,7 +341,7 @@ impl Lexer {
 
     // Counts a byte that was used, and goes on at `place`.
     #[inline]
-    fn advance(&mut self, place: Place)
+    fn advance(&mut self, place: LexerState)
         ensures { self.new ≡ record { place = place; used = capped (self.old.used + 1) } }
     {
         self.place = place;
@@ -351,9 +351,9 @@ impl Lexer {
     #[inline]
     fn fail(&mut self, fault: LexFault) -> Step
         ensures answer { result ≡ Step.Fault fault }
-        ensures faulted { self.new ≡ record self.old { place = Place.Faulted fault } }
+        ensures faulted { self.new ≡ record self.old { place = LexerState.Faulted fault } }
     {
-        self.place = Place::Faulted(fault);
+        self.place = LexerState::Faulted(fault);
         Step::Fault(fault)
     }
 }

@@ -3,10 +3,10 @@ use Rattle.std.specs.List.{list_all}
 use Rattle.std.specs.Prelude.{ℕ, Bool, ◌==◌, nat_le, nat_lt, if◌then◌else◌, List, Option, Some, None}
 use Rattle.pmb_c.specs.declared.choice.Chosen.{Chosen}
 use Rattle.pmb_c.specs.declared.choice.PmbChoice.{PmbChoice}
-use Rattle.pmb_json.specs.declared.bad_words.BadWords.{BadWords}
-use Rattle.pmb_json.specs.declared.bad_words.BadWords.TheVariants.{End, GoOn}
-use Rattle.pmb_late.specs.declared.start.Start.{Start}
-use Rattle.pmb_late.specs.declared.start.Start.TheVariants.{AllKnown, Late, LateFixedMode}
+use Rattle.pmb_json.specs.declared.after_bad_token.AfterBadToken.{AfterBadToken}
+use Rattle.pmb_json.specs.declared.after_bad_token.AfterBadToken.TheVariants.{End, GoOn}
+use Rattle.pmb_unknown_start.specs.declared.start.Start.{Start}
+use Rattle.pmb_unknown_start.specs.declared.start.Start.TheVariants.{AllKnown, Late, LateFixedMode}
 
 -- what is known of PAGE and VOUT_MODE where the capture begins
 abbrev pub start_of : ℕ → Option Start
@@ -16,12 +16,12 @@ start_of number =
     if number == 2 then Some Late else None))
 
 -- what is done after a word that is no token
-abbrev pub bad_words_of : ℕ → Option BadWords
+abbrev pub bad_words_of : ℕ → Option AfterBadToken
 bad_words_of number =
     if number == 0 then Some End else (
     if number == 1 then Some GoOn else None)
 
-abbrev pub chosen_by : ℕ → Option Start → Option BadWords → Option Chosen
+abbrev pub chosen_by : ℕ → Option Start → Option AfterBadToken → Option Chosen
 chosen_by digits (Some start) (Some bad_words) = Some (record { digits = digits; start = start; bad_words = bad_words })
 chosen_by digits (Some start) None = None
 chosen_by digits None bad_words = None
@@ -31,7 +31,8 @@ abbrev pub is_address : ℕ → Bool
 is_address byte = nat_lt byte 0x80
 
 abbrev pub chosen_numbers : PmbChoice → Option Chosen
-chosen_numbers choice = if nat_le choice.digits 12 then chosen_by choice.digits (start_of choice.start) (bad_words_of choice.bad_words) else None
+chosen_numbers choice = if nat_le choice.digits 12 then chosen_by choice.digits (start_of choice.start)
+    (bad_words_of choice.bad_words) else None
 
 -- each of the numbers has to say something, and each of the bytes to be an address
 abbrev pub chosen : PmbChoice → List ℕ → Option Chosen

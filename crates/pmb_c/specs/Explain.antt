@@ -2,13 +2,13 @@
 use Rattle.std.specs.Prelude.{◌≡◌, ℕ, Result, Ok, Err, List, length}
 use Rattle.pmb_command.specs.Parts.{DeviceParts}
 use Rattle.pmb_io.specs.Count.{capped}
-use Rattle.pmb_room.specs.Laid.{laid}
+use Rattle.pmb_in_memory.specs.Laid.{laid}
 use Rattle.pmb_table.specs.declared.fault.ProfileFault.{ProfileFault}
-use Rattle.pmb_whole.specs.Profile.{IsProfile}
-use Rattle.pmb_whole.specs.declared.fault.WholeFault.{WholeFault}
-use Rattle.pmb_whole.specs.declared.fault.WholeFault.TheVariants.{Profile, Memory, Write}
+use Rattle.pmb_in_memory.specs.Profile.{IsProfile}
+use Rattle.pmb_in_memory.specs.declared.fault.WholeFault.{WholeFault}
+use Rattle.pmb_in_memory.specs.declared.fault.WholeFault.TheVariants.{Profile, Memory, Write}
 use Rattle.pmb_c.specs.declared.result.PmbResult.{PmbResult}
-use Rattle.pmb_firmware.specs.declared.status.Status.TheVariants.{Done, NoMemory}
+use Rattle.pmb_firmware.specs.declared.call_status.CallStatus.TheVariants.{Done, NoMemory}
 use Rattle.pmb_c.specs.Result.{result_of_fault, result_of_status}
 
 -- Some text stands in the room, as far as it fits, and this is its length. It is for people, and no

@@ -3,13 +3,13 @@ use Rattle.std.specs.Prelude.{ℕ, ℤ, pos, negsuc, nat_lt, if◌then◌else◌
 use Rattle.pmb_keys.specs.declared.fault.FaultKind.{FaultKind}
 use Rattle.pmb_keys.specs.declared.fault.FaultKind.TheVariants as kind
 use Rattle.pmb_table.specs.declared.fault.ProfileFault.{ProfileFault}
-use Rattle.pmb_whole.specs.declared.fault.WholeFault.{WholeFault}
-use Rattle.pmb_whole.specs.declared.fault.WholeFault.TheVariants.{Profile, Memory, Write}
-use Rattle.pmb_whole.specs.declared.put.Put.{Put}
+use Rattle.pmb_in_memory.specs.declared.fault.WholeFault.{WholeFault}
+use Rattle.pmb_in_memory.specs.declared.fault.WholeFault.TheVariants.{Profile, Memory, Write}
+use Rattle.pmb_in_memory.specs.declared.put.Put.{Put}
 use Rattle.pmb_c.specs.declared.result.PmbResult.{PmbResult}
-use Rattle.pmb_firmware.specs.declared.status.Status.{Status}
-use Rattle.pmb_firmware.specs.declared.status.Status.TheVariants as status
-use Rattle.pmb_firmware.specs.Status.{number_of}
+use Rattle.pmb_firmware.specs.declared.call_status.CallStatus.{CallStatus}
+use Rattle.pmb_firmware.specs.declared.call_status.CallStatus.TheVariants as status
+use Rattle.pmb_firmware.specs.CallStatus.{number_of}
 
 -- the numbers of the faults of profiles
 abbrev pub fault_number : FaultKind → ℤ
@@ -36,8 +36,17 @@ place_of (Some place) = pos place
 place_of None = negsuc 0
 
 -- nothing was written
-abbrev pub result_of_status : Status → PmbResult
-result_of_status why = record { status = number_of why; fault = pos 0; device = negsuc 0; command = negsuc 0; length = 0; packets = 0; refusals = 0 }
+abbrev pub result_of_status : CallStatus → PmbResult
+result_of_status why = record {
+  status = number_of why;
+  fault = pos 0;
+  device = negsuc 0;
+  command = negsuc 0;
+  length =
+      0;
+  packets = 0;
+  refusals = 0;
+}
 
 -- the profile has a fault, and this is the length of what is written of it
 abbrev pub result_of_fault : ProfileFault → ℕ → PmbResult

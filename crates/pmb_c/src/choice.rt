@@ -5,8 +5,8 @@ ghost use Rattle.std.specs.Prelude.{◌≡◌, option_map};
 ghost use Rattle.pmb_c.specs.Choice.{bad_words_of, chosen, is_address, start_of};
 
 use pmb_decimal::Digits;
-use pmb_json::BadWords;
-use pmb_late::Start;
+use pmb_json::AfterBadToken;
+use pmb_unknown_start::Start;
 
 /// How the objects of a capture are wanted.
 #[repr(C)]
@@ -26,7 +26,7 @@ pub struct PmbChoice {
 pub(crate) struct Chosen {
     pub(crate) digits: Digits,
     pub(crate) start: Start,
-    pub(crate) bad_words: BadWords,
+    pub(crate) bad_words: AfterBadToken,
 }
 
 impl PmbChoice {
@@ -75,12 +75,12 @@ fn start(number: u8) -> Option<Start>
 }
 
 /// What is done after a word that is no token.
-fn bad_words(number: u8) -> Option<BadWords>
+fn bad_words(number: u8) -> Option<AfterBadToken>
     ensures { result ≡ bad_words_of number }
 {
     match number {
-        0 => Some(BadWords::End),
-        1 => Some(BadWords::GoOn),
+        0 => Some(AfterBadToken::End),
+        1 => Some(AfterBadToken::GoOn),
         _ => None,
     }
 }

@@ -4,11 +4,11 @@ ghost use Rattle.std.specs.Prelude.{◌≡◌};
 ghost use Rattle.pmb_c.specs.Explain.{Explains, IsLaid};
 
 use crate::result::PmbResult;
-use pmb_firmware::Status;
-use pmb_front::explain_profile;
-use pmb_room::{Filled, Place, Room};
+use pmb_firmware::CallStatus;
+use pmb_hints::explanation;
+use pmb_in_memory::{BufferId, Filled, Room, WholeFault, read_profile};
+use pmb_io::Sink;
 use pmb_table::ProfileFault;
-use pmb_whole::{WholeFault, read_profile};
 use std::alloc::Global;
 use std::marker::Brand;
 
@@ -25,11 +25,11 @@ pub extern "C" fn pmb_profile_fault(
     ensures length { result ≡ told.new.length }
 {
     *told = match read_profile(alloc, profile) {
-        Ok(_) => PmbResult::of_status(Status::Done),
+        Ok(_) => PmbResult::of_status(CallStatus::Done),
         Err(WholeFault::Profile(fault)) => {
             PmbResult::of_fault(fault, put_lines(alloc, profile, fault, room))
         }
-        Err(WholeFault::Memory | WholeFault::Write) => PmbResult::of_status(Status::NoMemory),
+        Err(WholeFault::Memory | WholeFault::Write) => PmbResult::of_status(CallStatus::NoMemory),
     };
     told.length
 }
@@ -42,7 +42,7 @@ fn put_lines(alloc: Global, profile: &[u8], fault: ProfileFault, room: &mut [u8]
 }
 
 /// Puts the lines into the room of a place.
-fn put_lines_at<'r, P: Place>(
+fn put_lines_at<'r, P: BufferId>(
     alloc: Global,
     profile: &[u8],
     fault: ProfileFault,
@@ -54,6 +54,6 @@ fn put_lines_at<'r, P: Place>(
     ensures laid { IsLaid room.old result.room.now result.count }
 {
     let mut writer: Room<'r, P> = Room::new(room);
-    let _ = explain_profile(alloc, profile, fault, &mut writer);
+    let _ = writer.write_all(explanation(alloc, profile, fault).as_str().as_bytes());
     writer.into_filled()
 }

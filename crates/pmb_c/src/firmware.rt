@@ -13,7 +13,7 @@ ghost use Rattle.pmb_firmware.specs.Format.{named};
 ghost use Rattle.pmb_firmware.specs.Number.{Decodes, Encodes, Parses};
 ghost use Rattle.pmb_firmware.specs.Quantity.{quantity_of};
 ghost use Rattle.pmb_firmware.specs.Room.{put_some, quantity_text, some_name};
-ghost use Rattle.pmb_lexer.specs.Lexer.{IsFaulted, StandsAt};
+ghost use Rattle.pmb_firmware.specs.Lexer.{IsFaulted, StandsAt};
 ghost use Rattle.pmb_quantity.specs.Reading.{reading};
 
 use pmb_firmware::{PmbEvent, PmbFormat, PmbLexer, PmbQuantity};

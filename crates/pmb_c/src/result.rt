@@ -3,9 +3,9 @@
 ghost use Rattle.std.specs.Prelude.{◌≡◌, ℤ, negsuc, pos};
 ghost use Rattle.pmb_c.specs.Result.{fault_number, place_of, result_of, result_of_fault, result_of_put, result_of_status};
 
-use pmb_firmware::Status;
+use pmb_firmware::CallStatus;
+use pmb_in_memory::{Put, WholeFault};
 use pmb_table::{FaultKind, ProfileFault};
-use pmb_whole::{Put, WholeFault};
 
 /// What a call over a whole input came to, and what it tells of it.
 #[repr(C)]
@@ -35,12 +35,14 @@ impl PmbResult {
         match outcome {
             Ok(put) => PmbResult::of_put(put, room),
             Err(WholeFault::Profile(fault)) => PmbResult::of_fault(fault, 0),
-            Err(WholeFault::Memory | WholeFault::Write) => PmbResult::of_status(Status::NoMemory),
+            Err(WholeFault::Memory | WholeFault::Write) => PmbResult::of_status(
+                CallStatus::NoMemory,
+            ),
         }
     }
 
     /// Nothing was written, for this reason.
-    pub(crate) fn of_status(status: Status) -> PmbResult
+    pub(crate) fn of_status(status: CallStatus) -> PmbResult
         ensures { result ≡ result_of_status status }
     {
         PmbResult {
@@ -59,9 +61,9 @@ impl PmbResult {
         ensures { result ≡ result_of_put room put }
     {
         let status = if put.length > room {
-            Status::NoRoom
+            CallStatus::NoRoom
         } else {
-            Status::Done
+            CallStatus::Done
         };
         PmbResult {
             status: status.number(),
@@ -79,7 +81,7 @@ impl PmbResult {
         ensures { result ≡ result_of_fault fault length }
     {
         PmbResult {
-            status: Status::BadProfile.number(),
+            status: CallStatus::BadProfile.number(),
             fault: number_of(fault.what),
             device: device_of(fault.device),
             command: command_of(fault.command),

@@ -9,14 +9,14 @@
 ghost use Rattle.std.specs.Prelude.{◌≡◌};
 ghost use Rattle.pmb_c.specs.Choice.{chosen};
 ghost use Rattle.pmb_c.specs.Whole.{Answers, AnswersJson};
-ghost use Rattle.pmb_whole.specs.Work.{working};
-ghost use Rattle.pmb_whole.specs.declared.work.Work.TheVariants as works;
+ghost use Rattle.pmb_in_memory.specs.MemoryTask.{working};
+ghost use Rattle.pmb_in_memory.specs.declared.memory_task.MemoryTask.TheVariants as works;
 
 use crate::choice::PmbChoice;
 use crate::result::PmbResult;
-use pmb_firmware::Status;
-use pmb_stream::Choice;
-use pmb_whole::{Work, put_json, put_whole};
+use pmb_firmware::CallStatus;
+use pmb_in_memory::{MemoryTask, put_json, put_whole};
+use pmb_json_stream::Choice;
 use std::alloc::Global;
 
 /// Writes a line for each packet and each refusal of a capture, as `pmb show` does.
@@ -31,7 +31,7 @@ pub extern "C" fn pmb_show(
     ensures wrote { Answers (working works.Show) profile.now capture.now room.old room.new told.new }
     ensures length { result ≡ told.new.length }
 {
-    *told = answer(Work::Show, alloc, profile, capture, room);
+    *told = answer(MemoryTask::Show, alloc, profile, capture, room);
     told.length
 }
 
@@ -49,7 +49,7 @@ pub extern "C" fn pmb_check(
     ensures wrote { Answers (working works.Check) profile.now capture.now room.old room.new told.new }
     ensures length { result ≡ told.new.length }
 {
-    *told = answer(Work::Check, alloc, profile, capture, room);
+    *told = answer(MemoryTask::Check, alloc, profile, capture, room);
     told.length
 }
 
@@ -65,7 +65,7 @@ pub extern "C" fn pmb_build(
     ensures wrote { Answers (working works.Build) profile.now lines.now room.old room.new told.new }
     ensures length { result ≡ told.new.length }
 {
-    *told = answer(Work::Build, alloc, profile, lines, room);
+    *told = answer(MemoryTask::Build, alloc, profile, lines, room);
     told.length
 }
 
@@ -82,7 +82,7 @@ pub extern "C" fn pmb_run(
     ensures wrote { Answers (working works.Run) profile.now requests.now room.old room.new told.new }
     ensures length { result ≡ told.new.length }
 {
-    *told = answer(Work::Run, alloc, profile, requests, room);
+    *told = answer(MemoryTask::Run, alloc, profile, requests, room);
     told.length
 }
 
@@ -112,13 +112,19 @@ pub extern "C" fn pmb_json(
             let outcome = put_json(choice, chosen.bad_words, alloc, profile, capture, room);
             *told = PmbResult::of(outcome, size);
         }
-        None => *told = PmbResult::of_status(Status::BadChoice),
+        None => *told = PmbResult::of_status(CallStatus::BadChoice),
     }
     told.length
 }
 
 /// Does a work on an input, and tells what it came to.
-fn answer(work: Work, alloc: Global, profile: &[u8], input: &[u8], room: &mut [u8]) -> PmbResult
+fn answer(
+    work: MemoryTask,
+    alloc: Global,
+    profile: &[u8],
+    input: &[u8],
+    room: &mut [u8],
+) -> PmbResult
     ensures { Answers (working work) profile.now input.now room.old room.new result }
 {
     let size = room.len();

@@ -1,5 +1,6 @@
 -- The counts of a capture that is cut after a STOP.
-use Rattle.std.proofs.Common.{◌≡◌, ℕ, ◌+◌, List, [], ◌∷◌, ◌++◌, length, Bool, true, false, not, inl, inr, refl, sym, ◌∙◌, ap, subst, arith}
+use Rattle.std.proofs.Common.{◌≡◌, ℕ, ◌+◌, List, [], ◌∷◌, ◌++◌, length, Bool, true, false, not, inl, inr, refl, sym}
+use Rattle.std.proofs.Common.{◌∙◌, ap, subst, arith}
 use Rattle.std.specs.List.{All}
 use Rattle.std.proofs.lemmas.List.Elements.{All-head, All-tail, filter-append}
 use Rattle.std.proofs.lemmas.List.{map-append}
@@ -10,11 +11,14 @@ use Rattle.pmb_io.specs.Count.{capped}
 use Rattle.pmb_io.specs.Tally.{IsTallyOf}
 use Rattle.pmb_io.specs.declared.tally.Tally.{Tally}
 use Rattle.pmb_transaction.specs.declared.reason.Reason.{Reason}
-use Rattle.pmb_transaction.specs.declared.reason.Reason.TheVariants.{ReadFirst, BadRestart, BadPec, UnknownDevice, UnknownCommand, TooLong, TooShort, WrongEvent, Truncated}
+use Rattle.pmb_transaction.specs.declared.reason.Reason.TheVariants.{ReadFirst, BadRestart, BadPec, UnknownDevice}
+use Rattle.pmb_transaction.specs.declared.reason.Reason.TheVariants.{UnknownCommand, TooLong, TooShort, WrongEvent}
+use Rattle.pmb_transaction.specs.declared.reason.Reason.TheVariants.{Truncated}
 use Rattle.pmb_transaction.specs.Cut.{EndsWithStop, IsNotTruncated, moved, moved_outcome}
 use Rattle.pmb_transaction.specs.Reading.{Accepted, Outcome, Reading, Refusal, RefusalData}
 use Rattle.pmb_capture.specs.Cut.{EndsAtCut, sum_of}
-use Rattle.pmb_capture.specs.Output.{OutputText, but_truncation, is_end_inside, is_truncation, outcomes_text, packets_in, refusals_in}
+use Rattle.pmb_capture.specs.Output.{OutputText, but_truncation, is_end_inside, is_truncation, outcomes_text}
+use Rattle.pmb_capture.specs.Output.{packets_in, refusals_in}
 use Rattle.pmb_capture.specs.Lines.{bad_token_line}
 use Rattle.pmb_capture.specs.Written.{Writes, WritesAll, WritesUpToBadWord}
 use Rattle.pmb_capture.proofs.Shown.{one_text}
@@ -24,7 +28,8 @@ use Rattle.pmb_capture.proofs.Texts.{packets_append, refusals_append}
 
 -- so a count does that adds up and is kept by one
 counted_moved : (count : List Outcome → ℕ) → ((a b : List Outcome) → count (a ++ b) ≡ count a + count b)
-    → ((n : ℕ) (one : Outcome) → count (moved n (one ∷ [])) ≡ count (one ∷ [])) → (n : ℕ) (outcomes : List Outcome) → count (moved n outcomes) ≡ count outcomes
+    → ((n : ℕ) (one : Outcome) → count (moved n (one ∷ [])) ≡ count (one ∷ [])) → (n : ℕ) (outcomes : List Outcome)
+    → count (moved n outcomes) ≡ count outcomes
 counted_moved count append alike n [] = refl
 counted_moved count append alike n (one ∷ more) =
     append (moved n (one ∷ [])) (moved n more)
@@ -63,7 +68,8 @@ but_moved n [] = refl
 but_moved n (Accepted t ∷ more) = ap (λ (os : List Outcome). Accepted t ∷ os) (but_moved n more)
 but_moved n (Refusal refusal ∷ more) =
     but-append (moved n (Refusal refusal ∷ [])) (moved n more)
-    ∙ ap (λ (os : List Outcome). os ++ but_truncation (moved n more)) (one_left n refusal (is_end_inside refusal.reason) refl)
+    ∙ ap (λ (os : List Outcome). os ++ but_truncation (moved n more))
+    (one_left n refusal (is_end_inside refusal.reason) refl)
     ∙ ap (λ (os : List Outcome). moved n (but_truncation (Refusal refusal ∷ [])) ++ os) (but_moved n more)
     ∙ sym (map_moved n (but_truncation (Refusal refusal ∷ [])) (but_truncation more))
     ∙ ap (moved n) (sym (but-append (Refusal refusal ∷ []) more))
@@ -81,18 +87,21 @@ another_reason TooShort other = refl
 another_reason WrongEvent other = refl
 another_reason Truncated other = absurd (other refl)
 
-one_kept : (refusal : RefusalData) → is_end_inside refusal.reason ≡ false → but_truncation (Refusal refusal ∷ []) ≡ Refusal refusal ∷ []
+one_kept : (refusal : RefusalData) → is_end_inside refusal.reason ≡ false → but_truncation (Refusal refusal ∷ [])
+    ≡ Refusal refusal ∷ []
 one_kept refusal is = rw is refl
 
 all_kept : (outcomes : List Outcome) → All IsNotTruncated outcomes → but_truncation outcomes ≡ outcomes
 all_kept [] whole = refl
-all_kept (Accepted t ∷ more) whole = ap (λ (os : List Outcome). Accepted t ∷ os) (all_kept more (All-tail IsNotTruncated (Accepted t) more whole))
+all_kept (Accepted t ∷ more) whole = ap (λ (os : List Outcome). Accepted t ∷ os)
+    (all_kept more (All-tail IsNotTruncated (Accepted t) more whole))
 all_kept (Refusal refusal ∷ more) whole =
     let first = All-head IsNotTruncated (Refusal refusal) more whole in
     let other = another_reason refusal.reason (λ truncated. first refusal refl truncated) in
     but-append (Refusal refusal ∷ []) more
     ∙ ap (λ (os : List Outcome). os ++ but_truncation more) (one_kept refusal other)
-    ∙ ap (λ (os : List Outcome). Refusal refusal ∷ os) (all_kept more (All-tail IsNotTruncated (Refusal refusal) more whole))
+    ∙ ap (λ (os : List Outcome). Refusal refusal ∷ os)
+    (all_kept more (All-tail IsNotTruncated (Refusal refusal) more whole))
 
 -- ---- tallies
 
@@ -123,7 +132,8 @@ packets_of_both n a b = packets_append a (moved n b) ∙ ap (λ (k : ℕ). packe
 refusals_of_both : (n : ℕ) (a b : List Outcome) → refusals_in (a ++ moved n b) ≡ refusals_in a + refusals_in b
 refusals_of_both n a b = refusals_append a (moved n b) ∙ ap (λ (k : ℕ). refusals_in a + k) (refusals_moved n b)
 
-but_of_both : (n : ℕ) (a b : List Outcome) → All IsNotTruncated a → but_truncation (a ++ moved n b) ≡ a ++ moved n (but_truncation b)
+but_of_both : (n : ℕ) (a b : List Outcome) → All IsNotTruncated a → but_truncation (a ++ moved n b) ≡ a
+    ++ moved n (but_truncation b)
 but_of_both n a b whole =
     but-append a (moved n b)
     ∙ ap (λ (os : List Outcome). os ++ but_truncation (moved n b)) (all_kept a whole)
@@ -132,22 +142,28 @@ but_of_both n a b whole =
 -- ---- both
 
 module _ (output : OutputText) (profile : List DeviceParts)
-    (one_reading : (events : List Event) (m n : List Outcome) → Reading profile events m → Reading profile events n → m ≡ n)
+    (one_reading : (events : List Event) (m n : List Outcome) → Reading profile events m → Reading profile events n
+    → m ≡ n)
     (one_spelling : (text : List ℕ) (a b : List Event) → Spells text a → Spells text b → a ≡ b)
-    (one_bad_word : (text : List ℕ) (a b : List Event) (i j : ℕ) → FirstBadWord text a i → FirstBadWord text b j → (a ≡ b) × (i ≡ j))
+    (one_bad_word : (text : List ℕ) (a b : List Event) (i j : ℕ) → FirstBadWord text a i → FirstBadWord text b j
+    → (a ≡ b) × (i ≡ j))
     (no_bad : (text : List ℕ) (a b : List Event) (i : ℕ) → Spells text a → FirstBadWord text b i → ⊥)
-    (spelled : (front back : List ℕ) (events more : List Event) → EndsBetween front → Spells front events → Spells back more
+    (spelled : (front back : List ℕ) (events more : List Event) → EndsBetween front → Spells front events
+    → Spells back more
     → Spells (front ++ back) (events ++ more))
     (bad : (front back : List ℕ) (events more : List Event) (place : ℕ) → EndsBetween front → Spells front events
     → FirstBadWord back more place → FirstBadWord (front ++ back) (events ++ more) (length front + place))
-    (joined : (first second : List Event) (outcomes others : List Outcome) → EndsWithStop first → Reading profile first outcomes
+    (joined : (first second : List Event) (outcomes others : List Outcome) → EndsWithStop first
+    → Reading profile first outcomes
     → Reading profile second others → Reading profile (first ++ second) (outcomes ++ moved (length first) others))
-    (whole : (first : List Event) (outcomes : List Outcome) → EndsWithStop first → Reading profile first outcomes → All IsNotTruncated outcomes) where
+    (whole : (first : List Event) (outcomes : List Outcome) → EndsWithStop first → Reading profile first outcomes
+    → All IsNotTruncated outcomes) where
   -- something is written of both, with these counts
   abbrev WritesSum : List ℕ → Tally → Tally → Type 0
   WritesSum bytes s t = (text : List ℕ) × Writes output profile bytes text (sum_of s t)
 
-  both_spelled : (front back : List ℕ) (a b : List ℕ) (s t : Tally) → EndsAtCut front → WritesAll output profile front a s
+  both_spelled : (front back : List ℕ) (a b : List ℕ) (s t : Tally) → EndsAtCut front
+      → WritesAll output profile front a s
       → WritesAll output profile back b t → WritesSum (front ++ back) s t
   both_spelled front back a b s t cut x y =
       let n = length cut.events in
@@ -162,12 +178,14 @@ module _ (output : OutputText) (profile : List DeviceParts)
               spells = spelled front back cut.events y.events cut.between cut.spells y.spells;
               reads = joined cut.events y.events x.outcomes y.outcomes cut.stop reads y.reads;
               lines = refl;
-              counts = counted_as _ _ _ _ (sum_of s t) (packets_of_both n x.outcomes y.outcomes) (refusals_of_both n x.outcomes y.outcomes)
+              counts = counted_as _ _ _ _ (sum_of s t) (packets_of_both n x.outcomes y.outcomes)
+                  (refusals_of_both n x.outcomes y.outcomes)
                   (summed s t _ _ _ _ x.counts y.counts);
             }),
       )
 
-  both_to_bad_word : (front back : List ℕ) (a b : List ℕ) (s t : Tally) → EndsAtCut front → WritesAll output profile front a s
+  both_to_bad_word : (front back : List ℕ) (a b : List ℕ) (s t : Tally) → EndsAtCut front
+      → WritesAll output profile front a s
       → WritesUpToBadWord output profile back b t → WritesSum (front ++ back) s t
   both_to_bad_word front back a b s t cut x y =
       let n = length cut.events in
@@ -176,7 +194,8 @@ module _ (output : OutputText) (profile : List DeviceParts)
       let outcomes = x.outcomes ++ moved n y.outcomes in
       let left = but_of_both n x.outcomes y.outcomes (whole cut.events x.outcomes cut.stop reads) in
       let packets = ap packets_in left ∙ packets_of_both n x.outcomes (but_truncation y.outcomes) in
-      let refusals : refusals_in (but_truncation outcomes) + 1 ≡ refusals_in x.outcomes + (refusals_in (but_truncation y.outcomes) + 1) =
+      let refusals : refusals_in (but_truncation outcomes) + 1
+      ≡ refusals_in x.outcomes + (refusals_in (but_truncation y.outcomes) + 1) =
       omega (arith, ap refusals_in left ∙ refusals_of_both n x.outcomes (but_truncation y.outcomes)) in
       let place = length front + y.place in (
         outcomes_text output (but_truncation outcomes) ++ (bad_token_line (capped place) ++ output.at_end (sum_of s t)),
@@ -196,10 +215,13 @@ module _ (output : OutputText) (profile : List DeviceParts)
       → Writes output profile back b t → WritesSum (front ++ back) s t
   both_written front back a b s t cut (inl x) (inl y) = both_spelled front back a b s t cut x y
   both_written front back a b s t cut (inl x) (inr y) = both_to_bad_word front back a b s t cut x y
-  both_written front back a b s t cut (inr x) second = absurd (no_bad front cut.events x.events x.place cut.spells x.bad)
+  both_written front back a b s t cut (inr x) second =
+      absurd (no_bad front cut.events x.events x.place cut.spells x.bad)
 
-  pub counts_add_up : (front back : List ℕ) (a b all : List ℕ) (s t tally : Tally) → EndsAtCut front → Writes output profile front a s
+  pub counts_add_up : (front back : List ℕ) (a b all : List ℕ) (s t tally : Tally) → EndsAtCut front
+      → Writes output profile front a s
       → Writes output profile back b t → Writes output profile (front ++ back) all tally → tally ≡ sum_of s t
   counts_add_up front back a b all s t tally cut first second writes =
       let both = both_written front back a b s t cut first second in
-      (one_text output profile one_reading one_spelling one_bad_word no_bad (front ++ back) all both.0 tally (sum_of s t) writes both.1).1
+      (one_text output profile one_reading one_spelling one_bad_word no_bad (front ++ back) all both.0 tally
+      (sum_of s t) writes both.1).1

@@ -15,7 +15,8 @@ module _ (output : OutputText) (profile : List DeviceParts) where
   abbrev pub HasWritten : List ℕ → Type 0
   HasWritten bytes = (text : List ℕ) × (tally : Tally) × Writes output profile bytes text tally
 
-  written_all : (bytes : List ℕ) (events : List Event) → Spells bytes events → (outcomes : List Outcome) × Reading profile events outcomes → HasWritten bytes
+  written_all : (bytes : List ℕ) (events : List Event) → Spells bytes events
+      → (outcomes : List Outcome) × Reading profile events outcomes → HasWritten bytes
   written_all bytes events spells read =
       let tally : Tally = record { packets = capped (packets_in read.0); refusals = capped (refusals_in read.0) } in (
         outcomes_text output read.0 ++ output.at_end tally,
@@ -30,9 +31,14 @@ module _ (output : OutputText) (profile : List DeviceParts) where
         }),
       )
 
-  written_up_to : (bytes : List ℕ) (events : List Event) (place : ℕ) → FirstBadWord bytes events place → (outcomes : List Outcome) × Reading profile events outcomes → HasWritten bytes
+  written_up_to : (bytes : List ℕ) (events : List Event) (place : ℕ) → FirstBadWord bytes events place
+      → (outcomes : List Outcome) × Reading profile events outcomes → HasWritten bytes
   written_up_to bytes events place bad read =
-      let tally : Tally = record { packets = capped (packets_in (but_truncation read.0)); refusals = capped (refusals_in (but_truncation read.0) + 1) } in (
+      let tally : Tally = record {
+        packets = capped (packets_in (but_truncation read.0));
+        refusals =
+            capped (refusals_in (but_truncation read.0) + 1);
+      } in (
         outcomes_text output (but_truncation read.0) ++ (bad_token_line (capped place) ++ output.at_end tally),
         tally,
         inr (record {
@@ -47,7 +53,9 @@ module _ (output : OutputText) (profile : List DeviceParts) where
       )
 
   -- each text spells events or has a first bad word, and each list of events has a reading
-  pub some_text : ((events : List Event) → (outcomes : List Outcome) × Reading profile events outcomes) → (bytes : List ℕ)
-      → ((events : List Event) × Spells bytes events) ⊎ ((events : List Event) × (place : ℕ) × FirstBadWord bytes events place) → HasWritten bytes
+  pub some_text : ((events : List Event) → (outcomes : List Outcome) × Reading profile events outcomes)
+      → (bytes : List ℕ)
+      → ((events : List Event) × Spells bytes events)
+      ⊎ ((events : List Event) × (place : ℕ) × FirstBadWord bytes events place) → HasWritten bytes
   some_text reading bytes (inl spelled) = written_all bytes spelled.0 spelled.1 (reading spelled.0)
   some_text reading bytes (inr bad) = written_up_to bytes bad.0 bad.1 bad.2 (reading bad.0)

@@ -14,7 +14,8 @@ joined_names mark (name ∷ names) = mark ++ name ++ joined_names (codes " or ")
 -- the place is the event's, counted from 0
 abbrev pub refusal_line : RefusalData → List ℕ
 refusal_line refusal =
-    codes "# refusal at " ++ decimal refusal.at ++ codes ": " ++ reason_name refusal.reason ++ codes ", expected " ++ joined_names [] (kind_names refusal.expected) ++ codes "\n"
+    codes "# refusal at " ++ decimal refusal.at ++ codes ": " ++ reason_name refusal.reason ++ codes ", expected "
+    ++ joined_names [] (kind_names refusal.expected) ++ codes "\n"
 
 -- ---- the end
 
@@ -23,4 +24,5 @@ abbrev pub bad_token_line : ℕ → List ℕ
 bad_token_line at = codes "# bad token at byte " ++ decimal at ++ codes "\n"
 
 abbrev pub tally_line : Tally → List ℕ
-tally_line tally = codes "packets " ++ decimal tally.packets ++ codes " refusals " ++ decimal tally.refusals ++ codes "\n"
+tally_line tally = codes "packets " ++ decimal tally.packets ++ codes " refusals " ++ decimal tally.refusals
+    ++ codes "\n"

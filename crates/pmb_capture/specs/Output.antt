@@ -2,7 +2,9 @@
 use Rattle.std.specs.Prelude.{ℕ, Bool, true, false, not, List, [], ◌∷◌, ◌++◌, filter, count_by}
 use Rattle.pmb_io.specs.declared.tally.Tally.{Tally}
 use Rattle.pmb_transaction.specs.declared.reason.Reason.{Reason}
-use Rattle.pmb_transaction.specs.declared.reason.Reason.TheVariants.{ReadFirst, BadRestart, BadPec, UnknownDevice, UnknownCommand, TooLong, TooShort, WrongEvent, Truncated}
+use Rattle.pmb_transaction.specs.declared.reason.Reason.TheVariants.{ReadFirst, BadRestart, BadPec, UnknownDevice}
+use Rattle.pmb_transaction.specs.declared.reason.Reason.TheVariants.{UnknownCommand, TooLong, TooShort, WrongEvent}
+use Rattle.pmb_transaction.specs.declared.reason.Reason.TheVariants.{Truncated}
 use Rattle.pmb_transaction.specs.Reading.{Outcome, Accepted, Refusal}
 use Rattle.pmb_transaction.specs.Transaction.{TransactionData}
 use Rattle.pmb_capture.specs.Lines.{refusal_line}
@@ -57,7 +59,8 @@ but_truncation outcomes = filter (λ outcome. not (is_truncation outcome)) outco
 -- refusal.
 abbrev pub text_behind : OutputText → List TransactionData → List Outcome → List ℕ
 text_behind output before [] = []
-text_behind output before (Accepted t ∷ outcomes) = output.of_packet before t ++ text_behind output (before ++ t ∷ []) outcomes
+text_behind output before (Accepted t ∷ outcomes) = output.of_packet before t
+    ++ text_behind output (before ++ t ∷ []) outcomes
 text_behind output before (Refusal refusal ∷ outcomes) = refusal_line refusal ++ text_behind output before outcomes
 
 abbrev pub outcomes_text : OutputText → List Outcome → List ℕ

@@ -30,7 +30,8 @@ module _ (output : OutputText) (profile : List DeviceParts) where
     pub place : ℕ
     pub bad : FirstBadWord bytes events place
     pub reads : Reading profile events outcomes
-    pub lines : text ≡ outcomes_text output (but_truncation outcomes) ++ (bad_token_line (capped place) ++ output.at_end tally)
+    pub lines : text ≡ outcomes_text output (but_truncation outcomes)
+        ++ (bad_token_line (capped place) ++ output.at_end tally)
     pub counts : IsTallyOf (packets_in (but_truncation outcomes)) (refusals_in (but_truncation outcomes) + 1) tally
 
   -- the text that is written for bytes, and the tally

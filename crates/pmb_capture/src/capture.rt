@@ -22,7 +22,7 @@ use pmb_bus::LexFault;
 use pmb_bus::laws::ended_words_lead_on;
 use pmb_io::{Engine, Flow, RunFault, Sink, Tally, Waiting};
 use pmb_scan::laws::scans_lead_on;
-use pmb_scan::{Scan, Taken};
+use pmb_scan::{PieceEnd, Scan};
 use pmb_table::Profile;
 use pmb_table::laws::accepted_bus;
 
@@ -109,8 +109,8 @@ impl<'p, O: Output> Engine for Capture<'p, O> {
             .scan
             .take_words(piece, &mut self.account, waiting, writer)?
         {
-            Taken::All => Ok(Flow::More),
-            Taken::Fault { fault, .. } => {
+            PieceEnd::All => Ok(Flow::More),
+            PieceEnd::Fault { fault, .. } => {
                 self.stop_at(fault, waiting, writer)?;
                 Ok(Flow::Stop)
             }

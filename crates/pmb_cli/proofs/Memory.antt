@@ -1,13 +1,13 @@
 -- What was read where there was no memory.
 use Rattle.std.proofs.Common.{◌≡◌, true, inl, inr, refl, sym, subst}
-use Rattle.pmb_front.specs.Front.{Parts, ReadFront}
+use Rattle.pmb_preamble.specs.Front.{Parts, ReadFront}
 use Rattle.pmb_io.specs.Told.{ReaderTold}
 use Rattle.pmb_io.specs.declared.fault.ToolFault.{ToolFault}
 use Rattle.pmb_io.specs.declared.fault.ToolFault.TheVariants.{Read, Write, TooManyReads, ProfileTooLong, Memory}
-use Rattle.pmb_status.specs.Status.{status_of}
-use Rattle.pmb_status.specs.declared.status.Status.TheVariants.{BadWords, IoFailed, NoMemory}
-use Rattle.pmb_words.specs.Asked.{Asking, Convert, UnderProfile}
-use Rattle.pmb_words.specs.declared.profile_place.ProfilePlace.TheVariants.{Sample, Front}
+use Rattle.pmb_args.specs.ExitStatus.{status_of}
+use Rattle.pmb_args.specs.declared.exit_status.ExitStatus.TheVariants.{BadArguments, IoFailed, NoMemory}
+use Rattle.pmb_args.specs.Asked.{Asking, Convert, UnderProfile}
+use Rattle.pmb_args.specs.declared.profile_place.ProfilePlace.TheVariants.{Sample, Front}
 use Rattle.pmb_cli.specs.Memory.{ReadNoRest, ReadWithoutMemory}
 
 -- a fault of status NoMemory is that of memory
@@ -15,7 +15,7 @@ pub is_memory : (fault : ToolFault) → status_of fault ≡ NoMemory → fault �
 is_memory Read none = let clash : IoFailed ≡ NoMemory = none in cc
 is_memory Write none = let clash : IoFailed ≡ NoMemory = none in cc
 is_memory TooManyReads none = let clash : IoFailed ≡ NoMemory = none in cc
-is_memory ProfileTooLong none = let clash : BadWords ≡ NoMemory = none in cc
+is_memory ProfileTooLong none = let clash : BadArguments ≡ NoMemory = none in cc
 is_memory Memory none = refl
 
 module _ {R : Type 0} (told : R → ReaderTold) where
@@ -26,5 +26,7 @@ module _ {R : Type 0} (told : R → ReaderTold) where
   unread (Convert direction format) old new same = same
 
   -- where the front was read, and nothing after it
-  pub front_alone : (old mid new : R) (parts : Parts) → ReadFront told old mid parts → (parts.marked ≡ true → (told mid).ended ≡ (told old).ended) → new ≡ mid → ReadNoRest told old new
-  front_alone old mid new parts front not_ended same = subst (λ (r : R). ReadNoRest told old r) (sym same) (inr (record { parts = parts; front = front; not_ended = not_ended }))
+  pub front_alone : (old mid new : R) (parts : Parts) → ReadFront told old mid parts
+      → (parts.marked ≡ true → (told mid).ended ≡ (told old).ended) → new ≡ mid → ReadNoRest told old new
+  front_alone old mid new parts front not_ended same = subst (λ (r : R). ReadNoRest told old r) (sym same)
+      (inr (record { parts = parts; front = front; not_ended = not_ended }))

@@ -1,6 +1,6 @@
 -- How often is read in all.
 use Rattle.std.proofs.Common.{◌≡◌, ◌∙◌, ap, ℕ, ◌+◌, ◌≤◌, sym, arith}
-use Rattle.pmb_front.specs.Front.{most_profile}
+use Rattle.pmb_preamble.specs.Front.{most_profile}
 use Rattle.pmb_io.specs.Count.{raised}
 use Rattle.pmb_io.specs.Runs.{MadeReads}
 use Rattle.pmb_io.proofs.Running.{raised_by_none, raised_twice}
@@ -14,7 +14,8 @@ pub none_in_all : (old : ℕ) → MadeReadsInAll old old
 none_in_all old = (0, omega arith, sym (raised_by_none old))
 
 -- those of the front alone
-pub reads_of_front : (old new : ℕ) → ((count : ℕ) × (count ≤ most_profile + 4) × (new ≡ raised old count)) → MadeReadsInAll old new
+pub reads_of_front : (old new : ℕ) → ((count : ℕ) × (count ≤ most_profile + 4) × (new ≡ raised old count))
+    → MadeReadsInAll old new
 reads_of_front old new reads = (reads.0, omega (arith, reads.1), reads.2)
 
 -- those of the work alone
@@ -22,7 +23,8 @@ pub reads_of_work : (old new : ℕ) → MadeReads old new → MadeReadsInAll old
 reads_of_work old new reads = (reads.0, omega (arith, reads.1), reads.2)
 
 -- those of the work after those of the front
-pub reads_after : (old mid new : ℕ) → ((count : ℕ) × (count ≤ most_profile + 4) × (mid ≡ raised old count)) → MadeReads mid new → MadeReadsInAll old new
+pub reads_after : (old mid new : ℕ) → ((count : ℕ) × (count ≤ most_profile + 4) × (mid ≡ raised old count))
+    → MadeReads mid new → MadeReadsInAll old new
 reads_after old mid new front work = (
   front.0 + work.0,
   omega (arith, front.1, work.1),

@@ -7,9 +7,12 @@ use Rattle.pmb_io.specs.declared.fault.RunFault.{RunFault}
 use Rattle.pmb_io.specs.declared.fault.RunFault.TheVariants.{Read, Write, TooManyReads}
 use Rattle.pmb_cli.proofs.Often.{no_reads}
 
-module _ {R W A : Type 0} (reader_told : R → ReaderTold) (writer_told : W → WriterTold) (job : Job A) (first : List ℕ) (reader : R) (out out_new : W) (result : Result A RunFault) where
-  pub ran_unread : IfOk result (λ answer. Done reader_told writer_told job answer first (reader, out) (reader, out_new)) → result ≢ Err Read → result ≢ Err TooManyReads
-      → (result ≡ Err Write → (writer_told out_new).failures ≡ raised (writer_told out).failures 1) → (result ≢ Err Write → (writer_told out_new).failures ≡ (writer_told out).failures)
+module _ {R W A : Type 0} (reader_told : R → ReaderTold) (writer_told : W → WriterTold) (job : Job A) (first : List ℕ)
+    (reader : R) (out out_new : W) (result : Result A RunFault) where
+  pub ran_unread : IfOk result (λ answer. Done reader_told writer_told job answer first (reader, out) (reader, out_new))
+      → result ≢ Err Read → result ≢ Err TooManyReads
+      → (result ≡ Err Write → (writer_told out_new).failures ≡ raised (writer_told out).failures 1)
+      → (result ≢ Err Write → (writer_told out_new).failures ≡ (writer_told out).failures)
       → Ran reader_told writer_told job first (reader, out) (reader, out_new) result
   ran_unread done no_read few write no_write = record {
     ok = done;

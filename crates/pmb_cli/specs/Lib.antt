@@ -1,6 +1,7 @@
 pub mod Json
 pub mod Memory
 pub mod Often
+pub mod ProfileFault
 pub mod Profiles
 pub mod Program
 pub mod Statuses

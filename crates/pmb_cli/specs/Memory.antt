@@ -1,9 +1,9 @@
 -- What was read where there was no memory: nothing, or the front of the input alone.
 use Rattle.std.specs.Prelude.{◌≡◌, ◌⊎◌, true}
-use Rattle.pmb_front.specs.Front.{Parts, ReadFront, ReadSome}
+use Rattle.pmb_preamble.specs.Front.{Parts, ReadFront, ReadSome}
 use Rattle.pmb_io.specs.Told.{ReaderTold}
-use Rattle.pmb_words.specs.Asked.{Asking, Convert, UnderProfile}
-use Rattle.pmb_words.specs.declared.profile_place.ProfilePlace.TheVariants.{Sample, Front}
+use Rattle.pmb_args.specs.Asked.{Asking, Convert, UnderProfile}
+use Rattle.pmb_args.specs.declared.profile_place.ProfilePlace.TheVariants.{Sample, Front}
 
 module _ {R : Type 0} (told : R → ReaderTold) where
   -- The front was read, and nothing after it: a reader that gave a line `%%` was not read again.

@@ -1,6 +1,6 @@
 -- How often is read: for the profile that comes first, and for what follows it.
 use Rattle.std.specs.Prelude.{◌≡◌, ◌≤◌, ◌+◌, ℕ}
-use Rattle.pmb_front.specs.Front.{most_profile}
+use Rattle.pmb_preamble.specs.Front.{most_profile}
 use Rattle.pmb_io.specs.Count.{raised}
 use Rattle.pmb_io.specs.Runs.{most_reads}
 

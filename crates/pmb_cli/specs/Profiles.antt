@@ -6,7 +6,7 @@ use Rattle.pmb_io.specs.Count.{raised}
 use Rattle.pmb_io.specs.Told.{ReaderTold, Told}
 use Rattle.pmb_table.specs.Profile.{Says}
 use Rattle.pmb_table.specs.declared.fault.ProfileFault.{ProfileFault}
-use Rattle.pmb_front.specs.Front.{FirstMark, IsFront, Parts, ReadFront, ReadTooMuch, Undecided, most_profile}
+use Rattle.pmb_preamble.specs.Front.{FirstMark, IsFront, Parts, ReadFront, ReadTooMuch, Undecided, most_profile}
 
 -- This holds of the sample profile, as it is read.
 pub record UnderSample (Holds : List DeviceParts → Type 0) (sample : List ℕ) : Type 0 where
@@ -28,7 +28,8 @@ pub record BeginsWithProfile (IsCut : List ℕ → List ℕ → List ℕ → Typ
   pub within : length profile ≤ most_profile
   pub says : Says profile (Ok devices)
 
--- What was read is a profile within the limit, and what follows its line `%%`, if it has one; this holds of the devices, of
+-- What was read is a profile within the limit, and what follows its line `%%`, if it has one; this
+-- holds of the devices, of
 -- that, of the text that was written, and of all that was read.
 pub record UnderFront (Holds : List DeviceParts → List ℕ → List ℕ → List ℕ → Type 0) (old new : Told) : Type 0 where
   pub begins : BeginsWithProfile IsFront old new
@@ -55,7 +56,8 @@ pub record ReadPart (old new : Told) : Type 0 where
   pub unwritten : new.writer.held ≡ old.writer.held
   pub undecided : Undecided read
 
--- What was read is a profile within the limit and its line `%%`, and a part of what follows it; this holds of the devices, of
+-- What was read is a profile within the limit and its line `%%`, and a part of what follows it;
+-- this holds of the devices, of
 -- that part, and of the text that was written.
 pub record ReadPartOfRest (Holds : List DeviceParts → List ℕ → List ℕ → Type 0) (old new : Told) : Type 0 where
   pub begins : BeginsWithProfile FirstMark old new

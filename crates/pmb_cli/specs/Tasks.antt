@@ -8,13 +8,13 @@ use Rattle.pmb_value.specs.declared.number_format.NumberFormat.{NumberFormat}
 use Rattle.pmb_io.specs.Runs.{Done, PartDone}
 use Rattle.pmb_io.specs.Told.{ReaderTold, WriterTold}
 use Rattle.pmb_io.specs.declared.tally.Tally.{Tally}
-use Rattle.pmb_status.specs.Status.{EndedWell, Failed, IsTold}
-use Rattle.pmb_status.specs.declared.status.Status.{Status}
-use Rattle.pmb_status.specs.declared.status.Status.TheVariants.{BadWords, NoMemory}
-use Rattle.pmb_words.specs.Asked.{Asking, Convert, NamesNone, UnderProfile}
-use Rattle.pmb_words.specs.declared.direction.Direction.{Direction}
-use Rattle.pmb_words.specs.declared.direction.Direction.TheVariants.{Encode, Decode}
-use Rattle.pmb_words.specs.declared.profile_place.ProfilePlace.TheVariants.{Front}
+use Rattle.pmb_args.specs.ExitStatus.{EndedWell, Failed, IsTold}
+use Rattle.pmb_args.specs.declared.exit_status.ExitStatus.{ExitStatus}
+use Rattle.pmb_args.specs.declared.exit_status.ExitStatus.TheVariants.{BadArguments, NoMemory}
+use Rattle.pmb_args.specs.Asked.{Asking, Convert, NamesNone, UnderProfile}
+use Rattle.pmb_args.specs.declared.direction.Direction.{Direction}
+use Rattle.pmb_args.specs.declared.direction.Direction.TheVariants.{Encode, Decode}
+use Rattle.pmb_args.specs.declared.profile_place.ProfilePlace.TheVariants.{Front}
 use Rattle.pmb_cli.specs.Memory.{ReadWithoutMemory}
 use Rattle.pmb_cli.specs.Profiles.{HasBadProfile}
 use Rattle.pmb_cli.specs.Statuses.{Does, StatusTells}
@@ -37,27 +37,38 @@ pub record InFormat (direction : Direction) (Holds : Conversion → Type 0) (tex
   pub holds : Holds (conversion_of direction format)
 
 module _ {R W : Type 0} (reader_told : R → ReaderTold) (out_told : W → WriterTold) (sample : List ℕ) where
-  -- All was written: for a capture or lines under the sample profile, or under the one that comes first, or the answers to
+  -- All was written: for a capture or lines under the sample profile, or under the one that comes
+  -- first, or the answers to
   -- all lines in a format.
   abbrev pub WroteTask : Asking → R × W → R × W → Tally → Type 0
-  WroteTask (UnderProfile place wanted) old new tally = DoneUnder reader_told out_told (working wanted) place sample tally old new
-  WroteTask (Convert direction text) old new tally = InFormat direction (λ conversion. Done reader_told out_told (converting conversion) tally [] old new) text
+  WroteTask (UnderProfile place wanted) old new tally =
+      DoneUnder reader_told out_told (working wanted) place sample tally old new
+  WroteTask (Convert direction text) old new tally =
+      InFormat direction (λ conversion. Done reader_told out_told (converting conversion) tally [] old new) text
 
   -- Where a read failed, or there were too many, the part of it that is sure by what was read.
   abbrev pub WroteTaskPart : Asking → R × W → R × W → Type 0
-  WroteTaskPart (UnderProfile place wanted) old new = PartDoneUnder reader_told out_told (working wanted) place sample old new
-  WroteTaskPart (Convert direction text) old new = InFormat direction (λ conversion. PartDone reader_told out_told (converting conversion) [] old new) text
+  WroteTaskPart (UnderProfile place wanted) old new =
+      PartDoneUnder reader_told out_told (working wanted) place sample old new
+  WroteTaskPart (Convert direction text) old new =
+      InFormat direction (λ conversion. PartDone reader_told out_told (converting conversion) [] old new) text
 
--- What was done for what was asked for: by the reader, standard output and standard error, before and after, and the status.
-pub record DidTask {R W E : Type 0} (reader_told : R → ReaderTold) (out_told : W → WriterTold) (err_told : E → WriterTold) (sample : List ℕ) (asking : Asking) (old new : R × W × E) (status : Status) : Type 0 where
-  -- What was written is all that is asked for. Where a read failed or there were too many, it is the part for the bytes read.
-  pub did : Does (WroteTask reader_told out_told sample asking (old.0, old.1) (new.0, new.1)) (WroteTaskPart reader_told out_told sample asking (old.0, old.1) (new.0, new.1)) (out_told old.1) (out_told new.1) status
+-- What was done for what was asked for: by the reader, standard output and standard error, before
+-- and after, and the status.
+pub record DidTask {R W E : Type 0} (reader_told : R → ReaderTold) (out_told : W → WriterTold)
+    (err_told : E → WriterTold) (sample : List ℕ) (asking : Asking) (old new : R × W × E)
+    (status : ExitStatus) : Type 0 where
+  -- What was written is all that is asked for. Where a read failed or there were too many, it is
+  -- the part for the bytes read.
+  pub did : Does (WroteTask reader_told out_told sample asking (old.0, old.1) (new.0, new.1))
+      (WroteTaskPart reader_told out_told sample asking (old.0, old.1) (new.0, new.1)) (out_told old.1)
+      (out_told new.1) status
   -- The status says what failed, and how often was read.
   pub tells : StatusTells reader_told out_told (old.0, old.1) (new.0, new.1) status
-  -- It is BadWords only where a text names no format, or the profile that comes first is too long or has a fault.
-  pub bad : status ≡ BadWords → NamesNone asking ⊎ (IsUnderFront asking × HasBadProfile reader_told old.0 new.0)
+  -- It is BadArguments only where a text names no format, or the profile that comes first is too long or has a fault.
+  pub bad : status ≡ BadArguments → NamesNone asking ⊎ (IsUnderFront asking × HasBadProfile reader_told old.0 new.0)
   -- Where the text names no format, nothing is read.
-  pub bad_format : NamesNone asking → ((status ≡ BadWords) ⊎ (status ≡ NoMemory)) × (new.0 ≡ old.0)
+  pub bad_format : NamesNone asking → ((status ≡ BadArguments) ⊎ (status ≡ NoMemory)) × (new.0 ≡ old.0)
   -- Where there was no memory, nothing was read, or the profile alone: the capture or the lines after it were not.
   pub memory : status ≡ NoMemory → ReadWithoutMemory reader_told asking old.0 new.0
   -- Standard error gets some text where anything went wrong, and else stays as it is.

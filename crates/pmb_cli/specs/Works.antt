@@ -9,14 +9,14 @@ use Rattle.pmb_io.specs.Runs.{Done, Job, OpenBefore, PartDone}
 use Rattle.pmb_io.specs.Told.{ReaderTold, WriterTold, told_by}
 use Rattle.pmb_io.specs.Tally.{IsTallyOf}
 use Rattle.pmb_io.specs.declared.tally.Tally.{Tally}
-use Rattle.pmb_front.specs.Front.{FirstMark, Undecided}
+use Rattle.pmb_preamble.specs.Front.{FirstMark, Undecided}
 use Rattle.pmb_run.specs.Lines.{running}
-use Rattle.pmb_describe.specs.Table.{bus_text}
+use Rattle.pmb_profile_text.specs.Table.{bus_text}
 use Rattle.pmb_cli.specs.Profiles.{PartUnderFront, UnderFront, UnderSample}
 use Rattle.pmb_cli.specs.Json.{telling}
-use Rattle.pmb_words.specs.Asked.{Wanted, Show, Check, Json, Build, Run, Describe}
-use Rattle.pmb_words.specs.declared.profile_place.ProfilePlace.{ProfilePlace}
-use Rattle.pmb_words.specs.declared.profile_place.ProfilePlace.TheVariants.{Sample, Front}
+use Rattle.pmb_args.specs.Asked.{Wanted, Show, Check, Json, Build, Run, Profile}
+use Rattle.pmb_args.specs.declared.profile_place.ProfilePlace.{ProfilePlace}
+use Rattle.pmb_args.specs.declared.profile_place.ProfilePlace.TheVariants.{Sample, Front}
 
 -- The text of the bus was written, and nothing was counted.
 pub record IsDescribed (bus : List DeviceParts) (tally : Tally) (text : List ℕ) : Type 0 where
@@ -39,35 +39,44 @@ working Check profile = checking profile
 working (Json choice) profile = telling choice profile
 working Build profile = building profile
 working Run profile = running profile
-working Describe profile = describing profile
+working Profile profile = describing profile
 
--- What was read but for a last piece left something open: nothing was decided of the profile, or the job wants more of what
+-- What was read but for a last piece left something open: nothing was decided of the profile, or
+-- the job wants more of what
 -- follows it.
 abbrev pub OpenUnderFront : (List ℕ → Type 0) → List ℕ → Type 0
-OpenUnderFront IsOpen read = Undecided read ⊎ ((profile : List ℕ) × (rest : List ℕ) × FirstMark read profile rest × IsOpen rest)
+OpenUnderFront IsOpen read = Undecided read
+    ⊎ ((profile : List ℕ) × (rest : List ℕ) × FirstMark read profile rest × IsOpen rest)
 
-module _ {R W : Type 0} (reader_told : R → ReaderTold) (writer_told : W → WriterTold) (job : List DeviceParts → Job Tally) where
-  -- The text was written for what follows a profile: the reader ended, or no more was wanted, from the last piece on, which
+module _ {R W : Type 0} (reader_told : R → ReaderTold) (writer_told : W → WriterTold)
+    (job : List DeviceParts → Job Tally) where
+  -- The text was written for what follows a profile: the reader ended, or no more was wanted, from
+  -- the last piece on, which
   -- came by one read.
   abbrev pub WritesRest : R → R → Tally → List DeviceParts → List ℕ → List ℕ → List ℕ → Type 0
   WritesRest old new tally devices rest text read =
       ((job devices).Whole tally rest text × ((reader_told new).ended ≡ true) × IsAtEnd (reader_told new).left)
-      ⊎ ((job devices).Stops tally rest text × OpenBefore reader_told (OpenUnderFront (job devices).IsOpen) [] old new read)
+      ⊎ ((job devices).Stops tally rest text × OpenBefore reader_told (OpenUnderFront (job devices).IsOpen) [] old new
+      read)
 
   -- a job is done under the profile that comes first in its input
   abbrev pub DoneUnderFront : Tally → R × W → R × W → Type 0
-  DoneUnderFront tally old new = UnderFront (WritesRest old.0 new.0 tally) (told_by reader_told writer_told old) (told_by reader_told writer_told new)
+  DoneUnderFront tally old new = UnderFront (WritesRest old.0 new.0 tally) (told_by reader_told writer_told old)
+      (told_by reader_told writer_told new)
 
   -- a part of it is
   abbrev pub PartDoneUnderFront : R × W → R × W → Type 0
-  PartDoneUnderFront old new = PartUnderFront (λ devices. (job devices).Front) (told_by reader_told writer_told old) (told_by reader_told writer_told new)
+  PartDoneUnderFront old new = PartUnderFront (λ devices. (job devices).Front) (told_by reader_told writer_told old)
+      (told_by reader_told writer_told new)
 
   -- it is done under the sample profile
   abbrev pub DoneUnderSample : List ℕ → Tally → R × W → R × W → Type 0
-  DoneUnderSample sample tally old new = UnderSample (λ profile. Done reader_told writer_told (job profile) tally [] old new) sample
+  DoneUnderSample sample tally old new = UnderSample
+      (λ profile. Done reader_told writer_told (job profile) tally [] old new) sample
 
   abbrev pub PartDoneUnderSample : List ℕ → R × W → R × W → Type 0
-  PartDoneUnderSample sample old new = UnderSample (λ profile. PartDone reader_told writer_told (job profile) [] old new) sample
+  PartDoneUnderSample sample old new = UnderSample
+      (λ profile. PartDone reader_told writer_told (job profile) [] old new) sample
 
   -- the same, by where the profile is
   abbrev pub DoneUnder : ProfilePlace → List ℕ → Tally → R × W → R × W → Type 0

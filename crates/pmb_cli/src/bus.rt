@@ -4,8 +4,8 @@ ghost use Rattle.std.specs.Prelude.{◌≡◌, ℕ, List};
 ghost use Rattle.pmb_cli.specs.Works.{describing};
 ghost use Rattle.pmb_io.specs.Runs.{AsTool, Ran};
 
-use pmb_describe::describe;
 use pmb_io::{Sink, Source, Tally, ToolFault};
+use pmb_profile_text::describe;
 use pmb_table::Profile;
 
 /// Writes the bus that a profile makes, and reads nothing.

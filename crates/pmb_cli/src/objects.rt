@@ -3,15 +3,15 @@
 ghost use Rattle.std.specs.Prelude.{◌≡◌};
 ghost use Rattle.pmb_cli.specs.Json.{bad_words_of, start_of, telling};
 ghost use Rattle.pmb_io.specs.Runs.{AsTool, Ran};
-ghost use Rattle.pmb_words.specs.Json.{json_wanted_of};
+ghost use Rattle.pmb_args.specs.Json.{json_wanted_of};
 
+use pmb_args::{AfterBadWord, JsonChoice, KnownAtFirst};
 use pmb_decimal::Digits;
 use pmb_io::{Sink, Source, Tally, ToolFault};
-use pmb_json::{BadWords, json};
-use pmb_late::Start;
-use pmb_stream::Choice;
+use pmb_json::{AfterBadToken, json};
+use pmb_json_stream::Choice;
 use pmb_table::Profile;
-use pmb_words::{AfterBadWord, JsonChoice, KnownAtFirst};
+use pmb_unknown_start::Start;
 
 /// Writes what the capture says whose text is `first` and what the reader gives, under a profile, as
 /// the words choose it.
@@ -63,11 +63,11 @@ fn start(known: KnownAtFirst) -> Start
 }
 
 // What is done after a word that is no token.
-fn bad_words(after: AfterBadWord) -> BadWords
+fn bad_words(after: AfterBadWord) -> AfterBadToken
     ensures { result ≡ bad_words_of after }
 {
     match after {
-        AfterBadWord::End => BadWords::End,
-        AfterBadWord::GoOn => BadWords::GoOn,
+        AfterBadWord::End => AfterBadToken::End,
+        AfterBadWord::GoOn => AfterBadToken::GoOn,
     }
 }

@@ -2,14 +2,14 @@
 
 ghost use Rattle.std.specs.Prelude.{◌≡◌, ◌≢◌, ◌≤◌, map};
 ghost use Rattle.pmb_cli.specs.Program.{RanProgram};
-ghost use Rattle.pmb_status.specs.Status.{IsTold, OfCode};
+ghost use Rattle.pmb_args.specs.ExitStatus.{IsTold, OfCode};
 ghost use Rattle.std.specs.declared.io.ErrorKind.TheVariants.{OutOfMemory};
 
 use crate::tasks::run_task;
+use pmb_args::laws::one_asking;
+use pmb_args::{no_words as without_words, parse_command};
 use pmb_io::{Sink, Source};
 use pmb_table::SAMPLE;
-use pmb_words::laws::one_asking;
-use pmb_words::{asked, no_words as without_words};
 use std::alloc::Global;
 use std::convert::AsStr;
 use std::io;
@@ -39,7 +39,7 @@ pub fn tool<S: AsStr, R: Source, W: Sink, E: Sink>(
 {
     // Words ask for one thing at most.
     one_asking();
-    match asked(alloc, words, out, err) {
+    match parse_command(alloc, words, out, err) {
         Ok(task) => run_task(task, alloc, reader, out, err).code(),
         Err(status) => status.code(),
     }

@@ -2,15 +2,14 @@
 
 ghost use Rattle.std.specs.Prelude.{◌≡◌};
 ghost use Rattle.pmb_cli.specs.Tasks.{DidTask, conversion_of};
-ghost use Rattle.pmb_words.specs.Asked.{Convert, asking_of};
+ghost use Rattle.pmb_args.specs.Asked.{Convert, asking_of};
 
 use crate::works::{run_under_front, run_under_sample};
+use pmb_args::{Direction, ExitStatus, ProfilePlace, Task, ended, report_format};
 use pmb_convert::laws::one_format;
 use pmb_convert::{Conversion, NumberFormat, convert_lines, parse_format};
 use pmb_io::{Sink, Source};
-use pmb_status::{Status, ended, tell_format};
 use pmb_table::SAMPLE;
-use pmb_words::{Direction, ProfilePlace, Task};
 use std::alloc::Global;
 
 /// Runs a task, and returns the exit status.
@@ -20,7 +19,7 @@ pub(crate) fn run_task<R: Source, W: Sink, E: Sink>(
     reader: &mut R,
     out: &mut W,
     err: &mut E,
-) -> Status
+) -> ExitStatus
     ensures { DidTask R.told W.told E.told SAMPLE.now (asking_of task.entry) (reader.old, out.old, err.old) (reader.new, out.new, err.new) result }
 {
     match task {
@@ -40,7 +39,7 @@ fn run_lines<R: Source, W: Sink, E: Sink>(
     reader: &mut R,
     out: &mut W,
     err: &mut E,
-) -> Status
+) -> ExitStatus
     ensures { DidTask R.told W.told E.told SAMPLE.now (Convert direction format.now) (reader.old, out.old, err.old) (reader.new, out.new, err.new) result }
 {
     // A text names one format at most.
@@ -50,7 +49,7 @@ fn run_lines<R: Source, W: Sink, E: Sink>(
             convert_lines(conversion(direction, format), &[], reader, out),
             err,
         ),
-        Err(fault) => tell_format(fault, err),
+        Err(fault) => report_format(fault, err),
     }
 }
 

@@ -2,59 +2,59 @@
 //! `pmb profile`, under the sample profile or under the one that comes first in the input.
 
 ghost use Rattle.std.specs.Prelude.{◌≡◌};
-ghost use Rattle.pmb_front.specs.Fault.{IsReported};
+ghost use Rattle.pmb_cli.specs.ProfileFault.{IsReported};
 ghost use Rattle.pmb_io.specs.Runs.{AsTool, Ran};
 ghost use Rattle.pmb_cli.specs.Tasks.{DidTask};
 ghost use Rattle.pmb_cli.specs.Works.{working};
 ghost use Rattle.pmb_run.specs.Lines.{OrNoMemory};
-ghost use Rattle.pmb_words.specs.Asked.{Run, UnderProfile, wanted_of};
-ghost use Rattle.pmb_words.specs.declared.profile_place.ProfilePlace.TheVariants.{Front, Sample};
+ghost use Rattle.pmb_args.specs.Asked.{Run, UnderProfile, wanted_of};
+ghost use Rattle.pmb_args.specs.declared.profile_place.ProfilePlace.TheVariants.{Front, Sample};
 
 use crate::bus::describe_bus;
 use crate::objects::write_json;
+use crate::profile_fault::{explain_profile, report_profile};
+use pmb_args::{ExitStatus, Subcommand, ended, report};
 use pmb_build::build;
 use pmb_capture::{check_capture, show};
-use pmb_front::laws::one_front;
-use pmb_front::{explain_profile, front, sample_profile, tell_profile};
 use pmb_io::{Empty, Sink, Source, Tally, ToolFault};
+use pmb_preamble::laws::one_front;
+use pmb_preamble::{front, sample_profile};
 use pmb_run::run;
-use pmb_status::{Status, ended, tell};
 use pmb_table::{Profile, ProfileFault, SAMPLE};
-use pmb_words::Work;
 use std::alloc::Global;
 
 /// Does a work on what the reader gives under the sample profile, and returns the exit status.
 pub(crate) fn run_under_sample<R: Source, W: Sink, E: Sink>(
-    work: &Work,
+    work: &Subcommand,
     alloc: Global,
     reader: &mut R,
     out: &mut W,
     err: &mut E,
-) -> Status
+) -> ExitStatus
     ensures { DidTask R.told W.told E.told SAMPLE.now (UnderProfile Sample (wanted_of work.now)) (reader.old, out.old, err.old) (reader.new, out.new, err.new) result }
 {
     match sample_profile(alloc) {
         Ok(profile) => ended(do_work(work, alloc, &profile, &[], reader, out), err),
-        Err(fault) => tell(fault, err),
+        Err(fault) => report(fault, err),
     }
 }
 
 /// Does a work on what follows the profile that the reader gives first, and returns the exit status.
 /// Where the reader ends without a line `%%`, nothing follows, and it is not read again.
 pub(crate) fn run_under_front<R: Source, W: Sink, E: Sink>(
-    work: &Work,
+    work: &Subcommand,
     alloc: Global,
     reader: &mut R,
     out: &mut W,
     err: &mut E,
-) -> Status
+) -> ExitStatus
     ensures { DidTask R.told W.told E.told SAMPLE.now (UnderProfile Front (wanted_of work.now)) (reader.old, out.old, err.old) (reader.new, out.new, err.new) result }
 {
     // With more after it a text keeps its first line `%%`.
     one_front();
     let front = match front(alloc, reader) {
         Ok(front) => front,
-        Err(fault) => return tell(fault, err),
+        Err(fault) => return report(fault, err),
     };
     match Profile::from_toml(alloc, front.profile()) {
         Ok(profile) if front.has_capture() => {
@@ -64,7 +64,7 @@ pub(crate) fn run_under_front<R: Source, W: Sink, E: Sink>(
             )
         }
         Ok(profile) => ended(do_work(work, alloc, &profile, &[], &mut Empty, out), err),
-        Err(fault) => tell_fault(work, alloc, front.profile(), fault, err),
+        Err(fault) => report_fault(work, alloc, front.profile(), fault, err),
     }
 }
 
@@ -75,7 +75,7 @@ pub(crate) fn run_under_front<R: Source, W: Sink, E: Sink>(
 /// `Read` where the reader failed, `Write` where the writer did. `TooManyReads` where 2^32 reads gave
 /// bytes and the reader had not ended. `Memory` where there was none for the devices of `run`.
 fn do_work<R: Source, W: Sink>(
-    work: &Work,
+    work: &Subcommand,
     alloc: Global,
     profile: &Profile,
     first: &[u8],
@@ -87,30 +87,32 @@ fn do_work<R: Source, W: Sink>(
         (AsTool (Ran R.told W.told (working (wanted_of work.now) profile.now) first.now (reader.old, out.old) (reader.new, out.new))) result }
 {
     match work {
-        Work::Show => show(profile, first, reader, out),
-        Work::Check => check_capture(profile, first, reader, out),
-        Work::Json(chosen) => write_json(chosen, profile, first, reader, out),
-        Work::Build => build(profile, first, reader, out),
-        Work::Run => run(alloc, profile, first, reader, out),
-        Work::Describe => describe_bus(profile, first, reader, out),
+        Subcommand::Show => show(profile, first, reader, out),
+        Subcommand::Check => check_capture(profile, first, reader, out),
+        Subcommand::Json(chosen) => write_json(chosen, profile, first, reader, out),
+        Subcommand::Build => build(profile, first, reader, out),
+        Subcommand::Run => run(alloc, profile, first, reader, out),
+        Subcommand::Profile => describe_bus(profile, first, reader, out),
     }
 }
 
 /// Reports a fault of a profile, and to who asked for `profile` what helps with it, and returns the
 /// exit status.
-fn tell_fault<E: Sink>(
-    work: &Work,
+fn report_fault<E: Sink>(
+    work: &Subcommand,
     alloc: Global,
     text: &[u8],
     fault: ProfileFault,
     err: &mut E,
-) -> Status
+) -> ExitStatus
     ensures { IsReported fault.what result (E.told err.old) (E.told err.new) }
 {
     match work {
-        Work::Show | Work::Check | Work::Json(_) | Work::Build | Work::Run => {
-            tell_profile(fault, err)
-        }
-        Work::Describe => explain_profile(alloc, text, fault, err),
+        Subcommand::Show
+        | Subcommand::Check
+        | Subcommand::Json(_)
+        | Subcommand::Build
+        | Subcommand::Run => { report_profile(fault, err) }
+        Subcommand::Profile => explain_profile(alloc, text, fault, err),
     }
 }

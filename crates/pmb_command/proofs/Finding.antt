@@ -1,5 +1,6 @@
 -- What a search of a list finds.
-use Rattle.std.proofs.Common.{◌≡◌, Bool, true, false, cond, Option, Some, List, [], ◌∷◌, map, ◌⊎◌, inl, inr, refl, sym, ap, ◌∙◌, subst}
+use Rattle.std.proofs.Common.{◌≡◌, Bool, true, false, cond, Option, Some, List, [], ◌∷◌, map, ◌⊎◌, inl, inr, refl, sym}
+use Rattle.std.proofs.Common.{ap, ◌∙◌, subst}
 use Rattle.std.specs.Prelude.{find, option_map}
 use Rattle.std.specs.List.{list_all}
 use Rattle.std.proofs.lemmas.Bool.{and_parts}
@@ -20,7 +21,8 @@ find_passes p (y ∷ ys) x found =
     ]
 
 -- what every element passes, the one that is found passes
-pub find_among : {X : Type 0} (p q : X → Bool) (xs : List X) (x : X) → list_all q xs ≡ true → find p xs ≡ Some x → q x ≡ true
+pub find_among : {X : Type 0} (p q : X → Bool) (xs : List X) (x : X) → list_all q xs ≡ true → find p xs ≡ Some x
+    → q x ≡ true
 find_among p q [] x every found = absurd (none-some x found)
 find_among p q (y ∷ ys) x every found =
     let parts = and_parts (q y) (list_all q ys) every in
@@ -30,11 +32,14 @@ find_among p q (y ∷ ys) x every found =
     ]
 
 -- a function of a choice
-pub option_map-cond : {X Y : Type 0} (f : X → Y) (b : Bool) (x : X) (o : Option X) → option_map f (cond b (Some x) o) ≡ cond b (Some (f x)) (option_map f o)
+pub option_map-cond : {X Y : Type 0} (f : X → Y) (b : Bool) (x : X) (o : Option X)
+    → option_map f (cond b (Some x) o) ≡ cond b (Some (f x)) (option_map f o)
 option_map-cond f true x o = refl
 option_map-cond f false x o = refl
 
 -- to search what a function makes is to search what it is made of
-pub find-map : {X Y : Type 0} (f : X → Y) (p : Y → Bool) (xs : List X) → find p (map f xs) ≡ option_map f (find (λ x. p (f x)) xs)
+pub find-map : {X Y : Type 0} (f : X → Y) (p : Y → Bool) (xs : List X)
+    → find p (map f xs) ≡ option_map f (find (λ x. p (f x)) xs)
 find-map f p [] = refl
-find-map f p (x ∷ xs) = ap (cond (p (f x)) (Some (f x))) (find-map f p xs) ∙ sym (option_map-cond f (p (f x)) x (find (λ x. p (f x)) xs))
+find-map f p (x ∷ xs) = ap (cond (p (f x)) (Some (f x))) (find-map f p xs)
+    ∙ sym (option_map-cond f (p (f x)) x (find (λ x. p (f x)) xs))

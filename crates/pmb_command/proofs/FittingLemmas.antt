@@ -6,11 +6,13 @@ use Rattle.std.proofs.lemmas.Float.{T_from_true}
 use Rattle.std.specs.Int.Signed.{le_z_yes}
 use Rattle.pmb_coefficients.specs.Exponent.{IsExponent}
 use Rattle.pmb_command.specs.declared.entry.Kind.{Kind}
-use Rattle.pmb_command.specs.declared.entry.Kind.TheVariants.{Raw, Linear11, Linear11Fixed, Vout, VoutSigned, Direct, Status}
+use Rattle.pmb_command.specs.declared.entry.Kind.TheVariants.{Raw, Linear11, Linear11Fixed, Vout, VoutSigned, Direct}
+use Rattle.pmb_command.specs.declared.entry.Kind.TheVariants.{Status}
 use Rattle.pmb_command.specs.Bus.{IsFitting}
 use Rattle.pmb_command.specs.Commands.{standard_entry}
 use Rattle.pmb_command.specs.Entry.{EntryParts}
-use Rattle.pmb_command.specs.Fitting.{are_kept, calls_fit, exponent_fits, has_form, is_always_raw, is_exponent, is_fitting, is_fixed, is_raw, kind_fits, reads_data, value_form, ways_agree}
+use Rattle.pmb_command.specs.Fitting.{are_kept, calls_fit, exponent_fits, has_form, is_always_raw, is_exponent}
+use Rattle.pmb_command.specs.Fitting.{is_fitting, is_fixed, is_raw, kind_fits, reads_data, value_form, ways_agree}
 
 -- where a test excuses or asks, what it asks for holds wherever it doesn't excuse
 asked : (excused fits : Bool) → (not excused || fits) ≡ true → excused ≡ true → fits ≡ true
@@ -34,7 +36,8 @@ not_both true false holds is = refl
 not_both false b holds is = cc
 
 -- an exponent that the test takes is one
-taken_exponent : (kind : Kind) → exponent_fits kind ≡ true → (exponent : ℤ) → kind ≡ Linear11Fixed exponent → IsExponent exponent
+taken_exponent : (kind : Kind) → exponent_fits kind ≡ true → (exponent : ℤ) → kind ≡ Linear11Fixed exponent
+    → IsExponent exponent
 taken_exponent kind fits exponent is =
     let both : is_exponent exponent ≡ true = subst (λ k. exponent_fits k ≡ true) is fits in
     let bounds = and_parts (int_le (negsuc 15) exponent) (int_le exponent (pos 15)) both in
@@ -51,7 +54,8 @@ fitting_parts e fits =
     let page = not (nat_eq e.code 0x00 && e.paged) in
     let kind = kind_fits e.kind (value_form e.shape) in
     let exponent = exponent_fits e.kind in
-    let one = and_parts some_form (one_form && (read_data && (call_form && (fixed && (raw && (page && (kind && exponent))))))) fits in
+    let one = and_parts some_form (one_form &&
+    (read_data && (call_form && (fixed && (raw && (page && (kind && exponent))))))) fits in
     let two = and_parts one_form (read_data && (call_form && (fixed && (raw && (page && (kind && exponent)))))) one.1 in
     let three = and_parts read_data (call_form && (fixed && (raw && (page && (kind && exponent))))) two.1 in
     let four = and_parts call_form (fixed && (raw && (page && (kind && exponent)))) three.1 in

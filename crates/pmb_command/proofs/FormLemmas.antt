@@ -32,6 +32,7 @@ same_form-self Block = refl
 -- forms are the same where they are equal
 pub same_form-Decides : (form other : Form) → Decides (same_form form other) (form ≡ other)
 same_form-Decides form other = (
-  (λ same. sym (form_with-form_number form) ∙ ap form_with (eqb-true (form_number form) (form_number other) same) ∙ form_with-form_number other),
+  (λ same. sym (form_with-form_number form) ∙ ap form_with (eqb-true (form_number form) (form_number other) same)
+      ∙ form_with-form_number other),
   (λ is. subst (λ it. same_form form it ≡ true) is (same_form-self form)),
 )

@@ -9,18 +9,23 @@ use Rattle.pmb_command.proofs.Finding.{find-map}
 use Rattle.pmb_command.proofs.StandardLemmas.{code_by_table}
 
 -- the row that has a code is its standard entry
-pub row_of_code : (rows : List Row) (code : ℕ) (found : Option Row) → map row_parts rows ≡ standard_entries → found ≡ find (λ r. nat_eq (row_parts r).code code) rows → standard_entry code ≡ option_map row_parts found
+pub row_of_code : (rows : List Row) (code : ℕ) (found : Option Row) → map row_parts rows ≡ standard_entries
+    → found ≡ find (λ r. nat_eq (row_parts r).code code) rows → standard_entry code ≡ option_map row_parts found
 unfolding standard_entry
 row_of_code rows code found same is =
-    ap (find (λ e. nat_eq e.code code)) (sym same) ∙ find-map row_parts (λ e. nat_eq e.code code) rows ∙ ap (option_map row_parts) (sym is)
+    ap (find (λ e. nat_eq e.code code)) (sym same) ∙ find-map row_parts (λ e. nat_eq e.code code) rows
+    ∙ ap (option_map row_parts) (sym is)
 
 -- the code of a row that may be there
-code_of_row : (found : Option Row) → option_map (λ e. e.code) (option_map row_parts found) ≡ option_map (λ r. (row_parts r).code) found
+code_of_row : (found : Option Row) → option_map (λ e. e.code) (option_map row_parts found)
+    ≡ option_map (λ r. (row_parts r).code) found
 code_of_row None = refl
 code_of_row (Some row) = refl
 
 -- the first row that has a name has its code
-pub row_of_name : (rows : List Row) (name : List ℕ) (found : Option Row) → map row_parts rows ≡ standard_entries → found ≡ find (λ r. bytes_eq (row_parts r).name name) rows → code_of_name name ≡ option_map (λ r. (row_parts r).code) found
+pub row_of_name : (rows : List Row) (name : List ℕ) (found : Option Row) → map row_parts rows ≡ standard_entries
+    → found ≡ find (λ r. bytes_eq (row_parts r).name name) rows
+    → code_of_name name ≡ option_map (λ r. (row_parts r).code) found
 row_of_name rows name found same is =
     code_by_table name
     ∙ ap (λ es. option_map (λ e. e.code) (find (λ e. bytes_eq e.name name) es)) (sym same)

@@ -1,6 +1,7 @@
 -- What the table of the standard commands is: computed over the whole table, and told of each
 -- entry.
-use Rattle.std.proofs.Common.{◌≡◌, ℕ, ◌<◌, Bool, true, false, cond, nat_eq, nat_lt, Option, Some, None, List, [], ◌∷◌, refl, sym, ap, ◌∙◌, subst}
+use Rattle.std.proofs.Common.{◌≡◌, ℕ, ◌<◌, Bool, true, false, cond, nat_eq, nat_lt, Option, Some, None, List, [], ◌∷◌}
+use Rattle.std.proofs.Common.{refl, sym, ap, ◌∙◌, subst}
 use Rattle.std.specs.Prelude.{find, filter_map, option_map}
 use Rattle.std.specs.List.{cons_option, list_all}
 use Rattle.std.specs.Str.{bytes_eq}
@@ -39,7 +40,8 @@ abbrev is_found_by_name : EntryParts → Bool
 is_found_by_name e = is_code e.code (option_map (λ x. x.code) (find (λ x. bytes_eq x.name e.name) standard_entries))
 
 -- what a test of the whole table says of each entry
-pub of_each : (test : EntryParts → Bool) → list_all test standard_entries ≡ true → (c : ℕ) (e : EntryParts) → standard_entry c ≡ Some e → test e ≡ true
+pub of_each : (test : EntryParts → Bool) → list_all test standard_entries ≡ true → (c : ℕ) (e : EntryParts)
+    → standard_entry c ≡ Some e → test e ≡ true
 unfolding standard_entry
 of_each test every c e has = find_among (λ e. nat_eq e.code c) test standard_entries e every has
 
@@ -70,7 +72,8 @@ every_name_is_found = refl
 
 -- a code that has an entry is a byte
 pub standard_below : (c : ℕ) (e : EntryParts) → standard_entry c ≡ Some e → c < 256
-standard_below c e has = subst (λ n. n < 256) (standard_code c e has) (ltb-true e.code 256 (of_each is_byte every_code_is_a_byte c e has))
+standard_below c e has = subst (λ n. n < 256) (standard_code c e has)
+    (ltb-true e.code 256 (of_each is_byte every_code_is_a_byte c e has))
 
 -- the name of an entry is one that fits
 standard_name : (c : ℕ) (e : EntryParts) → standard_entry c ≡ Some e → IsNameOf e.code e.name
@@ -90,32 +93,43 @@ unfolding standard_entry standard_entries standard_rows
 entries_of_all_codes = refl
 
 -- the first code with a name, where one more code comes first
-one_more : (name : List ℕ) (c : ℕ) (o : Option EntryParts) (later : Option ℕ) (es : List EntryParts) → ((e : EntryParts) → o ≡ Some e → e.code ≡ c) → later ≡ option_map (λ e. e.code) (find (λ e. bytes_eq e.name name) es) → cond (has_name name o) (Some c) later ≡ option_map (λ e. e.code) (find (λ e. bytes_eq e.name name) (cons_option o es))
+one_more : (name : List ℕ) (c : ℕ) (o : Option EntryParts) (later : Option ℕ) (es : List EntryParts)
+    → ((e : EntryParts) → o ≡ Some e → e.code ≡ c)
+    → later ≡ option_map (λ e. e.code) (find (λ e. bytes_eq e.name name) es) → cond (has_name name o) (Some c) later
+    ≡ option_map (λ e. e.code) (find (λ e. bytes_eq e.name name) (cons_option o es))
 one_more name c None later es own same = same
 one_more name c (Some e) later es own same =
-    (ap (λ n. cond (bytes_eq e.name name) (Some n) later) (sym (own e refl)) ∙ ap (cond (bytes_eq e.name name) (Some e.code)) same)
+    (ap (λ n. cond (bytes_eq e.name name) (Some n) later) (sym (own e refl))
+    ∙ ap (cond (bytes_eq e.name name) (Some e.code)) same)
     ∙ sym (option_map-cond (λ e. e.code) (bytes_eq e.name name) e (find (λ e. bytes_eq e.name name) es))
 
 -- The first of some codes whose entry has a name is the code of the first of their entries that has
 -- it.
-first_named : (name codes : List ℕ) → find (λ c. has_name name (standard_entry c)) codes ≡ option_map (λ e. e.code) (find (λ e. bytes_eq e.name name) (filter_map standard_entry codes))
+first_named : (name codes : List ℕ) → find (λ c. has_name name (standard_entry c)) codes
+    ≡ option_map (λ e. e.code) (find (λ e. bytes_eq e.name name) (filter_map standard_entry codes))
 first_named name [] = refl
-first_named name (c ∷ codes) = one_more name c (standard_entry c) _ (filter_map standard_entry codes) (standard_code c) (first_named name codes)
+first_named name (c ∷ codes) = one_more name c (standard_entry c) _ (filter_map standard_entry codes) (standard_code c)
+    (first_named name codes)
 
 -- the code of a name, by the table
-pub code_by_table : (name : List ℕ) → code_of_name name ≡ option_map (λ e. e.code) (find (λ e. bytes_eq e.name name) standard_entries)
+pub code_by_table : (name : List ℕ) → code_of_name name
+    ≡ option_map (λ e. e.code) (find (λ e. bytes_eq e.name name) standard_entries)
 unfolding code_of_name
-code_by_table name = first_named name (from_to 0x00 0xff) ∙ ap (λ es. option_map (λ e. e.code) (find (λ e. bytes_eq e.name name) es)) entries_of_all_codes
+code_by_table name = first_named name (from_to 0x00 0xff)
+    ∙ ap (λ es. option_map (λ e. e.code) (find (λ e. bytes_eq e.name name) es)) entries_of_all_codes
 
 -- an entry that has a name
-named : (name : List ℕ) (o : Option EntryParts) → has_name name o ≡ true → (e : EntryParts) × (o ≡ Some e) × (e.name ≡ name)
+named : (name : List ℕ) (o : Option EntryParts) → has_name name o ≡ true
+    → (e : EntryParts) × (o ≡ Some e) × (e.name ≡ name)
 named name None has = cc has
 named name (Some e) has = (e, refl, (bytes_eq-Decides e.name name).0 has)
 
 -- the code of a name has a standard entry, with that name
-pub code_of_name_names : (name : List ℕ) (c : ℕ) → code_of_name name ≡ Some c → (e : EntryParts) × (standard_entry c ≡ Some e) × (e.name ≡ name)
+pub code_of_name_names : (name : List ℕ) (c : ℕ) → code_of_name name ≡ Some c
+    → (e : EntryParts) × (standard_entry c ≡ Some e) × (e.name ≡ name)
 unfolding code_of_name
-code_of_name_names name c found = named name (standard_entry c) (find_passes (λ c. has_name name (standard_entry c)) (from_to 0x00 0xff) c found)
+code_of_name_names name c found = named name (standard_entry c)
+    (find_passes (λ c. has_name name (standard_entry c)) (from_to 0x00 0xff) c found)
 
 -- the code of a name is a byte
 pub code_of_name_below : (name : List ℕ) (c : ℕ) → code_of_name name ≡ Some c → c < 256
@@ -130,7 +144,8 @@ code_found c (Some n) found = ap Some (eqb-true n c found)
 pub standard_by_name : (c : ℕ) (e : EntryParts) → standard_entry c ≡ Some e → code_of_name e.name ≡ Some c
 standard_by_name c e has =
     code_by_table e.name
-    ∙ code_found e.code (option_map (λ x. x.code) (find (λ x. bytes_eq x.name e.name) standard_entries)) (of_each is_found_by_name every_name_is_found c e has)
+    ∙ code_found e.code (option_map (λ x. x.code) (find (λ x. bytes_eq x.name e.name) standard_entries))
+    (of_each is_found_by_name every_name_is_found c e has)
     ∙ ap Some (standard_code c e has)
 
 -- what a standard entry is
@@ -138,7 +153,12 @@ pub standard_entry_at : (c : ℕ) (e : EntryParts) → standard_entry c ≡ Some
 standard_entry_at c e has = record {
   same_code = standard_code c e has;
   byte = standard_below c e has;
-  entry = record { byte = ltb-true e.code 256 (of_each is_byte every_code_is_a_byte c e has); name = standard_name c e has; fitting = standard_fits c e has };
+  entry = record {
+    byte = ltb-true e.code 256 (of_each is_byte every_code_is_a_byte c e has);
+    name =
+        standard_name c e has;
+    fitting = standard_fits c e has;
+  };
   general = standard_is_general c e has;
   by_name = standard_by_name c e has;
 }

@@ -5,7 +5,8 @@ use Rattle.pmb_command.specs.declared.form.Form.TheVariants.{Zero, One, Two, Fou
 use Rattle.pmb_command.specs.Wire.{Takes, wire_length}
 
 -- the only length that a form takes is that of its wire
-pub exact_wire : (form : Form) (exact : ℕ) (bytes : List ℕ) → ((n : ℕ) → Takes form n ↔ (n ≡ exact)) → exact ≡ wire_length form bytes
+pub exact_wire : (form : Form) (exact : ℕ) (bytes : List ℕ) → ((n : ℕ) → Takes form n ↔ (n ≡ exact))
+    → exact ≡ wire_length form bytes
 exact_wire Zero exact bytes only = sym ((only 0).0 refl)
 exact_wire One exact bytes only = sym ((only 1).0 refl)
 exact_wire Two exact bytes only = sym ((only 2).0 refl)

@@ -5,7 +5,8 @@ use Rattle.pmb_coefficients.specs.Exponent.{IsExponent}
 use Rattle.pmb_command.specs.declared.entry.Kind.TheVariants.{Raw, Linear11Fixed}
 use Rattle.pmb_command.specs.Entry.{EntryParts}
 use Rattle.pmb_command.specs.Commands.{standard_entry}
-use Rattle.pmb_command.specs.Fitting.{are_kept, calls_fit, has_form, is_always_raw, is_fixed, is_length, kind_fits, reads_data, register_form, value_form, ways_agree}
+use Rattle.pmb_command.specs.Fitting.{are_kept, calls_fit, has_form, is_always_raw, is_fixed, is_length, kind_fits}
+use Rattle.pmb_command.specs.Fitting.{reads_data, register_form, value_form, ways_agree}
 use Rattle.pmb_command.specs.Names.{IsNameOf}
 use Rattle.pmb_command.specs.Parts.{CommandParts, DeviceParts, HaveOwnAddresses, HaveOwnCodes}
 

@@ -1,6 +1,7 @@
 -- The standard commands (PMBus Part II Appendix I): their codes, names and forms, and what their
 -- data stand for.
-use Rattle.std.specs.Prelude.{ℕ, ◌+◌, ◌-◌, ◌==◌, Bool, false, Option, Some, None, if◌then◌else◌, List, [], ◌∷◌, ◌++◌, map, find, codes}
+use Rattle.std.specs.Prelude.{ℕ, ◌+◌, ◌-◌, ◌==◌, Bool, false, Option, Some, None, if◌then◌else◌, List, [], ◌∷◌, ◌++◌}
+use Rattle.std.specs.Prelude.{map, find, codes}
 use Rattle.std.specs.List.{list_any, range_with_len}
 use Rattle.std.specs.Str.{bytes_eq}
 use Rattle.pmb_command.specs.declared.form.Form.{Form}
@@ -251,7 +252,14 @@ default_kind code =
 
 -- a row as an entry, with its defaults
 abbrev pub entry_of_row : StandardRow → EntryParts
-entry_of_row r = record { code = r.code; name = r.name; shape = r.shape; kind = default_kind r.code; paged = is_among paged_codes r.code }
+entry_of_row r = record {
+  code = r.code;
+  name = r.name;
+  shape = r.shape;
+  kind = default_kind r.code;
+  paged =
+      is_among paged_codes r.code;
+}
 
 -- all standard entries, in the order of their codes
 unfoldable pub standard_entries : List EntryParts

@@ -1,11 +1,13 @@
 -- Whether the forms, the kind and the pages of a command go together.
-use Rattle.std.specs.Prelude.{ℕ, ℤ, pos, negsuc, Bool, true, false, not, if◌then◌else◌, ◌&&◌, ◌||◌, is_some, Option, Some, None, [], ◌∷◌, nat_eq, nat_le, int_le}
+use Rattle.std.specs.Prelude.{ℕ, ℤ, pos, negsuc, Bool, true, false, not, if◌then◌else◌, ◌&&◌, ◌||◌, is_some, Option}
+use Rattle.std.specs.Prelude.{Some, None, [], ◌∷◌, nat_eq, nat_le, int_le}
 use Rattle.std.specs.List.{list_any}
 use Rattle.pmb_command.specs.declared.form.Form.{Form}
 use Rattle.pmb_command.specs.declared.form.Form.TheVariants.{Zero, One, Two, Four, Eight, Block}
 use Rattle.pmb_command.specs.declared.form.Shape.{Shape}
 use Rattle.pmb_command.specs.declared.entry.Kind.{Kind}
-use Rattle.pmb_command.specs.declared.entry.Kind.TheVariants.{Raw, Linear11, Linear11Fixed, Vout, VoutSigned, Direct, Status}
+use Rattle.pmb_command.specs.declared.entry.Kind.TheVariants.{Raw, Linear11, Linear11Fixed, Vout, VoutSigned, Direct}
+use Rattle.pmb_command.specs.declared.entry.Kind.TheVariants.{Status}
 use Rattle.pmb_command.specs.Entry.{EntryParts}
 use Rattle.pmb_command.specs.Commands.{standard_entry}
 

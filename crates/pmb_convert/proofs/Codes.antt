@@ -6,20 +6,25 @@ use Rattle.hex.specs.declared.error.FromHexError.{FromHexError}
 use Rattle.pmb_convert.specs.Answer.{code_of, word_of}
 
 -- what `hex` writes of four digits
-pub reads_word : (text out : List ℕ) (r : Result Unit FromHexError) → MatchResult (decode_sized text 2) (λ bytes. (r ≡ Ok tt) × (out ≡ bytes)) (λ e. r ≡ Err e)
+pub reads_word : (text out : List ℕ) (r : Result Unit FromHexError)
+    → MatchResult (decode_sized text 2) (λ bytes. (r ≡ Ok tt) × (out ≡ bytes)) (λ e. r ≡ Err e)
     → (r ≡ Ok tt → Some (from_be_bytes w16 out) ≡ code_of text)
 unfolding code_of
 reads_word text out r = by_result (decode_sized text 2)
   where
-    by_result : (d : Result (List ℕ) FromHexError) → MatchResult d (λ bytes. (r ≡ Ok tt) × (out ≡ bytes)) (λ e. r ≡ Err e) → r ≡ Ok tt → Some (from_be_bytes w16 out) ≡ word_of d
+    by_result : (d : Result (List ℕ) FromHexError)
+        → MatchResult d (λ bytes. (r ≡ Ok tt) × (out ≡ bytes)) (λ e. r ≡ Err e) → r ≡ Ok tt
+        → Some (from_be_bytes w16 out) ≡ word_of d
     by_result (Ok bytes) decoded ok = ap (λ (b : List ℕ). Some (from_be_bytes w16 b)) decoded.1
     by_result (Err e) decoded ok = cc
 
-pub reads_no_word : (text out : List ℕ) (r : Result Unit FromHexError) (e : FromHexError) → MatchResult (decode_sized text 2) (λ bytes. (r ≡ Ok tt) × (out ≡ bytes)) (λ e. r ≡ Err e)
+pub reads_no_word : (text out : List ℕ) (r : Result Unit FromHexError) (e : FromHexError)
+    → MatchResult (decode_sized text 2) (λ bytes. (r ≡ Ok tt) × (out ≡ bytes)) (λ e. r ≡ Err e)
     → (r ≡ Err e → None ≡ code_of text)
 unfolding code_of
 reads_no_word text out r e = by_result (decode_sized text 2)
   where
-    by_result : (d : Result (List ℕ) FromHexError) → MatchResult d (λ bytes. (r ≡ Ok tt) × (out ≡ bytes)) (λ e. r ≡ Err e) → r ≡ Err e → None ≡ word_of d
+    by_result : (d : Result (List ℕ) FromHexError)
+        → MatchResult d (λ bytes. (r ≡ Ok tt) × (out ≡ bytes)) (λ e. r ≡ Err e) → r ≡ Err e → None ≡ word_of d
     by_result (Ok bytes) decoded err = cc
     by_result (Err f) decoded err = refl

@@ -1,6 +1,8 @@
 -- What std reads of decimal numbers and of the parts round a comma, in the words of a FORMAT's
 -- spelling.
-use Rattle.std.proofs.Common.{◌≡◌, ◌≢◌, ℕ, suc, ◌<◌, ◌≤◌, true, false, eqb, ◌⊎◌, Option, Some, None, Result, Ok, Err, ℤ, pos, neg_ℤ, List, [], ◌∷◌, ◌++◌, length, get_or, inl, inr, refl, sym, ap, ◌∙◌, subst, arith, eq-eqb, length-append}
+use Rattle.std.proofs.Common.{◌≡◌, ◌≢◌, ℕ, suc, ◌<◌, ◌≤◌, true, false, eqb, ◌⊎◌, Option, Some, None, Result, Ok, Err, ℤ}
+use Rattle.std.proofs.Common.{pos, neg_ℤ, List, [], ◌∷◌, ◌++◌, length, get_or, inl, inr, refl, sym, ap, ◌∙◌, subst}
+use Rattle.std.proofs.Common.{arith, eq-eqb, length-append}
 use mir.Syntax.{Width}
 use Rattle.std.specs.Borrow.{Bor}
 use Rattle.std.specs.Char.{digit_value}
@@ -20,7 +22,8 @@ no_numeral : (c : ℕ) (cs : List ℕ) → 10 ≤ digit_value c → ¬ (IsNumera
 no_numeral c cs large numeral = let small : digit_value c < 10 = numeral.1.0 in absurd (omega arith)
 
 digit_is_no_comma : (c : ℕ) → digit_value c < 10 → c ≢ 44
-digit_is_no_comma c small is = let less : digit_value 44 < 10 = subst (λ x. digit_value x < 10) is small in absurd (omega arith)
+digit_is_no_comma c small is = let less : digit_value 44 < 10 = subst (λ x. digit_value x < 10) is small in
+    absurd (omega arith)
 
 digits_have_no_comma : (ds : List ℕ) → AllDigits 10 ds → HasNoComma ds
 digits_have_no_comma [] digits = tt
@@ -47,7 +50,8 @@ one_number text a b (minus digits whole _ a_is) (minus digits' whole' _ b_is) =
 -- ---- what std reads at a signed type
 
 -- after a `-` (45)
-read_minus : {E : Type 0} (w : Width) (ds : List ℕ) (r : Result ℤ E) → OkIff r (IsNumeral 10 ds × FitsSigned w (neg_ℤ (pos (digits_value 10 ds)))) (neg_ℤ (pos (digits_value 10 ds)))
+read_minus : {E : Type 0} (w : Width) (ds : List ℕ) (r : Result ℤ E)
+    → OkIff r (IsNumeral 10 ds × FitsSigned w (neg_ℤ (pos (digits_value 10 ds)))) (neg_ℤ (pos (digits_value 10 ds)))
     → ReadsInteger w (45 ∷ ds) (result_ok r)
 read_minus w ds (Ok x) reads = (minus ds refl reads.0.0 reads.1, subst (FitsSigned w) (sym reads.1) reads.0.1)
 read_minus w ds (Err e) reads = none
@@ -56,10 +60,14 @@ read_minus w ds (Err e) reads = none
     none n (plain numeral is) fits = no_numeral 45 ds (omega arith) numeral
     none n (minus digits whole numeral is) fits =
         let same : digits ≡ ds = cc in
-        reads (subst (IsNumeral 10) same numeral, subst (FitsSigned w) (is ∙ ap (λ xs. neg_ℤ (pos (digits_value 10 xs))) same) fits)
+        reads (
+          subst (IsNumeral 10) same numeral,
+          subst (FitsSigned w) (is ∙ ap (λ xs. neg_ℤ (pos (digits_value 10 xs))) same) fits,
+        )
 
 -- without a sign
-read_plain : {E : Type 0} (w : Width) (c : ℕ) (cs : List ℕ) (r : Result ℤ E) → c ≢ 45 → OkIff r (IsNumeral 10 (c ∷ cs) × FitsSigned w (pos (digits_value 10 (c ∷ cs)))) (pos (digits_value 10 (c ∷ cs)))
+read_plain : {E : Type 0} (w : Width) (c : ℕ) (cs : List ℕ) (r : Result ℤ E) → c ≢ 45
+    → OkIff r (IsNumeral 10 (c ∷ cs) × FitsSigned w (pos (digits_value 10 (c ∷ cs)))) (pos (digits_value 10 (c ∷ cs)))
     → ReadsInteger w (c ∷ cs) (result_ok r)
 read_plain w c cs (Ok x) other reads = (plain reads.0.0 reads.1, subst (FitsSigned w) (sym reads.1) reads.0.1)
 read_plain w c cs (Err e) other reads = none
@@ -69,7 +77,8 @@ read_plain w c cs (Err e) other reads = none
     none n (minus digits whole numeral is) fits = let same : c ≡ 45 = cc in other same
 
 -- a text without a leading `+` (43)
-pub reads_integer : {E : Type 0} (w : Width) (text : List ℕ) (r : Result ℤ E) → get_or text 0 0 ≢ 43 → ParsesSigned w 10 text r → ReadsInteger w text (result_ok r)
+pub reads_integer : {E : Type 0} (w : Width) (text : List ℕ) (r : Result ℤ E) → get_or text 0 0 ≢ 43
+    → ParsesSigned w 10 text r → ReadsInteger w text (result_ok r)
 reads_integer w [] (Ok x) no_plus reads = absurd (omega (arith, reads.0.0.0))
 reads_integer w [] (Err e) no_plus reads = none
   where
@@ -102,10 +111,12 @@ free : (xs : List ℕ) → ((i : ℕ) → i < length xs → get_or xs i 0 ≢ 44
 free [] none = tt
 free (x ∷ xs) none = (none 0 (omega arith), free xs (λ i inside. none (suc i) (omega arith)))
 
-pub splits : (text : List ℕ) (r : Option (Bor (List ℕ) × Bor (List ℕ))) → IsSplitOnceResult 44 text r → SplitsAtComma text r
+pub splits : (text : List ℕ) (r : Option (Bor (List ℕ) × Bor (List ℕ))) → IsSplitOnceResult 44 text r
+    → SplitsAtComma text r
 splits text None split = λ front back no_comma is.
     let absent = split_parts 44 text None split (omega arith) in
-    absent (length front) (let whole : length text ≡ length (front ++ (44 ∷ back)) = ap length is in omega (arith, length-append front (44 ∷ back)))
+    absent (length front) (let whole : length text ≡ length (front ++ (44 ∷ back)) = ap length is in
+    omega (arith, length-append front (44 ∷ back)))
     (ap (λ t. get_or t (length front) 0) is ∙ get_or-append_seam front 44 back 0)
 splits text (Some parts) split =
     let found = split_parts 44 text (Some parts) split (omega arith) in

@@ -1,5 +1,6 @@
 -- A format that a text names is one of its type.
-use Rattle.std.proofs.Common.{◌≡◌, ◌≢◌, ℕ, ◌<◌, ◌≤◌, ◌/◌, ◌%◌, ◌^◌, ◌==◌, Bool, true, false, cond, if◌then◌else◌, nat_lt, Result, Ok, Err, ℤ, pos, negsuc, ◌≤ℤ◌, ◌-ℤ◌, List, sym, subst, arith}
+use Rattle.std.proofs.Common.{◌≡◌, ◌≢◌, ℕ, ◌<◌, ◌≤◌, ◌/◌, ◌%◌, ◌^◌, ◌==◌, Bool, true, false, cond, if◌then◌else◌}
+use Rattle.std.proofs.Common.{nat_lt, Result, Ok, Err, ℤ, pos, negsuc, ◌≤ℤ◌, ◌-ℤ◌, List, sym, subst, arith}
 use Rattle.std.proofs.lemmas.Int.{ints}
 use Rattle.std.proofs.lemmas.Bool.Decides.{nat_tests}
 use Rattle.pmb_value.specs.Linear.{IsExponent}
@@ -12,7 +13,9 @@ use Rattle.pmb_value.specs.declared.number_format.NumberFormat.{NumberFormat}
 use Rattle.pmb_value.specs.declared.number_format.NumberFormat.TheVariants.{Linear11Fixed, Word}
 use Rattle.pmb_convert.specs.Laws.{IsFormat}
 use Rattle.pmb_convert.proofs.Choices.{picks}
-use Rattle.pmb_convert.specs.Spelling.{Names, Saying, named_direct, is_from_to, is_zero, linear11, linear11_fixed, ulinear16, slinear16, vout, direct, named_linear, other, mode_format, said, spelled, vout_of}
+use Rattle.pmb_convert.specs.Spelling.{Names, Saying, named_direct, is_from_to, is_zero, linear11, linear11_fixed}
+use Rattle.pmb_convert.specs.Spelling.{ulinear16, slinear16, vout, direct, named_linear, other, mode_format, said}
+use Rattle.pmb_convert.specs.Spelling.{spelled, vout_of}
 
 -- a format, where there is one
 abbrev IsFormatIn : Result NumberFormat FormatFault → Type 0
@@ -44,12 +47,14 @@ coefficients : (m b r : ℤ) → IsFormatIn (named_direct m b r)
 coefficients m b r =
     let made : NumberFormat = Word (Direct (record { m = m; b = b; r = r })) in
     picks IsFormatIn (is_zero m) (Err ZeroSlope) (cond (is_from_to 9 9 r) (Ok made) (Err BadScale)) (λ _. tt)
-    (λ slope. picks IsFormatIn (is_from_to 9 9 r) (Ok made) (Err BadScale) (λ inside. (not_zero m slope, (scale r inside).0, (scale r inside).1)) (λ _. tt))
+    (λ slope. picks IsFormatIn (is_from_to 9 9 r) (Ok made) (Err BadScale)
+    (λ inside. (not_zero m slope, (scale r inside).0, (scale r inside).1)) (λ _. tt))
 
 -- the exponent of a VOUT_MODE
 exponent_in : (field : ℕ) → field < 32 → IsExponent (twos_complement 5 field)
 unfolding twos_complement
-exponent_in field small = picks IsExponent (nat_lt field 16) (pos field) (pos field -ℤ pos 32) (λ is. low field is) (λ is. high field small is)
+exponent_in field small = picks IsExponent (nat_lt field 16) (pos field) (pos field -ℤ pos 32) (λ is. low field is)
+    (λ is. high field small is)
   where
     low : (n : ℕ) → nat_lt n 16 ≡ true → IsExponent (pos n)
     low n is = let less : n < 16 = grind (arith, nat_tests) in (omega (arith, ints), omega (arith, ints))
@@ -60,7 +65,10 @@ exponent_in field small = picks IsExponent (nat_lt field 16) (pos field) (pos fi
 mode : (m : ℕ) → IsFormatIn (vout_of m)
 mode m = by (m / 2 ^ 7 == 1) (m / 2 ^ 5 % 2 ^ 2 == 1) (m / 2 ^ 5 % 2 ^ 2 == 3) (m / 2 ^ 5 % 2 ^ 2 == 2)
   where
-    by : (relative vid ieee coded : Bool) → IsFormatIn (mode_format (if relative then Err Relative else (if vid then Err Vid else (if ieee then Err Ieee else (if coded then Err NoCoefficients else Ok (Unsigned (twos_complement 5 (m % 2 ^ 5))))))))
+    by : (relative vid ieee coded : Bool) → IsFormatIn
+        (mode_format (if relative then Err Relative else
+        (if vid then Err Vid else (if ieee then Err Ieee else
+        (if coded then Err NoCoefficients else Ok (Unsigned (twos_complement 5 (m % 2 ^ 5))))))))
     by true vid ieee coded = tt
     by false true ieee coded = tt
     by false false true coded = tt

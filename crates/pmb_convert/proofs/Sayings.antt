@@ -1,5 +1,6 @@
 -- From what the parts of a FORMAT say to what the whole of it says.
-use Rattle.std.proofs.Common.{◌≡◌, ◌≢◌, ℕ, false, eqb, get_or, drop, append_assoc, Result, Err, ℤ, List, ◌∷◌, ◌++◌, codes, refl, sym, ap, ◌∙◌, subst}
+use Rattle.std.proofs.Common.{◌≡◌, ◌≢◌, ℕ, false, eqb, get_or, drop, append_assoc, Result, Err, ℤ, List, ◌∷◌, ◌++◌}
+use Rattle.std.proofs.Common.{codes, refl, sym, ap, ◌∙◌, subst}
 use borrow.Author.Tests.{eqb-false}
 use Rattle.std.specs.Int.{w8, w16}
 use Rattle.std.specs.Prelude.{FitsSigned}
@@ -8,13 +9,16 @@ use mir.Val.{to_z, of_z}
 use Rattle.pmb_convert.specs.declared.format_fault.FormatFault.{FormatFault}
 use Rattle.pmb_convert.specs.declared.format_fault.FormatFault.TheVariants.{BadFormat}
 use Rattle.pmb_value.specs.declared.number_format.NumberFormat.{NumberFormat}
-use Rattle.pmb_convert.specs.Spelling.{Answers, Names, Saying, SpellsFormat, WritesInteger, WritesByte, WritesMode, named_direct, said, spelled, other, linear11, linear11_fixed, ulinear16, slinear16, vout, direct}
+use Rattle.pmb_convert.specs.Spelling.{Answers, Names, Saying, SpellsFormat, WritesInteger, WritesByte, WritesMode}
+use Rattle.pmb_convert.specs.Spelling.{named_direct, said, spelled, other, linear11, linear11_fixed, ulinear16}
+use Rattle.pmb_convert.specs.Spelling.{slinear16, vout, direct}
 use Rattle.pmb_convert.specs.machine.Parts.{HasNoComma, comma, IsDirect, IsFixed, IsSigned, IsUnsigned, IsVout}
 use Rattle.pmb_convert.proofs.Integers.{number_has_no_comma, one_comma, one_number}
 use Rattle.pmb_convert.proofs.Modes.{one_mode}
 
 -- an answer to what says the same
-pub answers_too : (P Q : Saying → Type 0) (answer : Result NumberFormat FormatFault) → ((s : Saying) → P s → Q s) → ((s : Saying) → Q s → P s) → Answers P answer → Answers Q answer
+pub answers_too : (P Q : Saying → Type 0) (answer : Result NumberFormat FormatFault) → ((s : Saying) → P s → Q s)
+    → ((s : Saying) → Q s → P s) → Answers P answer → Answers Q answer
 answers_too P Q answer to back (spelled saying says is) = spelled saying (to saying says) is
 answers_too P Q answer to back (other none is) = other (λ s q. none s (back s q)) is
 
@@ -25,7 +29,8 @@ differ : (a b : ℕ) (front back : List ℕ) → eqb a b ≡ false → a ∷ fro
 differ a b front back test same = eqb-false a b test (ap (λ t. get_or t 0 0) same)
 
 -- the text of a DIRECT format, by its numbers
-direct_text : (M B R : List ℕ) → codes "direct:" ++ M ++ codes "," ++ B ++ codes "," ++ R ≡ codes "direct:" ++ comma M (comma B R)
+direct_text : (M B R : List ℕ) → codes "direct:" ++ M ++ codes "," ++ B ++ codes "," ++ R ≡ codes "direct:"
+    ++ comma M (comma B R)
 direct_text M B R = simp append_assoc
 
 -- a text without a colon and one with it
@@ -103,25 +108,35 @@ spelled_direct numbers (direct m b r) is = record {
 
 -- ---- the answers to a text of a kind
 
-pub names_fixed : (text E : List ℕ) (answer : Result NumberFormat FormatFault) → text ≡ codes "linear11:" ++ E → Answers (IsFixed E) answer → Names text answer
+pub names_fixed : (text E : List ℕ) (answer : Result NumberFormat FormatFault) → text ≡ codes "linear11:" ++ E
+    → Answers (IsFixed E) answer → Names text answer
 names_fixed text E answer is answers =
-    subst (λ t. Names t answer) (sym is) (answers_too (IsFixed E) (SpellsFormat (codes "linear11:" ++ E)) answer (fixed_spells E) (spelled_fixed E) answers)
+    subst (λ t. Names t answer) (sym is) (answers_too (IsFixed E) (SpellsFormat (codes "linear11:" ++ E)) answer
+    (fixed_spells E) (spelled_fixed E) answers)
 
-pub names_unsigned : (text E : List ℕ) (answer : Result NumberFormat FormatFault) → text ≡ codes "ulinear16:" ++ E → Answers (IsUnsigned E) answer → Names text answer
+pub names_unsigned : (text E : List ℕ) (answer : Result NumberFormat FormatFault) → text ≡ codes "ulinear16:" ++ E
+    → Answers (IsUnsigned E) answer → Names text answer
 names_unsigned text E answer is answers =
-    subst (λ t. Names t answer) (sym is) (answers_too (IsUnsigned E) (SpellsFormat (codes "ulinear16:" ++ E)) answer (unsigned_spells E) (spelled_unsigned E) answers)
+    subst (λ t. Names t answer) (sym is) (answers_too (IsUnsigned E) (SpellsFormat (codes "ulinear16:" ++ E)) answer
+    (unsigned_spells E) (spelled_unsigned E) answers)
 
-pub names_signed : (text E : List ℕ) (answer : Result NumberFormat FormatFault) → text ≡ codes "slinear16:" ++ E → Answers (IsSigned E) answer → Names text answer
+pub names_signed : (text E : List ℕ) (answer : Result NumberFormat FormatFault) → text ≡ codes "slinear16:" ++ E
+    → Answers (IsSigned E) answer → Names text answer
 names_signed text E answer is answers =
-    subst (λ t. Names t answer) (sym is) (answers_too (IsSigned E) (SpellsFormat (codes "slinear16:" ++ E)) answer (signed_spells E) (spelled_signed E) answers)
+    subst (λ t. Names t answer) (sym is) (answers_too (IsSigned E) (SpellsFormat (codes "slinear16:" ++ E)) answer
+    (signed_spells E) (spelled_signed E) answers)
 
-pub names_vout : (text HH : List ℕ) (answer : Result NumberFormat FormatFault) → text ≡ codes "vout:" ++ HH → Answers (IsVout HH) answer → Names text answer
+pub names_vout : (text HH : List ℕ) (answer : Result NumberFormat FormatFault) → text ≡ codes "vout:" ++ HH
+    → Answers (IsVout HH) answer → Names text answer
 names_vout text HH answer is answers =
-    subst (λ t. Names t answer) (sym is) (answers_too (IsVout HH) (SpellsFormat (codes "vout:" ++ HH)) answer (vout_spells HH) (spelled_vout HH) answers)
+    subst (λ t. Names t answer) (sym is) (answers_too (IsVout HH) (SpellsFormat (codes "vout:" ++ HH)) answer
+    (vout_spells HH) (spelled_vout HH) answers)
 
-pub names_direct : (text numbers : List ℕ) (answer : Result NumberFormat FormatFault) → text ≡ codes "direct:" ++ numbers → Answers (IsDirect numbers) answer → Names text answer
+pub names_direct : (text numbers : List ℕ) (answer : Result NumberFormat FormatFault)
+    → text ≡ codes "direct:" ++ numbers → Answers (IsDirect numbers) answer → Names text answer
 names_direct text numbers answer is answers =
-    subst (λ t. Names t answer) (sym is) (answers_too (IsDirect numbers) (SpellsFormat (codes "direct:" ++ numbers)) answer (direct_spells numbers) (spelled_direct numbers) answers)
+    subst (λ t. Names t answer) (sym is) (answers_too (IsDirect numbers) (SpellsFormat (codes "direct:" ++ numbers))
+    answer (direct_spells numbers) (spelled_direct numbers) answers)
 
 -- ---- three numbers round two commas
 
@@ -130,45 +145,61 @@ pub record AreParts (numbers M B R : List ℕ) : Type 0 where
   pub first : HasNoComma M
   pub second : HasNoComma B
 
-pub parts_of : (numbers M rest B R : List ℕ) → HasNoComma M × (numbers ≡ comma M rest) → HasNoComma B × (rest ≡ comma B R) → AreParts numbers M B R
-parts_of numbers M rest B R front back = record { whole = front.1 ∙ ap (comma M) back.1; first = front.0; second = back.0 }
+pub parts_of : (numbers M rest B R : List ℕ) → HasNoComma M × (numbers ≡ comma M rest)
+    → HasNoComma B × (rest ≡ comma B R) → AreParts numbers M B R
+parts_of numbers M rest B R front back =
+    record { whole = front.1 ∙ ap (comma M) back.1; first = front.0; second = back.0 }
 
 -- the parts of a DIRECT format are those round the first two commas
-parts_are : (numbers M B R : List ℕ) (s : Saying) → AreParts numbers M B R → (d : IsDirect numbers s) → (d.M ≡ M) × (d.B ≡ B) × (d.R ≡ R)
+parts_are : (numbers M B R : List ℕ) (s : Saying) → AreParts numbers M B R → (d : IsDirect numbers s)
+    → (d.M ≡ M) × (d.B ≡ B) × (d.R ≡ R)
 parts_are numbers M B R s parts d =
-    let front = one_comma d.M (comma d.B d.R) M (comma B R) (number_has_no_comma d.M d.m d.m_is.writes) parts.first (sym d.whole ∙ parts.whole) in
+    let front = one_comma d.M (comma d.B d.R) M (comma B R) (number_has_no_comma d.M d.m d.m_is.writes) parts.first
+    (sym d.whole ∙ parts.whole) in
     let back = one_comma d.B d.R B R (number_has_no_comma d.B d.b d.b_is.writes) parts.second front.1 in
     (front.0, back.0, back.1)
 
 -- too few commas
-pub no_comma : (numbers : List ℕ) → ((front : List ℕ) → (back : List ℕ) → HasNoComma front → numbers ≢ comma front back) → Answers (IsDirect numbers) (Err BadFormat)
+pub no_comma : (numbers : List ℕ) → ((front : List ℕ) → (back : List ℕ) → HasNoComma front → numbers ≢ comma front back)
+    → Answers (IsDirect numbers) (Err BadFormat)
 no_comma numbers none = other (λ s d. none d.M (comma d.B d.R) (number_has_no_comma d.M d.m d.m_is.writes) d.whole) refl
 
-pub one_comma_alone : (numbers M rest : List ℕ) → HasNoComma M → numbers ≡ comma M rest → ((front : List ℕ) → (back : List ℕ) → HasNoComma front → rest ≢ comma front back)
+pub one_comma_alone : (numbers M rest : List ℕ) → HasNoComma M → numbers ≡ comma M rest
+    → ((front : List ℕ) → (back : List ℕ) → HasNoComma front → rest ≢ comma front back)
     → Answers (IsDirect numbers) (Err BadFormat)
 one_comma_alone numbers M rest free whole none = other too_few refl
   where
     too_few : (s : Saying) → ¬ (IsDirect numbers s)
     too_few s d =
-        let front = one_comma d.M (comma d.B d.R) M rest (number_has_no_comma d.M d.m d.m_is.writes) free (sym d.whole ∙ whole) in
+        let front = one_comma d.M (comma d.B d.R) M rest (number_has_no_comma d.M d.m d.m_is.writes) free
+        (sym d.whole ∙ whole) in
         none d.B d.R (number_has_no_comma d.B d.b d.b_is.writes) (sym front.1)
 
 -- a part that is no number
-pub bad_m : (numbers M B R : List ℕ) → AreParts numbers M B R → ((n : ℤ) → WritesInteger M n → ¬ (FitsSigned w16 n)) → Answers (IsDirect numbers) (Err BadFormat)
+pub bad_m : (numbers M B R : List ℕ) → AreParts numbers M B R → ((n : ℤ) → WritesInteger M n → ¬ (FitsSigned w16 n))
+    → Answers (IsDirect numbers) (Err BadFormat)
 bad_m numbers M B R parts none =
-    other (λ s d. none d.m (subst (λ t. WritesInteger t d.m) (parts_are numbers M B R s parts d).0 d.m_is.writes) d.m_is.fits) refl
+    other (λ s d. none d.m (subst (λ t. WritesInteger t d.m) (parts_are numbers M B R s parts d).0 d.m_is.writes)
+    d.m_is.fits) refl
 
-pub bad_b : (numbers M B R : List ℕ) → AreParts numbers M B R → ((n : ℤ) → WritesInteger B n → ¬ (FitsSigned w16 n)) → Answers (IsDirect numbers) (Err BadFormat)
+pub bad_b : (numbers M B R : List ℕ) → AreParts numbers M B R → ((n : ℤ) → WritesInteger B n → ¬ (FitsSigned w16 n))
+    → Answers (IsDirect numbers) (Err BadFormat)
 bad_b numbers M B R parts none =
-    other (λ s d. none d.b (subst (λ t. WritesInteger t d.b) (parts_are numbers M B R s parts d).1 d.b_is.writes) d.b_is.fits) refl
+    other (λ s d. none d.b (subst (λ t. WritesInteger t d.b) (parts_are numbers M B R s parts d).1 d.b_is.writes)
+    d.b_is.fits) refl
 
-pub bad_r : (numbers M B R : List ℕ) → AreParts numbers M B R → ((n : ℤ) → WritesInteger R n → ¬ (FitsSigned w8 n)) → Answers (IsDirect numbers) (Err BadFormat)
+pub bad_r : (numbers M B R : List ℕ) → AreParts numbers M B R → ((n : ℤ) → WritesInteger R n → ¬ (FitsSigned w8 n))
+    → Answers (IsDirect numbers) (Err BadFormat)
 bad_r numbers M B R parts none =
-    other (λ s d. none d.r (subst (λ t. WritesInteger t d.r) (parts_are numbers M B R s parts d).2 d.r_is.writes) d.r_is.fits) refl
+    other (λ s d. none d.r (subst (λ t. WritesInteger t d.r) (parts_are numbers M B R s parts d).2 d.r_is.writes)
+    d.r_is.fits) refl
 
 -- three numbers
-pub three_numbers : (numbers M B R : List ℕ) (m b r : ℤ) (answer : Result NumberFormat FormatFault) → AreParts numbers M B R → WritesInteger M m → FitsSigned w16 m → WritesInteger B b → FitsSigned w16 b → WritesInteger R r → FitsSigned w8 r
-    → answer ≡ named_direct (to_z w16 (of_z w16 m)) (to_z w16 (of_z w16 b)) (to_z w8 (of_z w8 r)) → Answers (IsDirect numbers) answer
+pub three_numbers : (numbers M B R : List ℕ) (m b r : ℤ) (answer : Result NumberFormat FormatFault)
+    → AreParts numbers M B R → WritesInteger M m → FitsSigned w16 m → WritesInteger B b → FitsSigned w16 b
+    → WritesInteger R r → FitsSigned w8 r
+    → answer ≡ named_direct (to_z w16 (of_z w16 m)) (to_z w16 (of_z w16 b)) (to_z w8 (of_z w8 r))
+    → Answers (IsDirect numbers) answer
 three_numbers numbers M B R m b r answer parts m_is m_fits b_is b_fits r_is r_fits is =
     spelled (direct m b r)
     (record {
@@ -196,9 +227,12 @@ one_direct numbers a b left right =
       second = number_has_no_comma right.B right.b right.b_is.writes;
     } in
     let parts = parts_are numbers right.M right.B right.R a round left in
-    let m_same : left.m ≡ right.m = one_number right.M left.m right.m (subst (λ t. WritesInteger t left.m) parts.0 left.m_is.writes) right.m_is.writes in
-    let b_same : left.b ≡ right.b = one_number right.B left.b right.b (subst (λ t. WritesInteger t left.b) parts.1 left.b_is.writes) right.b_is.writes in
-    let r_same : left.r ≡ right.r = one_number right.R left.r right.r (subst (λ t. WritesInteger t left.r) parts.2 left.r_is.writes) right.r_is.writes in
+    let m_same : left.m ≡ right.m = one_number right.M left.m right.m
+    (subst (λ t. WritesInteger t left.m) parts.0 left.m_is.writes) right.m_is.writes in
+    let b_same : left.b ≡ right.b = one_number right.B left.b right.b
+    (subst (λ t. WritesInteger t left.b) parts.1 left.b_is.writes) right.b_is.writes in
+    let r_same : left.r ≡ right.r = one_number right.R left.r right.r
+    (subst (λ t. WritesInteger t left.r) parts.2 left.r_is.writes) right.r_is.writes in
     left.is ∙ (λ i. direct (m_same i) (b_same i) (r_same i)) ∙ sym right.is
 
 pub one_saying : (text : List ℕ) (a b : Saying) → SpellsFormat text a → SpellsFormat text b → a ≡ b
@@ -225,12 +259,22 @@ one_saying text (vout n) b is too =
     ap vout (one_mode is.0 n o.0 is.2 o.1) ∙ sym o.2
 one_saying text (direct m k r) b is too =
     let numbers : List ℕ = comma is.0 (comma is.1 is.2) in
-    let left = spelled_direct numbers (direct m k r) (is.0, is.1, is.2, sym (direct_text is.0 is.1 is.2), is.4, is.5, is.6) in
-    one_direct numbers (direct m k r) b left (spelled_direct numbers b (subst (λ t. SpellsFormat t b) (is.3 ∙ direct_text is.0 is.1 is.2) too))
+    let left = spelled_direct numbers (direct m k r) (
+      is.0,
+      is.1,
+      is.2,
+      sym (direct_text is.0 is.1 is.2),
+      is.4,
+      is.5,
+      is.6,
+    ) in
+    one_direct numbers (direct m k r) b left
+    (spelled_direct numbers b (subst (λ t. SpellsFormat t b) (is.3 ∙ direct_text is.0 is.1 is.2) too))
 
 -- and has one answer
 pub one_answer : (text : List ℕ) (a b : Result NumberFormat FormatFault) → Names text a → Names text b → a ≡ b
-one_answer text a b (spelled s says a_is) (spelled t says' b_is) = a_is ∙ ap said (one_saying text s t says says') ∙ sym b_is
+one_answer text a b (spelled s says a_is) (spelled t says' b_is) = a_is ∙ ap said (one_saying text s t says says')
+    ∙ sym b_is
 one_answer text a b (spelled s says a_is) (other none b_is) = absurd (none s says)
 one_answer text a b (other none a_is) (spelled t says' b_is) = absurd (none t says')
 one_answer text a b (other none a_is) (other none' b_is) = a_is ∙ sym b_is

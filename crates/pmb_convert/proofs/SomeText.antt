@@ -1,5 +1,6 @@
 -- Some text answers any input.
-use Rattle.std.proofs.Common.{◌≢◌, ℕ, ◌<◌, inl, inr, Result, Ok, Err, ℤ, pos, List, [], ◌∷◌, refl, count_by, is_ok, is_err}
+use Rattle.std.proofs.Common.{◌≢◌, ℕ, ◌<◌, inl, inr, Result, Ok, Err, ℤ, pos, List, [], ◌∷◌, refl, count_by, is_ok}
+use Rattle.std.proofs.Common.{is_err}
 use Rattle.std.specs.List.{flat_map}
 use Rattle.pmb_quantity.specs.declared.quantity.QuantityFault.{QuantityFault}
 use Rattle.pmb_quantity.specs.Fraction.{Fraction}
@@ -16,8 +17,9 @@ use Rattle.pmb_io.specs.Count.{capped}
 use Rattle.pmb_io.specs.Lines as lines
 use Rattle.pmb_convert.specs.declared.conversion.Conversion.{Conversion}
 use Rattle.pmb_convert.specs.declared.conversion.Conversion.TheVariants.{Encode, Decode}
-use Rattle.pmb_convert.specs.declared.line_fault.LineFault.TheVariants.{TooLong, Below, Above}
-use Rattle.pmb_convert.specs.Answer.{Answer, AnswersEach, AnswersLine, AnswersText, EncodesQuantity, EncodesRead, nearest, below, above, answer_line, code_of, code_text, decoded_answer, fault_of}
+use Rattle.pmb_convert.specs.declared.convert_fault.ConvertFault.TheVariants.{TooLong, Below, Above}
+use Rattle.pmb_convert.specs.Answer.{Answer, AnswersEach, AnswersLine, AnswersText, EncodesQuantity, EncodesRead}
+use Rattle.pmb_convert.specs.Answer.{nearest, below, above, answer_line, code_of, code_text, decoded_answer, fault_of}
 use Rattle.pmb_convert.specs.Laws.{HasPositive, HasText, IsFormat}
 use Rattle.pmb_convert.specs.Lines.{most_conversion_line}
 use Rattle.pmb_convert.proofs.Determined.{StaysPositive, reading-positive}
@@ -29,21 +31,30 @@ HasSomeAnswer conversion = (text : List ℕ) → (answer : Answer) × AnswersTex
 pub decode_some : (format : NumberFormat) → HasSomeAnswer (Decode format)
 decode_some format text = (decoded_answer (number_coding format) (code_of text), refl)
 
-quantity_some : (f : Coding) → HasAnswers f → (q : Fraction) → 0 < q.denominator → (answer : Answer) × EncodesQuantity f q answer
+quantity_some : (f : Coding) → HasAnswers f → (q : Fraction) → 0 < q.denominator
+    → (answer : Answer) × EncodesQuantity f q answer
 quantity_some f has q positive =
     elim (has q positive) [
       | inl inside ↦ let code = inside.1 in (Ok (code_text code.0), nearest code.0 code.1 inside.0 refl)
-      | inr outside ↦ elim outside [ inl under ↦ (Err Below, below under refl) | inr over ↦ (Err Above, above over refl) ]
+      | inr outside ↦ elim outside [
+        | inl under ↦ (Err Below, below under refl)
+        | inr over ↦
+            (Err Above, above over refl)
+      ]
     ]
 
-read_some : (f : Coding) → HasAnswers f → (read : Result Fraction QuantityFault) → HasPositive read → (answer : Answer) × EncodesRead f read answer
+read_some : (f : Coding) → HasAnswers f → (read : Result Fraction QuantityFault) → HasPositive read
+    → (answer : Answer) × EncodesRead f read answer
 read_some f has (Ok q) positive = quantity_some f has q positive
 read_some f has (Err fault) positive = (Err (fault_of fault), refl)
 
-encode_some : StaysPositive → (format : NumberFormat) → HasAnswers (number_coding format) → HasSomeAnswer (Encode format)
+encode_some : StaysPositive → (format : NumberFormat) → HasAnswers (number_coding format)
+    → HasSomeAnswer (Encode format)
 encode_some stays format has text = read_some (number_coding format) has (reading text) (reading-positive stays text)
 
-pub encodes_some : StaysPositive → HasAnswers linear11 → ((e : ℤ) → IsExponent e → HasAnswers (linear11_fixed e)) → ((e : ℤ) → IsExponent e → HasAnswers (ulinear16 e)) → ((e : ℤ) → IsExponent e → HasAnswers (slinear16 e)) → ((d : Coefficients) → d.m ≢ pos 0 → HasAnswers (direct d))
+pub encodes_some : StaysPositive → HasAnswers linear11 → ((e : ℤ) → IsExponent e → HasAnswers (linear11_fixed e))
+    → ((e : ℤ) → IsExponent e → HasAnswers (ulinear16 e)) → ((e : ℤ) → IsExponent e → HasAnswers (slinear16 e))
+    → ((d : Coefficients) → d.m ≢ pos 0 → HasAnswers (direct d))
     → (format : NumberFormat) → IsFormat format → HasSomeAnswer (Encode format)
 encodes_some stays a fixed b c d Linear11 is = encode_some stays Linear11 a
 encodes_some stays a fixed b c d (Linear11Fixed e) is = encode_some stays (Linear11Fixed e) (fixed e is)
@@ -53,12 +64,14 @@ encodes_some stays a fixed b c d (Word (Direct k)) is = encode_some stays (Word 
 
 -- ---- and so have lines
 
-line_some : (conversion : Conversion) → HasSomeAnswer conversion → (line : lines.TextLine) → (answer : Answer) × AnswersLine conversion line answer
+line_some : (conversion : Conversion) → HasSomeAnswer conversion → (line : lines.TextLine)
+    → (answer : Answer) × AnswersLine conversion line answer
 line_some conversion some (lines.Ended text) = some (lines.without_cr text)
 line_some conversion some (lines.Last text) = some text
 line_some conversion some lines.TooLong = (Err TooLong, refl)
 
-each_some : (conversion : Conversion) → HasSomeAnswer conversion → (given : List lines.TextLine) → (answers : List Answer) × AnswersEach conversion given answers
+each_some : (conversion : Conversion) → HasSomeAnswer conversion → (given : List lines.TextLine)
+    → (answers : List Answer) × AnswersEach conversion given answers
 each_some conversion some [] = ([], tt)
 each_some conversion some (line ∷ rest) =
     let first = line_some conversion some line in

@@ -12,16 +12,17 @@ use Rattle.pmb_value.specs.Reading.{reading}
 use Rattle.pmb_io.specs.Lines as lines
 use Rattle.pmb_convert.specs.declared.conversion.Conversion.{Conversion}
 use Rattle.pmb_convert.specs.declared.conversion.Conversion.TheVariants.{Encode, Decode}
-use Rattle.pmb_convert.specs.declared.line_fault.LineFault.{LineFault}
-use Rattle.pmb_convert.specs.declared.line_fault.LineFault.TheVariants.{TooLong, Empty, BadDigit, ZeroDenominator, TooLarge, Below, Above, BadCode}
+use Rattle.pmb_convert.specs.declared.convert_fault.ConvertFault.{ConvertFault}
+use Rattle.pmb_convert.specs.declared.convert_fault.ConvertFault.TheVariants.{TooLong, Empty, BadDigit, ZeroDenominator}
+use Rattle.pmb_convert.specs.declared.convert_fault.ConvertFault.TheVariants.{TooLarge, Below, Above, BadCode}
 use Rattle.pmb_value.specs.NumberFormat.{number_coding}
 
 -- a text, or why there is none
 abbrev pub Answer : Type 0
-Answer = Result (List ℕ) LineFault
+Answer = Result (List ℕ) ConvertFault
 
 -- the name of a fault
-abbrev pub fault_name : LineFault → List ℕ
+abbrev pub fault_name : ConvertFault → List ℕ
 fault_name TooLong = codes "TooLong"
 fault_name Empty = codes "Empty"
 fault_name BadDigit = codes "BadDigit"
@@ -52,7 +53,7 @@ code_of text = word_of (decode_sized text 2)
 
 -- ---- encode
 
-abbrev pub fault_of : QuantityFault → LineFault
+abbrev pub fault_of : QuantityFault → ConvertFault
 fault_of quantity.Empty = Empty
 fault_of quantity.BadDigit = BadDigit
 fault_of quantity.ZeroDenominator = ZeroDenominator
@@ -95,4 +96,5 @@ abbrev pub AnswersEach : Conversion → List lines.TextLine → List Answer → 
 AnswersEach conversion [] [] = Unit {0}
 AnswersEach conversion [] (answer ∷ answers) = ⊥
 AnswersEach conversion (line ∷ rest) [] = ⊥
-AnswersEach conversion (line ∷ rest) (answer ∷ answers) = AnswersLine conversion line answer × AnswersEach conversion rest answers
+AnswersEach conversion (line ∷ rest) (answer ∷ answers) = AnswersLine conversion line answer
+    × AnswersEach conversion rest answers

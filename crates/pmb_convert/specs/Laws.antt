@@ -21,15 +21,20 @@ IsFormat (Word (Direct d)) = (d.m ≢ pos 0) × (negsuc 8 ≤ℤ d.r) × (d.r �
 -- The text that answers an input, and its tally, are those of its bytes alone; so is the text that
 -- answers the lines that have ended in it.
 pub record IsDetermined (conversion : Conversion) : Type 0 where
-  pub text : (bytes text other : List ℕ) (tally count : Tally) → AnswersInput conversion tally bytes text → AnswersInput conversion count bytes other → text ≡ other
-  pub tally : (bytes text other : List ℕ) (tally count : Tally) → AnswersInput conversion tally bytes text → AnswersInput conversion count bytes other → tally ≡ count
-  pub ended : (bytes text other : List ℕ) → AnswersEnded conversion bytes text → AnswersEnded conversion bytes other → text ≡ other
+  pub text : (bytes text other : List ℕ) (tally count : Tally) → AnswersInput conversion tally bytes text
+      → AnswersInput conversion count bytes other → text ≡ other
+  pub tally : (bytes text other : List ℕ) (tally count : Tally) → AnswersInput conversion tally bytes text
+      → AnswersInput conversion count bytes other → tally ≡ count
+  pub ended : (bytes text other : List ℕ) → AnswersEnded conversion bytes text → AnswersEnded conversion bytes other
+      → text ≡ other
 
 -- The text that answers the lines that have ended in some bytes is one, and a front of the text that
 -- answers these bytes and whatever follows.
 pub record ComesFirst (conversion : Conversion) : Type 0 where
-  pub one : (bytes text other : List ℕ) → AnswersEnded conversion bytes text → AnswersEnded conversion bytes other → text ≡ other
-  pub front : (bytes more text whole : List ℕ) (tally : Tally) → AnswersEnded conversion bytes text → AnswersInput conversion tally (bytes ++ more) whole
+  pub one : (bytes text other : List ℕ) → AnswersEnded conversion bytes text → AnswersEnded conversion bytes other
+      → text ≡ other
+  pub front : (bytes more text whole : List ℕ) (tally : Tally) → AnswersEnded conversion bytes text
+      → AnswersInput conversion tally (bytes ++ more) whole
       → (rest : List ℕ) × (whole ≡ text ++ rest)
 
 -- some text and tally answer any input

@@ -19,7 +19,8 @@ pub record AnswersLines (conversion : Conversion) (lines : List TextLine) (text 
   pub whole : text ≡ flat_map answer_line answers
 
 -- And so many of them have a text, and so many are faults.
-pub record AnswersCounted (conversion : Conversion) (tally : Tally) (lines : List TextLine) (text : List ℕ) : Type 0 where
+pub record AnswersCounted (conversion : Conversion) (tally : Tally) (lines : List TextLine)
+    (text : List ℕ) : Type 0 where
   pub given : AnswersLines conversion lines text
   pub counts : IsTallyOf (count_by is_ok given.answers) (count_by is_err given.answers) tally
 

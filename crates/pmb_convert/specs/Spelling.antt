@@ -1,5 +1,6 @@
 -- How a FORMAT is spelled, and what it names.
-use Rattle.std.specs.Prelude.{◌≡◌, ℕ, ◌+◌, ◌*◌, Bool, false, Some, None, Result, Ok, Err, ℤ, pos, negsuc, neg_ℤ, List, [], ◌∷◌, ◌++◌, codes, FitsSigned, if◌then◌else◌, ◌==◌, nat_lt}
+use Rattle.std.specs.Prelude.{◌≡◌, ℕ, ◌+◌, ◌*◌, Bool, false, Some, None, Result, Ok, Err, ℤ, pos, negsuc, neg_ℤ, List}
+use Rattle.std.specs.Prelude.{[], ◌∷◌, ◌++◌, codes, FitsSigned, if◌then◌else◌, ◌==◌, nat_lt}
 use Rattle.std.specs.Int.{w8, w16}
 use Rattle.std.specs.Str.Parse.{IsNumeral, digits_value}
 use Rattle.hex.specs.Hex.{hex_digit_value}
@@ -9,7 +10,8 @@ use Rattle.pmb_value.specs.declared.vout.ModeFault.TheVariants as mode
 use Rattle.pmb_value.specs.declared.vout.VoutFormat.{VoutFormat}
 use Rattle.pmb_value.specs.declared.vout.VoutFormat.TheVariants.{Unsigned, Signed, Direct}
 use Rattle.pmb_convert.specs.declared.format_fault.FormatFault.{FormatFault}
-use Rattle.pmb_convert.specs.declared.format_fault.FormatFault.TheVariants.{BadFormat, BadExponent, ZeroSlope, BadScale, Relative, Vid, Ieee, NoCoefficients}
+use Rattle.pmb_convert.specs.declared.format_fault.FormatFault.TheVariants.{BadFormat, BadExponent, ZeroSlope, BadScale}
+use Rattle.pmb_convert.specs.declared.format_fault.FormatFault.TheVariants.{Relative, Vid, Ieee, NoCoefficients}
 use Rattle.pmb_value.specs.declared.number_format.NumberFormat.{NumberFormat}
 use Rattle.pmb_value.specs.declared.number_format.NumberFormat.TheVariants.{Linear11, Linear11Fixed, Word}
 
@@ -28,7 +30,8 @@ pub data Saying : Type 0 where
 -- a whole number in decimal: one digit or more, with a `-` before them or not
 pub data WritesInteger (text : List ℕ) (n : ℤ) : Type 0 where
   plain : IsNumeral 10 text → n ≡ pos (digits_value 10 text) → WritesInteger text n
-  minus : (digits : List ℕ) → text ≡ codes "-" ++ digits → IsNumeral 10 digits → n ≡ neg_ℤ (pos (digits_value 10 digits)) → WritesInteger text n
+  minus : (digits : List ℕ) → text ≡ codes "-" ++ digits → IsNumeral 10 digits
+      → n ≡ neg_ℤ (pos (digits_value 10 digits)) → WritesInteger text n
 
 -- one from -128 to 127
 pub record WritesByte (text : List ℕ) (n : ℤ) : Type 0 where

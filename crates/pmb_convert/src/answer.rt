@@ -7,7 +7,7 @@ ghost use Rattle.pmb_value.specs.QuantityText.{spelling};
 ghost use Rattle.pmb_convert.specs.Answer.{answer_line, code_text, fault_name};
 ghost use Rattle.pmb_convert.specs.machine.Converting.{answer_of, converted_text};
 
-use crate::line_fault::LineFault;
+use crate::convert_fault::ConvertFault;
 use pmb_io::laws::texts_add_up;
 use pmb_io::{RunFault, Sink, Waiting, put};
 use pmb_value::{Quantity, QuantityText};
@@ -23,7 +23,7 @@ pub(crate) enum Converted {
 
 /// Puts out the line of an answer, with its LF.
 pub(crate) fn put_answer<W: Sink>(
-    answer: &Result<Converted, LineFault>,
+    answer: &Result<Converted, ConvertFault>,
     waiting: &mut Waiting,
     writer: &mut W,
 ) -> Result<(), RunFault>
@@ -79,7 +79,7 @@ fn put_quantity<W: Sink>(
 
 /// Puts out a fault after its mark.
 fn put_fault<W: Sink>(
-    fault: LineFault,
+    fault: ConvertFault,
     waiting: &mut Waiting,
     writer: &mut W,
 ) -> Result<(), RunFault>

@@ -8,8 +8,8 @@ ghost use Rattle.pmb_value.specs.NumberFormat.{number_coding};
 ghost use Rattle.pmb_convert.specs.machine.Converting.{answer_of};
 
 use crate::answer::Converted;
-use crate::line_fault::LineFault;
-use pmb_io::{Line, without_return};
+use crate::convert_fault::ConvertFault;
+use pmb_io::{InputLine, without_return};
 use pmb_value::{Format, NumberFormat, Quantity, QuantityFault, RangeFault, Steps};
 
 /// What is done with each line.
@@ -25,18 +25,18 @@ impl Conversion {
     ghost use Rattle.pmb_convert.specs.Answer.{AnswersLine, AnswersText};
 
     /// The answer to a line.
-    pub(crate) fn answer(&self, line: Line<'_>) -> Result<Converted, LineFault>
+    pub(crate) fn answer(&self, line: InputLine<'_>) -> Result<Converted, ConvertFault>
         ensures { AnswersLine self.now (line_text line.entry) (answer_of result) }
     {
         match line {
-            Line::Ended(text) => self.answer_text(without_return(text)),
-            Line::Last(text) => self.answer_text(text),
-            Line::TooLong => Err(LineFault::TooLong),
+            InputLine::Ended(text) => self.answer_text(without_return(text)),
+            InputLine::Last(text) => self.answer_text(text),
+            InputLine::TooLong => Err(ConvertFault::TooLong),
         }
     }
 
     /// The answer to what a line says.
-    fn answer_text(&self, text: &[u8]) -> Result<Converted, LineFault>
+    fn answer_text(&self, text: &[u8]) -> Result<Converted, ConvertFault>
         ensures { AnswersText self.now text.now (answer_of result) }
     {
         match self {
@@ -47,36 +47,36 @@ impl Conversion {
 }
 
 /// The code nearest to the quantity that a text spells.
-fn encoded(format: &NumberFormat, text: &[u8]) -> Result<Converted, LineFault>
+fn encoded(format: &NumberFormat, text: &[u8]) -> Result<Converted, ConvertFault>
     ensures { EncodesRead (number_coding format.now) (reading text.now) (answer_of result) }
 {
     match Quantity::parse(text) {
         Ok(quantity) => encoded_quantity(format, &quantity),
-        Err(QuantityFault::Empty) => Err(LineFault::Empty),
-        Err(QuantityFault::BadDigit) => Err(LineFault::BadDigit),
-        Err(QuantityFault::ZeroDenominator) => Err(LineFault::ZeroDenominator),
-        Err(QuantityFault::TooLarge) => Err(LineFault::TooLarge),
+        Err(QuantityFault::Empty) => Err(ConvertFault::Empty),
+        Err(QuantityFault::BadDigit) => Err(ConvertFault::BadDigit),
+        Err(QuantityFault::ZeroDenominator) => Err(ConvertFault::ZeroDenominator),
+        Err(QuantityFault::TooLarge) => Err(ConvertFault::TooLarge),
     }
 }
 
 /// The code nearest to a quantity.
-fn encoded_quantity(format: &NumberFormat, quantity: &Quantity) -> Result<Converted, LineFault>
+fn encoded_quantity(format: &NumberFormat, quantity: &Quantity) -> Result<Converted, ConvertFault>
     ensures { EncodesQuantity (number_coding format.now) quantity.now (answer_of result) }
 {
     match format.encode(quantity, &mut Steps::new()) {
         Ok(code) => Ok(Converted::Code(code)),
-        Err(RangeFault::Below) => Err(LineFault::Below),
-        Err(RangeFault::Above) => Err(LineFault::Above),
+        Err(RangeFault::Below) => Err(ConvertFault::Below),
+        Err(RangeFault::Above) => Err(ConvertFault::Above),
     }
 }
 
 /// The value of the code that a text writes.
-fn decoded(format: &NumberFormat, text: &[u8]) -> Result<Converted, LineFault>
+fn decoded(format: &NumberFormat, text: &[u8]) -> Result<Converted, ConvertFault>
     ensures { answer_of result ≡ decoded_answer (number_coding format.now) (code_of text.now) }
 {
     match code(text) {
         Some(code) => Ok(Converted::Value(format.decode(code))),
-        None => Err(LineFault::BadCode),
+        None => Err(ConvertFault::BadCode),
     }
 }
 

@@ -7,8 +7,8 @@ ghost use Rattle.pmb_convert.specs.machine.Converting.{ConverterStands, answer_o
 
 use crate::answer::{Converted, put_answer};
 use crate::conversion::Conversion;
-use crate::line_fault::LineFault;
-use pmb_io::{Line, LineTask, RunFault, Sink, Tally, Waiting};
+use crate::convert_fault::ConvertFault;
+use pmb_io::{InputLine, LineTask, RunFault, Sink, Tally, Waiting};
 
 /// What is done with each line, and what was counted so far.
 #[derive(Clone, Copy, Debug)]
@@ -29,7 +29,7 @@ impl Converter {
     }
 
     /// Counts an answer.
-    fn count(&mut self, answer: &Result<Converted, LineFault>)
+    fn count(&mut self, answer: &Result<Converted, ConvertFault>)
         ensures { self.new ≡ with_answer self.old (answer_of answer.now) }
     {
         match answer {
@@ -54,7 +54,7 @@ impl LineTask for Converter {
 
     fn take_line<W: Sink>(
         &mut self,
-        line: Line<'_>,
+        line: InputLine<'_>,
         waiting: &mut Waiting,
         writer: &mut W,
     ) -> Result<(), RunFault> {

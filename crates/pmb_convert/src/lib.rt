@@ -2,7 +2,7 @@
 //!
 //! A FORMAT, such as `linear11` or `direct:3,2,1`, names a [`NumberFormat`]. [`encode_lines`] writes
 //! for each line of an input the code nearest to its quantity, and [`decode_lines`] the exact value of
-//! its code; for a line that has none, `! ` and a [`LineFault`].
+//! its code; for a line that has none, `! ` and a [`ConvertFault`].
 //!
 //! ```rust
 //! let format = parse_format("linear11")?;
@@ -16,17 +16,17 @@
 
 mod answer;
 mod conversion;
+mod convert_fault;
 mod converter;
 mod format_fault;
 pub mod laws;
-mod line_fault;
 mod lines;
 mod numbers;
 mod spelling;
 
 pub use conversion::Conversion;
+pub use convert_fault::ConvertFault;
 pub use format_fault::FormatFault;
-pub use line_fault::LineFault;
 pub use lines::{convert_lines, decode_lines, encode_lines};
 pub use pmb_value::NumberFormat;
 pub use spelling::parse_format;

@@ -12,24 +12,29 @@ use Rattle.pmb_reader.specs.Reading.{AnyEvent, Due, HasRead, IsDue, IsDueAt, Pas
 -- reading continues with an event that is used, and ends no packet
 abbrev pub GoesOn : Type 0
 GoesOn =
-    (profile : List DeviceParts) (before after : Reader) (events : List Event) (due : Due) (outcomes : List Outcome) (event : Event)
+    (profile : List DeviceParts) (before after : Reader) (events : List Event) (due : Due) (outcomes : List Outcome)
+    (event : Event)
     → HasRead profile before events due outcomes → IsDue due (event ∷ [])
-    → ((standing : Standing) → ReaderStandsAt profile before standing → ReaderTakes profile standing event took.More after)
+    → ((standing : Standing) → ReaderStandsAt profile before standing
+    → ReaderTakes profile standing event took.Continues after)
     → HasRead profile after (events ++ event ∷ []) AnyEvent outcomes
 
-module _ (goes_on : GoesOn) (profile : List DeviceParts) (before after : Reader) (events : List Event) (outcomes : List Outcome) (event : Event) where
+module _ (goes_on : GoesOn) (profile : List DeviceParts) (before after : Reader) (events : List Event)
+    (outcomes : List Outcome) (event : Event) where
   -- while events are passed over nothing else is returned
-  is_more : (standing : Standing) (answer : Took) → IsDueAt (PassedEvent event) standing → ReaderTakes profile standing event answer after → answer ≡ took.More
+  is_more : (standing : Standing) (answer : Took) → IsDueAt (PassedEvent event) standing
+      → ReaderTakes profile standing event answer after → answer ≡ took.Continues
   is_more (Open n front) answer at takes = absurd at
   is_more (Held n refusal) answer at takes = absurd at
-  is_more (Passing n) took.More at takes = refl
+  is_more (Passing n) took.Continues at takes = refl
   is_more (Passing n) took.Packet at takes = absurd takes
   is_more (Passing n) (took.Refused refusal) at takes = absurd takes
 
   pub passed : (answer : Took) → HasRead profile before events (PassedEvent event) outcomes
-      → ((standing : Standing) → ReaderStandsAt profile before standing → ReaderTakes profile standing event answer after)
+      → ((standing : Standing) → ReaderStandsAt profile before standing
+      → ReaderTakes profile standing event answer after)
       → HasRead profile after (events ++ event ∷ []) AnyEvent outcomes
   passed answer read takes =
-      let is : answer ≡ took.More = is_more read.standing answer read.at (takes read.standing read.stands) in
+      let is : answer ≡ took.Continues = is_more read.standing answer read.at (takes read.standing read.stands) in
       goes_on profile before after events (PassedEvent event) outcomes event read ([], refl)
       (λ standing stands. subst (λ (a : Took). ReaderTakes profile standing event a after) is (takes standing stands))

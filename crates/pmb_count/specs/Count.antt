@@ -6,7 +6,7 @@ use Rattle.pmb_transaction.specs.Reading.{Accepted, Outcome, Refusal}
 use Rattle.pmb_reader.specs.declared.reader.Took.{Took}
 use Rattle.pmb_reader.specs.declared.reader.Took.TheVariants as took
 use Rattle.pmb_reader.specs.Refusal.{refusal_data}
-use Rattle.pmb_count.specs.declared.whole.Counts.{Counts}
+use Rattle.pmb_count.specs.declared.capture_counts.CaptureCounts.{CaptureCounts}
 
 abbrev pub packets : List Outcome → ℕ
 packets [] = 0
@@ -19,12 +19,12 @@ refusals (Accepted t ∷ outcomes) = refusals outcomes
 refusals (Refusal refusal ∷ outcomes) = refusals outcomes + 1
 
 -- The counts of outcomes, each of which stays at the greatest u64.
-pub record IsCountOf (count : Counts) (outcomes : List Outcome) : Type 0 where
+pub record IsCountOf (count : CaptureCounts) (outcomes : List Outcome) : Type 0 where
   pub packets_are : count.packets ≡ capped (packets outcomes)
   pub refusals_are : count.refusals ≡ capped (refusals outcomes)
 
 -- what one event adds to what is read
 abbrev pub IsAdded : Took → List Outcome → Type 0
-IsAdded took.More added = added ≡ []
+IsAdded took.Continues added = added ≡ []
 IsAdded took.Packet added = (t : TransactionData) × (added ≡ Accepted t ∷ [])
 IsAdded (took.Refused refusal) added = added ≡ Refusal (refusal_data refusal) ∷ []

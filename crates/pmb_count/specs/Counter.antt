@@ -21,4 +21,5 @@ IsCounting counter = (profile : List DeviceParts) × (events : List Event) × Ha
 
 -- a reader has read some events, or none yet, and holds no refusal
 abbrev pub HasReadSome : Reader → Type 0
-HasReadSome reader = (profile : List DeviceParts) × (events : List Event) × (outcomes : List Outcome) × HasRead profile reader events AnyEvent outcomes
+HasReadSome reader = (profile : List DeviceParts) × (events : List Event) × (outcomes : List Outcome)
+    × HasRead profile reader events AnyEvent outcomes

@@ -8,14 +8,14 @@
 //! ```rust
 //! let profile = Profile::from_toml(rt.alloc(), SAMPLE.as_bytes())?;
 //! let refused_address = [Event::Start, Event::Byte(0x40), Event::Nack, Event::Stop];
-//! assert_eq!(rt; count(&profile, &refused_address), Counts { packets: 1, refusals: 0 });
+//! assert_eq!(rt; count(&profile, &refused_address), CaptureCounts { packets: 1, refusals: 0 });
 //! ```
 #![tactic(auto)]
 
+mod capture_counts;
 pub mod laws;
 mod one;
 mod pieces;
-mod whole;
 
+pub use capture_counts::{CaptureCounts, count};
 pub use pieces::Counter;
-pub use whole::{Counts, count};

@@ -24,7 +24,7 @@ pub(crate) fn take_on(reader: &mut Reader, event: Event) -> Took
     reading_refuses();
     reading_resumes();
     match reader.take(event) {
-        Took::More => Took::More,
+        Took::Continues => Took::Continues,
         Took::Packet => Took::Packet,
         Took::Refused(refusal) => {
             reader.resync();

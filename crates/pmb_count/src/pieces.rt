@@ -12,7 +12,7 @@ ghost use Rattle.pmb_reader.specs.Reading.{AnyEvent, HasRead};
 ghost use Rattle.pmb_count.specs.Count.{IsAdded, IsCountOf};
 ghost use Rattle.pmb_count.specs.Counter.{HasCounted, HasReadSome, IsCounting};
 
-use crate::whole::Counts;
+use crate::capture_counts::CaptureCounts;
 use pmb_bus::Event;
 use pmb_reader::laws::{
     captures_are_read_back, pieces_are_accepted, pieces_are_refused, pieces_go_on, reading_begins,
@@ -49,7 +49,7 @@ pub(crate) fn feed_on(reader: &mut Reader, piece: &[Event]) -> Fed
     match fed.outcome {
         Answer::More => Fed {
             used,
-            took: Took::More,
+            took: Took::Continues,
         },
         Answer::Packet(_) => Fed {
             used,
@@ -67,11 +67,11 @@ pub(crate) fn feed_on(reader: &mut Reader, piece: &[Event]) -> Fed
     }
 }
 
-/// Counts the packets and refusals of a capture that comes in pieces, cut anywhere.
+/// CaptureCounts the packets and refusals of a capture that comes in pieces, cut anywhere.
 #[derive(Drop)]
 pub struct Counter<'p> {
     reader: Reader<'p>,
-    so_far: Counts,
+    so_far: CaptureCounts,
 }
 
 impl<'p> Counter<'p> {
@@ -82,7 +82,7 @@ impl<'p> Counter<'p> {
         reading_begins();
         Counter {
             reader: Reader::new(profile),
-            so_far: Counts {
+            so_far: CaptureCounts {
                 packets: 0,
                 refusals: 0,
             },
@@ -106,7 +106,7 @@ impl<'p> Counter<'p> {
 
     /// The packets and refusals of what the pieces read as, end to end: of the capture of
     /// transactions as many packets, and no refusal.
-    pub fn finish(&self) -> Counts
+    pub fn finish(&self) -> CaptureCounts
         ensures reads { (profile : List DeviceParts) (events : List BusEvent) → HasCounted profile self.now events
             → ((outcomes : List Outcome) × Reading profile events outcomes × IsCountOf result outcomes) }
         ensures written { (profile : List DeviceParts) (ts : List TransactionData) (events : List BusEvent) → IsBus profile

@@ -1,5 +1,6 @@
 -- Digits without the zeros at their end.
-use Rattle.std.proofs.Common.{◌≡◌, ◌≢◌, ℕ, zero, suc, ◌+◌, ◌-◌, ◌/◌, ◌%◌, ◌^◌, ◌<◌, ◌≤◌, cond, ◌==◌, eq-eqb, inl, inr, List, [], ◌∷◌, ◌++◌, length, refl, sym, ap, ◌∙◌, subst, arith}
+use Rattle.std.proofs.Common.{◌≡◌, ◌≢◌, ℕ, zero, suc, ◌+◌, ◌-◌, ◌/◌, ◌%◌, ◌^◌, ◌<◌, ◌≤◌, cond, ◌==◌, eq-eqb, inl, inr}
+use Rattle.std.proofs.Common.{List, [], ◌∷◌, ◌++◌, length, refl, sym, ap, ◌∙◌, subst, arith}
 use Rattle.std.specs.Char.{digit_value}
 use Rattle.std.specs.Str.Parse.{AllDigits}
 use Rattle.std.proofs.lemmas.Bool.{cases_Bool, cases_eq, ne_eqb}
@@ -21,10 +22,12 @@ other_stays (d ∷ []) c other = ap (with_last d) (other_stays [] c other)
 other_stays (d ∷ e ∷ ds) c other = ap (with_last d) (other_stays (e ∷ ds) c other)
 
 -- the same of the digits of a number
-pub padded-zero_goes : (places n : ℕ) → n % 10 ≡ 0 → without_last_zeros (padded (suc places) n) ≡ without_last_zeros (padded places (n / 10))
+pub padded-zero_goes : (places n : ℕ) → n % 10 ≡ 0 → without_last_zeros (padded (suc places) n)
+    ≡ without_last_zeros (padded places (n / 10))
 padded-zero_goes places n none = zero_goes (padded places (n / 10)) (48 + n % 10) (omega arith)
 
-pub padded-other_stays : (places n : ℕ) → n % 10 ≢ 0 → without_last_zeros (padded (suc places) n) ≡ padded (suc places) n
+pub padded-other_stays : (places n : ℕ) → n % 10 ≢ 0 → without_last_zeros (padded (suc places) n)
+    ≡ padded (suc places) n
 padded-other_stays places n other = other_stays (padded places (n / 10)) (48 + n % 10) (omega (arith, other))
 
 -- no digit of 0 stays
@@ -74,7 +77,8 @@ AllDigits-push (d ∷ ds) c digits digit = (digits.0, AllDigits-push ds c digits
 AllDigits-padded : (places n : ℕ) → AllDigits 10 (padded places n)
 AllDigits-padded zero n = tt
 AllDigits-padded (suc places) n =
-    AllDigits-push (padded places (n / 10)) (48 + n % 10) (AllDigits-padded places (n / 10)) (written (n % 10) (omega arith))
+    AllDigits-push (padded places (n / 10)) (48 + n % 10) (AllDigits-padded places (n / 10))
+    (written (n % 10) (omega arith))
 
 AllDigits-with_last : (d : ℕ) (ds : List ℕ) → digit_value d < 10 → AllDigits 10 ds → AllDigits 10 (with_last d ds)
 AllDigits-with_last d (e ∷ es) digit digits = (digit, digits)
@@ -93,7 +97,8 @@ pub AllDigits-part : (places n : ℕ) → AllDigits 10 (without_last_zeros (padd
 AllDigits-part places n = AllDigits-kept (padded places n) (AllDigits-padded places n)
 
 -- the steps of a writer
-pub last_goes : (places n : ℕ) → 0 < places → n % 10 ≡ 0 → without_last_zeros (padded places n) ≡ without_last_zeros (padded (places - 1) (n / 10))
+pub last_goes : (places n : ℕ) → 0 < places → n % 10 ≡ 0 → without_last_zeros (padded places n)
+    ≡ without_last_zeros (padded (places - 1) (n / 10))
 last_goes zero n some none = absurd (omega arith)
 last_goes (suc places) n some none =
     let before : suc places - 1 ≡ places = omega arith in

@@ -1,6 +1,7 @@
 -- Where a quantity has no more digits after the point than may be written, its nearest decimal is
 -- its own text.
-use Rattle.std.proofs.Common.{◌≡◌, ◌≢◌, ℕ, zero, suc, ◌+◌, ◌-◌, ◌*◌, ◌/◌, ◌%◌, ◌^◌, ◌<◌, ◌≤◌, Bool, true, false, inl, inr, Some, None, ◌++◌, ℤ, pos, negsuc, unsigned_abs, refl, sym, ap, ◌∙◌, subst, arith}
+use Rattle.std.proofs.Common.{◌≡◌, ◌≢◌, ℕ, zero, suc, ◌+◌, ◌-◌, ◌*◌, ◌/◌, ◌%◌, ◌^◌, ◌<◌, ◌≤◌, Bool, true, false, inl}
+use Rattle.std.proofs.Common.{inr, Some, None, ◌++◌, ℤ, pos, negsuc, unsigned_abs, refl, sym, ap, ◌∙◌, subst, arith}
 use Rattle.std.specs.Fmt.{decimal}
 use Rattle.std.specs.Int.{◌∣◌}
 use Rattle.std.proofs.lemmas.Bool.{cases_Bool, cases_eq}
@@ -14,7 +15,8 @@ use Rattle.pmb_quantity.specs.QuantityText.{first_of, places_of, minus, padded, 
 use Rattle.pmb_quantity.specs.Reading.{without_last_zeros}
 use Rattle.pmb_quantity.proofs.DigitLemmas.{empty_test, empty_test_passes}
 use Rattle.pmb_quantity.proofs.FractionLemmas.{IsGcd-gcd, gcd_step, gcd-scale, gcd_of_lowest}
-use Rattle.pmb_quantity.proofs.TextLemmas.{fits_places, length-padded, ten_positive, places_of-is, first_of-passes, first_of-fails, first_of-none}
+use Rattle.pmb_quantity.proofs.TextLemmas.{fits_places, length-padded, ten_positive, places_of-is, first_of-passes}
+use Rattle.pmb_quantity.proofs.TextLemmas.{first_of-fails, first_of-none}
 use Rattle.pmb_decimal.specs.Decimal.{after_point, half_even, with_sign, magnitude_text, rounded_text}
 use Rattle.pmb_decimal.proofs.DigitLemmas.{padded-zero_goes, padded-other_stays, after_point-some}
 use Rattle.pmb_decimal.proofs.HalfEven.{half_even-down}
@@ -22,17 +24,27 @@ use Rattle.pmb_decimal.proofs.Text.{minus-negative, rounded-is}
 
 -- ---- the places of a fraction
 -- what a search finds passes the test, and nothing before it does
-first_of-first : (test : ℕ → Bool) (from count found : ℕ) → first_of test from count ≡ Some found → (test found ≡ true) × ((k : ℕ) → from ≤ k → k < found → test k ≡ false)
-first_of-first test from zero found is = absurd (let wrong : None ≡ Some found = sym (first_of-none test from 0 refl) ∙ is in cc)
+first_of-first : (test : ℕ → Bool) (from count found : ℕ) → first_of test from count ≡ Some found
+    → (test found ≡ true) × ((k : ℕ) → from ≤ k → k < found → test k ≡ false)
+first_of-first test from zero found is =
+    absurd (let wrong : None ≡ Some found = sym (first_of-none test from 0 refl) ∙ is in cc)
 first_of-first test from (suc count) found is =
     elim (cases_Bool (test from)) [
-      | inl passes ↦ (let here : Some from ≡ Some found = sym (first_of-passes test from (suc count) (omega arith) passes) ∙ is in
+      | inl passes ↦ (let here : Some from ≡ Some found =
+          sym (first_of-passes test from (suc count) (omega arith) passes) ∙ is in
           let same : from ≡ found = cc in
           (ap test (sym same) ∙ passes, λ k low high. absurd (omega arith)))
       | inr fails ↦ (let less : suc count - 1 ≡ count = omega arith in
-          let later : first_of test (from + 1) count ≡ Some found = ap (first_of test (from + 1)) (sym less) ∙ sym (first_of-fails test from (suc count) (omega arith) fails) ∙ is in
-          let rest = first_of-first test (from + 1) count found later in
-          (rest.0, λ k low high. elim (cases_eq k from) [ inl same ↦ ap test same ∙ fails | inr other ↦ rest.1 k (omega (arith, other)) high ]))
+          let later : first_of test (from + 1) count ≡ Some found = ap (first_of test (from + 1)) (sym less)
+          ∙ sym (first_of-fails test from (suc count) (omega arith) fails) ∙ is in
+          let rest = first_of-first test (from + 1) count found later in (
+            rest.0,
+            λ k low high. elim (cases_eq k from) [
+              | inl same ↦ ap test same
+                  ∙ fails
+              | inr other ↦ rest.1 k (omega (arith, other)) high
+            ],
+          ))
     ]
 
 -- that many places write the fraction exactly, and one less doesn't
@@ -50,7 +62,8 @@ has_places d places is =
 
 -- ---- the digits after the point
 -- zeros at the end go
-zeros_go : (places more y : ℕ) → without_last_zeros (padded (places + more) (y * 10 ^ more)) ≡ without_last_zeros (padded places y)
+zeros_go : (places more y : ℕ) → without_last_zeros (padded (places + more) (y * 10 ^ more))
+    ≡ without_last_zeros (padded places y)
 zeros_go places zero y =
     let index : places + 0 ≡ places = omega arith in
     let number : y * 10 ^ 0 ≡ y = omega arith in
@@ -60,13 +73,17 @@ zeros_go places (suc more) y =
     let number : y * 10 ^ suc more ≡ y * 10 ^ more * 10 = ap (λ p. y * p) (pow-suc 10 more) ∙ omega arith in
     let last : y * 10 ^ suc more % 10 ≡ 0 = omega arith in
     let rest : y * 10 ^ suc more / 10 ≡ y * 10 ^ more = omega arith in
-    ap (λ i. without_last_zeros (padded i (y * 10 ^ suc more))) index ∙ padded-zero_goes (places + more) (y * 10 ^ suc more) last ∙ ap (λ m. without_last_zeros (padded (places + more) m)) rest ∙ zeros_go places more y
+    ap (λ i. without_last_zeros (padded i (y * 10 ^ suc more))) index
+    ∙ padded-zero_goes (places + more) (y * 10 ^ suc more) last
+    ∙ ap (λ m. without_last_zeros (padded (places + more) m)) rest ∙ zeros_go places more y
 
 -- the digits of a number stay where the last is not 0
-stays : (places y : ℕ) → (0 < places → y % 10 ≢ 0) → after_point (without_last_zeros (padded places y)) ≡ own.after_point places y
+stays : (places y : ℕ) → (0 < places → y % 10 ≢ 0) → after_point (without_last_zeros (padded places y))
+    ≡ own.after_point places y
 stays zero y other = refl
 stays (suc places) y other =
-    ap after_point (padded-other_stays places y (other (omega arith))) ∙ after_point-some (padded (suc places) y) (omega (arith, length-padded (suc places) y))
+    ap after_point (padded-other_stays places y (other (omega arith))) ∙ after_point-some (padded (suc places) y)
+    (omega (arith, length-padded (suc places) y))
 
 module _ (n d places more : ℕ) (positive : 0 < d) (lowest : gcd n d ≡ 1) (has : HasPlaces d places) where
   abbrev scale : ℕ
@@ -88,7 +105,8 @@ module _ (n d places more : ℕ) (positive : 0 < d) (lowest : gcd n d ≡ 1) (ha
   -- the last digit is not 0: else one place less would do
   scale_is_gcd : gcd part (d * scale) ≡ scale
   scale_is_gcd =
-      let rest : gcd (n % d) d ≡ 1 = gcd_step (n % d) d positive ∙ ap (gcd d) (small_rest) ∙ sym (gcd_step n d positive) ∙ lowest in
+      let rest : gcd (n % d) d ≡ 1 = gcd_step (n % d) d positive ∙ ap (gcd d) (small_rest) ∙ sym (gcd_step n d positive)
+      ∙ lowest in
       gcd-scale (n % d) d scale scale_positive ∙ ap (λ g. g * scale) rest ∙ omega arith
     where
       small_rest : n % d % d ≡ n % d
@@ -100,7 +118,8 @@ module _ (n d places more : ℕ) (positive : 0 < d) (lowest : gcd n d ≡ 1) (ha
       let power : 10 ^ places ≡ 10 ^ (places - 1) * 10 = ap (λ k. 10 ^ k) (sym before) ∙ pow-suc 10 (places - 1) in
       let of_part : 10 ∣ part = dvd_of_mod-eq-zero 10 none in
       let of_power : 10 ∣ (d * scale) = dvd_of_mod-eq-zero 10 (omega (arith, power_is, power)) in
-      let of_scale : 10 ∣ scale = subst (λ (g : ℕ). 10 ∣ g) scale_is_gcd ((IsGcd-gcd part (d * scale)).2 10 of_part of_power) in
+      let of_scale : 10 ∣ scale = subst (λ (g : ℕ). 10 ∣ g) scale_is_gcd
+      ((IsGcd-gcd part (d * scale)).2 10 of_part of_power) in
       let tenth : scale / 10 * 10 ≡ scale = div-mul_cancel 10 of_scale in
       let fewer : d * (scale / 10) ≡ 10 ^ (places - 1) = omega (arith, power_is, power, ap (λ x. d * x) tenth) in
       has.fewest some (ap (λ p. p % d) (sym fewer) ∙ multiple (scale / 10))
@@ -119,7 +138,8 @@ module _ (n d places more : ℕ) (positive : 0 < d) (lowest : gcd n d ≡ 1) (ha
   rounded_units : half_even (n * 10 ^ (places + more)) d ≡ whole_units
   rounded_units =
       let none : whole_units * d % d ≡ 0 = mul-mod_left whole_units d in
-      ap (λ m. half_even m d) scaled_is ∙ half_even-down (whole_units * d) d (omega (arith, none)) ∙ mul-div_cancel whole_units positive
+      ap (λ m. half_even m d) scaled_is ∙ half_even-down (whole_units * d) d (omega (arith, none))
+      ∙ mul-div_cancel whole_units positive
 
   -- .. of a whole part and a part
   units_are : whole_units ≡ n / d * 10 ^ (places + more) + part * 10 ^ more
@@ -139,8 +159,10 @@ module _ (n d places more : ℕ) (positive : 0 < d) (lowest : gcd n d ≡ 1) (ha
   unfolding magnitude_text
   exact_magnitude =
       let power = 10 ^ (places + more) in
-      let whole : whole_units / power ≡ n / d = ap (λ m. m / power) units_are ∙ div-mul-add (n / d) power (part * 10 ^ more) part_below in
-      let rest : whole_units % power ≡ part * 10 ^ more = ap (λ m. m % power) units_are ∙ mod-mul-add (n / d) power (part * 10 ^ more) part_below in
+      let whole : whole_units / power ≡ n / d = ap (λ m. m / power) units_are
+      ∙ div-mul-add (n / d) power (part * 10 ^ more) part_below in
+      let rest : whole_units % power ≡ part * 10 ^ more = ap (λ m. m % power) units_are
+      ∙ mod-mul-add (n / d) power (part * 10 ^ more) part_below in
       ap (λ w. decimal w ++ after_point (without_last_zeros (padded (places + more) (whole_units % power)))) whole
       ∙ ap (λ r. decimal (n / d) ++ after_point (without_last_zeros (padded (places + more) r))) rest
       ∙ ap (λ ds. decimal (n / d) ++ after_point ds) (zeros_go places more part)
@@ -156,7 +178,8 @@ same_sign : (z : ℤ) (units : ℕ) → (0 < unsigned_abs z → 0 < units) → m
 same_sign (pos n) units some = refl
 same_sign (negsuc n) units some = minus-negative (negsuc n) units (omega (arith, ints)) (some (omega arith))
 
-pub exact_is_spelling : (digits : ℕ) (q : Fraction) → IsQuantity q → (places : ℕ) → places_of q.denominator ≡ Some places → places ≤ digits → rounded_text digits q ≡ spelling q
+pub exact_is_spelling : (digits : ℕ) (q : Fraction) → IsQuantity q → (places : ℕ)
+    → places_of q.denominator ≡ Some places → places ≤ digits → rounded_text digits q ≡ spelling q
 unfolding spelling
 exact_is_spelling digits q quantity places is enough =
     let n = unsigned_abs q.numerator in
@@ -166,9 +189,11 @@ exact_is_spelling digits q quantity places is enough =
     let lowest = gcd_of_lowest q quantity.lowest in
     let all : places + more ≡ digits = omega arith in
     let units = whole_units n d places more quantity.positive lowest has in
-    let rounded : units ≡ half_even (n * 10 ^ (places + more)) d = sym (rounded_units n d places more quantity.positive lowest has) in
+    let rounded : units ≡ half_even (n * 10 ^ (places + more)) d =
+    sym (rounded_units n d places more quantity.positive lowest has) in
     ap (λ k. rounded_text k q) (sym all)
     ∙ rounded-is (places + more) q units rounded
-    ∙ ap (λ s. s ++ magnitude_text (places + more) units) (same_sign q.numerator units (units_positive n d places more quantity.positive lowest has))
+    ∙ ap (λ s. s ++ magnitude_text (places + more) units)
+    (same_sign q.numerator units (units_positive n d places more quantity.positive lowest has))
     ∙ ap (λ t. minus q.numerator ++ t) (exact_magnitude n d places more quantity.positive lowest has)
     ∙ ap (λ p. minus q.numerator ++ own.magnitude_text n d p) (sym is)

@@ -83,7 +83,8 @@ half_even-near n d positive =
       | inr at_least ↦
           elim (cases_eq (n % d * 2) d) [
             | inl tie ↦ near-tie n d (half_even n d) positive tie (half_even-tie n d tie)
-            | inr other ↦ (let more : d < n % d * 2 = omega (arith, other) in near-up n d (half_even n d) positive more (half_even-up n d more))
+            | inr other ↦ (let more : d < n % d * 2 = omega (arith, other) in
+                near-up n d (half_even n d) positive more (half_even-up n d more))
           ]
     ]
 

@@ -1,5 +1,6 @@
 -- What is within half a unit is nearest.
-use Rattle.std.proofs.Common.{◌≡◌, ℕ, ◌+◌, ◌*◌, ◌%◌, ◌^◌, ◌<◌, ◌≤◌, ℤ, pos, negsuc, suc, neg_ℤ, ◌+ℤ◌, ◌-ℤ◌, ◌*ℤ◌, ◌≤ℤ◌, unsigned_abs, refl, sym, ap, ◌∙◌, subst, arith}
+use Rattle.std.proofs.Common.{◌≡◌, ℕ, ◌+◌, ◌*◌, ◌%◌, ◌^◌, ◌<◌, ◌≤◌, ℤ, pos, negsuc, suc, neg_ℤ, ◌+ℤ◌, ◌-ℤ◌, ◌*ℤ◌, ◌≤ℤ◌}
+use Rattle.std.proofs.Common.{unsigned_abs, refl, sym, ap, ◌∙◌, subst, arith}
 use Rattle.std.proofs.lemmas.Int.{ints, by_lt_z}
 use Rattle.pmb_quantity.specs.Fraction.{Fraction}
 use Rattle.pmb_quantity.proofs.Scaling.{ordered, neg-scale}
@@ -17,7 +18,8 @@ pub record IsWithinHalf (digits : ℕ) (q : Fraction) (n : ℤ) : Type 0 where
 half_apart : (a b d : ℕ) → a * 2 ≤ b * 2 + d → b * 2 ≤ a * 2 + d → unsigned_abs (pos a -ℤ pos b) * 2 ≤ d
 half_apart a b d low high = grind (arith, ints)
 
-tie_even : (a b d r : ℕ) → (a * 2 ≡ b * 2 + d → r % 2 ≡ 0) → (b * 2 ≡ a * 2 + d → r % 2 ≡ 0) → unsigned_abs (pos a -ℤ pos b) * 2 ≡ d → r % 2 ≡ 0
+tie_even : (a b d r : ℕ) → (a * 2 ≡ b * 2 + d → r % 2 ≡ 0) → (b * 2 ≡ a * 2 + d → r % 2 ≡ 0)
+    → unsigned_abs (pos a -ℤ pos b) * 2 ≡ d → r % 2 ≡ 0
 tie_even a b d r below above tie =
     by_lt_z (pos a) (pos b) (λ less. above (omega (arith, ints))) (λ at_most. below (omega (arith, ints)))
 
@@ -26,7 +28,8 @@ turned : (a b : ℕ) → unsigned_abs (neg_ℤ (pos a) -ℤ neg_ℤ (pos b)) ≡
 turned a b = omega (arith, ints)
 
 -- the distance of a number of the same sign
-distance_is : (z : ℤ) (unit d r : ℕ) → unsigned_abs (z *ℤ pos unit -ℤ with_sign z r *ℤ pos d) ≡ unsigned_abs (pos (unsigned_abs z * unit) -ℤ pos (r * d))
+distance_is : (z : ℤ) (unit d r : ℕ) → unsigned_abs (z *ℤ pos unit -ℤ with_sign z r *ℤ pos d)
+    ≡ unsigned_abs (pos (unsigned_abs z * unit) -ℤ pos (r * d))
 distance_is (pos x) unit d r = refl
 distance_is (negsuc x) unit d r =
     ap (λ p. unsigned_abs (neg_ℤ (pos (suc x * unit)) -ℤ p)) (neg-scale r d) ∙ turned (suc x * unit) (r * d)
@@ -58,7 +61,8 @@ module _ (digits : ℕ) (q : Fraction) (positive : 0 < q.denominator) where
       record {
         half = subst (λ (x : ℕ). x * 2 ≤ q.denominator) (sym rounded_distance) half;
         even = λ tie.
-            rounded_magnitude_even (tie_even scaled (units * q.denominator) q.denominator units near.even_below near.even_above (ap (λ x. x * 2) (sym rounded_distance) ∙ tie));
+            rounded_magnitude_even (tie_even scaled (units * q.denominator) q.denominator units near.even_below
+            near.even_above (ap (λ x. x * 2) (sym rounded_distance) ∙ tie));
       }
     where
       rounded_magnitude_even : units % 2 ≡ 0 → unsigned_abs (nearest digits q) % 2 ≡ 0
@@ -66,16 +70,20 @@ module _ (digits : ℕ) (q : Fraction) (positive : 0 < q.denominator) where
 
 -- ---- what is within half a unit is nearest
 -- another number lies a whole unit or more away, on either side
-nearer_than_lower : (a x y : ℤ) (d : ℕ) → (y +ℤ pos d) ≤ℤ x → unsigned_abs (a -ℤ x) * 2 ≤ d → unsigned_abs (a -ℤ x) ≤ unsigned_abs (a -ℤ y)
+nearer_than_lower : (a x y : ℤ) (d : ℕ) → (y +ℤ pos d) ≤ℤ x → unsigned_abs (a -ℤ x) * 2 ≤ d
+    → unsigned_abs (a -ℤ x) ≤ unsigned_abs (a -ℤ y)
 nearer_than_lower a x y d apart half = grind (arith, ints)
 
-nearer_than_higher : (a x y : ℤ) (d : ℕ) → (x +ℤ pos d) ≤ℤ y → unsigned_abs (a -ℤ x) * 2 ≤ d → unsigned_abs (a -ℤ x) ≤ unsigned_abs (a -ℤ y)
+nearer_than_higher : (a x y : ℤ) (d : ℕ) → (x +ℤ pos d) ≤ℤ y → unsigned_abs (a -ℤ x) * 2 ≤ d
+    → unsigned_abs (a -ℤ x) ≤ unsigned_abs (a -ℤ y)
 nearer_than_higher a x y d apart half = grind (arith, ints)
 
-tie_with_lower : (a x y : ℤ) (d : ℕ) → (y +ℤ pos d) ≤ℤ x → unsigned_abs (a -ℤ x) * 2 ≤ d → unsigned_abs (a -ℤ y) ≡ unsigned_abs (a -ℤ x) → unsigned_abs (a -ℤ x) * 2 ≡ d
+tie_with_lower : (a x y : ℤ) (d : ℕ) → (y +ℤ pos d) ≤ℤ x → unsigned_abs (a -ℤ x) * 2 ≤ d
+    → unsigned_abs (a -ℤ y) ≡ unsigned_abs (a -ℤ x) → unsigned_abs (a -ℤ x) * 2 ≡ d
 tie_with_lower a x y d apart half tie = grind (arith, ints)
 
-tie_with_higher : (a x y : ℤ) (d : ℕ) → (x +ℤ pos d) ≤ℤ y → unsigned_abs (a -ℤ x) * 2 ≤ d → unsigned_abs (a -ℤ y) ≡ unsigned_abs (a -ℤ x) → unsigned_abs (a -ℤ x) * 2 ≡ d
+tie_with_higher : (a x y : ℤ) (d : ℕ) → (x +ℤ pos d) ≤ℤ y → unsigned_abs (a -ℤ x) * 2 ≤ d
+    → unsigned_abs (a -ℤ y) ≡ unsigned_abs (a -ℤ x) → unsigned_abs (a -ℤ x) * 2 ≡ d
 tie_with_higher a x y d apart half tie = grind (arith, ints)
 
 module _ (digits : ℕ) (q : Fraction) (n : ℤ) (within : IsWithinHalf digits q n) where

@@ -1,17 +1,19 @@
 -- What is written is a number of JSON.
-use Rattle.std.proofs.Common.{◌≡◌, ℕ, ◌*◌, ◌/◌, ◌%◌, ◌^◌, ◌+◌, ◌<◌, inl, inr, List, [], ◌∷◌, ◌++◌, get_or, ℤ, pos, negsuc, unsigned_abs, refl, sym, ap, ◌∙◌, subst, arith}
+use Rattle.std.proofs.Common.{◌≡◌, ℕ, ◌*◌, ◌/◌, ◌%◌, ◌^◌, ◌+◌, ◌<◌, inl, inr, List, [], ◌∷◌, ◌++◌, get_or, ℤ, pos}
+use Rattle.std.proofs.Common.{negsuc, unsigned_abs, refl, sym, ap, ◌∙◌, subst, arith}
 use Rattle.std.specs.Fmt.{decimal}
 use Rattle.std.specs.Str.Parse.{AllDigits}
 use Rattle.std.proofs.lemmas.Bool.{cases_lt}
 use Rattle.std.proofs.lemmas.Fmt.{decimal_digit, decimal_is_IsNumeral, first_decimal}
 use Rattle.std.proofs.lemmas.List.{append-nil}
-use Rattle.pmb_object.specs.Json.{AreDigits, IsMinus, IsWhole, IsFraction, IsNumber}
+use Rattle.pmb_json_text.specs.Json.{AreDigits, IsMinus, IsWhole, IsFraction, IsNumber}
 use Rattle.pmb_quantity.specs.Fraction.{Fraction, IsQuantity}
 use Rattle.pmb_quantity.specs.QuantityText.{minus, padded}
 use Rattle.pmb_quantity.specs.Reading.{without_last_zeros}
 use Rattle.pmb_quantity.proofs.DigitLemmas.{test_of_digit}
 use Rattle.pmb_quantity.proofs.TextLemmas.{ten_positive}
-use Rattle.pmb_decimal.specs.Decimal.{after_point, half_even, with_sign, nearest, magnitude_text, decimal_text, rounded_text}
+use Rattle.pmb_decimal.specs.Decimal.{after_point, half_even, with_sign, nearest, magnitude_text, decimal_text}
+use Rattle.pmb_decimal.specs.Decimal.{rounded_text}
 use Rattle.pmb_decimal.proofs.DigitLemmas.{AllDigits-part}
 use Rattle.pmb_decimal.proofs.HalfEven.{whole_small}
 use Rattle.pmb_decimal.proofs.Nearest.{magnitude_is}
@@ -67,7 +69,9 @@ pub rounded_is_number : (digits : ℕ) (q : Fraction) → IsQuantity q → IsNum
 unfolding rounded_text nearest
 rounded_is_number digits q quantity =
     let units = half_even (unsigned_abs q.numerator * 10 ^ digits) q.denominator in
-    let small = whole_small (unsigned_abs q.numerator) q.denominator (10 ^ digits) quantity.positive (ten_positive digits) quantity.numerator_fits in
+    let small = whole_small (unsigned_abs q.numerator) q.denominator (10 ^ digits) quantity.positive
+    (ten_positive digits) quantity.numerator_fits in
     let same : unsigned_abs (with_sign q.numerator units) ≡ units = magnitude_is q.numerator units in
-    let whole : unsigned_abs (with_sign q.numerator units) / 10 ^ digits ≡ units / 10 ^ digits = ap (λ n. n / 10 ^ digits) same in
+    let whole : unsigned_abs (with_sign q.numerator units) / 10 ^ digits ≡ units / 10 ^ digits =
+    ap (λ n. n / 10 ^ digits) same in
     decimal_is_number digits (with_sign q.numerator units) (omega (arith, small, whole))

@@ -3,7 +3,7 @@ use Rattle.std.specs.Prelude.{◌≡◌, ℕ, ◌^◌, ◌≤◌, ℤ, Some, Ok}
 use Rattle.pmb_quantity.specs.Fraction.{Fraction, IsQuantity, lowest_terms}
 use Rattle.pmb_quantity.specs.QuantityText.{places_of, spelling}
 use Rattle.pmb_quantity.specs.Reading.{reading}
-use Rattle.pmb_object.specs.Json.{IsNumber}
+use Rattle.pmb_json_text.specs.Json.{IsNumber}
 use Rattle.pmb_decimal.specs.Decimal.{IsNearestDecimal, decimal_text, rounded_text}
 
 -- what is written is the nearest decimal
@@ -25,4 +25,5 @@ WritesJsonNumber digits q = IsNumber (rounded_text digits q)
 
 -- where the fraction's own text has no more digits after the point, that text is what is written
 abbrev pub WritesExactText : ℕ → Fraction → Type 0
-WritesExactText digits q = (places : ℕ) → places_of q.denominator ≡ Some places → places ≤ digits → rounded_text digits q ≡ spelling q
+WritesExactText digits q = (places : ℕ) → places_of q.denominator ≡ Some places → places ≤ digits
+    → rounded_text digits q ≡ spelling q

@@ -21,7 +21,8 @@ sent_both (Stop ∷ a) b = sent_both a b
 
 -- after a signal with no byte
 pub sent_same : (leg : Leg) (signal : HostSignal) → sent (signal ∷ []) ≡ [] → sent (leg ++ signal ∷ []) ≡ sent leg
-sent_same leg signal none = sent_both leg (signal ∷ []) ∙ ap (λ (bs : List ℕ). sent leg ++ bs) none ∙ append-nil (sent leg)
+sent_same leg signal none = sent_both leg (signal ∷ []) ∙ ap (λ (bs : List ℕ). sent leg ++ bs) none
+    ∙ append-nil (sent leg)
 
 -- after one more byte
 pub sent_more : (leg : Leg) (byte : ℕ) → sent (leg ++ Byte byte ∷ []) ≡ sent leg ++ byte ∷ []
@@ -32,20 +33,23 @@ pub first_byte : (leg : Leg) (byte : ℕ) → sent leg ≡ [] → sent (leg ++ B
 first_byte leg byte none = sent_more leg byte ∙ ap (λ (bs : List ℕ). bs ++ byte ∷ []) none
 
 -- one byte after others
-pub next_byte : (leg : Leg) (address : ℕ) (bytes : List ℕ) (byte : ℕ) → sent leg ≡ address ∷ bytes → sent (leg ++ Byte byte ∷ []) ≡ address ∷ bytes ++ byte ∷ []
+pub next_byte : (leg : Leg) (address : ℕ) (bytes : List ℕ) (byte : ℕ) → sent leg ≡ address ∷ bytes
+    → sent (leg ++ Byte byte ∷ []) ≡ address ∷ bytes ++ byte ∷ []
 next_byte leg address bytes byte is = sent_more leg byte ∙ ap (λ (bs : List ℕ). bs ++ byte ∷ []) is
 
 -- ---- addresses
 
 -- a leg begins with its first byte
-pub is_to_first : (a address : ℕ) (bytes : List ℕ) (leg : Leg) → sent leg ≡ address ∷ bytes → is_to a leg ≡ nat_eq address a
+pub is_to_first : (a address : ℕ) (bytes : List ℕ) (leg : Leg) → sent leg ≡ address ∷ bytes
+    → is_to a leg ≡ nat_eq address a
 is_to_first a address bytes leg is = ap (is_first_byte a) is
 
 -- a leg without a byte has no address
 pub is_to_none : (a : ℕ) (leg : Leg) → sent leg ≡ [] → is_to a leg ≡ false
 is_to_none a leg is = ap (is_first_byte a) is
 
-pub some_of_both : (a : ℕ) (legs more : List Leg) → some_is_to a (legs ++ more) ≡ (some_is_to a legs || some_is_to a more)
+pub some_of_both : (a : ℕ) (legs more : List Leg)
+    → some_is_to a (legs ++ more) ≡ (some_is_to a legs || some_is_to a more)
 some_of_both a legs more = list_any-append (is_to a) legs more
 
 -- ---- after the address
@@ -82,7 +86,8 @@ module _ (device : DeviceParts) where
   ended_both (Nack ∷ a) b = refl
   ended_both (Stop ∷ a) b = ended_both a b
 
-  pub waits_both : (waiting : Bool) (a b : Leg) → waits_behind device waiting (a ++ b) ≡ waits_behind device (waits_behind device waiting a) b
+  pub waits_both : (waiting : Bool) (a b : Leg) → waits_behind device waiting (a ++ b)
+      ≡ waits_behind device (waits_behind device waiting a) b
   waits_both waiting [] b = refl
   waits_both waiting (Start ∷ a) b = waits_both waiting a b
   waits_both waiting (Byte x ∷ a) b = waits_both waiting a b
@@ -92,7 +97,8 @@ module _ (device : DeviceParts) where
   waits_both waiting (Stop ∷ a) b = waits_both waiting a b
 
   pub given_both : (waiting : Bool) (a b : Leg)
-      → given_behind device waiting (a ++ b) ≡ given_behind device waiting a + given_behind device (waits_behind device waiting a) b
+      → given_behind device waiting (a ++ b) ≡ given_behind device waiting a + given_behind device
+      (waits_behind device waiting a) b
   given_both waiting [] b = omega arith
   given_both waiting (Start ∷ a) b = given_both waiting a b
   given_both waiting (Byte x ∷ a) b = given_both waiting a b

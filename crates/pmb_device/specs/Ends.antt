@@ -33,12 +33,15 @@ module _ (device : DeviceParts) where
 
   -- Where it is read directly after the packet's first leg, in which it was asked, and refuses,
   -- that is noted in STATUS_CML.
-  pub data NotesAnswer (earlier : List Leg) (bytes : List ℕ) (behind : List Leg) (before after : DeviceState) : Type 0 where
+  pub data NotesAnswer (earlier : List Leg) (bytes : List ℕ) (behind : List Leg) (before after : DeviceState) : Type
+      0 where
     asked : earlier ≡ [] → IsRequest device bytes → (next : Leg) (more : List Leg) → behind ≡ next ∷ more
         → some_is_to (read_address device.address) (next ∷ []) ≡ true
-        → after ≡ with_noted device (bit_of_answer (answer device before bytes)) before → NotesAnswer earlier bytes behind before after
+        → after ≡ with_noted device (bit_of_answer (answer device before bytes)) before
+        → NotesAnswer earlier bytes behind before after
     not_asked : (earlier ≡ [] → IsRequest device bytes → (next : Leg) (more : List Leg) → behind ≡ next ∷ more
-        → some_is_to (read_address device.address) (next ∷ []) ≡ true → ⊥) → after ≡ before → NotesAnswer earlier bytes behind before after
+        → some_is_to (read_address device.address) (next ∷ []) ≡ true → ⊥) → after ≡ before
+        → NotesAnswer earlier bytes behind before after
 
   -- A byte was refused, after some that were taken: that is noted where some byte had a place
   -- there.
@@ -49,7 +52,8 @@ module _ (device : DeviceParts) where
     pub split : bytes ≡ front ++ byte ∷ rest
     pub taken : TakesAll device place [] front
     pub refused : TakesByte device place front byte → ⊥
-    pub noted : Whether (GoesOn device place front) (after ≡ with_noted device (bit_of_sent (front ++ byte ∷ [])) before) (after ≡ before)
+    pub noted : Whether (GoesOn device place front)
+        (after ≡ with_noted device (bit_of_sent (front ++ byte ∷ [])) before) (after ≡ before)
 
   abbrev pub ReadOrActs : Bool → List Leg → List ℕ → List Leg → DeviceState → DeviceState → Type 0
   ReadOrActs true earlier bytes behind before after = NotesAnswer earlier bytes behind before after
@@ -64,7 +68,8 @@ module _ (device : DeviceParts) where
   -- What STOP makes of the device's state after the legs of a packet: its own leg acts, or it notes
   -- what it refused; without an own leg nothing changes.
   pub data LegsEnd (legs : List Leg) (before after : DeviceState) : Type 0 where
-    own_leg : (bytes : List ℕ) → (own : OwnLeg legs bytes) → OwnLegEnds own.earlier bytes own.behind before after → LegsEnd legs before after
+    own_leg : (bytes : List ℕ) → (own : OwnLeg legs bytes) → OwnLegEnds own.earlier bytes own.behind before after
+        → LegsEnd legs before after
     no_leg : some_is_to (write_address device.address) legs ≡ false → after ≡ before → LegsEnd legs before after
 
   abbrev pub Ends : Legs → DeviceState → DeviceState → Type 0

@@ -1,6 +1,6 @@
 pub mod Legs
 pub mod Rules
 pub mod Ends
-pub mod Exchange
+pub mod DevicePacket
 pub mod Device
 pub mod machine

@@ -2,7 +2,8 @@
 --
 -- The packets are those of SMBus 3.0 section 6.5 and PMBus Part I 1.3 section 5.2; which of them a
 -- device takes, and that it is silent to all else, is this project's own rule.
-use Rattle.std.specs.Prelude.{◌≡◌, ℕ, ◌<◌, ◌⊎◌, ◌+◌, Bool, true, false, ◌||◌, if◌then◌else◌, Option, Some, None, Result, Ok, Err, List, [], ◌∷◌, ◌++◌, slice_get}
+use Rattle.std.specs.Prelude.{◌≡◌, ℕ, ◌<◌, ◌⊎◌, ◌+◌, Bool, true, false, ◌||◌, if◌then◌else◌, Option, Some, None, Result}
+use Rattle.std.specs.Prelude.{Ok, Err, List, [], ◌∷◌, ◌++◌, slice_get}
 use Rattle.pmb_command.specs.declared.form.Form.{Form}
 use Rattle.pmb_command.specs.declared.pec_mode.PecMode.{PecMode}
 use Rattle.pmb_command.specs.declared.pec_mode.PecMode.TheVariants.{Off, On, Optional}
@@ -87,7 +88,8 @@ module _ (device : DeviceParts) where
   pub record IsReplyTo (body : List ℕ) (reply : List ℕ) (bytes : List ℕ) : Type 0 where
     pub form : Form
     pub asked : IsFormOfRequest device form body
-    pub spelled : bytes ≡ checked (carries_pec device.pec) (write_address device.address ∷ body ++ read_address device.address ∷ []) (wire form reply)
+    pub spelled : bytes ≡ checked (carries_pec device.pec)
+        (write_address device.address ∷ body ++ read_address device.address ∷ []) (wire form reply)
 
   -- the host ended the reply by NACK
   abbrev pub is_ended : Leg → Bool
@@ -128,14 +130,16 @@ module _ (device : DeviceParts) where
   -- next byte, unless one waits for its ACK, the host ended the reply, or all were given.
   abbrev pub next_of : List ℕ → Leg → DeviceSignal
   next_of bytes leg =
-      if is_ended leg || waits_behind false leg then answers.Silent else byte_or_silent (slice_get bytes (given_behind false leg))
+      if is_ended leg || waits_behind false leg then answers.Silent else byte_or_silent
+      (slice_get bytes (given_behind false leg))
 
   -- ---- answers
 
   -- to a byte after an address, where the leg is written to the device
   abbrev pub AnswersWritten : LegPlace → List ℕ → ℕ → DeviceSignal → Type 0
   AnswersWritten place bytes byte result =
-      Whether (TakesAll place [] bytes) (Whether (TakesByte place bytes byte) (result ≡ answers.Ack) (result ≡ answers.Nack)) (result ≡ answers.Silent)
+      Whether (TakesAll place [] bytes) (Whether (TakesByte place bytes byte) (result ≡ answers.Ack)
+      (result ≡ answers.Nack)) (result ≡ answers.Silent)
 
   -- to its own address for reading
   abbrev pub taken_or_not : Result (List ℕ) CmlBit → DeviceSignal
@@ -143,25 +147,33 @@ module _ (device : DeviceParts) where
   taken_or_not (Err bit) = answers.Nack
 
   -- to a leg's first byte
-  pub data AnswersAddress (state : DeviceState) (earlier : List Leg) (address : ℕ) (result : DeviceSignal) : Type 0 where
+  pub data AnswersAddress (state : DeviceState) (earlier : List Leg) (address : ℕ)
+      (result : DeviceSignal) : Type 0 where
     written : IsWritten earlier address → result ≡ answers.Ack → AnswersAddress state earlier address result
-    read : (body : List ℕ) → IsRead earlier address body → result ≡ taken_or_not (answer device state body) → AnswersAddress state earlier address result
-    others : (IsWritten earlier address → ⊥) → ((body : List ℕ) → IsRead earlier address body → ⊥) → result ≡ answers.Silent
+    read : (body : List ℕ) → IsRead earlier address body → result ≡ taken_or_not (answer device state body)
+        → AnswersAddress state earlier address result
+    others : (IsWritten earlier address → ⊥) → ((body : List ℕ) → IsRead earlier address body → ⊥)
+        → result ≡ answers.Silent
         → AnswersAddress state earlier address result
 
   -- to a byte in a leg in which some bytes were sent: an address, or one after it
   abbrev pub AnswersByte : DeviceState → List Leg → List ℕ → ℕ → DeviceSignal → Type 0
   AnswersByte state earlier [] byte result = AnswersAddress state earlier byte result
   AnswersByte state earlier (address ∷ bytes) byte result =
-      Whether (IsWritten earlier address) (AnswersWritten (leg_place earlier) bytes byte result) (result ≡ answers.Silent)
+      Whether (IsWritten earlier address) (AnswersWritten (leg_place earlier) bytes byte result)
+      (result ≡ answers.Silent)
 
   -- To an Ask: a byte of the reply where the leg reads the device and it did not refuse.
   pub data AnswersAsk (state : DeviceState) (earlier : List Leg) (leg : Leg) (result : DeviceSignal) : Type 0 where
-    replies : (address : ℕ) (bytes : List ℕ) → sent leg ≡ address ∷ bytes → (body : List ℕ) → IsRead earlier address body
-        → (reply all : List ℕ) → answer device state body ≡ Ok reply → IsReplyTo body reply all → result ≡ next_of all (behind_address leg)
+    replies : (address : ℕ) (bytes : List ℕ) → sent leg ≡ address ∷ bytes → (body : List ℕ)
+        → IsRead earlier address body
+        → (reply all : List ℕ) → answer device state body ≡ Ok reply → IsReplyTo body reply all
+        → result ≡ next_of all (behind_address leg)
         → AnswersAsk state earlier leg result
-    not_read : ((address : ℕ) (bytes : List ℕ) → sent leg ≡ address ∷ bytes → (body : List ℕ) → IsRead earlier address body
-        → (reply : List ℕ) → answer device state body ≡ Ok reply → ⊥) → result ≡ answers.Silent → AnswersAsk state earlier leg result
+    not_read : ((address : ℕ) (bytes : List ℕ) → sent leg ≡ address ∷ bytes → (body : List ℕ)
+        → IsRead earlier address body
+        → (reply : List ℕ) → answer device state body ≡ Ok reply → ⊥) → result ≡ answers.Silent
+        → AnswersAsk state earlier leg result
 
   -- What the device answers to a signal after those of a packet, in its state since the last STOP.
   -- Outside of legs it is silent, and to START, ACK, NACK and STOP.

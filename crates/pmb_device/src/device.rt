@@ -6,10 +6,10 @@ ghost use Rattle.pmb_registers.specs.State.{DeviceState, first_state, register};
 ghost use Rattle.pmb_device.specs.declared.signal.HostSignal.TheVariants.{Byte, Stop};
 ghost use Rattle.pmb_device.specs.Legs.{Legs, Outside, with_signal};
 ghost use Rattle.pmb_device.specs.Rules.{Answers};
-ghost use Rattle.pmb_device.specs.Exchange.{IsAskedIn};
+ghost use Rattle.pmb_device.specs.DevicePacket.{IsAskedIn};
 ghost use Rattle.pmb_device.specs.Device.{DeviceStanding, DeviceStandsAt, Leads, Moves};
 
-use crate::exchange::{Exchange, Heard, Outcome};
+use crate::device_packet::{DevicePacket, Effect, Heard};
 use crate::signal::{DeviceSignal, HostSignal};
 use pmb_registers::Registers;
 use pmb_table::DeviceProfile;
@@ -19,7 +19,7 @@ use std::alloc::{AllocError, Global};
 #[derive(Drop)]
 pub struct Device<'p> {
     registers: Registers<'p>,
-    exchange: Exchange<'p>,
+    exchange: DevicePacket<'p>,
 }
 
 impl<'p> Device<'p> {
@@ -31,7 +31,7 @@ impl<'p> Device<'p> {
         let registers = Registers::new(alloc, device)?;
         Ok(Device {
             registers,
-            exchange: Exchange::new(device),
+            exchange: DevicePacket::new(device),
         })
     }
 
@@ -121,9 +121,9 @@ impl<'p> Device<'p> {
         ensures { (standing : DeviceStanding) → DeviceStandsAt self.old standing → Leads standing Stop self.new }
     {
         match self.exchange.outcome() {
-            Outcome::Nothing => {}
-            Outcome::Write { code, bytes } => self.registers.write(code, bytes),
-            Outcome::Note(bit) => self.registers.note(bit),
+            Effect::Nothing => {}
+            Effect::Write { code, bytes } => self.registers.write(code, bytes),
+            Effect::Note(bit) => self.registers.note(bit),
         }
         self.exchange.end();
     }

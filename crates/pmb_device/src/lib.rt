@@ -2,10 +2,10 @@
 #![tactic(auto)]
 
 mod device;
-mod exchange;
+mod device_packet;
 mod reply;
 mod signal;
 
 pub use device::Device;
-pub use exchange::{Exchange, Heard, Outcome};
+pub use device_packet::{DevicePacket, Effect, Heard};
 pub use signal::{DeviceSignal, HostSignal};

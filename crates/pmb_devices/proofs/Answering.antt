@@ -1,6 +1,7 @@
 -- Where the events since the last STOP are, with STOP, the packet of a read or a call that the host
 -- read by Asks alone, the reply is the device's answer.
-use Rattle.std.proofs.Common.{◌≡◌, ℕ, inl, inr, Some, Ok, Option, List, [], ◌∷◌, ◌++◌, map, nat_eq, refl, sym, ap, subst, ◌∙◌}
+use Rattle.std.proofs.Common.{◌≡◌, ℕ, inl, inr, Some, Ok, Option, List, [], ◌∷◌, ◌++◌, map, nat_eq, refl, sym, ap}
+use Rattle.std.proofs.Common.{subst, ◌∙◌}
 use Rattle.std.specs.List.{Contains}
 use Rattle.std.specs.Option.{IfSome}
 use Rattle.std.proofs.lemmas.Option.{same_Some}
@@ -32,9 +33,11 @@ module _ (profile : List DeviceParts) (members : List InState) (member : InState
       → (device ≡ member.device) × IsDevice member.device
   found_here addr device here known =
       let own : device ≡ member.device =
-      found_is_own profile members member bus is in_bus device (subst (λ (a : ℕ). device_with a profile ≡ Some device) (sym here) known) in
+      found_is_own profile members member bus is in_bus device
+      (subst (λ (a : ℕ). device_with a profile ≡ Some device) (sym here) known) in
       let accepted : IsDevice device =
-      subst (λ (o : Option DeviceParts). IfSome o IsDevice) known (All-find IsDevice (λ d. nat_eq d.address addr) profile bus.devices) in
+      subst (λ (o : Option DeviceParts). IfSome o IsDevice) known
+      (All-find IsDevice (λ d. nat_eq d.address addr) profile bus.devices) in
       (own, subst IsDevice own accepted)
 
   -- a member with the same address is the member
@@ -42,22 +45,27 @@ module _ (profile : List DeviceParts) (members : List InState) (member : InState
   same_member m there same = one_member profile members m member bus is there in_bus same
 
   -- a read
-  read_is : (t : ReadData) (events : List Event) → ReadPacket profile t events → member.device.address ≡ t.addr → IsState member.device member.state
+  read_is : (t : ReadData) (events : List Event) → ReadPacket profile t events → member.device.address ≡ t.addr
+      → IsState member.device member.state
       → Stands members final Outside events
       → answer member.device member.state (t.code ∷ []) ≡ Ok t.reply
   read_is t events packet here fits stands =
       let d = member.device in
       let found = found_here t.addr packet.device here packet.known in
       let form = packet.form in
-      let read : (forms d t.code).read ≡ Some form = subst (λ (x : DeviceParts). (forms x t.code).read ≡ Some form) found.0 packet.read in
+      let read : (forms d t.code).read ≡ Some form =
+      subst (λ (x : DeviceParts). (forms x t.code).read ≡ Some form) found.0 packet.read in
       let request : IsReadBody d (t.code ∷ []) = (t.code, form, record { read = read; spelled = refl }) in
       let spelled : events ≡ answered d.address (t.code ∷ []) (wire form t.reply) t.pec =
       packet.spelled ∙ ap (λ (a : ℕ). answered a (t.code ∷ []) (wire form t.reply) t.pec) (sym here) in
-      reply_is members member same_member (t.code ∷ []) form (read_form d found.1 t.code form read) in_bus final alone (inl request) t.reply t.pec
-      packet.fits.taken (read_taken d found.1 member.state t.code form read fits) (subst (Stands members final Outside) spelled stands)
+      reply_is members member same_member (t.code ∷ []) form (read_form d found.1 t.code form read) in_bus final alone
+      (inl request) t.reply t.pec
+      packet.fits.taken (read_taken d found.1 member.state t.code form read fits)
+      (subst (Stands members final Outside) spelled stands)
 
   -- a call
-  call_is : (t : CallData) (form : Form) (events : List Event) → CallPacket profile t events → member.device.address ≡ t.addr
+  call_is : (t : CallData) (form : Form) (events : List Event) → CallPacket profile t events
+      → member.device.address ≡ t.addr
       → (forms member.device t.code).call ≡ Some form → Stands members final Outside events
       → answer member.device member.state (t.code ∷ wire form t.bytes) ≡ Ok t.reply
   call_is t form events packet here called stands =
@@ -69,28 +77,43 @@ module _ (profile : List DeviceParts) (members : List InState) (member : InState
       let sent : Fits form t.bytes = subst (λ (f : Form). Fits f t.bytes) form_is packet.sent in
       let replied : Fits form t.reply = subst (λ (f : Form). Fits f t.reply) form_is packet.replied in
       let body = t.code ∷ wire form t.bytes in
-      let request : IsCallBody d body = (t.code, form, t.bytes, record { called = called; fits = sent; spelled = refl }) in
+      let request : IsCallBody d body = (
+        t.code,
+        form,
+        t.bytes,
+        record { called = called; fits = sent; spelled = refl },
+      ) in
       let spelled : events ≡ answered d.address body (wire form t.reply) t.pec =
-      packet.spelled ∙ ap (λ (a : ℕ). answered a (t.code ∷ wire packet.form t.bytes) (wire packet.form t.reply) t.pec) (sym here)
+      packet.spelled ∙ ap (λ (a : ℕ). answered a (t.code ∷ wire packet.form t.bytes) (wire packet.form t.reply) t.pec)
+      (sym here)
       ∙ ap (λ (f : Form). answered d.address (t.code ∷ wire f t.bytes) (wire f t.reply) t.pec) form_is in
-      reply_is members member same_member body form (call_form d found.1 t.code form t.bytes called sent) in_bus final alone (inr request) t.reply t.pec
-      replied.taken (called_taken d found.1 member.state t.code form t.bytes called sent) (subst (Stands members final Outside) spelled stands)
+      reply_is members member same_member body form (call_form d found.1 t.code form t.bytes called sent) in_bus final
+      alone (inr request) t.reply t.pec
+      replied.taken (called_taken d found.1 member.state t.code form t.bytes called sent)
+      (subst (Stands members final Outside) spelled stands)
 
 -- The reply of a read is the device's answer.
-pub reads_are_answers : (profile : List DeviceParts) (members : List InState) (history : List AnsweredSignal) (t : ReadData) (member : InState)
+pub reads_are_answers : (profile : List DeviceParts) (members : List InState) (history : List AnsweredSignal)
+    (t : ReadData) (member : InState)
     → IsBus profile → map (λ m. m.device) members ≡ profile → AreAnswered members Outside history
-    → Packet profile (Read t) (recorded_events history ++ event.Stop ∷ []) → HasAddressAlone (legs_after Outside history) → Contains members member
-    → member.device.address ≡ t.addr → IsState member.device member.state → answer member.device member.state (t.code ∷ []) ≡ Ok t.reply
+    → Packet profile (Read t) (recorded_events history ++ event.Stop ∷ [])
+    → HasAddressAlone (legs_after Outside history) → Contains members member
+    → member.device.address ≡ t.addr → IsState member.device member.state
+    → answer member.device member.state (t.code ∷ []) ≡ Ok t.reply
 reads_are_answers profile members history t member bus is answered_are packet alone in_bus here fits =
-    read_is profile members member bus is in_bus (legs_after Outside history) alone t (recorded_events history ++ event.Stop ∷ []) packet here fits
+    read_is profile members member bus is in_bus (legs_after Outside history) alone t
+    (recorded_events history ++ event.Stop ∷ []) packet here fits
     (record { more = history; answered = answered_are; spelled = refl; ends = refl })
 
 -- So is the reply of a call, whatever the device's registers hold.
-pub calls_are_answers : (profile : List DeviceParts) (members : List InState) (history : List AnsweredSignal) (t : CallData) (member : InState) (form : Form)
+pub calls_are_answers : (profile : List DeviceParts) (members : List InState) (history : List AnsweredSignal)
+    (t : CallData) (member : InState) (form : Form)
     → IsBus profile → map (λ m. m.device) members ≡ profile → AreAnswered members Outside history
-    → Packet profile (Call t) (recorded_events history ++ event.Stop ∷ []) → HasAddressAlone (legs_after Outside history) → Contains members member
+    → Packet profile (Call t) (recorded_events history ++ event.Stop ∷ [])
+    → HasAddressAlone (legs_after Outside history) → Contains members member
     → member.device.address ≡ t.addr → (forms member.device t.code).call ≡ Some form
     → answer member.device member.state (t.code ∷ wire form t.bytes) ≡ Ok t.reply
 calls_are_answers profile members history t member form bus is answered_are packet alone in_bus here called =
-    call_is profile members member bus is in_bus (legs_after Outside history) alone t form (recorded_events history ++ event.Stop ∷ []) packet here
+    call_is profile members member bus is in_bus (legs_after Outside history) alone t form
+    (recorded_events history ++ event.Stop ∷ []) packet here
     called (record { more = history; answered = answered_are; spelled = refl; ends = refl })

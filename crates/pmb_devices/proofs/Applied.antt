@@ -1,6 +1,7 @@
 -- Where the events since the last STOP are, with STOP, a transaction's packet, STOP makes of each
 -- member what the transaction makes of it.
-use Rattle.std.proofs.Common.{◌≡◌, ℕ, inl, inr, Bool, true, false, Some, List, [], ◌∷◌, ◌++◌, map, nat_eq, refl, sym, ap, subst, ◌∙◌, append_assoc}
+use Rattle.std.proofs.Common.{◌≡◌, ℕ, inl, inr, Bool, true, false, Some, List, [], ◌∷◌, ◌++◌, map, nat_eq, refl, sym}
+use Rattle.std.proofs.Common.{ap, subst, ◌∙◌, append_assoc}
 use Rattle.std.specs.List.{Contains, IsDistinct, list_any}
 use Rattle.std.proofs.lemmas.List.{append-nil}
 use Rattle.pmb_bus.specs.declared.event.Event.{Event}
@@ -10,8 +11,10 @@ use Rattle.pmb_command.specs.Parts.{DeviceParts, IsNew, device_with}
 use Rattle.pmb_bus.specs.Address.{read_address, alert_address}
 use Rattle.pmb_transaction.specs.Body.{IsCallBody, IsReadBody, checked}
 use Rattle.pmb_command.specs.Wire as form
-use Rattle.pmb_transaction.specs.Packet.{CallPacket, Packet, PartsEvents, ReadPacket, RefusedLeg, RefusedPacket, WritePacket, addresses, answered}
-use Rattle.pmb_transaction.specs.Transaction.{CallData, PartData, ReadData, RefusedData, TransactionData, Write, Read, Call, Refused, Alert, NoAlert}
+use Rattle.pmb_transaction.specs.Packet.{CallPacket, Packet, PartsEvents, ReadPacket, RefusedLeg, RefusedPacket}
+use Rattle.pmb_transaction.specs.Packet.{WritePacket, addresses, answered}
+use Rattle.pmb_transaction.specs.Transaction.{CallData, PartData, ReadData, RefusedData, TransactionData, Write, Read}
+use Rattle.pmb_transaction.specs.Transaction.{Call, Refused, Alert, NoAlert}
 use Rattle.pmb_registers.specs.State.{DeviceState, InState}
 use Rattle.pmb_registers.specs.Apply.{after_parts, after_refusal, apply}
 use Rattle.pmb_device.specs.Legs.{Leg, Legs, Outside, Inside}
@@ -25,17 +28,20 @@ use Rattle.pmb_devices.proofs.Refusals.{address_refused, byte_refused, read_refu
 use Rattle.pmb_devices.proofs.Writes.{PartLegs, by_test, others_leave, parts_act, parts_elsewhere, run_parts}
 
 -- after legs that ended, none is under way outside of a packet
-closed_ends : (device : DeviceParts) (legs : Legs) (before after : DeviceState) → Ends device legs before after → LegsEnd device (closed legs) before after
+closed_ends : (device : DeviceParts) (legs : Legs) (before after : DeviceState) → Ends device legs before after
+    → LegsEnd device (closed legs) before after
 closed_ends device Outside before after same = no_leg refl same
 closed_ends device (Inside earlier leg) before after ends = ends
 
 module _ (profile : List DeviceParts) (members : List InState) (member : InState) (in_bus : Contains members member)
-    (own : (found : DeviceParts) → device_with member.device.address profile ≡ Some found → found ≡ member.device) (final : Legs)
+    (own : (found : DeviceParts) → device_with member.device.address profile ≡ Some found → found ≡ member.device)
+    (final : Legs)
     (after : DeviceState) (ends : LegsEnd member.device (closed final) member.state after) where
   -- ---- complete parts
 
   -- What STOP makes of a member after the legs of parts.
-  parts_end : (parts : List PartData) (legs : List Leg) → PartLegs profile members [] parts legs → IsDistinct nat_eq (addresses parts)
+  parts_end : (parts : List PartData) (legs : List Leg) → PartLegs profile members [] parts legs
+      → IsDistinct nat_eq (addresses parts)
       → LegsEnd member.device legs member.state after → after ≡ after_parts member.device parts member.state
   parts_end parts legs each distinct ended =
       let d = member.device in
@@ -52,36 +58,44 @@ module _ (profile : List DeviceParts) (members : List InState) (member : InState
       )
 
   -- a write
-  write_applied : (parts : List PartData) (events : List Event) → WritePacket profile parts events → Stands members final Outside events
+  write_applied : (parts : List PartData) (events : List Event) → WritePacket profile parts events
+      → Stands members final Outside events
       → after ≡ after_parts member.device parts member.state
   write_applied parts events packet stands =
-      let ran = run_parts profile members final Outside parts packet.legs (wire.Stop ∷ []) packet.each (subst (Stands members final Outside) packet.spelled stands) in
+      let ran = run_parts profile members final Outside parts packet.legs (wire.Stop ∷ []) packet.each
+      (subst (Stands members final Outside) packet.spelled stands) in
       let is = at_stop members final ran.reached ran.stands in
       let legs_are : closed final ≡ ran.new = ap closed (sym is) ∙ ran.closed_are in
-      parts_end parts ran.new ran.each packet.distinct (subst (λ (ls : List Leg). LegsEnd member.device ls member.state after) legs_are ends)
+      parts_end parts ran.new ran.each packet.distinct
+      (subst (λ (ls : List Leg). LegsEnd member.device ls member.state after) legs_are ends)
 
   -- ---- a read, and a call
 
   -- a read
-  read_applied : (t : ReadData) (events : List Event) → ReadPacket profile t events → Stands members final Outside events → after ≡ member.state
+  read_applied : (t : ReadData) (events : List Event) → ReadPacket profile t events
+      → Stands members final Outside events → after ≡ member.state
   read_applied t events packet stands =
       let body = t.code ∷ [] in
       answered_changes_nothing members member in_bus final t.addr body (form.wire packet.form t.reply) t.pec after
       (
       λ addr_is.
-      let device_is = own packet.device (subst (λ (a : ℕ). device_with a profile ≡ Some packet.device) addr_is packet.known) in
-      let request : IsReadBody packet.device body = (t.code, packet.form, record { read = packet.read; spelled = refl }) in
+      let device_is = own packet.device (subst (λ (a : ℕ). device_with a profile ≡ Some packet.device) addr_is
+      packet.known) in
+      let request : IsReadBody packet.device body =
+      (t.code, packet.form, record { read = packet.read; spelled = refl }) in
       inl (subst (λ (d : DeviceParts). IsReadBody d body) device_is request)
       ) (subst (Stands members final Outside) packet.spelled stands) ends
 
   -- a call
-  call_applied : (t : CallData) (events : List Event) → CallPacket profile t events → Stands members final Outside events → after ≡ member.state
+  call_applied : (t : CallData) (events : List Event) → CallPacket profile t events
+      → Stands members final Outside events → after ≡ member.state
   call_applied t events packet stands =
       let body = t.code ∷ form.wire packet.form t.bytes in
       answered_changes_nothing members member in_bus final t.addr body (form.wire packet.form t.reply) t.pec after
       (
       λ addr_is.
-      let device_is = own packet.device (subst (λ (a : ℕ). device_with a profile ≡ Some packet.device) addr_is packet.known) in
+      let device_is = own packet.device (subst (λ (a : ℕ). device_with a profile ≡ Some packet.device) addr_is
+      packet.known) in
       let request : IsCallBody packet.device body =
       (t.code, packet.form, t.bytes, record { called = packet.called; fits = packet.sent; spelled = refl }) in
       inr (subst (λ (d : DeviceParts). IsCallBody d body) device_is request)
@@ -90,17 +104,22 @@ module _ (profile : List DeviceParts) (members : List InState) (member : InState
   -- ---- a refusal
 
   -- the refused leg of each sort
-  leg_refused : (parts : List PartData) (addr : ℕ) (sent : List ℕ) (at_read : Bool) (legs last : List Event) → PartsEvents profile parts legs
-      → IsDistinct nat_eq (addresses parts) → IsNew addr (addresses parts) → RefusedLeg profile parts addr sent at_read last
+  leg_refused : (parts : List PartData) (addr : ℕ) (sent : List ℕ) (at_read : Bool) (legs last : List Event)
+      → PartsEvents profile parts legs
+      → IsDistinct nat_eq (addresses parts) → IsNew addr (addresses parts)
+      → RefusedLeg profile parts addr sent at_read last
       → Stands members final Outside (legs ++ (last ++ wire.Stop ∷ []))
-      → after ≡ after_refusal member.device (record { parts = parts; addr = addr; sent = sent; at_read = at_read }) (after_parts member.device parts member.state)
+      → after ≡ after_refusal member.device (record { parts = parts; addr = addr; sent = sent; at_read = at_read })
+      (after_parts member.device parts member.state)
   leg_refused parts addr [] false legs last each distinct new refused stands =
       let ran = run_parts profile members final Outside parts legs (last ++ wire.Stop ∷ []) each stands in
-      address_refused profile members member in_bus own final ran.reached parts addr ran.new last after ran.closed_are ran.each distinct new refused
+      address_refused profile members member in_bus own final ran.reached parts addr ran.new last after ran.closed_are
+      ran.each distinct new refused
       ran.stands ends
   leg_refused parts addr (b ∷ bytes) false legs last each distinct new refused stands =
       let ran = run_parts profile members final Outside parts legs (last ++ wire.Stop ∷ []) each stands in
-      byte_refused profile members member in_bus own final ran.reached parts addr (b ∷ bytes) ran.new last after ran.closed_are ran.each distinct new
+      byte_refused profile members member in_bus own final ran.reached parts addr
+      (b ∷ bytes) ran.new last after ran.closed_are ran.each distinct new
       refused ran.stands ends
   leg_refused [] addr [] true legs last each distinct new refused stands =
       read_refused profile members member in_bus own final addr [] last after refused
@@ -109,35 +128,43 @@ module _ (profile : List DeviceParts) (members : List InState) (member : InState
       read_refused profile members member in_bus own final addr (b ∷ bytes) last after refused
       (subst (λ (es : List Event). Stands members final Outside (es ++ (last ++ wire.Stop ∷ []))) each stands) ends
   leg_refused (part ∷ parts) addr [] true legs last each distinct new refused stands = absurd (cc refused.alone)
-  leg_refused (part ∷ parts) addr (b ∷ bytes) true legs last each distinct new refused stands = absurd (cc refused.alone)
+  leg_refused (part ∷ parts) addr (b ∷ bytes) true legs last each distinct new refused stands =
+      absurd (cc refused.alone)
 
   -- a refused packet
-  refused_applied : (t : RefusedData) (events : List Event) → RefusedPacket profile t events → Stands members final Outside events
+  refused_applied : (t : RefusedData) (events : List Event) → RefusedPacket profile t events
+      → Stands members final Outside events
       → after ≡ after_refusal member.device t (after_parts member.device t.parts member.state)
   refused_applied t events packet stands =
       let spelled : events ≡ packet.legs ++ (packet.last ++ wire.Stop ∷ []) =
       packet.spelled ∙ append_assoc packet.legs packet.last (wire.Stop ∷ []) in
-      leg_refused t.parts t.addr t.sent t.at_read packet.legs packet.last packet.each packet.distinct packet.another packet.refused
+      leg_refused t.parts t.addr t.sent t.at_read packet.legs packet.last packet.each packet.distinct packet.another
+      packet.refused
       (subst (Stands members final Outside) spelled stands)
 
   -- ---- each variant
 
   -- What the transaction makes of the member is what STOP does.
-  pub packet_applied : (t : TransactionData) (events : List Event) → Packet profile t events → Stands members final Outside events
+  pub packet_applied : (t : TransactionData) (events : List Event) → Packet profile t events
+      → Stands members final Outside events
       → after ≡ apply member.device t member.state
   packet_applied (Write parts) events packet stands = write_applied parts events packet stands
   packet_applied (Read t) events packet stands = read_applied t events packet stands
   packet_applied (Call t) events packet stands = call_applied t events packet stands
   packet_applied (Refused t) events packet stands = refused_applied t events packet stands
   packet_applied (Alert t) events packet stands =
-      alerts_change_nothing members member in_bus final (checked t.pec (read_address alert_address ∷ []) (t.byte ∷ [])) after
+      alerts_change_nothing members member in_bus final (checked t.pec (read_address alert_address ∷ []) (t.byte ∷ []))
+      after
       (subst (Stands members final Outside) packet.spelled stands) ends
   packet_applied NoAlert events packet stands =
-      no_alert_changes_nothing members member in_bus final after (subst (Stands members final Outside) packet stands) ends
+      no_alert_changes_nothing members member in_bus final after (subst (Stands members final Outside) packet stands)
+      ends
 
 -- Transactions are applied.
-pub transactions_are_applied : (profile : List DeviceParts) (members : List InState) (history : List AnsweredSignal) (t : TransactionData)
-    (member : InState) (after : DeviceState) → IsBus profile → map (λ m. m.device) members ≡ profile → AreAnswered members Outside history
+pub transactions_are_applied : (profile : List DeviceParts) (members : List InState) (history : List AnsweredSignal)
+    (t : TransactionData)
+    (member : InState) (after : DeviceState) → IsBus profile → map (λ m. m.device) members ≡ profile
+    → AreAnswered members Outside history
     → Packet profile t (recorded_events history ++ wire.Stop ∷ []) → Contains members member
     → Ends member.device (legs_after Outside history) member.state after → after ≡ apply member.device t member.state
 transactions_are_applied profile members history t member after bus is answered packet in_bus ends =

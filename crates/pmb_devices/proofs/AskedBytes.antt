@@ -1,6 +1,7 @@
 -- The bytes that were recorded of the Asks in a leg that reads a device: they are a front of its
 -- reply.
-use Rattle.std.proofs.Common.{◌≡◌, ℕ, ◌+◌, Bool, true, false, ◌||◌, if◌then◌else◌, Option, Some, None, List, [], ◌∷◌, ◌++◌, drop, refl, sym, ap, subst, ◌∙◌, add-one, arith}
+use Rattle.std.proofs.Common.{◌≡◌, ℕ, ◌+◌, Bool, true, false, ◌||◌, if◌then◌else◌, Option, Some, None, List, [], ◌∷◌}
+use Rattle.std.proofs.Common.{◌++◌, drop, refl, sym, ap, subst, ◌∙◌, add-one, arith}
 use Rattle.std.specs.List.{slice_get}
 use Rattle.std.proofs.Math.Seq.{drop-cons}
 use Rattle.std.proofs.lemmas.Option.{get_or_from_slice_get, slice_get_within}
@@ -15,7 +16,8 @@ use Rattle.pmb_device.specs.declared.signal.DeviceSignal.{DeviceSignal}
 use Rattle.pmb_device.specs.declared.signal.DeviceSignal.TheVariants as answers
 use Rattle.pmb_device.specs.Legs.{Leg, Legs, Inside, sent, with_signal}
 use Rattle.pmb_device.specs.Rules.{byte_or_silent, given_behind, next_of, waits_behind}
-use Rattle.pmb_devices.specs.Bus.{AreAnswered, BusAnswers, AnsweredSignal, acknowledged, recorded_events, given, legs_after, recorded}
+use Rattle.pmb_devices.specs.Bus.{AreAnswered, BusAnswers, AnsweredSignal, acknowledged, recorded_events, given}
+use Rattle.pmb_devices.specs.Bus.{legs_after, recorded}
 use Rattle.pmb_devices.specs.Replies.{HasAddressAlone}
 use Rattle.pmb_devices.proofs.Parsing.{Stands, given_byte, has_start, no_start_behind, stays_in}
 use Rattle.pmb_devices.proofs.ReadLegs.{no_start_nacked}
@@ -37,7 +39,8 @@ module _ (device : DeviceParts) where
   given_with_ask waiting (Stop ∷ s) free = given_with_ask waiting s free
 
   -- and ACK gives none
-  given_with_ack : (waiting : Bool) (s : Leg) → given_behind device waiting (s ++ Ack ∷ []) ≡ given_behind device waiting s
+  given_with_ack : (waiting : Bool) (s : Leg) → given_behind device waiting (s ++ Ack ∷ [])
+      ≡ given_behind device waiting s
   given_with_ack true [] = refl
   given_with_ack false [] = refl
   given_with_ack waiting (Start ∷ s) = given_with_ack waiting s
@@ -50,7 +53,8 @@ module _ (device : DeviceParts) where
 
   -- a byte that is given was the next one, and none waited
   byte_chosen : (ended waits : Bool) (o : Option ℕ) (b : ℕ)
-      → (if ended || waits then answers.Silent else byte_or_silent device o) ≡ answers.Byte b → (waits ≡ false) × (o ≡ Some b)
+      → (if ended || waits then answers.Silent else byte_or_silent device o) ≡ answers.Byte b
+      → (waits ≡ false) × (o ≡ Some b)
   byte_chosen true waits o b is = absurd (cc is)
   byte_chosen false true o b is = absurd (cc is)
   byte_chosen false false None b is = absurd (cc is)
@@ -88,7 +92,8 @@ module _ (members : List InState) (final : Legs) (alone : HasAddressAlone final)
       → Stands members final (Inside earlier ((Byte r ∷ s) ++ Byte c ∷ [])) events → ⊥
   no_byte s c events none stands =
       let goes = stays_in members final earlier ((Byte r ∷ s) ++ Byte c ∷ []) events none stands in
-      let has : HasAddressAlone (Inside earlier (((Byte r ∷ s) ++ Byte c ∷ []) ++ goes.behind)) = subst HasAddressAlone goes.is alone in
+      let has : HasAddressAlone (Inside earlier (((Byte r ∷ s) ++ Byte c ∷ []) ++ goes.behind)) =
+      subst HasAddressAlone goes.is alone in
       let rest : sent ((s ++ Byte c ∷ []) ++ goes.behind) ≡ [] = cc (has.1) in
       some_sent s c goes.behind rest
 
@@ -98,7 +103,8 @@ module _ (members : List InState) (final : Legs) (alone : HasAddressAlone final)
     pub stands : Stands members final (Inside earlier ((Byte r ∷ s) ++ Ask ∷ [])) rest
 
   -- so a byte was recorded of an Ask
-  asked_of : (s : Leg) (b : ℕ) (rest : List Event) → has_start rest ≡ false → (signal : HostSignal) (result : DeviceSignal) (more : List AnsweredSignal)
+  asked_of : (s : Leg) (b : ℕ) (rest : List Event) → has_start rest ≡ false
+      → (signal : HostSignal) (result : DeviceSignal) (more : List AnsweredSignal)
       → BusAnswers members (Inside earlier (Byte r ∷ s)) signal result
       → AreAnswered members (with_signal (Inside earlier (Byte r ∷ s)) signal) more
       → (recorded signal result ++ recorded_events more) ++ wire.Stop ∷ [] ≡ wire.Byte b ∷ rest
@@ -124,7 +130,8 @@ module _ (members : List InState) (final : Legs) (alone : HasAddressAlone final)
 
   -- whatever comes first
   asked_from : (s : Leg) (b : ℕ) (rest : List Event) → has_start rest ≡ false → (more : List AnsweredSignal)
-      → AreAnswered members (Inside earlier (Byte r ∷ s)) more → recorded_events more ++ wire.Stop ∷ [] ≡ wire.Byte b ∷ rest
+      → AreAnswered members (Inside earlier (Byte r ∷ s)) more → recorded_events more ++ wire.Stop ∷ [] ≡ wire.Byte b
+      ∷ rest
       → legs_after (Inside earlier (Byte r ∷ s)) more ≡ final → Asked s b rest
   asked_from s b rest none [] answered spelled ends = absurd (cc spelled)
   asked_from s b rest none (exchange ∷ more) answered spelled ends =
@@ -134,16 +141,19 @@ module _ (members : List InState) (final : Legs) (alone : HasAddressAlone final)
   acked_of : (leg : Leg) (rest : List Event) (signal : HostSignal) (result : DeviceSignal) (more : List AnsweredSignal)
       → AreAnswered members (with_signal (Inside earlier leg) signal) more
       → (recorded signal result ++ recorded_events more) ++ wire.Stop ∷ [] ≡ wire.Ack ∷ rest
-      → legs_after (with_signal (Inside earlier leg) signal) more ≡ final → Stands members final (Inside earlier (leg ++ Ack ∷ [])) rest
+      → legs_after (with_signal (Inside earlier leg) signal) more ≡ final
+      → Stands members final (Inside earlier (leg ++ Ack ∷ [])) rest
   acked_of leg rest Start result more answered spelled ends = absurd (cc spelled)
   acked_of leg rest (Byte c) result more answered spelled ends = absurd (cc spelled)
   acked_of leg rest Ask result more answered spelled ends = absurd (given_no_ack result (cc spelled))
-  acked_of leg rest Ack result more answered spelled ends = record { more = more; answered = answered; spelled = cc spelled; ends = ends }
+  acked_of leg rest Ack result more answered spelled ends =
+      record { more = more; answered = answered; spelled = cc spelled; ends = ends }
   acked_of leg rest Nack result more answered spelled ends = absurd (cc spelled)
   acked_of leg rest Stop result more answered spelled ends = absurd (cc spelled)
 
   -- whatever comes first
-  acked_from : (leg : Leg) (rest : List Event) (more : List AnsweredSignal) → AreAnswered members (Inside earlier leg) more
+  acked_from : (leg : Leg) (rest : List Event) (more : List AnsweredSignal)
+      → AreAnswered members (Inside earlier leg) more
       → recorded_events more ++ wire.Stop ∷ [] ≡ wire.Ack ∷ rest → legs_after (Inside earlier leg) more ≡ final
       → Stands members final (Inside earlier (leg ++ Ack ∷ [])) rest
   acked_from leg rest [] answered spelled ends = absurd (cc spelled)
@@ -153,17 +163,21 @@ module _ (members : List InState) (final : Legs) (alone : HasAddressAlone final)
   -- ---- the bytes
 
   module _ (device : DeviceParts) (all : List ℕ)
-      (gives : (s : Leg) (b : ℕ) → BusAnswers members (Inside earlier (Byte r ∷ s)) Ask (answers.Byte b) → next_of device all s ≡ answers.Byte b) where
+      (gives : (s : Leg) (b : ℕ) → BusAnswers members (Inside earlier (Byte r ∷ s)) Ask (answers.Byte b)
+      → next_of device all s ≡ answers.Byte b) where
     -- a byte that was asked for is the next one
     next_byte : (s : Leg) (b : ℕ) (rest : List Event) → Asked s b rest
-        → (waits_behind device false s ≡ false) × (drop (given_behind device false s) all ≡ b ∷ drop (given_behind device false s + 1) all)
+        → (waits_behind device false s ≡ false) × (drop (given_behind device false s) all ≡ b
+        ∷ drop (given_behind device false s + 1) all)
     next_byte s b rest one =
-        let next = byte_chosen device _ (waits_behind device false s) (slice_get all (given_behind device false s)) b (gives s b one.asked) in
+        let next = byte_chosen device _ (waits_behind device false s) (slice_get all (given_behind device false s)) b
+        (gives s b one.asked) in
         (next.0, from_here all (given_behind device false s) b next.1)
 
     -- The bytes that were recorded, each with ACK but for the last, are those of the reply from the
     -- next one on.
-    pub reply_front : (s : Leg) (bytes : List ℕ) → Stands members final (Inside earlier (Byte r ∷ s)) (nacked bytes ++ wire.Stop ∷ [])
+    pub reply_front : (s : Leg) (bytes : List ℕ)
+        → Stands members final (Inside earlier (Byte r ∷ s)) (nacked bytes ++ wire.Stop ∷ [])
         → (more : List ℕ) × (drop (given_behind device false s) all ≡ bytes ++ more)
     reply_front s [] stands = (drop (given_behind device false s) all, refl)
     reply_front s (b ∷ []) stands =
@@ -172,9 +186,11 @@ module _ (members : List InState) (final : Legs) (alone : HasAddressAlone final)
         (drop (given_behind device false s + 1) all, (next_byte s b rest one).1)
     reply_front s (b ∷ c ∷ bytes) stands =
         let rest = nacked (c ∷ bytes) ++ wire.Stop ∷ [] in
-        let one = asked_from s b (wire.Ack ∷ rest) (no_start_nacked (c ∷ bytes)) stands.more stands.answered stands.spelled stands.ends in
+        let one = asked_from s b (wire.Ack ∷ rest) (no_start_nacked (c ∷ bytes)) stands.more stands.answered
+        stands.spelled stands.ends in
         let next = next_byte s b (wire.Ack ∷ rest) one in
-        let further = acked_from ((Byte r ∷ s) ++ Ask ∷ []) rest one.stands.more one.stands.answered one.stands.spelled one.stands.ends in
+        let further = acked_from ((Byte r ∷ s) ++ Ask ∷ []) rest one.stands.more one.stands.answered one.stands.spelled
+        one.stands.ends in
         let later = reply_front ((s ++ Ask ∷ []) ++ Ack ∷ []) (c ∷ bytes) further in
         let count : given_behind device false ((s ++ Ask ∷ []) ++ Ack ∷ []) ≡ given_behind device false s + 1 =
         given_with_ack device false (s ++ Ask ∷ []) ∙ given_with_ask device false s next.0 in

@@ -16,16 +16,23 @@ use Rattle.pmb_devices.specs.machine.Hands.{AllMoved}
 -- ---- what came since the last STOP
 
 -- the legs after one signal more
-pub legs_behind : (legs : Legs) (history : List AnsweredSignal) (next : AnsweredSignal) → legs_after legs (history ++ next ∷ []) ≡ with_signal (legs_after legs history) next.signal
+pub legs_behind : (legs : Legs) (history : List AnsweredSignal) (next : AnsweredSignal)
+    → legs_after legs (history ++ next ∷ []) ≡ with_signal (legs_after legs history) next.signal
 legs_behind legs [] next = refl
 legs_behind legs (exchange ∷ history) next = legs_behind (with_signal legs exchange.signal) history next
 
 -- one answer more
-pub answered_behind : (members : List InState) (legs : Legs) (history : List AnsweredSignal) (next : AnsweredSignal) → AreAnswered members legs history
-    → next.signal ≢ Stop → BusAnswers members (legs_after legs history) next.signal next.result → AreAnswered members legs (history ++ next ∷ [])
+pub answered_behind : (members : List InState) (legs : Legs) (history : List AnsweredSignal) (next : AnsweredSignal)
+    → AreAnswered members legs history
+    → next.signal ≢ Stop → BusAnswers members (legs_after legs history) next.signal next.result
+    → AreAnswered members legs (history ++ next ∷ [])
 answered_behind members legs [] next answered other answer = (other, answer, tt)
-answered_behind members legs (exchange ∷ history) next answered other answer =
-    (answered.0, answered.1, answered_behind members (with_signal legs exchange.signal) history next answered.2 other answer)
+answered_behind members legs (exchange ∷ history) next answered other answer = (
+  answered.0,
+  answered.1,
+  answered_behind members (with_signal legs exchange.signal) history next answered.2 other
+      answer,
+)
 
 -- ---- the devices
 
@@ -40,7 +47,8 @@ led standing Nack d other leads = leads
 led standing Stop d other leads = absurd (other refl)
 
 -- After a signal other than STOP all devices stand after it.
-pub all_stand_behind : (legs : Legs) (signal : HostSignal) → signal ≢ Stop → (devices : List Device) (members : List InState) (results : List DeviceSignal)
+pub all_stand_behind : (legs : Legs) (signal : HostSignal) → signal ≢ Stop
+    → (devices : List Device) (members : List InState) (results : List DeviceSignal)
     → AllMoved legs signal devices members results → AllStand (with_signal legs signal) devices members
 all_stand_behind legs signal other [] [] [] all = tt
 all_stand_behind legs signal other [] [] (result ∷ results) all = absurd all
@@ -78,20 +86,27 @@ all_end legs (d ∷ devices) (member ∷ members) (result ∷ results) all =
 
 -- ---- one device more
 
-pub stand_more : (legs : Legs) (devices : List Device) (members : List InState) (d : Device) (member : InState) → AllStand legs devices members
-    → DeviceStandsAt d (record { device = member.device; state = member.state; legs = legs }) → AllStand legs (devices ++ d ∷ []) (members ++ member ∷ [])
+pub stand_more : (legs : Legs) (devices : List Device) (members : List InState) (d : Device) (member : InState)
+    → AllStand legs devices members
+    → DeviceStandsAt d (record { device = member.device; state = member.state; legs = legs })
+    → AllStand legs (devices ++ d ∷ []) (members ++ member ∷ [])
 stand_more legs [] [] d member all one = (one, tt)
 stand_more legs [] (m ∷ members) d member all one = absurd all
 stand_more legs (first ∷ devices) [] d member all one = absurd all
-stand_more legs (first ∷ devices) (m ∷ members) d member all one = (all.0, stand_more legs devices members d member all.1 one)
+stand_more legs (first ∷ devices) (m ∷ members) d member all one =
+    (all.0, stand_more legs devices members d member all.1 one)
 
 -- ---- one stretch more
 
-pub runs_more : (members : List InState) (past : List (List AnsweredSignal)) (now : List InState) (stretch : List AnsweredSignal) (next : List InState)
-    → Runs members past now → AreAnswered now Outside stretch → AllEnd (legs_after Outside stretch) now next → Runs members (past ++ stretch ∷ []) next
+pub runs_more : (members : List InState) (past : List (List AnsweredSignal)) (now : List InState)
+    (stretch : List AnsweredSignal) (next : List InState)
+    → Runs members past now → AreAnswered now Outside stretch → AllEnd (legs_after Outside stretch) now next
+    → Runs members (past ++ stretch ∷ []) next
 runs_more members [] now stretch next runs answered ends =
-    let here : AreAnswered members Outside stretch = subst (λ (ms : List InState). AreAnswered ms Outside stretch) runs answered in
-    let there : AllEnd (legs_after Outside stretch) members next = subst (λ (ms : List InState). AllEnd (legs_after Outside stretch) ms next) runs ends in
+    let here : AreAnswered members Outside stretch =
+    subst (λ (ms : List InState). AreAnswered ms Outside stretch) runs answered in
+    let there : AllEnd (legs_after Outside stretch) members next =
+    subst (λ (ms : List InState). AllEnd (legs_after Outside stretch) ms next) runs ends in
     (here, (next, there, refl))
 runs_more members (first ∷ past) now stretch next runs answered ends =
     (runs.0, (runs.1.0, runs.1.1, runs_more runs.1.0 past now stretch next runs.1.2 answered ends))

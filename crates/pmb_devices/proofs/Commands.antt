@@ -1,5 +1,6 @@
 -- The command that an accepted device has with a code, and its forms.
-use Rattle.std.proofs.Common.{◌≡◌, ℕ, Bool, true, false, ◌&&◌, ◌||◌, Option, Some, None, cond, is_some, nat_eq, refl, sym, ap, subst, ◌∙◌}
+use Rattle.std.proofs.Common.{◌≡◌, ℕ, Bool, true, false, ◌&&◌, ◌||◌, Option, Some, None, cond, is_some, nat_eq, refl}
+use Rattle.std.proofs.Common.{sym, ap, subst, ◌∙◌}
 use Rattle.std.specs.Option.{IfSome}
 use Rattle.std.proofs.lemmas.Bool.{and_parts, eqb-true}
 use Rattle.std.proofs.lemmas.Option.{same_Some}
@@ -9,7 +10,8 @@ use Rattle.pmb_command.specs.declared.form.Shape.{Shape}
 use Rattle.pmb_command.specs.Bus.{IsCommand, IsDevice}
 use Rattle.pmb_command.specs.Commands.{standard_entries, standard_entry, standard_rows}
 use Rattle.pmb_command.specs.Entry.{EntryParts}
-use Rattle.pmb_command.specs.Fitting.{are_kept, is_fixed, is_form, is_kept, register_form, same_form, value_form, ways_agree}
+use Rattle.pmb_command.specs.Fitting.{are_kept, is_fixed, is_form, is_kept, register_form, same_form, value_form}
+use Rattle.pmb_command.specs.Fitting.{ways_agree}
 use Rattle.pmb_command.specs.Parts.{CommandParts, DeviceParts, command_with}
 use Rattle.pmb_command.proofs.Finding.{find_passes}
 use Rattle.pmb_command.proofs.FormLemmas.{same_form-Decides}
@@ -19,28 +21,33 @@ use Rattle.pmb_table.proofs.Accepted.{All-find}
 -- ---- the command with a code
 
 -- it has that code
-pub command_code : (device : DeviceParts) (code : ℕ) (command : CommandParts) → command_with code device.commands ≡ Some command
+pub command_code : (device : DeviceParts) (code : ℕ) (command : CommandParts)
+    → command_with code device.commands ≡ Some command
     → command.entry.code ≡ code
 command_code device code command is =
     eqb-true command.entry.code code (find_passes (λ c. nat_eq c.entry.code code) device.commands command is)
 
 -- it is one that a device may have
-pub command_is : (device : DeviceParts) → IsDevice device → (code : ℕ) (command : CommandParts) → command_with code device.commands ≡ Some command
+pub command_is : (device : DeviceParts) → IsDevice device → (code : ℕ) (command : CommandParts)
+    → command_with code device.commands ≡ Some command
     → IsCommand command
 command_is device accepted code command is =
     subst (λ (o : Option CommandParts). IfSome o IsCommand) is
     (All-find IsCommand (λ c. nat_eq c.entry.code code) device.commands accepted.commands)
 
 -- a code that has forms has a command
-found_of : (way : Shape → Option Form) (o : Option CommandParts) (form : Form) → way (shape_of None) ≡ None → way (shape_of o) ≡ Some form
+found_of : (way : Shape → Option Form) (o : Option CommandParts) (form : Form) → way (shape_of None) ≡ None
+    → way (shape_of o) ≡ Some form
     → (command : CommandParts) × (o ≡ Some command) × (way command.entry.shape ≡ Some form)
 found_of way None form none is = absurd (cc (none, is))
 found_of way (Some command) form none is = (command, refl, is)
 
 -- and that command has the form
-pub command_of : (device : DeviceParts) (way : Shape → Option Form) (code : ℕ) (form : Form) → way (shape_of None) ≡ None
+pub command_of : (device : DeviceParts) (way : Shape → Option Form) (code : ℕ) (form : Form)
+    → way (shape_of None) ≡ None
     → way (forms device code) ≡ Some form
-    → (command : CommandParts) × (command_with code device.commands ≡ Some command) × (way command.entry.shape ≡ Some form)
+    → (command : CommandParts) × (command_with code device.commands ≡ Some command)
+    × (way command.entry.shape ≡ Some form)
 command_of device way code form none is = found_of way (command_with code device.commands) form none is
 
 -- ---- forms
@@ -65,7 +72,8 @@ pub data RegisterForm (write read : Option Form) (form : Form) : Type 0 where
   by_write : read ≡ None → write ≡ Some form → same_form Zero form ≡ false → RegisterForm write read form
 
 -- one of the two
-register_form_in : (write read call : Option Form) (form : Form) → register_form (record { write = write; read = read; call = call }) ≡ Some form
+register_form_in : (write read call : Option Form) (form : Form)
+    → register_form (record { write = write; read = read; call = call }) ≡ Some form
     → RegisterForm write read form
 register_form_in None None call form is = absurd (cc is)
 register_form_in (Some w) None call form is =
@@ -76,11 +84,13 @@ register_form_in write (Some r) call form is =
     by_read (ap (λ (f : Form). Some f) one.1) (subst (λ (f : Form). same_form Zero f ≡ false) one.1 one.0)
 
 -- for a shape as a whole
-pub register_form_of : (shape : Shape) (form : Form) → register_form shape ≡ Some form → RegisterForm shape.write shape.read form
+pub register_form_of : (shape : Shape) (form : Form) → register_form shape ≡ Some form
+    → RegisterForm shape.write shape.read form
 register_form_of shape form is = register_form_in shape.write shape.read shape.call form is
 
 -- a command that is read has a register in that form
-pub read_register : (shape : Shape) (form : Form) → shape.read ≡ Some form → same_form Zero form ≡ false → register_form shape ≡ Some form
+pub read_register : (shape : Shape) (form : Form) → shape.read ≡ Some form → same_form Zero form ≡ false
+    → register_form shape ≡ Some form
 read_register shape form is some =
     let value : value_form shape ≡ Some form = ap (λ (o : Option Form). cond (is_some o) o shape.write) is in
     ap (λ (o : Option Form). cond (is_form Zero o) None o) value ∙ ap (λ (b : Bool). cond b None (Some form)) some
@@ -90,7 +100,8 @@ pub same_forms : (form other : Form) → same_form form other ≡ true → form 
 same_forms form other is = (same_form-Decides form other).0 is
 
 -- the form in which a command is written with data is that of its register
-written_in : (write other : Form) (read : Option Form) → same_form write Zero ≡ false → ways_agree (Some write) read ≡ true
+written_in : (write other : Form) (read : Option Form) → same_form write Zero ≡ false
+    → ways_agree (Some write) read ≡ true
     → RegisterForm (Some write) read other → other ≡ write
 written_in write other None some agree (by_read is other_some) = absurd (cc is)
 written_in write other None some agree (by_write none is other_some) = sym (same_Some write other is)
@@ -111,14 +122,16 @@ written_register shape write other is some agree register =
 
 -- their forms are kept
 pub kept_at : (e : EntryParts) (code : ℕ) → e.code ≡ code → is_fixed code ≡ true
-    → (is_fixed e.code ≡ true → are_kept e.shape (standard_entry e.code) ≡ true) → are_kept e.shape (standard_entry code) ≡ true
+    → (is_fixed e.code ≡ true → are_kept e.shape (standard_entry e.code) ≡ true)
+    → are_kept e.shape (standard_entry code) ≡ true
 kept_at e code same is fixed =
     let P : ℕ → Type 0 = λ c. is_fixed c ≡ true → are_kept e.shape (standard_entry c) ≡ true in
     let here : P code = subst P same fixed in
     here is
 
 -- VOUT_MODE is written and read with one byte
-pub mode_kept : (s : Shape) → are_kept s (standard_entry 0x20) ≡ true → (is_kept s.write (Some One) ≡ true) × (is_kept s.read (Some One) ≡ true)
+pub mode_kept : (s : Shape) → are_kept s (standard_entry 0x20) ≡ true → (is_kept s.write (Some One) ≡ true)
+    × (is_kept s.read (Some One) ≡ true)
 unfolding standard_entry standard_entries standard_rows
 mode_kept s is =
     let parts = and_parts (is_kept s.write (Some One)) (is_kept s.read (Some One) && is_kept s.call None) is in
@@ -139,7 +152,8 @@ kept_is (Some f) form other is kept =
     sym same ∙ same_forms f other kept
 
 -- so the register of VOUT_MODE has one byte
-pub mode_register : (s : Shape) (form : Form) → are_kept s (standard_entry 0x20) ≡ true → register_form s ≡ Some form → form ≡ One
+pub mode_register : (s : Shape) (form : Form) → are_kept s (standard_entry 0x20) ≡ true → register_form s ≡ Some form
+    → form ≡ One
 mode_register s form kept register = elim (register_form_of s form register) [
   | by_read is some ↦ kept_is s.read form One is (mode_kept s kept).1
   | by_write none is some ↦ kept_is s.write form One is (mode_kept s kept).0

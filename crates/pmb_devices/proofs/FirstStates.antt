@@ -1,5 +1,7 @@
 -- The first state of a device: each register holds as many bytes as its form takes.
-use Rattle.std.proofs.Common.{◌≡◌, ℕ, ◌+◌, ◌<◌, ◌≤◌, ◌⊎◌, inl, inr, zero, suc, Bool, true, false, ◌&&◌, ◌||◌, Option, Some, None, cond, List, [], ◌∷◌, length, map, nat_eq, option_map, refl, sym, ap, subst, ◌∙◌, arith}
+use Rattle.std.proofs.Common.{◌≡◌, ℕ, ◌+◌, ◌<◌, ◌≤◌, ◌⊎◌, inl, inr, zero, suc, Bool, true, false, ◌&&◌, ◌||◌, Option}
+use Rattle.std.proofs.Common.{Some, None, cond, List, [], ◌∷◌, length, map, nat_eq, option_map, refl, sym, ap, subst}
+use Rattle.std.proofs.Common.{◌∙◌, arith}
 use Rattle.std.specs.List.{find, flat_map, list_any, range_with_len}
 use Rattle.std.specs.Option.{IfSome, option_or, unwrap_or}
 use Rattle.std.proofs.lemmas.Bool.{eqb-false, eqb-true, leb-true}
@@ -12,7 +14,8 @@ use Rattle.pmb_command.specs.Bus.{IsCommand, IsDevice, IsInitial}
 use Rattle.pmb_command.specs.Fitting.{is_length, register_form}
 use Rattle.pmb_command.specs.Parts.{CommandParts, DeviceParts, command_with}
 use Rattle.pmb_command.specs.Wire.{Takes}
-use Rattle.pmb_registers.specs.State.{RegisterData, first_bytes, first_state, is_of_page, own_pages, registers_in, registers_of, zeros}
+use Rattle.pmb_registers.specs.State.{RegisterData, first_bytes, first_state, is_of_page, own_pages, registers_in}
+use Rattle.pmb_registers.specs.State.{registers_of, zeros}
 use Rattle.pmb_devices.specs.Replies.{IsState}
 use Rattle.pmb_devices.proofs.Commands.{command_is, kept_at, mode_register}
 use Rattle.pmb_devices.proofs.Writes.{by_test}
@@ -38,20 +41,24 @@ length_taken Eight n is = eqb-true n 8 is
 length_taken Block n is = leb-true n 255 is
 
 -- those of a command's own
-initial_taken : (command : CommandParts) (form : Form) (initial : Option (List ℕ)) → IfSome initial (IsInitial command.entry)
+initial_taken : (command : CommandParts) (form : Form) (initial : Option (List ℕ))
+    → IfSome initial (IsInitial command.entry)
     → register_form command.entry.shape ≡ Some form → Takes form (length (unwrap_or initial (zeros form)))
 initial_taken command form None given register = zeros_taken form
 initial_taken command form (Some bytes) given register =
-    length_taken form (length bytes) (subst (λ (o : Option Form). is_length o (length bytes) ≡ true) register given.fits)
+    length_taken form (length bytes) (subst (λ (o : Option Form). is_length o (length bytes) ≡ true) register
+    given.fits)
 
 -- the one byte of VOUT_MODE, or other bytes
-first_in : (device : DeviceParts) (test : Bool) (form : Form) (bytes : List ℕ) → (test ≡ true → form ≡ One) → Takes form (length bytes)
+first_in : (device : DeviceParts) (test : Bool) (form : Form) (bytes : List ℕ) → (test ≡ true → form ≡ One)
+    → Takes form (length bytes)
     → Takes form (length (cond test (device.vout_mode ∷ []) bytes))
 first_in device true form bytes one taken = subst (λ (f : Form). Takes f 1) (sym (one refl)) refl
 first_in device false form bytes one taken = taken
 
 -- the first bytes of a register
-first_taken : (device : DeviceParts) (command : CommandParts) (form : Form) → IsCommand command → register_form command.entry.shape ≡ Some form
+first_taken : (device : DeviceParts) (command : CommandParts) (form : Form) → IsCommand command
+    → register_form command.entry.shape ≡ Some form
     → Takes form (length (first_bytes device command form))
 first_taken device command form is register =
     first_in device (nat_eq command.entry.code 0x20) form (unwrap_or command.initial (zeros form))
@@ -77,7 +84,8 @@ in_range page a (suc n) from to =
     )
 
 -- a command has a register on a page of the device, or one for all
-has_page : (page pages : ℕ) (paged : Bool) → (page < pages) ⊎ (paged ≡ false) → list_any (is_of_page page) (own_pages pages paged) ≡ true
+has_page : (page pages : ℕ) (paged : Bool) → (page < pages) ⊎ (paged ≡ false)
+    → list_any (is_of_page page) (own_pages pages paged) ≡ true
 has_page page pages false there = refl
 has_page page pages true (inl small) = in_range page 0 pages (omega arith) (omega arith)
 has_page page pages true (inr none) = absurd (cc none)
@@ -103,13 +111,15 @@ held_first true r rest bytes same later = ap (λ (bs : List ℕ). Some bs) same
 held_first false r rest bytes same later = later refl
 
 -- what was found in front is found
-found_or : (o rest : Option RegisterData) (bytes : List ℕ) → bytes_of o ≡ Some bytes → bytes_of (option_or o rest) ≡ Some bytes
+found_or : (o rest : Option RegisterData) (bytes : List ℕ) → bytes_of o ≡ Some bytes
+    → bytes_of (option_or o rest) ≡ Some bytes
 found_or None rest bytes is = absurd (cc is)
 found_or (Some r) rest bytes is = is
 
 module _ (page code : ℕ) where
   -- among the registers of a command's pages
-  held_on : (own : ℕ) (bytes : List ℕ) (pages : List (Option ℕ)) → nat_eq own code ≡ true → list_any (is_of_page page) pages ≡ true
+  held_on : (own : ℕ) (bytes : List ℕ) (pages : List (Option ℕ)) → nat_eq own code ≡ true
+      → list_any (is_of_page page) pages ≡ true
       → bytes_of (find (is_at page code) (map (one_register own bytes) pages)) ≡ Some bytes
   held_on own bytes [] same some = absurd (cc some)
   held_on own bytes (p ∷ pages) same some =
@@ -133,9 +143,11 @@ module _ (page code : ℕ) where
 
   module _ (device : DeviceParts) where
     -- none in any form of it
-    none_in : (c : CommandParts) (o : Option Form) → nat_eq c.entry.code code ≡ false → find (is_at page code) (registers_in device c o) ≡ None
+    none_in : (c : CommandParts) (o : Option Form) → nat_eq c.entry.code code ≡ false
+        → find (is_at page code) (registers_in device c o) ≡ None
     none_in c None other = refl
-    none_in c (Some form) other = none_on c.entry.code (first_bytes device c form) (own_pages device.pages c.entry.paged) other
+    none_in c (Some form) other = none_on c.entry.code (first_bytes device c form)
+        (own_pages device.pages c.entry.paged) other
 
     module _ (command : CommandParts) (form : Form) (register : register_form command.entry.shape ≡ Some form)
         (there : (page < device.pages) ⊎ (command.entry.paged ≡ false)) where
@@ -143,7 +155,8 @@ module _ (page code : ℕ) where
       held_of : nat_eq command.entry.code code ≡ true
           → bytes_of (find (is_at page code) (registers_of device command)) ≡ Some (first_bytes device command form)
       held_of same =
-          subst (λ (o : Option Form). bytes_of (find (is_at page code) (registers_in device command o)) ≡ Some (first_bytes device command form))
+          subst (λ (o : Option Form). bytes_of (find (is_at page code) (registers_in device command o))
+          ≡ Some (first_bytes device command form))
           (sym register)
           (
           held_on command.entry.code (first_bytes device command form) (own_pages device.pages command.entry.paged) same
@@ -152,22 +165,26 @@ module _ (page code : ℕ) where
 
       -- so it is found among those of all commands
       held_in : (cs : List CommandParts) → command_with code cs ≡ Some command
-          → bytes_of (find (is_at page code) (flat_map (registers_of device) cs)) ≡ Some (first_bytes device command form)
+          → bytes_of (find (is_at page code) (flat_map (registers_of device) cs))
+          ≡ Some (first_bytes device command form)
       held_in [] is = absurd (cc is)
       held_in (c ∷ cs) is =
           let p = is_at page code in
           let front = find p (registers_of device c) in
           let rest = find p (flat_map (registers_of device) cs) in
           let split : find p (flat_map (registers_of device) (c ∷ cs)) ≡ option_or front rest =
-          ap (find p) (flat_map-cons (registers_of device) c cs) ∙ find-append p (registers_of device c) (flat_map (registers_of device) cs) in
+          ap (find p) (flat_map-cons (registers_of device) c cs) ∙ find-append p (registers_of device c)
+          (flat_map (registers_of device) cs) in
           ap bytes_of split
           ∙ by_test (nat_eq c.entry.code code) (nat_eq c.entry.code code) refl
           (
           λ same.
-          let c_is : c ≡ command = same_Some c command (ap (λ (b : Bool). cond b (Some c) (command_with code cs)) (sym same) ∙ is) in
+          let c_is : c ≡ command = same_Some c command
+          (ap (λ (b : Bool). cond b (Some c) (command_with code cs)) (sym same) ∙ is) in
           found_or front rest (first_bytes device command form)
           (
-          subst (λ (d : CommandParts). bytes_of (find p (registers_of device d)) ≡ Some (first_bytes device command form)) (sym c_is)
+          subst (λ (d : CommandParts). bytes_of (find p (registers_of device d))
+          ≡ Some (first_bytes device command form)) (sym c_is)
           (held_of (subst (λ (d : CommandParts). nat_eq d.entry.code code ≡ true) c_is same))
           )
           )

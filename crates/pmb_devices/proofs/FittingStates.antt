@@ -1,6 +1,7 @@
 -- What STOP makes of a state that fits its device: a change leaves each register as many bytes as
 -- its form takes, and PAGE selects a page of the device, or all.
-use Rattle.std.proofs.Common.{◌≡◌, ℕ, ◌<◌, ◌⊎◌, inl, inr, Bool, true, false, ◌&&◌, Option, Some, None, cond, is_some, List, [], ◌∷◌, ◌++◌, length, map, nat_eq, refl, sym, ap, subst, ◌∙◌, arith}
+use Rattle.std.proofs.Common.{◌≡◌, ℕ, ◌<◌, ◌⊎◌, inl, inr, Bool, true, false, ◌&&◌, Option, Some, None, cond, is_some}
+use Rattle.std.proofs.Common.{List, [], ◌∷◌, ◌++◌, length, map, nat_eq, refl, sym, ap, subst, ◌∙◌, arith}
 use Rattle.std.specs.Int.Bits.{bit_or}
 use Rattle.std.specs.List.{find}
 use Rattle.std.proofs.lemmas.Bool.{and_parts, eqb-true}
@@ -17,12 +18,14 @@ use Rattle.pmb_command.specs.Wire as form_of
 use Rattle.pmb_transaction.specs.Body.{WriteBody, checked, forms, shape_of}
 use Rattle.pmb_registers.specs.declared.cml_bit.CmlBit.{CmlBit}
 use Rattle.pmb_registers.specs.Answer.{all_pages}
-use Rattle.pmb_registers.specs.Apply.{after_write, bit_value, changed, cleared_bits, is_status, reaches, selected_by, with_bit, with_noted}
+use Rattle.pmb_registers.specs.Apply.{after_write, bit_value, changed, cleared_bits, is_status, reaches, selected_by}
+use Rattle.pmb_registers.specs.Apply.{with_bit, with_noted}
 use Rattle.pmb_registers.specs.State.{DeviceState, RegisterData, is_of_page}
 use Rattle.pmb_leg.specs.declared.place.LegPlace.{LegPlace}
 use Rattle.pmb_device.specs.Legs.{Leg, Legs, Outside, Inside, leg_place, some_is_to}
 use Rattle.pmb_device.specs.Rules.{TakesAll}
-use Rattle.pmb_device.specs.Ends.{Acts, Ends, LegsEnd, NotesAnswer, OwnLegEnds, ReadOrActs, Refuses, asked, no_leg, no_write, not_asked, own_leg, writes}
+use Rattle.pmb_device.specs.Ends.{Acts, Ends, LegsEnd, NotesAnswer, OwnLegEnds, ReadOrActs, Refuses, asked, no_leg}
+use Rattle.pmb_device.specs.Ends.{no_write, not_asked, own_leg, writes}
 use Rattle.pmb_device.proofs.Requests.{page_form}
 use Rattle.pmb_devices.specs.Replies.{IsState}
 use Rattle.pmb_devices.proofs.Commands.{command_is, flip_zero, written_register}
@@ -36,25 +39,31 @@ module _ (page code : ℕ) (P : List ℕ → Type 0) where
   Has found = (bytes : List ℕ) × (bytes_of found ≡ Some bytes) × P bytes
 
   -- the register in front is the one, or another after it
-  chosen : (test : Bool) (r after : RegisterData) (rest behind : Option RegisterData) → (test ≡ true → P r.bytes → P after.bytes)
+  chosen : (test : Bool) (r after : RegisterData) (rest behind : Option RegisterData)
+      → (test ≡ true → P r.bytes → P after.bytes)
       → (Has rest → Has behind) → Has (cond test (Some r) rest) → Has (cond test (Some after) behind)
-  chosen true r after rest behind here later has = (after.bytes, refl, here refl (subst P (sym (same_Some r.bytes has.0 has.1)) has.2))
+  chosen true r after rest behind here later has =
+      (after.bytes, refl, here refl (subst P (sym (same_Some r.bytes has.0 has.1)) has.2))
   chosen false r after rest behind here later has = later has
 
   module _ (selected : ℕ) (codes : ℕ → Bool) (change : List ℕ → List ℕ)
       (stays : codes code ≡ true → (bytes : List ℕ) → P bytes → P (change bytes)) where
     -- where the register in front changes, or does not
-    front_changed : (hit : Bool) (r : RegisterData) (rest behind : Option RegisterData) → (hit ≡ true → codes r.code ≡ true)
+    front_changed : (hit : Bool) (r : RegisterData) (rest behind : Option RegisterData)
+        → (hit ≡ true → codes r.code ≡ true)
         → (Has rest → Has behind) → Has (cond (is_at page code r) (Some r) rest)
-        → Has (cond (is_at page code (cond hit (record r { bytes = change r.bytes }) r)) (Some (cond hit (record r { bytes = change r.bytes }) r)) behind)
+        → Has (cond (is_at page code (cond hit (record r { bytes = change r.bytes }) r))
+        (Some (cond hit (record r { bytes = change r.bytes }) r)) behind)
     front_changed true r rest behind coded later has =
         chosen (is_at page code r) r (record r { bytes = change r.bytes }) rest behind
         (
         λ here.
-        let same : r.code ≡ code = eqb-true r.code code (and_parts (nat_eq r.code code) (is_of_page page r.page) here).0 in
+        let same : r.code ≡ code = eqb-true r.code code
+        (and_parts (nat_eq r.code code) (is_of_page page r.page) here).0 in
         stays (subst (λ (n : ℕ). codes n ≡ true) same (coded refl)) r.bytes
         ) later has
-    front_changed false r rest behind coded later has = chosen (is_at page code r) r r rest behind (λ here such. such) later has
+    front_changed false r rest behind coded later has = chosen (is_at page code r) r r rest behind
+        (λ here such. such) later has
 
     -- what is found after a change is such
     pub has_changed : (rs : List RegisterData) → Has (find (is_at page code) rs)
@@ -62,7 +71,8 @@ module _ (page code : ℕ) (P : List ℕ → Type 0) where
     has_changed [] has = absurd (cc (has.1))
     has_changed (r ∷ rs) has =
         front_changed (codes r.code && reaches selected r.page) r (find (is_at page code) rs)
-        (find (is_at page code) (changed selected codes change rs)) (λ hit. (and_parts (codes r.code) (reaches selected r.page) hit).0)
+        (find (is_at page code) (changed selected codes change rs))
+        (λ hit. (and_parts (codes r.code) (reaches selected r.page) hit).0)
         (has_changed rs) has
 
 -- to clear bits keeps the number of bytes
@@ -80,13 +90,15 @@ one_of (byte ∷ []) is = (byte, refl)
 one_of (byte ∷ next ∷ more) is = absurd (omega arith)
 
 -- the code and the page, and what follows
-starts_so : (with_pec : Bool) (front : List ℕ) (page : ℕ) → (rest : List ℕ) × (checked with_pec front (0x00 ∷ page ∷ []) ≡ 0x00 ∷ page ∷ rest)
+starts_so : (with_pec : Bool) (front : List ℕ) (page : ℕ)
+    → (rest : List ℕ) × (checked with_pec front (0x00 ∷ page ∷ []) ≡ 0x00 ∷ page ∷ rest)
 starts_so false front page = ([], refl)
 starts_so true front page = (_, refl)
 
 module _ (device : DeviceParts) where
   -- one of two states
-  if_fits : (test : Bool) (x y : DeviceState) → (test ≡ true → IsState device x) → (test ≡ false → IsState device y) → IsState device (cond test x y)
+  if_fits : (test : Bool) (x y : DeviceState) → (test ≡ true → IsState device x) → (test ≡ false → IsState device y)
+      → IsState device (cond test x y)
   if_fits true x y here there = here refl
   if_fits false x y here there = there refl
 
@@ -94,9 +106,11 @@ module _ (device : DeviceParts) where
     -- ---- what changes a state
 
     -- registers change, and a page is selected
-    changed_fits : (page : ℕ) → (page < device.pages) ⊎ (page ≡ all_pages) → (codes : ℕ → Bool) (change : List ℕ → List ℕ)
+    changed_fits : (page : ℕ) → (page < device.pages) ⊎ (page ≡ all_pages)
+        → (codes : ℕ → Bool) (change : List ℕ → List ℕ)
         → ((code : ℕ) (command : CommandParts) (form : Form) → command_with code device.commands ≡ Some command
-        → register_form command.entry.shape ≡ Some form → codes code ≡ true → (bytes : List ℕ) → form_of.Takes form (length bytes)
+        → register_form command.entry.shape ≡ Some form → codes code ≡ true → (bytes : List ℕ)
+        → form_of.Takes form (length bytes)
         → form_of.Takes form (length (change bytes)))
         → IsState device (record { page = page; registers = changed before.page codes change before.registers })
     changed_fits page valid codes change stays = record {
@@ -104,13 +118,15 @@ module _ (device : DeviceParts) where
       holds = λ code at command form is register there.
           let old = fits.holds code at command form is register there in
           let new =
-          has_changed at code (λ bytes. form_of.Takes form (length bytes)) before.page codes change (stays code command form is register)
+          has_changed at code (λ bytes. form_of.Takes form (length bytes)) before.page codes change
+          (stays code command form is register)
           before.registers (old.bytes, old.held_is, old.taken) in
           record { bytes = new.0; held_is = new.1; taken = new.2 };
     }
 
     -- registers change, and keep their lengths
-    kept_fits : (codes : ℕ → Bool) (change : List ℕ → List ℕ) → ((bytes : List ℕ) → length (change bytes) ≡ length bytes)
+    kept_fits : (codes : ℕ → Bool) (change : List ℕ → List ℕ)
+        → ((bytes : List ℕ) → length (change bytes) ≡ length bytes)
         → IsState device (record { page = before.page; registers = changed before.page codes change before.registers })
     kept_fits codes change long =
         changed_fits before.page fits.page codes change
@@ -122,7 +138,8 @@ module _ (device : DeviceParts) where
         let set : List ℕ → List ℕ = map (λ (byte : ℕ). bit_or byte (bit_value bit)) in
         if_fits (is_some (forms device 0x7e).read)
         (record { page = before.page; registers = changed before.page (nat_eq 0x7e) set before.registers }) before
-        (λ some. kept_fits (nat_eq 0x7e) set (λ bytes. length-map bytes (λ (byte : ℕ). bit_or byte (bit_value bit)))) (λ none. fits)
+        (λ some. kept_fits (nat_eq 0x7e) set (λ bytes. length-map bytes (λ (byte : ℕ). bit_or byte (bit_value bit))))
+        (λ none. fits)
 
     -- or none is
     noted_fits : (bit : Option CmlBit) → IsState device (with_noted device bit before)
@@ -135,19 +152,23 @@ module _ (device : DeviceParts) where
         (is : WriteBody device code content with_pec body) where
       -- the register of the code takes the data
       data_taken : same_form is.form Zero ≡ false → (other : ℕ) (command : CommandParts) (form : Form)
-          → command_with other device.commands ≡ Some command → register_form command.entry.shape ≡ Some form → nat_eq code other ≡ true
+          → command_with other device.commands ≡ Some command → register_form command.entry.shape ≡ Some form
+          → nat_eq code other ≡ true
           → (bytes : List ℕ) → form_of.Takes form (length bytes) → form_of.Takes form (length content)
       data_taken some other command form known register same bytes taken =
           let code_is : code ≡ other = eqb-true code other same in
           let written : command.entry.shape.write ≡ Some is.form =
-          ap (λ (o : Option CommandParts). (shape_of o).write) (sym known) ∙ ap (λ (n : ℕ). (forms device n).write) (sym code_is) ∙ is.written in
+          ap (λ (o : Option CommandParts). (shape_of o).write) (sym known) ∙ ap (λ (n : ℕ). (forms device n).write)
+          (sym code_is) ∙ is.written in
           let agree = (command_is device accepted other command known).entry.fitting.one_form in
-          let form_is : form ≡ is.form = written_register command.entry.shape is.form form written some agree register in
+          let form_is : form ≡ is.form = written_register command.entry.shape is.form form written some agree
+          register in
           subst (λ (f : Form). form_of.Takes f (length content)) (sym form_is) is.fits.taken
 
       -- PAGE is written with one byte
       page_one : code ≡ 0x00 → is.form ≡ One
-      page_one page = page_form device is.form accepted (subst (λ (n : ℕ). (forms device n).write ≡ Some is.form) page is.written)
+      page_one page = page_form device is.form accepted
+          (subst (λ (n : ℕ). (forms device n).write ≡ Some is.form) page is.written)
 
       -- and that is a page of the device, or all
       page_selected : (place : LegPlace) → TakesAll device place [] body → code ≡ 0x00
@@ -161,23 +182,28 @@ module _ (device : DeviceParts) where
           let split : body ≡ 0x00 ∷ only.0 ∷ starts.0 =
           is.spelled ∙ ap (λ (n : ℕ). checked with_pec front (n ∷ wire is.form content)) page
           ∙ ap (λ (bs : List ℕ). checked with_pec front (0x00 ∷ bs)) wired ∙ starts.1 in
-          let here : TakesAll device place [] (0x00 ∷ only.0 ∷ starts.0) = subst (TakesAll device place []) split taken in
-          subst (λ (bs : List ℕ). (selected_by before.page bs < device.pages) ⊎ (selected_by before.page bs ≡ all_pages)) (sym only.1)
+          let here : TakesAll device place [] (0x00 ∷ only.0 ∷ starts.0) =
+          subst (TakesAll device place []) split taken in
+          subst (λ (bs : List ℕ). (selected_by before.page bs < device.pages)
+          ⊎ (selected_by before.page bs ≡ all_pages)) (sym only.1)
           (here.1.0.page refl)
 
       -- What a complete write makes of the state fits.
-      write_fits : (place : LegPlace) → TakesAll device place [] body → IsState device (after_write device code content before)
+      write_fits : (place : LegPlace) → TakesAll device place [] body
+          → IsState device (after_write device code content before)
       write_fits place taken =
           if_fits (nat_eq code 0x00) _ _
           (
           λ page.
           let zero : code ≡ 0x00 = eqb-true code 0x00 page in
           let some : same_form is.form Zero ≡ false = ap (λ (f : Form). same_form f Zero) (page_one zero) in
-          changed_fits (selected_by before.page content) (page_selected place taken zero) (nat_eq code) (λ old. content) (data_taken some)
+          changed_fits (selected_by before.page content) (page_selected place taken zero) (nat_eq code) (λ old. content)
+          (data_taken some)
           )
           (
           λ other.
-          if_fits (nat_eq code 0x03) _ _ (λ clear. kept_fits (is_status device) (map (λ byte. 0)) (λ bytes. length-map bytes (λ (byte : ℕ). 0)))
+          if_fits (nat_eq code 0x03) _ _ (λ clear. kept_fits (is_status device) (map (λ byte. 0))
+          (λ bytes. length-map bytes (λ (byte : ℕ). 0)))
           (
           λ neither.
           if_fits (is_form Zero (forms device code).write) before _ (λ zero. fits)
@@ -185,7 +211,8 @@ module _ (device : DeviceParts) where
           λ form.
           let some : same_form is.form Zero ≡ false =
           flip_zero is.form (subst (λ (o : Option Form). is_form Zero o ≡ false) is.written form) in
-          if_fits (is_status device code) _ _ (λ status. kept_fits (nat_eq code) (cleared_bits content) (cleared_length content))
+          if_fits (is_status device code) _ _ (λ status. kept_fits (nat_eq code) (cleared_bits content)
+          (cleared_length content))
           (λ plain. changed_fits before.page fits.page (nat_eq code) (λ old. content) (data_taken some))
           )
           )
@@ -195,14 +222,17 @@ module _ (device : DeviceParts) where
 
     module _ (accepted : IsDevice device) (after : DeviceState) where
       -- a write acts, or nothing does
-      acts_fit : (place : LegPlace) (bytes : List ℕ) → TakesAll device place [] bytes → Acts device bytes before after → IsState device after
+      acts_fit : (place : LegPlace) (bytes : List ℕ) → TakesAll device place [] bytes → Acts device bytes before after
+          → IsState device after
       acts_fit place bytes taken (writes code content with_pec body same) =
           subst (IsState device) (sym same) (write_fits accepted code content with_pec bytes body place taken)
       acts_fit place bytes taken (no_write none same) = subst (IsState device) (sym same) fits
 
       -- a refusal to be read is noted, or nothing is
-      notes_fit : (earlier : List Leg) (bytes : List ℕ) (behind : List Leg) → NotesAnswer device earlier bytes behind before after → IsState device after
-      notes_fit earlier bytes behind (asked first request next more split read same) = subst (IsState device) (sym same) (noted_fits _)
+      notes_fit : (earlier : List Leg) (bytes : List ℕ) (behind : List Leg)
+          → NotesAnswer device earlier bytes behind before after → IsState device after
+      notes_fit earlier bytes behind (asked first request next more split read same) =
+          subst (IsState device) (sym same) (noted_fits _)
       notes_fit earlier bytes behind (not_asked none same) = subst (IsState device) (sym same) fits
 
       -- so is a byte that was refused
@@ -213,15 +243,18 @@ module _ (device : DeviceParts) where
       ]
 
       -- a leg all of whose bytes were taken
-      taken_fits : (place : LegPlace) (read : Bool) (earlier : List Leg) (bytes : List ℕ) (behind : List Leg) → TakesAll device place [] bytes
+      taken_fits : (place : LegPlace) (read : Bool) (earlier : List Leg) (bytes : List ℕ) (behind : List Leg)
+          → TakesAll device place [] bytes
           → ReadOrActs device read earlier bytes behind before after → IsState device after
       taken_fits place true earlier bytes behind taken ends = notes_fit earlier bytes behind ends
       taken_fits place false earlier bytes behind taken ends = acts_fit place bytes taken ends
 
       -- the device's own leg
-      own_fits : (earlier : List Leg) (bytes : List ℕ) (behind : List Leg) → OwnLegEnds device earlier bytes behind before after → IsState device after
+      own_fits : (earlier : List Leg) (bytes : List ℕ) (behind : List Leg)
+          → OwnLegEnds device earlier bytes behind before after → IsState device after
       own_fits earlier bytes behind ends = elim ends [
-        | inl w ↦ taken_fits (leg_place earlier) (some_is_to (read_address device.address) behind) earlier bytes behind w.0 w.1
+        | inl w ↦ taken_fits (leg_place earlier) (some_is_to (read_address device.address) behind) earlier bytes behind
+            w.0 w.1
         | inr w ↦ refuses_fit (leg_place earlier) bytes w.1
       ]
 
@@ -231,7 +264,9 @@ module _ (device : DeviceParts) where
       legs_fit legs (no_leg none same) = subst (IsState device) (sym same) fits
 
 -- What STOP makes of a state that fits, fits.
-pub end_fits : (device : DeviceParts) (legs : Legs) (before after : DeviceState) → IsDevice device → IsState device before
+pub end_fits : (device : DeviceParts) (legs : Legs) (before after : DeviceState) → IsDevice device
+    → IsState device before
     → Ends device legs before after → IsState device after
 end_fits device Outside before after accepted fits same = subst (IsState device) (sym same) fits
-end_fits device (Inside earlier leg) before after accepted fits ends = legs_fit device before fits accepted after (earlier ++ leg ∷ []) ends
+end_fits device (Inside earlier leg) before after accepted fits ends = legs_fit device before fits accepted after
+    (earlier ++ leg ∷ []) ends

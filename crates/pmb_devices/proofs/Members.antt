@@ -1,5 +1,6 @@
 -- The devices of a bus, in the order of its profile.
-use Rattle.std.proofs.Common.{◌≡◌, ◌≢◌, ℕ, zero, suc, ◌+◌, ◌<◌, Option, Some, None, Bor, List, [], ◌∷◌, ◌++◌, length, take, get_or, refl, sym, ap, subst, ◌∙◌, add-one, arith}
+use Rattle.std.proofs.Common.{◌≡◌, ◌≢◌, ℕ, zero, suc, ◌+◌, ◌<◌, Option, Some, None, Bor, List, [], ◌∷◌, ◌++◌, length}
+use Rattle.std.proofs.Common.{take, get_or, refl, sym, ap, subst, ◌∙◌, add-one, arith}
 use Rattle.std.specs.List.{AllByRecursion, slice_get}
 use Rattle.std.specs.Option.{option_map}
 use Rattle.std.proofs.lemmas.List.{map-append}
@@ -16,12 +17,14 @@ use Rattle.pmb_devices.proofs.Behind.{stand_more}
 -- ---- made one after the other
 
 -- one device of the profile more
-one_taken : (profile : List DeviceParts) (i : ℕ) (d : DeviceParts) → slice_get profile i ≡ Some d → take (suc i) profile ≡ take i profile ++ d ∷ []
+one_taken : (profile : List DeviceParts) (i : ℕ) (d : DeviceParts) → slice_get profile i ≡ Some d
+    → take (suc i) profile ≡ take i profile ++ d ∷ []
 one_taken [] i d is = cc is
 one_taken (x ∷ profile) zero d is = ap (λ (p : DeviceParts). p ∷ []) (cc is)
 one_taken (x ∷ profile) (suc i) d is = ap (λ (ds : List DeviceParts). x ∷ ds) (one_taken profile i d is)
 
-one_more : (profile : List DeviceParts) (i : ℕ) (d : DeviceParts) → slice_get profile i ≡ Some d → take (i + 1) profile ≡ take i profile ++ d ∷ []
+one_more : (profile : List DeviceParts) (i : ℕ) (d : DeviceParts) → slice_get profile i ≡ Some d
+    → take (i + 1) profile ≡ take i profile ++ d ∷ []
 one_more profile i d is = rw add-one (one_taken profile i d is)
 
 -- a place within has a device
@@ -30,19 +33,23 @@ nothing_there [] i within is = omega (arith, within)
 nothing_there (x ∷ profile) zero within is = cc is
 nothing_there (x ∷ profile) (suc i) within is = nothing_there profile i (omega (arith, within)) is
 
-pub none_at : (profile : List DeviceParts) (i : ℕ) (found : Option (Bor DeviceProfile)) → i < length profile → option_map (λ d. d.now) found ≡ slice_get profile i
+pub none_at : (profile : List DeviceParts) (i : ℕ) (found : Option (Bor DeviceProfile)) → i < length profile
+    → option_map (λ d. d.now) found ≡ slice_get profile i
     → ((d : Bor DeviceProfile) → found ≡ Some d → ⊥) → ⊥
 none_at profile i None within is never = nothing_there profile i within (sym is)
 none_at profile i (Some d) within is never = never d refl
 
-pub first_more : (profile : List DeviceParts) (i : ℕ) (d : DeviceParts) (devices : List Device) (made : Device) → slice_get profile i ≡ Some d
+pub first_more : (profile : List DeviceParts) (i : ℕ) (d : DeviceParts) (devices : List Device) (made : Device)
+    → slice_get profile i ≡ Some d
     → AllStand Outside devices (first_members (take i profile))
     → DeviceStandsAt made (record { device = d; state = first_state d; legs = Outside })
     → AllStand Outside (devices ++ made ∷ []) (first_members (take (i + 1) profile))
 first_more profile i d devices made is all one =
     subst (AllStand Outside (devices ++ made ∷ []))
-    (sym (ap first_members (one_more profile i d is) ∙ map-append (λ (p : DeviceParts). record { device = p; state = first_state p }) (take i profile) (d ∷ [])))
-    (stand_more Outside devices (first_members (take i profile)) made (record { device = d; state = first_state d }) all one)
+    (sym (ap first_members (one_more profile i d is)
+    ∙ map-append (λ (p : DeviceParts). record { device = p; state = first_state p }) (take i profile) (d ∷ [])))
+    (stand_more Outside devices (first_members (take i profile)) made (record { device = d; state = first_state d }) all
+    one)
 
 -- ---- looked at
 
@@ -54,17 +61,20 @@ module _ (legs : Legs) where
     pub is : get_or members k member ≡ member
     pub stands : DeviceStandsAt d (record { device = member.device; state = member.state; legs = legs })
 
-  pub at_place : (devices : List Device) (members : List InState) (k : ℕ) (d : Device) → AllStand legs devices members → k < length devices
+  pub at_place : (devices : List Device) (members : List InState) (k : ℕ) (d : Device) → AllStand legs devices members
+      → k < length devices
       → StandsAtPlace members k (get_or devices k d)
   at_place [] members k d all inside = absurd (omega (arith, inside))
   at_place (first ∷ devices) [] k d all inside = absurd all
-  at_place (first ∷ devices) (m ∷ members) zero d all inside = record { member = m; inside = omega arith; is = refl; stands = all.0 }
+  at_place (first ∷ devices) (m ∷ members) zero d all inside =
+      record { member = m; inside = omega arith; is = refl; stands = all.0 }
   at_place (first ∷ devices) (m ∷ members) (suc k) d all inside =
       let there = at_place devices members k d all.1 (omega (arith, inside)) in
       record { member = there.member; inside = omega (arith, there.inside); is = there.is; stands = there.stands }
 
 -- an address that is not of the next device either
-none_before : (address : ℕ) (members : List InState) (k : ℕ) (member : InState) → k < length members → get_or members k member ≡ member
+none_before : (address : ℕ) (members : List InState) (k : ℕ) (member : InState) → k < length members
+    → get_or members k member ≡ member
     → AllByRecursion (λ m. m.device.address ≢ address) (take k members) → member.device.address ≢ address
     → AllByRecursion (λ m. m.device.address ≢ address) (take (suc k) members)
 none_before address [] k member inside is all other = absurd (omega (arith, inside))
@@ -73,13 +83,16 @@ none_before address (m ∷ members) zero member inside is all other =
 none_before address (m ∷ members) (suc k) member inside is all other =
     (all.0, none_before address members k member (omega (arith, inside)) is all.1 other)
 
-pub none_so_far : (address : ℕ) (members : List InState) (k : ℕ) (member : InState) → k < length members → get_or members k member ≡ member
+pub none_so_far : (address : ℕ) (members : List InState) (k : ℕ) (member : InState) → k < length members
+    → get_or members k member ≡ member
     → AllByRecursion (λ m. m.device.address ≢ address) (take k members) → member.device.address ≢ address
     → AllByRecursion (λ m. m.device.address ≢ address) (take (k + 1) members)
-none_so_far address members k member inside is all other = rw add-one (none_before address members k member inside is all other)
+none_so_far address members k member inside is all other =
+    rw add-one (none_before address members k member inside is all other)
 
 -- As many devices stand as there are members.
-pub as_many : (legs : Legs) (devices : List Device) (members : List InState) → AllStand legs devices members → length devices ≡ length members
+pub as_many : (legs : Legs) (devices : List Device) (members : List InState) → AllStand legs devices members
+    → length devices ≡ length members
 as_many legs [] [] all = refl
 as_many legs [] (m ∷ members) all = absurd all
 as_many legs (d ∷ devices) [] all = absurd all

@@ -29,9 +29,11 @@ one_byte_more (c ∷ bytes) b = ap (λ (leg : Leg). Byte c ∷ leg) (one_byte_mo
 -- ---- the first that passes a test
 
 -- none passes among some with one that does
-some_passes : {X : Type 0} (p : X → Bool) (front : List X) (x : X) (back : List X) → p x ≡ true → list_any p (front ++ x ∷ back) ≡ false → ⊥
+some_passes : {X : Type 0} (p : X → Bool) (front : List X) (x : X) (back : List X) → p x ≡ true
+    → list_any p (front ++ x ∷ back) ≡ false → ⊥
 some_passes p front x back passes none =
-    let behind = or_parts (list_any p front) (list_any p (x ∷ back)) (sym (list_any-append p front (x ∷ back)) ∙ none) in
+    let behind = or_parts (list_any p front) (list_any p (x ∷ back))
+    (sym (list_any-append p front (x ∷ back)) ∙ none) in
     let here = or_parts (p x) (list_any p back) behind.1 in
     cc (here.0, passes)
 
@@ -41,9 +43,12 @@ pub record SamePlace {X : Type 0} (front before : List X) (a b : X) (back behind
   pub here : a ≡ b
   pub later : back ≡ behind
 
-pub one_first : {X : Type 0} (p : X → Bool) (front before : List X) (a b : X) (back behind : List X) → front ++ a ∷ back ≡ before ++ b ∷ behind
-    → list_any p front ≡ false → list_any p before ≡ false → p a ≡ true → p b ≡ true → SamePlace front before a b back behind
-one_first p [] [] a b back behind same none nor passes also = record { in_front = refl; here = cc same; later = cc same }
+pub one_first : {X : Type 0} (p : X → Bool) (front before : List X) (a b : X) (back behind : List X)
+    → front ++ a ∷ back ≡ before ++ b ∷ behind
+    → list_any p front ≡ false → list_any p before ≡ false → p a ≡ true → p b ≡ true
+    → SamePlace front before a b back behind
+one_first p [] [] a b back behind same none nor passes also =
+    record { in_front = refl; here = cc same; later = cc same }
 one_first p [] (y ∷ before) a b back behind same none nor passes also =
     let is : a ≡ y = cc same in
     let other = or_parts (p y) (list_any p before) nor in
@@ -56,7 +61,8 @@ one_first p (x ∷ front) (y ∷ before) a b back behind same none nor passes al
     let first : x ≡ y = cc same in
     let rest : front ++ a ∷ back ≡ before ++ b ∷ behind = cc same in
     let later =
-    one_first p front before a b back behind rest (or_parts (p x) (list_any p front) none).1 (or_parts (p y) (list_any p before) nor).1 passes also in
+    one_first p front before a b back behind rest (or_parts (p x) (list_any p front) none).1
+    (or_parts (p y) (list_any p before) nor).1 passes also in
     let front_is : front ≡ before = later.in_front in
     record { in_front = cc; here = later.here; later = later.later }
 
@@ -66,12 +72,14 @@ one_first p (x ∷ front) (y ∷ before) a b back behind same none nor passes al
 pub is_to_first : (address : ℕ) (bytes : List ℕ) (leg : Leg) → sent leg ≡ address ∷ bytes → is_to address leg ≡ true
 is_to_first address bytes leg is = ap (is_first_byte address) is ∙ eq-eqb address address refl
 
-pub is_to_other : (address first : ℕ) (bytes : List ℕ) (leg : Leg) → (first ≡ address → ⊥) → sent leg ≡ first ∷ bytes → is_to address leg ≡ false
+pub is_to_other : (address first : ℕ) (bytes : List ℕ) (leg : Leg) → (first ≡ address → ⊥) → sent leg ≡ first ∷ bytes
+    → is_to address leg ≡ false
 is_to_other address first bytes leg other is = ap (is_first_byte address) is ∙ ne_eqb first address other
 
 module _ (device : DeviceParts) (before after : DeviceState) where
   -- without an own leg nothing changes
-  pub ends_without : (legs : List Leg) → some_is_to (write_address device.address) legs ≡ false → LegsEnd device legs before after → after ≡ before
+  pub ends_without : (legs : List Leg) → some_is_to (write_address device.address) legs ≡ false
+      → LegsEnd device legs before after → after ≡ before
   ends_without legs none (own_leg bytes o ends) =
       let w = write_address device.address in
       absurd
@@ -82,13 +90,15 @@ module _ (device : DeviceParts) (before after : DeviceState) where
   ends_without legs none (no_leg nor same) = same
 
   -- The own leg acts: the first that begins with the device's address for writing.
-  pub ends_at : (front : List Leg) (leg : Leg) (back : List Leg) (bytes : List ℕ) → some_is_to (write_address device.address) front ≡ false
+  pub ends_at : (front : List Leg) (leg : Leg) (back : List Leg) (bytes : List ℕ)
+      → some_is_to (write_address device.address) front ≡ false
       → sent leg ≡ write_address device.address ∷ bytes → LegsEnd device (front ++ leg ∷ back) before after
       → OwnLegEnds device front bytes back before after
   ends_at front leg back bytes new is (own_leg others o ends) =
       let w = write_address device.address in
       let place =
-      one_first (is_to w) front o.earlier leg o.own back o.behind o.split new o.first (is_to_first w bytes leg is) (is_to_first w others o.own o.bytes_are) in
+      one_first (is_to w) front o.earlier leg o.own back o.behind o.split new o.first (is_to_first w bytes leg is)
+      (is_to_first w others o.own o.bytes_are) in
       let rows : w ∷ bytes ≡ w ∷ others = sym is ∙ ap sent place.here ∙ o.bytes_are in
       let same : bytes ≡ others = cc rows in
       subst (λ (fs : List Leg). OwnLegEnds device fs bytes back before after) (sym place.in_front)

@@ -1,6 +1,7 @@
 -- The signals from which events were recorded: START from START alone, and a byte after an address
 -- for writing from the host's byte alone.
-use Rattle.std.proofs.Common.{◌≡◌, ◌≢◌, ℕ, Bool, true, false, List, [], ◌∷◌, ◌++◌, refl, sym, ap, subst, ◌∙◌, append_assoc}
+use Rattle.std.proofs.Common.{◌≡◌, ◌≢◌, ℕ, Bool, true, false, List, [], ◌∷◌, ◌++◌, refl, sym, ap, subst, ◌∙◌}
+use Rattle.std.proofs.Common.{append_assoc}
 use Rattle.std.proofs.lemmas.List.{append-nil}
 use Rattle.pmb_bus.specs.declared.event.Event.{Event}
 use Rattle.pmb_bus.specs.declared.event.Event.TheVariants as wire
@@ -12,7 +13,8 @@ use Rattle.pmb_device.specs.declared.signal.DeviceSignal.{DeviceSignal}
 use Rattle.pmb_device.specs.declared.signal.DeviceSignal.TheVariants as answers
 use Rattle.pmb_device.specs.Legs.{Leg, Legs, Outside, Inside, sent, with_start, with_signal}
 use Rattle.pmb_device.specs.Rules.{AnswersAsk, replies, not_read}
-use Rattle.pmb_devices.specs.Bus.{AreAnswered, BusAnswers, AnsweredSignal, acknowledged, recorded_events, given, legs_after, recorded}
+use Rattle.pmb_devices.specs.Bus.{AreAnswered, BusAnswers, AnsweredSignal, acknowledged, recorded_events, given}
+use Rattle.pmb_devices.specs.Bus.{legs_after, recorded}
 
 -- ---- what is recorded of an answer
 
@@ -80,10 +82,13 @@ module _ (members : List InState) (final : Legs) where
   -- ---- START
 
   -- what was recorded as START
-  start_of : (legs : Legs) (rest : List Event) (signal : HostSignal) (result : DeviceSignal) (more : List AnsweredSignal)
-      → AreAnswered members (with_signal legs signal) more → (recorded signal result ++ recorded_events more) ++ wire.Stop ∷ [] ≡ wire.Start ∷ rest
+  start_of : (legs : Legs) (rest : List Event) (signal : HostSignal) (result : DeviceSignal)
+      (more : List AnsweredSignal)
+      → AreAnswered members (with_signal legs signal) more → (recorded signal result ++ recorded_events more)
+      ++ wire.Stop ∷ [] ≡ wire.Start ∷ rest
       → legs_after (with_signal legs signal) more ≡ final → Stands (with_start legs) rest
-  start_of legs rest Start result more answered spelled ends = record { more = more; answered = answered; spelled = cc spelled; ends = ends }
+  start_of legs rest Start result more answered spelled ends =
+      record { more = more; answered = answered; spelled = cc spelled; ends = ends }
   start_of legs rest (Byte b) result more answered spelled ends = absurd (cc spelled)
   start_of legs rest Ask result more answered spelled ends = absurd (given_no_start result (cc spelled))
   start_of legs rest Ack result more answered spelled ends = absurd (cc spelled)
@@ -91,19 +96,23 @@ module _ (members : List InState) (final : Legs) where
   start_of legs rest Stop result more answered spelled ends = absurd (cc spelled)
 
   start_from : (legs : Legs) (rest : List Event) (more : List AnsweredSignal) → AreAnswered members legs more
-      → recorded_events more ++ wire.Stop ∷ [] ≡ wire.Start ∷ rest → legs_after legs more ≡ final → Stands (with_start legs) rest
+      → recorded_events more ++ wire.Stop ∷ [] ≡ wire.Start ∷ rest → legs_after legs more ≡ final
+      → Stands (with_start legs) rest
   start_from legs rest [] answered spelled ends = absurd (cc spelled)
   start_from legs rest (exchange ∷ more) answered spelled ends =
       start_of legs rest exchange.signal exchange.result more answered.2 spelled ends
 
   -- START ends the leg before it
-  started : (legs : Legs) (events : List Event) → Stands (with_start legs) events → Stands (Inside (closed legs) []) events
+  started : (legs : Legs) (events : List Event) → Stands (with_start legs) events
+      → Stands (Inside (closed legs) []) events
   started Outside events stands = stands
   started (Inside earlier leg) events stands = stands
 
   -- After START a leg begins.
-  pub behind_start : (legs : Legs) (rest : List Event) → Stands legs (wire.Start ∷ rest) → Stands (Inside (closed legs) []) rest
-  behind_start legs rest stands = started legs rest (start_from legs rest stands.more stands.answered stands.spelled stands.ends)
+  pub behind_start : (legs : Legs) (rest : List Event) → Stands legs (wire.Start ∷ rest)
+      → Stands (Inside (closed legs) []) rest
+  behind_start legs rest stands = started legs rest
+      (start_from legs rest stands.more stands.answered stands.spelled stands.ends)
 
   -- ---- a byte
 
@@ -131,7 +140,8 @@ module _ (members : List InState) (final : Legs) where
       no_reply one.0 earlier leg b unread (subst (AnswersAsk one.0.device one.0.state earlier leg) is one.2)
 
   -- what was recorded as a byte
-  byte_of : (earlier : List Leg) (leg : Leg) (b : ℕ) (event : Event) (rest : List Event) → IsUnread leg → (signal : HostSignal)
+  byte_of : (earlier : List Leg) (leg : Leg) (b : ℕ) (event : Event) (rest : List Event) → IsUnread leg
+      → (signal : HostSignal)
       (result : DeviceSignal) (more : List AnsweredSignal) → BusAnswers members (Inside earlier leg) signal result
       → AreAnswered members (with_signal (Inside earlier leg) signal) more
       → (recorded signal result ++ recorded_events more) ++ wire.Stop ∷ [] ≡ wire.Byte b ∷ event ∷ rest
@@ -150,13 +160,16 @@ module _ (members : List InState) (final : Legs) where
           ends = ap (λ (n : ℕ). legs_after (Inside earlier (leg ++ Byte n ∷ [])) more) (sym is) ∙ ends;
         };
       }
-  byte_of earlier leg b event rest unread Ask result more bus answered spelled ends = absurd (no_byte_asked earlier leg result b unread bus (cc spelled))
+  byte_of earlier leg b event rest unread Ask result more bus answered spelled ends =
+      absurd (no_byte_asked earlier leg result b unread bus (cc spelled))
   byte_of earlier leg b event rest unread Ack result more bus answered spelled ends = absurd (cc spelled)
   byte_of earlier leg b event rest unread Nack result more bus answered spelled ends = absurd (cc spelled)
   byte_of earlier leg b event rest unread Stop result more bus answered spelled ends = absurd (cc spelled)
 
-  byte_from : (earlier : List Leg) (leg : Leg) (b : ℕ) (event : Event) (rest : List Event) → IsUnread leg → (more : List AnsweredSignal)
-      → AreAnswered members (Inside earlier leg) more → recorded_events more ++ wire.Stop ∷ [] ≡ wire.Byte b ∷ event ∷ rest
+  byte_from : (earlier : List Leg) (leg : Leg) (b : ℕ) (event : Event) (rest : List Event) → IsUnread leg
+      → (more : List AnsweredSignal)
+      → AreAnswered members (Inside earlier leg) more → recorded_events more ++ wire.Stop ∷ [] ≡ wire.Byte b ∷ event
+      ∷ rest
       → legs_after (Inside earlier leg) more ≡ final → Sent earlier leg b event rest
   byte_from earlier leg b event rest unread [] answered spelled ends = absurd (cc spelled)
   byte_from earlier leg b event rest unread (exchange ∷ more) answered spelled ends =
@@ -180,10 +193,12 @@ module _ (members : List InState) (final : Legs) where
   stop_of Nack result more other spelled = cc spelled
   stop_of Stop result more other spelled = other refl
 
-  stop_from : (legs : Legs) (more : List AnsweredSignal) → AreAnswered members legs more → recorded_events more ++ wire.Stop ∷ [] ≡ wire.Stop ∷ []
+  stop_from : (legs : Legs) (more : List AnsweredSignal) → AreAnswered members legs more
+      → recorded_events more ++ wire.Stop ∷ [] ≡ wire.Stop ∷ []
       → legs_after legs more ≡ final → legs ≡ final
   stop_from legs [] answered spelled ends = ends
-  stop_from legs (exchange ∷ more) answered spelled ends = absurd (stop_of exchange.signal exchange.result more answered.0 spelled)
+  stop_from legs (exchange ∷ more) answered spelled ends =
+      absurd (stop_of exchange.signal exchange.result more answered.0 spelled)
 
   -- Before STOP the legs are the final ones.
   pub at_stop : (legs : Legs) → Stands legs (wire.Stop ∷ []) → legs ≡ final
@@ -196,30 +211,43 @@ module _ (members : List InState) (final : Legs) where
     pub is : final ≡ Inside earlier (leg ++ behind)
 
   -- one signal more
-  goes_on : (earlier : List Leg) (leg : Leg) (signal : HostSignal) → Goes earlier (leg ++ signal ∷ []) → Goes earlier leg
+  goes_on : (earlier : List Leg) (leg : Leg) (signal : HostSignal) → Goes earlier (leg ++ signal ∷ [])
+      → Goes earlier leg
   goes_on earlier leg signal goes =
-      record { behind = signal ∷ goes.behind; is = goes.is ∙ ap (λ (l : Leg). Inside earlier l) (append_assoc leg (signal ∷ []) goes.behind) }
+      record {
+        behind = signal ∷ goes.behind;
+        is = goes.is ∙ ap (λ (l : Leg). Inside earlier l)
+            (append_assoc leg (signal ∷ []) goes.behind);
+      }
 
   -- by the signal that comes first
-  goes_of : (earlier : List Leg) (leg : Leg) (signal : HostSignal) (result : DeviceSignal) (more : List AnsweredSignal) → signal ≢ Stop
+  goes_of : (earlier : List Leg) (leg : Leg) (signal : HostSignal) (result : DeviceSignal) (more : List AnsweredSignal)
+      → signal ≢ Stop
       → AreAnswered members (with_signal (Inside earlier leg) signal) more
       → has_start ((recorded signal result ++ recorded_events more) ++ wire.Stop ∷ []) ≡ false
       → legs_after (with_signal (Inside earlier leg) signal) more ≡ final
-      → ((leg : Leg) → AreAnswered members (Inside earlier leg) more → has_start (recorded_events more ++ wire.Stop ∷ []) ≡ false
+      → ((leg : Leg) → AreAnswered members (Inside earlier leg) more
+      → has_start (recorded_events more ++ wire.Stop ∷ []) ≡ false
       → legs_after (Inside earlier leg) more ≡ final → Goes earlier leg) → Goes earlier leg
   goes_of earlier leg Start result more other answered none ends later = absurd (cc none)
   goes_of earlier leg (Byte b) result more other answered none ends later =
       goes_on earlier leg (Byte b)
-      (later (leg ++ Byte b ∷ []) answered (no_start_behind (acknowledged result) (recorded_events more ++ wire.Stop ∷ []) none) ends)
+      (later (leg ++ Byte b ∷ []) answered (no_start_behind (acknowledged result)
+      (recorded_events more ++ wire.Stop ∷ []) none) ends)
   goes_of earlier leg Ask result more other answered none ends later =
-      goes_on earlier leg Ask (later (leg ++ Ask ∷ []) answered (no_start_behind (given result) (recorded_events more ++ wire.Stop ∷ []) none) ends)
-  goes_of earlier leg Ack result more other answered none ends later = goes_on earlier leg Ack (later (leg ++ Ack ∷ []) answered none ends)
-  goes_of earlier leg Nack result more other answered none ends later = goes_on earlier leg Nack (later (leg ++ Nack ∷ []) answered none ends)
+      goes_on earlier leg Ask (later (leg ++ Ask ∷ []) answered
+      (no_start_behind (given result) (recorded_events more ++ wire.Stop ∷ []) none) ends)
+  goes_of earlier leg Ack result more other answered none ends later =
+      goes_on earlier leg Ack (later (leg ++ Ack ∷ []) answered none ends)
+  goes_of earlier leg Nack result more other answered none ends later =
+      goes_on earlier leg Nack (later (leg ++ Nack ∷ []) answered none ends)
   goes_of earlier leg Stop result more other answered none ends later = absurd (other refl)
 
   -- and by all that come
-  goes_from : (earlier : List Leg) (leg : Leg) (more : List AnsweredSignal) → AreAnswered members (Inside earlier leg) more
-      → has_start (recorded_events more ++ wire.Stop ∷ []) ≡ false → legs_after (Inside earlier leg) more ≡ final → Goes earlier leg
+  goes_from : (earlier : List Leg) (leg : Leg) (more : List AnsweredSignal)
+      → AreAnswered members (Inside earlier leg) more
+      → has_start (recorded_events more ++ wire.Stop ∷ []) ≡ false → legs_after (Inside earlier leg) more ≡ final
+      → Goes earlier leg
   goes_from earlier leg [] answered none ends =
       record { behind = []; is = sym ends ∙ ap (λ (l : Leg). Inside earlier l) (sym (append-nil leg)) }
   goes_from earlier leg (exchange ∷ more) answered none ends =
@@ -227,7 +255,9 @@ module _ (members : List InState) (final : Legs) where
       (λ longer others nor goes. goes_from earlier longer more others nor goes)
 
   -- events of which none is START lead to the same leg
-  pub stays_in : (earlier : List Leg) (leg : Leg) (events : List Event) → has_start events ≡ false → Stands (Inside earlier leg) events
+  pub stays_in : (earlier : List Leg) (leg : Leg) (events : List Event) → has_start events ≡ false
+      → Stands (Inside earlier leg) events
       → Goes earlier leg
   stays_in earlier leg events none stands =
-      goes_from earlier leg stands.more stands.answered (subst (λ (es : List Event). has_start es ≡ false) (sym stands.spelled) none) stands.ends
+      goes_from earlier leg stands.more stands.answered
+      (subst (λ (es : List Event). has_start es ≡ false) (sym stands.spelled) none) stands.ends

@@ -1,6 +1,7 @@
 -- Packets in which a device is read: after its own leg there is one that begins with its address
 -- for reading, or the Alert Response Address alone.
-use Rattle.std.proofs.Common.{◌≡◌, ℕ, inl, inr, Bool, true, false, ◌||◌, Option, List, [], ◌∷◌, ◌++◌, nat_eq, refl, sym, ap, subst, ◌∙◌, append_assoc}
+use Rattle.std.proofs.Common.{◌≡◌, ℕ, inl, inr, Bool, true, false, ◌||◌, Option, List, [], ◌∷◌, ◌++◌, nat_eq, refl, sym}
+use Rattle.std.proofs.Common.{ap, subst, ◌∙◌, append_assoc}
 use Rattle.std.specs.List.{Contains}
 use Rattle.std.proofs.lemmas.Bool.{eqb-true, or_from}
 use Rattle.pmb_bus.specs.declared.event.Event.TheVariants as wire
@@ -32,16 +33,19 @@ module _ (members : List InState) (member : InState) (in_bus : Contains members 
   pub elsewhere_read : (n : ℕ) (bytes : List ℕ) (leg : Leg) → sent leg ≡ read_address n ∷ bytes
       → is_to (write_address member.device.address) leg ≡ false
   elsewhere_read n bytes leg is =
-      is_to_other (write_address member.device.address) (read_address n) bytes leg (λ same. no_read_address member.device.address n (sym same)) is
+      is_to_other (write_address member.device.address) (read_address n) bytes leg
+      (λ same. no_read_address member.device.address n (sym same)) is
 
   -- What STOP makes of a member after a leg that is written and one that is read.
   pub data TwoLegsEnd (addr : ℕ) (body : List ℕ) (after : DeviceState) : Type 0 where
-    own : addr ≡ member.device.address → after ≡ with_noted member.device (bit_of_answer (answer member.device member.state body)) member.state
+    own : addr ≡ member.device.address → after
+        ≡ with_noted member.device (bit_of_answer (answer member.device member.state body)) member.state
         → TwoLegsEnd addr body after
     other : nat_eq addr member.device.address ≡ false → after ≡ member.state → TwoLegsEnd addr body after
 
   -- the answer of the member that is read is noted
-  own_noted : (body : List ℕ) (next : Leg) (bytes : List ℕ) (after : DeviceState) → sent next ≡ read_address member.device.address ∷ bytes
+  own_noted : (body : List ℕ) (next : Leg) (bytes : List ℕ) (after : DeviceState)
+      → sent next ≡ read_address member.device.address ∷ bytes
       → IsRequest member.device body
       → NotesAnswer member.device [] body (next ∷ []) member.state after
       → after ≡ with_noted member.device (bit_of_answer (answer member.device member.state body)) member.state
@@ -51,7 +55,8 @@ module _ (members : List InState) (member : InState) (in_bus : Contains members 
       absurd (none refl request next [] refl (ap (λ (b : Bool). b || false) here))
 
   -- its own leg was the first one
-  own_two : (body : List ℕ) (next : Leg) (bytes : List ℕ) (after : DeviceState) → sent next ≡ read_address member.device.address ∷ bytes
+  own_two : (body : List ℕ) (next : Leg) (bytes : List ℕ) (after : DeviceState)
+      → sent next ≡ read_address member.device.address ∷ bytes
       → IsRequest member.device body → Acked members [] (write_address member.device.address ∷ []) body
       → LegsEnd member.device (byte_leg (write_address member.device.address ∷ body) ∷ next ∷ []) member.state after
       → after ≡ with_noted member.device (bit_of_answer (answer member.device member.state body)) member.state
@@ -71,10 +76,12 @@ module _ (members : List InState) (member : InState) (in_bus : Contains members 
       ]
 
   -- the member that is written to and then read, and another one
-  pub two_legs : (addr : ℕ) (body : List ℕ) (next : Leg) (bytes : List ℕ) (after : DeviceState) → sent next ≡ read_address addr ∷ bytes
+  pub two_legs : (addr : ℕ) (body : List ℕ) (next : Leg) (bytes : List ℕ) (after : DeviceState)
+      → sent next ≡ read_address addr ∷ bytes
       → (addr ≡ member.device.address → IsRequest member.device body)
       → Acked members [] (write_address addr ∷ []) body
-      → LegsEnd member.device (byte_leg (write_address addr ∷ body) ∷ next ∷ []) member.state after → TwoLegsEnd addr body after
+      → LegsEnd member.device (byte_leg (write_address addr ∷ body) ∷ next ∷ []) member.state after
+      → TwoLegsEnd addr body after
   two_legs addr body next bytes after is request acks ends =
       let d = member.device in
       by_test (nat_eq addr d.address) (nat_eq addr d.address) refl
@@ -93,11 +100,13 @@ module _ (members : List InState) (member : InState) (in_bus : Contains members 
       let w = write_address d.address in
       let first = byte_leg (write_address addr ∷ body) in
       let no_first : is_to w first ≡ false =
-      is_to_other w (write_address addr) body first (other_written addr d.address differs) (sent_bytes (write_address addr ∷ body)) in
+      is_to_other w (write_address addr) body first (other_written addr d.address differs)
+      (sent_bytes (write_address addr ∷ body)) in
       other differs
       (
       ends_without d member.state after (first ∷ next ∷ [])
-      (or_from (is_to w first) (is_to w next || false) no_first (or_from (is_to w next) false (elsewhere_read addr bytes next is) refl)) ends
+      (or_from (is_to w first) (is_to w next || false) no_first
+      (or_from (is_to w next) false (elsewhere_read addr bytes next is) refl)) ends
       )
       )
 
@@ -106,7 +115,8 @@ module _ (members : List InState) (member : InState) (in_bus : Contains members 
   -- A member that gave ACK to be read notes nothing.
   pub answered_changes_nothing : (final : Legs) (addr : ℕ) (body reply : List ℕ) (with_pec : Bool) (after : DeviceState)
       → (addr ≡ member.device.address → IsRequest member.device body)
-      → Stands members final Outside (answered addr body reply with_pec) → LegsEnd member.device (closed final) member.state after
+      → Stands members final Outside (answered addr body reply with_pec)
+      → LegsEnd member.device (closed final) member.state after
       → after ≡ member.state
   answered_changes_nothing final addr body reply with_pec after request stands ends =
       let d = member.device in
@@ -114,25 +124,39 @@ module _ (members : List InState) (member : InState) (in_bus : Contains members 
       let rest = nacked bytes ++ wire.Stop ∷ [] in
       let first = byte_leg (write_address addr ∷ body) in
       let reply_leg = leg (read_address addr ∷ []) ++ nacked bytes in
-      let spelled : answered addr body reply with_pec ≡ leg (write_address addr ∷ body) ++ (wire.Start ∷ wire.Byte (read_address addr) ∷ wire.Ack ∷ rest) =
+      let spelled : answered addr body reply with_pec ≡ leg (write_address addr ∷ body)
+      ++ (wire.Start ∷ wire.Byte (read_address addr) ∷ wire.Ack ∷ rest) =
       append_assoc (leg (write_address addr ∷ body)) reply_leg (wire.Stop ∷ []) in
       let written =
       run_leg members final Outside addr body (wire.Start ∷ wire.Byte (read_address addr) ∷ wire.Ack ∷ rest)
       (subst (Stands members final Outside) spelled stands) in
       let read = run_address members final (Inside [] first) (read_address addr) wire.Ack rest written.stands in
-      let goes = stays_in members final (first ∷ []) (byte_leg (read_address addr ∷ [])) rest (no_start_nacked bytes) read.stands in
+      let goes = stays_in members final (first ∷ []) (byte_leg (read_address addr ∷ [])) rest
+      (no_start_nacked bytes) read.stands in
       let next = byte_leg (read_address addr ∷ []) ++ goes.behind in
       let legs : closed final ≡ first ∷ next ∷ [] = ap closed goes.is in
-      let two = two_legs addr body next (sent goes.behind) after refl request written.acked_are (subst (λ (ls : List Leg). LegsEnd d ls member.state after) legs ends) in
+      let two = two_legs addr body next (sent goes.behind) after refl request written.acked_are
+      (subst (λ (ls : List Leg). LegsEnd d ls member.state after) legs ends) in
       elim two [
         | own addr_is same ↦
-            let ack = subst (BusAnswers members (Inside (first ∷ []) []) (Byte (read_address addr))) (acknowledged_is read.result read.recorded_as) read.answer in
+            let ack = subst (BusAnswers members (Inside (first ∷ []) []) (Byte (read_address addr)))
+            (acknowledged_is read.result read.recorded_as) read.answer in
             let sent_are : sent first ≡ write_address d.address ∷ body =
             sent_bytes (write_address addr ∷ body) ∙ ap (λ (a : ℕ). write_address a ∷ body) addr_is in
             let none =
             read_taken members member in_bus (first ∷ []) body
-            (record { own = refl; asked = record { first = first; alone = refl; own = sent_are; request = request addr_is } })
-            (subst (λ (a : ℕ). BusAnswers members (Inside (first ∷ []) []) (Byte (read_address a)) answers.Ack) addr_is ack) in
+            (record {
+              own = refl;
+              asked = record {
+                first = first;
+                alone = refl;
+                own = sent_are;
+                request =
+                    request addr_is;
+              };
+            })
+            (subst (λ (a : ℕ). BusAnswers members (Inside (first ∷ []) []) (Byte (read_address a)) answers.Ack) addr_is
+            ack) in
             same ∙ ap (λ (o : Option CmlBit). with_noted d o member.state) none
         | other differs same ↦ same
       ]
@@ -144,7 +168,8 @@ module _ (members : List InState) (member : InState) (in_bus : Contains members 
       → LegsEnd member.device (leg ∷ []) member.state after → after ≡ member.state
   alone_read n bytes leg after is ends =
       let w = write_address member.device.address in
-      ends_without member.device member.state after (leg ∷ []) (or_from (is_to w leg) false (elsewhere_read n bytes leg is) refl) ends
+      ends_without member.device member.state after (leg ∷ [])
+      (or_from (is_to w leg) false (elsewhere_read n bytes leg is) refl) ends
 
   -- an answer there
   pub alerts_change_nothing : (final : Legs) (bytes : List ℕ) (after : DeviceState)
@@ -153,7 +178,8 @@ module _ (members : List InState) (member : InState) (in_bus : Contains members 
   alerts_change_nothing final bytes after stands ends =
       let rest = nacked bytes ++ wire.Stop ∷ [] in
       let read = run_address members final Outside (read_address alert_address) wire.Ack rest stands in
-      let goes = stays_in members final [] (byte_leg (read_address alert_address ∷ [])) rest (no_start_nacked bytes) read.stands in
+      let goes = stays_in members final [] (byte_leg (read_address alert_address ∷ [])) rest
+      (no_start_nacked bytes) read.stands in
       alone_read alert_address (sent goes.behind) (byte_leg (read_address alert_address ∷ []) ++ goes.behind) after refl
       (subst (λ (ls : List Leg). LegsEnd member.device ls member.state after) (ap closed goes.is) ends)
 

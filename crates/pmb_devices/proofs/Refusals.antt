@@ -1,6 +1,7 @@
 -- A leg that is refused after complete parts: its address, a byte, or the address for reading after
 -- it.
-use Rattle.std.proofs.Common.{◌≡◌, ℕ, ◌⊎◌, inl, inr, Bool, true, false, if◌then◌else◌, Some, List, [], ◌∷◌, ◌++◌, nat_eq, refl, sym, ap, subst, ◌∙◌, append_assoc}
+use Rattle.std.proofs.Common.{◌≡◌, ℕ, ◌⊎◌, inl, inr, Bool, true, false, if◌then◌else◌, Some, List, [], ◌∷◌, ◌++◌}
+use Rattle.std.proofs.Common.{nat_eq, refl, sym, ap, subst, ◌∙◌, append_assoc}
 use Rattle.std.specs.List.{Contains, IsDistinct, list_any}
 use Rattle.std.proofs.lemmas.Bool.{eq-eqb, eqb-true, or_from}
 use Rattle.std.proofs.lemmas.List.{append-nil}
@@ -22,11 +23,13 @@ use Rattle.pmb_device.specs.Legs.{Leg, Legs, Outside, Inside, is_to, leg_place, 
 use Rattle.pmb_device.specs.Rules.{AllowedAt, GoesOn, IsWritten, TakesByte, TakesAll}
 use Rattle.pmb_device.specs.Ends.{Acts, LegsEnd, OwnLegEnds, Refuses, no_write, writes}
 use Rattle.pmb_devices.specs.Bus.{BusAnswers}
-use Rattle.pmb_devices.proofs.Givers.{Acked, no_read_address, refused_byte, run_address, run_leg, run_one, took_all, unread_written}
+use Rattle.pmb_devices.proofs.Givers.{Acked, no_read_address, refused_byte, run_address, run_leg, run_one, took_all}
+use Rattle.pmb_devices.proofs.Givers.{unread_written}
 use Rattle.pmb_devices.proofs.OwnLegs.{byte_leg, ends_at, ends_without, is_to_other, sent_bytes}
 use Rattle.pmb_devices.proofs.Parsing.{Stands, at_stop, closed}
 use Rattle.pmb_devices.proofs.ReadLegs.{own, other, two_legs}
-use Rattle.pmb_devices.proofs.Writes.{PartLegs, by_test, none_in_both, other_written, others_leave, parts_act, parts_elsewhere}
+use Rattle.pmb_devices.proofs.Writes.{PartLegs, by_test, none_in_both, other_written, others_leave, parts_act}
+use Rattle.pmb_devices.proofs.Writes.{parts_elsewhere}
 
 -- ---- bytes of which the last is refused
 
@@ -42,10 +45,12 @@ none_in_front (y ∷ front) x back same = cc same
 
 module _ (device : DeviceParts) (place : LegPlace) where
   -- of bytes that are taken the last is
-  takes_last : (taken front : List ℕ) (last : ℕ) → TakesAll device place taken (front ++ last ∷ []) → TakesByte device place (taken ++ front) last
+  takes_last : (taken front : List ℕ) (last : ℕ) → TakesAll device place taken (front ++ last ∷ [])
+      → TakesByte device place (taken ++ front) last
   takes_last taken [] last all = subst (λ (bs : List ℕ). TakesByte device place bs last) (sym (append-nil taken)) all.0
   takes_last taken (b ∷ front) last all =
-      subst (λ (bs : List ℕ). TakesByte device place bs last) (append_assoc taken (b ∷ []) front) (takes_last (taken ++ b ∷ []) front last all.1)
+      subst (λ (bs : List ℕ). TakesByte device place bs last) (append_assoc taken (b ∷ []) front)
+      (takes_last (taken ++ b ∷ []) front last all.1)
 
   -- There is one byte that is refused after bytes that are taken.
   pub record SameByte (front before : List ℕ) (last byte : ℕ) : Type 0 where
@@ -53,8 +58,10 @@ module _ (device : DeviceParts) (place : LegPlace) where
     pub bytes : last ≡ byte
 
   -- by the bytes in front
-  one_refused : (taken front : List ℕ) (last : ℕ) (before : List ℕ) (byte : ℕ) (rest : List ℕ) → front ++ last ∷ [] ≡ before ++ byte ∷ rest
-      → TakesAll device place taken front → (TakesByte device place (taken ++ before) byte → ⊥) → SameByte front before last byte
+  one_refused : (taken front : List ℕ) (last : ℕ) (before : List ℕ) (byte : ℕ) (rest : List ℕ)
+      → front ++ last ∷ [] ≡ before ++ byte ∷ rest
+      → TakesAll device place taken front → (TakesByte device place (taken ++ before) byte → ⊥)
+      → SameByte front before last byte
   one_refused taken [] last [] byte rest same all refused = record { fronts = refl; bytes = cc same }
   one_refused taken [] last (b ∷ before) byte rest same all refused =
       let nothing : before ++ byte ∷ rest ≡ [] = cc same in
@@ -81,7 +88,8 @@ module _ (device : DeviceParts) (place : LegPlace) where
       record { fronts = cc; bytes = later.bytes }
 
 -- What is noted of a refused byte is that bit.
-noted_of : (device : DeviceParts) (place : LegPlace) (front : List ℕ) (last : ℕ) (before after : DeviceState) → TakesAll device place [] front
+noted_of : (device : DeviceParts) (place : LegPlace) (front : List ℕ) (last : ℕ) (before after : DeviceState)
+    → TakesAll device place [] front
     → GoesOn device place front → Refuses device place (front ++ last ∷ []) before after
     → after ≡ with_noted device (bit_of_sent (front ++ last ∷ [])) before
 noted_of device place front last before after taken room r =
@@ -94,32 +102,39 @@ noted_of device place front last before after taken room r =
     ]
 
 -- no body is empty
-no_empty_write : (device : DeviceParts) (code : ℕ) (content : List ℕ) (with_pec : Bool) → WriteBody device code content with_pec [] → ⊥
+no_empty_write : (device : DeviceParts) (code : ℕ) (content : List ℕ) (with_pec : Bool)
+    → WriteBody device code content with_pec [] → ⊥
 no_empty_write device code content with_pec body =
-    let spelled_so = body.spelled ∙ checked_is with_pec (write_address device.address ∷ []) (code ∷ form.wire body.form content) in
+    let spelled_so = body.spelled ∙ checked_is with_pec (write_address device.address ∷ [])
+    (code ∷ form.wire body.form content) in
     cc spelled_so
 
 -- so a leg of an address alone does nothing
 nothing_acts : (device : DeviceParts) (before after : DeviceState) → Acts device [] before after → after ≡ before
-nothing_acts device before after (writes code content with_pec body is) = absurd (no_empty_write device code content with_pec body)
+nothing_acts device before after (writes code content with_pec body is) =
+    absurd (no_empty_write device code content with_pec body)
 nothing_acts device before after (no_write none same) = same
 
 module _ (profile : List DeviceParts) (members : List InState) (member : InState) (in_bus : Contains members member)
-    (the_own : (found : DeviceParts) → device_with member.device.address profile ≡ Some found → found ≡ member.device) where
+    (the_own : (found : DeviceParts) → device_with member.device.address profile ≡ Some found
+    → found ≡ member.device) where
   -- Parts, and one leg more that is written: where that is the member's own, STOP notes what it
   -- refused.
   last_ends : (parts : List PartData) (addr : ℕ) (bytes : List ℕ) (legs : List Leg) (last : Leg) (after : DeviceState)
       → PartLegs profile members [] parts legs → IsDistinct nat_eq (addresses parts) → IsNew addr (addresses parts)
       → sent last ≡ write_address addr ∷ bytes
       → (addr ≡ member.device.address → some_is_to (write_address member.device.address) legs ≡ false
-      → OwnLegEnds member.device legs bytes [] member.state after → after ≡ with_noted member.device (bit_of_sent bytes) member.state)
+      → OwnLegEnds member.device legs bytes [] member.state after
+      → after ≡ with_noted member.device (bit_of_sent bytes) member.state)
       → LegsEnd member.device (legs ++ last ∷ []) member.state after
-      → after ≡ after_refusal member.device (record { parts = parts; addr = addr; sent = bytes; at_read = false }) (after_parts member.device parts member.state)
+      → after ≡ after_refusal member.device (record { parts = parts; addr = addr; sent = bytes; at_read = false })
+      (after_parts member.device parts member.state)
   last_ends parts addr bytes legs last after each distinct new is noted ends =
       let d = member.device in
       let s = member.state in
       let w = write_address d.address in
-      let refusal = λ (b : Bool). if b then with_noted d (bit_of_sent bytes) (after_parts d parts s) else after_parts d parts s in
+      let refusal = λ (b : Bool). if b then with_noted d (bit_of_sent bytes) (after_parts d parts s) else after_parts d
+      parts s in
       by_test (nat_eq addr d.address) (nat_eq addr d.address) refl
       (
       λ same.
@@ -133,19 +148,23 @@ module _ (profile : List DeviceParts) (members : List InState) (member : InState
       )
       (
       λ differs.
-      let no_last : is_to w last ≡ false = is_to_other w (write_address addr) bytes last (other_written addr d.address differs) is in
+      let no_last : is_to w last ≡ false = is_to_other w (write_address addr) bytes last
+      (other_written addr d.address differs) is in
       let unread : some_is_to (read_address d.address) (last ∷ []) ≡ false =
       or_from (is_to (read_address d.address) last) false
-      (is_to_other (read_address d.address) (write_address addr) bytes last (λ same. no_read_address addr d.address same) is) refl in
+      (is_to_other (read_address d.address) (write_address addr) bytes last
+      (λ same. no_read_address addr d.address same) is) refl in
       by_test (list_any (nat_eq d.address) (addresses parts)) (list_any (nat_eq d.address) (addresses parts)) refl
       (
-      λ some. parts_act profile members member in_bus the_own parts [] legs (last ∷ []) s after each distinct refl unread some ends ∙ ap refusal (sym differs)
+      λ some. parts_act profile members member in_bus the_own parts [] legs (last ∷ []) s after each distinct refl
+      unread some ends ∙ ap refusal (sym differs)
       )
       (
       λ alone.
       ends_without d s after (legs ++ last ∷ [])
       (
-      none_in_both w legs (last ∷ []) (parts_elsewhere profile members d.address [] parts legs each alone) (or_from (is_to w last) false no_last refl)
+      none_in_both w legs (last ∷ []) (parts_elsewhere profile members d.address [] parts legs each alone)
+      (or_from (is_to w last) false no_last refl)
       ) ends
       ∙ sym (others_leave d parts s alone)
       ∙ ap refusal (sym differs)
@@ -153,31 +172,41 @@ module _ (profile : List DeviceParts) (members : List InState) (member : InState
       )
 
   -- after some parts the bodies are those of a later leg
-  allowed_at : (device : DeviceParts) (parts : List PartData) (legs : List Leg) (body : List ℕ) → PartLegs profile members [] parts legs
+  allowed_at : (device : DeviceParts) (parts : List PartData) (legs : List Leg) (body : List ℕ)
+      → PartLegs profile members [] parts legs
       → Allowed device parts body → AllowedAt device (leg_place legs) body
-  allowed_at device [] legs body each allowed = subst (λ (ls : List Leg). AllowedAt device (leg_place ls) body) (sym each) allowed
+  allowed_at device [] legs body each allowed = subst (λ (ls : List Leg). AllowedAt device (leg_place ls) body)
+      (sym each) allowed
   allowed_at device (part ∷ parts) legs body each allowed =
       subst (λ (ls : List Leg). AllowedAt device (leg_place ls) body) (sym each.2) allowed
 
   -- a byte has a place after those before it
-  room_at : (device : DeviceParts) (parts : List PartData) (legs : List Leg) (front : List ℕ) → PartLegs profile members [] parts legs
-      → (front ≡ []) ⊎ ((body : List ℕ) × Allowed device parts body × IsProperPrefix front body) → GoesOn device (leg_place legs) front
+  room_at : (device : DeviceParts) (parts : List PartData) (legs : List Leg) (front : List ℕ)
+      → PartLegs profile members [] parts legs
+      → (front ≡ []) ⊎ ((body : List ℕ) × Allowed device parts body × IsProperPrefix front body)
+      → GoesOn device (leg_place legs) front
   room_at device parts legs front each (inl none) = inl none
   room_at device parts legs front each (inr w) = inr (w.0, allowed_at device parts legs w.0 each w.1, w.2)
 
   -- ---- an address
 
   -- Where an address is refused nothing is noted.
-  pub address_refused : (final reached : Legs) (parts : List PartData) (addr : ℕ) (legs : List Leg) (last : List Event) (after : DeviceState)
-      → closed reached ≡ legs → PartLegs profile members [] parts legs → IsDistinct nat_eq (addresses parts) → IsNew addr (addresses parts)
-      → AddressRefused profile addr last → Stands members final reached (last ++ wire.Stop ∷ []) → LegsEnd member.device (closed final) member.state after
-      → after ≡ after_refusal member.device (record { parts = parts; addr = addr; sent = []; at_read = false }) (after_parts member.device parts member.state)
+  pub address_refused : (final reached : Legs) (parts : List PartData) (addr : ℕ) (legs : List Leg) (last : List Event)
+      (after : DeviceState)
+      → closed reached ≡ legs → PartLegs profile members [] parts legs → IsDistinct nat_eq (addresses parts)
+      → IsNew addr (addresses parts)
+      → AddressRefused profile addr last → Stands members final reached (last ++ wire.Stop ∷ [])
+      → LegsEnd member.device (closed final) member.state after
+      → after ≡ after_refusal member.device (record { parts = parts; addr = addr; sent = []; at_read = false })
+      (after_parts member.device parts member.state)
   address_refused final reached parts addr legs last after closed_is each distinct new refused stands ends =
-      let begun = subst (λ (es : List Event). Stands members final reached (es ++ wire.Stop ∷ [])) refused.spelled stands in
+      let begun = subst (λ (es : List Event). Stands members final reached (es ++ wire.Stop ∷ [])) refused.spelled
+      stands in
       let one = run_address members final reached (write_address addr) wire.Nack (wire.Stop ∷ []) begun in
       let own_leg = byte_leg (write_address addr ∷ []) in
       let is = at_stop members final (Inside (closed reached) own_leg) one.stands in
-      let legs_are : closed final ≡ legs ++ own_leg ∷ [] = ap closed (sym is) ∙ ap (λ (ls : List Leg). ls ++ own_leg ∷ []) closed_is in
+      let legs_are : closed final ≡ legs ++ own_leg ∷ [] = ap closed (sym is)
+      ∙ ap (λ (ls : List Leg). ls ++ own_leg ∷ []) closed_is in
       last_ends parts addr [] legs own_leg after each distinct new refl
       (
       λ addr_is none own_ends.
@@ -188,11 +217,14 @@ module _ (profile : List DeviceParts) (members : List InState) (member : InState
   -- ---- a byte
 
   -- A refused byte is noted by the member that refused it.
-  pub byte_refused : (final reached : Legs) (parts : List PartData) (addr : ℕ) (bytes : List ℕ) (legs : List Leg) (last : List Event) (after : DeviceState)
-      → closed reached ≡ legs → PartLegs profile members [] parts legs → IsDistinct nat_eq (addresses parts) → IsNew addr (addresses parts)
+  pub byte_refused : (final reached : Legs) (parts : List PartData) (addr : ℕ) (bytes : List ℕ) (legs : List Leg)
+      (last : List Event) (after : DeviceState)
+      → closed reached ≡ legs → PartLegs profile members [] parts legs → IsDistinct nat_eq (addresses parts)
+      → IsNew addr (addresses parts)
       → ByteRefused profile parts addr bytes last → Stands members final reached (last ++ wire.Stop ∷ [])
       → LegsEnd member.device (closed final) member.state after
-      → after ≡ after_refusal member.device (record { parts = parts; addr = addr; sent = bytes; at_read = false }) (after_parts member.device parts member.state)
+      → after ≡ after_refusal member.device (record { parts = parts; addr = addr; sent = bytes; at_read = false })
+      (after_parts member.device parts member.state)
   byte_refused final reached parts addr bytes legs last after closed_is each distinct new refused stands ends =
       let d = member.device in
       let front = refused.front in
@@ -203,30 +235,40 @@ module _ (profile : List DeviceParts) (members : List InState) (member : InState
       ∙ ap (λ (es : List Event). es ++ wire.Stop ∷ []) (nacked_last front byte)
       ∙ append_assoc (acked front) (wire.Byte byte ∷ wire.Nack ∷ []) (wire.Stop ∷ []) in
       let spelled_so : last ++ wire.Stop ∷ [] ≡ leg (write_address addr ∷ front) ++ rest =
-      ap (λ (es : List Event). es ++ wire.Stop ∷ []) refused.spelled ∙ ap (λ (es : List Event). leg (write_address addr ∷ []) ++ es) behind in
-      let ran = run_leg members final reached addr front rest (subst (Stands members final reached) spelled_so stands) in
+      ap (λ (es : List Event). es ++ wire.Stop ∷ []) refused.spelled
+      ∙ ap (λ (es : List Event). leg (write_address addr ∷ []) ++ es) behind in
+      let ran = run_leg members final reached addr front rest
+      (subst (Stands members final reached) spelled_so stands) in
       let one =
-      run_one members final (closed reached) (write_address addr ∷ front) byte wire.Nack (wire.Stop ∷ []) (unread_written addr front) ran.stands in
+      run_one members final (closed reached) (write_address addr ∷ front) byte wire.Nack (wire.Stop ∷ [])
+      (unread_written addr front) ran.stands in
       let own_leg = byte_leg (write_address addr ∷ front ++ byte ∷ []) in
       let is = at_stop members final (Inside (closed reached) own_leg) one.stands in
-      let legs_are : closed final ≡ legs ++ own_leg ∷ [] = ap closed (sym is) ∙ ap (λ (ls : List Leg). ls ++ own_leg ∷ []) closed_is in
+      let legs_are : closed final ≡ legs ++ own_leg ∷ [] = ap closed (sym is)
+      ∙ ap (λ (ls : List Leg). ls ++ own_leg ∷ []) closed_is in
       let sent_are : sent own_leg ≡ write_address addr ∷ bytes =
-      sent_bytes (write_address addr ∷ front ++ byte ∷ []) ∙ ap (λ (bs : List ℕ). write_address addr ∷ bs) (sym refused.split) in
+      sent_bytes (write_address addr ∷ front ++ byte ∷ []) ∙ ap (λ (bs : List ℕ). write_address addr ∷ bs)
+      (sym refused.split) in
       last_ends parts addr bytes legs own_leg after each distinct new sent_are
       (
       λ addr_is none own_ends.
       let w = write_address d.address in
-      let device_is = the_own refused.device (subst (λ (a : ℕ). device_with a profile ≡ Some refused.device) addr_is refused.known) in
+      let device_is = the_own refused.device (subst (λ (a : ℕ). device_with a profile ≡ Some refused.device) addr_is
+      refused.known) in
       let own_written : IsWritten d legs w = record { own = refl; once = none } in
       let acks =
       subst (λ (a : ℕ). Acked members legs (write_address a ∷ []) front) addr_is
       (subst (λ (ls : List Leg). Acked members ls (write_address addr ∷ []) front) closed_is ran.acked_are) in
       let taken = took_all members member in_bus legs w [] front own_written tt acks in
       let answered =
-      subst (λ (a : ℕ). BusAnswers members (Inside legs (byte_leg (write_address a ∷ front))) (Byte byte) one.result) addr_is
-      (subst (λ (ls : List Leg). BusAnswers members (Inside ls (byte_leg (write_address addr ∷ front))) (Byte byte) one.result) closed_is one.answer) in
-      let not_taken = refused_byte members member in_bus legs w front byte one.result own_written taken answered one.recorded_as in
-      let room = subst (λ (e : DeviceParts). GoesOn e (leg_place legs) front) device_is (room_at refused.device parts legs front each refused.begins) in
+      subst (λ (a : ℕ). BusAnswers members (Inside legs (byte_leg (write_address a ∷ front))) (Byte byte) one.result)
+      addr_is
+      (subst (λ (ls : List Leg). BusAnswers members (Inside ls (byte_leg (write_address addr ∷ front)))
+      (Byte byte) one.result) closed_is one.answer) in
+      let not_taken = refused_byte members member in_bus legs w front byte one.result own_written taken answered
+      one.recorded_as in
+      let room = subst (λ (e : DeviceParts). GoesOn e (leg_place legs) front) device_is
+      (room_at refused.device parts legs front each refused.begins) in
       let ended = subst (λ (bs : List ℕ). OwnLegEnds d legs bs [] member.state after) refused.split own_ends in
       elim ended [
         | inl w ↦ absurd (not_taken (takes_last d (leg_place legs) [] front byte w.0))
@@ -243,17 +285,21 @@ module _ (profile : List DeviceParts) (members : List InState) (member : InState
   pub read_refused : (final : Legs) (addr : ℕ) (bytes : List ℕ) (last : List Event) (after : DeviceState)
       → ReadRefused profile [] addr bytes last → Stands members final Outside (last ++ wire.Stop ∷ [])
       → LegsEnd member.device (closed final) member.state after
-      → after ≡ after_refusal member.device (record { parts = []; addr = addr; sent = bytes; at_read = true }) member.state
+      → after ≡ after_refusal member.device (record { parts = []; addr = addr; sent = bytes; at_read = true })
+      member.state
   read_refused final addr bytes last after refused stands ends =
       let d = member.device in
       let s = member.state in
       let behind = wire.Start ∷ wire.Byte (read_address addr) ∷ wire.Nack ∷ [] in
       let spelled_so : last ++ wire.Stop ∷ [] ≡ leg (write_address addr ∷ bytes) ++ (behind ++ wire.Stop ∷ []) =
-      ap (λ (es : List Event). es ++ wire.Stop ∷ []) refused.spelled ∙ append_assoc (leg (write_address addr ∷ bytes)) behind (wire.Stop ∷ []) in
+      ap (λ (es : List Event). es ++ wire.Stop ∷ []) refused.spelled
+      ∙ append_assoc (leg (write_address addr ∷ bytes)) behind (wire.Stop ∷ []) in
       let first = byte_leg (write_address addr ∷ bytes) in
       let next = byte_leg (read_address addr ∷ []) in
-      let ran = run_leg members final Outside addr bytes (behind ++ wire.Stop ∷ []) (subst (Stands members final Outside) spelled_so stands) in
-      let read = run_address members final (Inside [] first) (read_address addr) wire.Nack (wire.Stop ∷ []) ran.stands in
+      let ran = run_leg members final Outside addr bytes (behind ++ wire.Stop ∷ [])
+      (subst (Stands members final Outside) spelled_so stands) in
+      let read = run_address members final (Inside [] first) (read_address addr) wire.Nack
+      (wire.Stop ∷ []) ran.stands in
       let is = at_stop members final (Inside (first ∷ []) next) read.stands in
       let refusal = λ (b : Bool). if b then with_noted d (bit_of_answer (answer d s bytes)) s else s in
       let two =
@@ -261,7 +307,8 @@ module _ (profile : List DeviceParts) (members : List InState) (member : InState
       (
       λ addr_is.
       subst (λ (e : DeviceParts). IsRequest e bytes)
-      (the_own refused.device (subst (λ (a : ℕ). device_with a profile ≡ Some refused.device) addr_is refused.known)) refused.body
+      (the_own refused.device (subst (λ (a : ℕ). device_with a profile ≡ Some refused.device) addr_is refused.known))
+      refused.body
       ) ran.acked_are (subst (λ (ls : List Leg). LegsEnd d ls s after) (ap closed (sym is)) ends) in
       elim two [
         | own addr_is same ↦ same ∙ ap refusal (sym (eq-eqb addr d.address addr_is))

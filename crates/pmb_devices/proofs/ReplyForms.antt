@@ -1,5 +1,7 @@
 -- The answer to a read or a call is as long as its form takes, and its body is of that form alone.
-use Rattle.std.proofs.Common.{◌≡◌, ℕ, ◌<◌, ◌⊎◌, inl, inr, Bool, true, false, not, ◌&&◌, Option, Some, None, Result, Ok, Err, cond, is_some, List, [], ◌∷◌, ◌++◌, length, take, nat_eq, refl, sym, ap, subst, ◌∙◌, arith}
+use Rattle.std.proofs.Common.{◌≡◌, ℕ, ◌<◌, ◌⊎◌, inl, inr, Bool, true, false, not, ◌&&◌, Option, Some, None, Result, Ok}
+use Rattle.std.proofs.Common.{Err, cond, is_some, List, [], ◌∷◌, ◌++◌, length, take, nat_eq, refl, sym, ap, subst, ◌∙◌}
+use Rattle.std.proofs.Common.{arith}
 use Rattle.std.specs.Option.{unwrap_or}
 use Rattle.std.proofs.lemmas.Bool.{eqb-true, eq-eqb}
 use Rattle.std.proofs.lemmas.List.{take_at}
@@ -13,10 +15,12 @@ use Rattle.pmb_command.specs.Wire.{Fits, Takes, wire}
 use Rattle.pmb_transaction.specs.Body.{IsFormOfRequest, forms}
 use Rattle.pmb_registers.specs.declared.cml_bit.CmlBit.{CmlBit}
 use Rattle.pmb_registers.specs.declared.cml_bit.CmlBit.TheVariants.{BadCommand, BadValue}
-use Rattle.pmb_registers.specs.Answer.{all_pages, answer, answer_coefficients, coefficient_bytes, coefficients_of, coefficients_reply, is_paged}
+use Rattle.pmb_registers.specs.Answer.{all_pages, answer, answer_coefficients, coefficient_bytes, coefficients_of}
+use Rattle.pmb_registers.specs.Answer.{coefficients_reply, is_paged}
 use Rattle.pmb_registers.specs.State.{DeviceState, held}
 use Rattle.pmb_devices.specs.Replies.{IsState}
-use Rattle.pmb_devices.proofs.Commands.{coefficients_kept, command_code, command_is, command_of, kept_at, kept_is, read_register}
+use Rattle.pmb_devices.proofs.Commands.{coefficients_kept, command_code, command_is, command_of, kept_at, kept_is}
+use Rattle.pmb_devices.proofs.Commands.{read_register}
 
 -- ---- data before others
 
@@ -40,7 +44,8 @@ wire_front Block a b behind more long also same =
 -- ---- the form of a body
 
 -- a call sends some byte
-no_empty_call : (form : Form) (content : List ℕ) → calls_fit (Some form) ≡ true → Takes form (length content) → wire form content ≡ [] → ⊥
+no_empty_call : (form : Form) (content : List ℕ) → calls_fit (Some form) ≡ true → Takes form (length content)
+    → wire form content ≡ [] → ⊥
 no_empty_call Zero content fits taken none = cc fits
 no_empty_call One content fits taken none = cc fits
 no_empty_call Two [] fits taken none = omega arith
@@ -51,14 +56,16 @@ no_empty_call Block content fits taken none = cc none
 
 module _ (device : DeviceParts) (accepted : IsDevice device) where
   -- what is called sends some byte
-  call_sends : (code : ℕ) (form : Form) (content : List ℕ) → (forms device code).call ≡ Some form → Fits form content → wire form content ≡ [] → ⊥
+  call_sends : (code : ℕ) (form : Form) (content : List ℕ) → (forms device code).call ≡ Some form → Fits form content
+      → wire form content ≡ [] → ⊥
   call_sends code form content called fits none =
       let found = command_of device (λ s. s.call) code form refl called in
       let fitting = (command_is device accepted code found.0 found.1).entry.fitting.call_form in
       no_empty_call form content (subst (λ (o : Option Form). calls_fit o ≡ true) found.2 fitting) fits.taken none
 
   -- a read is answered in the form in which it is read
-  pub read_form : (code : ℕ) (form : Form) → (forms device code).read ≡ Some form → (other : Form) → IsFormOfRequest device other (code ∷ [])
+  pub read_form : (code : ℕ) (form : Form) → (forms device code).read ≡ Some form → (other : Form)
+      → IsFormOfRequest device other (code ∷ [])
       → other ≡ form
   read_form code form is other (inl (n, body)) =
       let same : n ≡ code = cc (body.spelled) in
@@ -68,7 +75,8 @@ module _ (device : DeviceParts) (accepted : IsDevice device) where
       absurd (call_sends n other content body.called body.fits none)
 
   -- and a call in the form in which it is called
-  pub call_form : (code : ℕ) (form : Form) (content : List ℕ) → (forms device code).call ≡ Some form → Fits form content → (other : Form)
+  pub call_form : (code : ℕ) (form : Form) (content : List ℕ) → (forms device code).call ≡ Some form → Fits form content
+      → (other : Form)
       → IsFormOfRequest device other (code ∷ wire form content) → other ≡ form
   call_form code form content is fits other (inl (n, body)) =
       let none : wire form content ≡ [] = cc (body.spelled) in
@@ -80,7 +88,8 @@ module _ (device : DeviceParts) (accepted : IsDevice device) where
 -- ---- the answer to a read
 
 -- where it is not refused, it is what the register holds
-read_parts : (refused : Bool) (bytes reply : List ℕ) → cond refused (Err BadValue) (Ok bytes) ≡ Ok reply → (refused ≡ false) × (bytes ≡ reply)
+read_parts : (refused : Bool) (bytes reply : List ℕ) → cond refused (Err BadValue) (Ok bytes) ≡ Ok reply
+    → (refused ≡ false) × (bytes ≡ reply)
 read_parts true bytes reply is = absurd (cc is)
 read_parts false bytes reply is = (refl, cc is)
 
@@ -100,7 +109,8 @@ some_data Block is = refl
 
 module _ (device : DeviceParts) (accepted : IsDevice device) (state : DeviceState) where
   -- The answer to a read is as long as the form takes.
-  pub read_taken : (code : ℕ) (form : Form) → (forms device code).read ≡ Some form → IsState device state → (reply : List ℕ)
+  pub read_taken : (code : ℕ) (form : Form) → (forms device code).read ≡ Some form → IsState device state
+      → (reply : List ℕ)
       → answer device state (code ∷ []) ≡ Ok reply → Takes form (length reply)
   read_taken code form is fits reply ok =
       let found = command_of device (λ s. s.read) code form refl is in
@@ -108,9 +118,11 @@ module _ (device : DeviceParts) (accepted : IsDevice device) (state : DeviceStat
       let entry = (command_is device accepted code command found.1).entry in
       let some : same_form Zero form ≡ false =
       some_data form (subst (λ (o : Option Form). reads_data o ≡ true) found.2 entry.fitting.read_data) in
-      let register : register_form command.entry.shape ≡ Some form = read_register command.entry.shape form found.2 some in
+      let register : register_form command.entry.shape ≡ Some form =
+      read_register command.entry.shape form found.2 some in
       let parts =
-      read_parts (nat_eq state.page all_pages && is_paged (command_with code device.commands)) (unwrap_or (held state.page code state.registers) []) reply ok in
+      read_parts (nat_eq state.page all_pages && is_paged (command_with code device.commands))
+      (unwrap_or (held state.page code state.registers) []) reply ok in
       let free : (nat_eq state.page all_pages && is_paged (Some command)) ≡ false =
       subst (λ (o : Option CommandParts). (nat_eq state.page all_pages && is_paged o) ≡ false) found.1 parts.0 in
       let there : (state.page < device.pages) ⊎ (command.entry.paged ≡ false) =
@@ -119,25 +131,29 @@ module _ (device : DeviceParts) (accepted : IsDevice device) (state : DeviceStat
         | inr all ↦
             inr
             (
-            paged_is (nat_eq state.page all_pages) command.entry.paged (is_some (register_form command.entry.shape)) (eq-eqb state.page all_pages all)
+            paged_is (nat_eq state.page all_pages) command.entry.paged (is_some (register_form command.entry.shape))
+            (eq-eqb state.page all_pages all)
             (ap (λ (o : Option Form). is_some o) register) free
             )
       ] in
       let holds = fits.holds code state.page command form found.1 register there in
-      let bytes_are : holds.bytes ≡ reply = ap (λ (o : Option (List ℕ)). unwrap_or o []) (sym holds.held_is) ∙ parts.1 in
+      let bytes_are : holds.bytes ≡ reply = ap (λ (o : Option (List ℕ)). unwrap_or o []) (sym holds.held_is)
+      ∙ parts.1 in
       subst (λ (bs : List ℕ). Takes form (length bs)) bytes_are holds.taken
 
 -- ---- the answer to a call
 
 -- COEFFICIENTS alone is answered, where no page stands against it
-call_parts : (refused here : Bool) (r : Result (List ℕ) CmlBit) (reply : List ℕ) → cond refused (Err BadValue) (cond here r (Err BadCommand)) ≡ Ok reply
+call_parts : (refused here : Bool) (r : Result (List ℕ) CmlBit) (reply : List ℕ)
+    → cond refused (Err BadValue) (cond here r (Err BadCommand)) ≡ Ok reply
     → (here ≡ true) × (r ≡ Ok reply)
 call_parts true here r reply is = absurd (cc is)
 call_parts false true r reply is = (refl, is)
 call_parts false false r reply is = absurd (cc is)
 
 -- with five bytes
-five_bytes : (device : DeviceParts) (code : ℕ) (reply : List ℕ) → coefficients_reply (coefficients_of device code) ≡ Ok reply → length reply ≡ 5
+five_bytes : (device : DeviceParts) (code : ℕ) (reply : List ℕ) → coefficients_reply (coefficients_of device code)
+    ≡ Ok reply → length reply ≡ 5
 five_bytes device code reply is =
     let told : coefficients_reply (coefficients_of device code) ≡ Ok reply → length reply ≡ 5 =
     elim (coefficients_of device code) as (λ o. coefficients_reply o ≡ Ok reply → length reply ≡ 5) [
@@ -150,7 +166,8 @@ five_bytes device code reply is =
     told is
 
 -- whatever bytes are sent
-coefficients_five : (device : DeviceParts) (bytes reply : List ℕ) → answer_coefficients device bytes ≡ Ok reply → length reply ≡ 5
+coefficients_five : (device : DeviceParts) (bytes reply : List ℕ) → answer_coefficients device bytes ≡ Ok reply
+    → length reply ≡ 5
 coefficients_five device [] reply is = absurd (cc is)
 coefficients_five device (count ∷ []) reply is = absurd (cc is)
 coefficients_five device (count ∷ code ∷ []) reply is = absurd (cc is)
@@ -174,7 +191,8 @@ module _ (device : DeviceParts) (accepted : IsDevice device) (state : DeviceStat
       kept_is found.0.entry.shape.call form Block found.2 kept
 
   -- The answer to a call is as long as the form takes.
-  pub called_taken : (code : ℕ) (form : Form) (content : List ℕ) → (forms device code).call ≡ Some form → Fits form content → (reply : List ℕ)
+  pub called_taken : (code : ℕ) (form : Form) (content : List ℕ) → (forms device code).call ≡ Some form
+      → Fits form content → (reply : List ℕ)
       → answer device state (code ∷ wire form content) ≡ Ok reply → Takes form (length reply)
   called_taken code form content is fits reply ok =
       let some = some_byte (wire form content) (call_sends device accepted code form content is fits) in

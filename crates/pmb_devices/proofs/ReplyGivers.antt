@@ -1,6 +1,7 @@
 -- The bytes that are recorded of Asks are given by the one device that is read, and are a front of
 -- its answer.
-use Rattle.std.proofs.Common.{◌≡◌, ℕ, ◌<◌, zero, suc, Bool, None, Result, Ok, Err, List, [], ◌∷◌, ◌++◌, length, map, get_or, nat_eq, refl, sym, ap, subst, ◌∙◌, append_assoc, arith}
+use Rattle.std.proofs.Common.{◌≡◌, ℕ, ◌<◌, zero, suc, Bool, None, Result, Ok, Err, List, [], ◌∷◌, ◌++◌, length, map}
+use Rattle.std.proofs.Common.{get_or, nat_eq, refl, sym, ap, subst, ◌∙◌, append_assoc, arith}
 use Rattle.std.specs.List.{Contains, IsDistinct}
 use Rattle.std.proofs.lemmas.Bool.{eqb-false}
 use Rattle.pmb_bus.specs.declared.event.Event.TheVariants as event
@@ -32,8 +33,10 @@ use Rattle.pmb_devices.proofs.ReplyForms.{wire_front}
 -- ---- one address, one member
 
 -- two places of a bus with one address are one
-same_at : (members : List InState) (i j : ℕ) (a b : InState) → IsDistinct nat_eq (map (λ d. d.address) (map (λ m. m.device) members))
-    → i < length members → get_or members i a ≡ a → j < length members → get_or members j b ≡ b → a.device.address ≡ b.device.address → a ≡ b
+same_at : (members : List InState) (i j : ℕ) (a b : InState)
+    → IsDistinct nat_eq (map (λ d. d.address) (map (λ m. m.device) members))
+    → i < length members → get_or members i a ≡ a → j < length members → get_or members j b ≡ b
+    → a.device.address ≡ b.device.address → a ≡ b
 unfolding IsDistinct
 same_at [] i j a b own small at less also same = absurd (omega arith)
 same_at (m ∷ members) zero zero a b own small at less also same = sym at ∙ also
@@ -43,13 +46,16 @@ same_at (m ∷ members) zero (suc j) a b own small at less also same =
 same_at (m ∷ members) (suc i) zero a b own small at less also same =
     let other = other_at m.device.address members i a own.0 (omega arith) at in
     absurd (eqb-false m.device.address a.device.address other (ap (λ (m : InState). m.device.address) also ∙ sym same))
-same_at (m ∷ members) (suc i) (suc j) a b own small at less also same = same_at members i j a b own.1 (omega arith) at (omega arith) also same
+same_at (m ∷ members) (suc i) (suc j) a b own small at less also same = same_at members i j a b own.1 (omega arith) at
+    (omega arith) also same
 
 -- a member is told by its address
-pub one_member : (profile : List DeviceParts) (members : List InState) (a b : InState) → IsBus profile → map (λ m. m.device) members ≡ profile
+pub one_member : (profile : List DeviceParts) (members : List InState) (a b : InState) → IsBus profile
+    → map (λ m. m.device) members ≡ profile
     → Contains members a → Contains members b → a.device.address ≡ b.device.address → a ≡ b
 one_member profile members a b bus is here there same =
-    same_at members here.0 there.0 a b (subst (λ (ds : List DeviceParts). IsDistinct nat_eq (map (λ d. d.address) ds)) (sym is) bus.own_addresses)
+    same_at members here.0 there.0 a b (subst (λ (ds : List DeviceParts). IsDistinct nat_eq (map (λ d. d.address) ds))
+    (sym is) bus.own_addresses)
     here.1 here.2 there.1 there.2 same
 
 -- ---- who gives a byte
@@ -66,9 +72,11 @@ one_address a b same = omega arith
 -- all bytes of a reply
 abbrev pub reply_of : DeviceParts → List ℕ → Form → List ℕ → List ℕ
 reply_of device body form reply =
-    checked (carries_pec device device.pec) (write_address device.address ∷ body ++ read_address device.address ∷ []) (form_of.wire form reply)
+    checked (carries_pec device device.pec) (write_address device.address ∷ body ++ read_address device.address ∷ [])
+    (form_of.wire form reply)
 
-module _ (members : List InState) (member : InState) (same : (m : InState) → Contains members m → m.device.address ≡ member.device.address → m ≡ member)
+module _ (members : List InState) (member : InState) (same : (m : InState) → Contains members m
+    → m.device.address ≡ member.device.address → m ≡ member)
     (body : List ℕ) (form : Form) (only : (f : Form) → IsFormOfRequest member.device f body → f ≡ form) where
   -- the leg in which the member is asked
   abbrev asked_leg : Leg
@@ -89,36 +97,43 @@ module _ (members : List InState) (member : InState) (same : (m : InState) → C
     all_are : (others replied all : List ℕ) → others ≡ body → answer member.device member.state others ≡ Ok replied
         → IsReplyTo member.device others replied all → all ≡ reply_of member.device body form reply
     all_are others replied all body_is also is =
-        let form_is : is.form ≡ form = only is.form (subst (λ (bs : List ℕ). IsFormOfRequest member.device is.form bs) body_is is.asked) in
+        let form_is : is.form ≡ form = only is.form
+        (subst (λ (bs : List ℕ). IsFormOfRequest member.device is.form bs) body_is is.asked) in
         let rows : Ok replied ≡ Ok reply = sym also ∙ ap (answer member.device member.state) body_is ∙ ok in
         let reply_is : replied ≡ reply = cc rows in
         is.spelled ∙ ap (λ (bs : List ℕ). reply_of member.device bs is.form replied) body_is
-        ∙ ap (λ (f : Form). reply_of member.device body f replied) form_is ∙ ap (reply_of member.device body form) reply_is
+        ∙ ap (λ (f : Form). reply_of member.device body f replied) form_is
+        ∙ ap (reply_of member.device body form) reply_is
 
     -- so is the byte that it gives
-    byte_of : (s : Leg) (b : ℕ) → AnswersAsk member.device member.state (asked_leg ∷ []) (Byte (read_address member.device.address) ∷ s) (answers.Byte b)
+    byte_of : (s : Leg) (b : ℕ) → AnswersAsk member.device member.state (asked_leg ∷ [])
+        (Byte (read_address member.device.address) ∷ s) (answers.Byte b)
         → next_of member.device (reply_of member.device body form reply) s ≡ answers.Byte b
     byte_of s b (replies address bytes sent_is others read replied all also is given_is) =
         let there = read_there member.device address others read in
-        ap (λ (bs : List ℕ). next_of member.device bs s) (sym (all_are others replied all there.1 also is)) ∙ sym given_is
+        ap (λ (bs : List ℕ). next_of member.device bs s) (sym (all_are others replied all there.1 also is))
+        ∙ sym given_is
     byte_of s b (not_read none given_is) = absurd (cc given_is)
 
     -- a byte that the bus gives is the member's
     given_by_member : (m : InState) → Contains members m → (s : Leg) (b : ℕ)
-        → AnswersAsk m.device m.state (asked_leg ∷ []) (Byte (read_address member.device.address) ∷ s) (answers.Byte b) → m ≡ member
+        → AnswersAsk m.device m.state (asked_leg ∷ []) (Byte (read_address member.device.address) ∷ s) (answers.Byte b)
+        → m ≡ member
     given_by_member m in_bus s b (replies address bytes sent_is others read replied all also is given_is) =
         same m in_bus (read_there m.device address others read).0
     given_by_member m in_bus s b (not_read none given_is) = absurd (cc given_is)
 
     -- So each byte that the bus gives is the next one of the member's answer.
-    bus_gives : (s : Leg) (b : ℕ) → BusAnswers members (Inside (asked_leg ∷ []) (Byte (read_address member.device.address) ∷ s)) Ask (answers.Byte b)
+    bus_gives : (s : Leg) (b : ℕ) → BusAnswers members
+        (Inside (asked_leg ∷ []) (Byte (read_address member.device.address) ∷ s)) Ask (answers.Byte b)
         → next_of member.device (reply_of member.device body form reply) s ≡ answers.Byte b
     bus_gives s b bus =
         let one = bus.given_by_one (λ silent. cc silent) in
         let is : one.0 ≡ member = given_by_member one.0 one.1 s b one.2 in
         byte_of s b
         (
-        subst (λ (m : InState). AnswersAsk m.device m.state (asked_leg ∷ []) (Byte (read_address member.device.address) ∷ s) (answers.Byte b)) is one.2
+        subst (λ (m : InState). AnswersAsk m.device m.state (asked_leg ∷ [])
+        (Byte (read_address member.device.address) ∷ s) (answers.Byte b)) is one.2
         )
 
   -- ---- a packet
@@ -128,11 +143,14 @@ module _ (members : List InState) (member : InState) (same : (m : InState) → C
     -- The member gave ACK to be read, and these bytes were recorded after that.
     pub record Turned (bytes : List ℕ) : Type 0 where
       pub ok : bit_of_answer (answer member.device member.state body) ≡ None
-      pub stands : Stands members final (Inside (asked_leg ∷ []) (Byte (read_address member.device.address) ∷ [])) (nacked bytes ++ event.Stop ∷ [])
+      pub stands : Stands members final (Inside (asked_leg ∷ []) (Byte (read_address member.device.address) ∷ []))
+          (nacked bytes ++ event.Stop ∷ [])
 
     -- so it is in the packet of a read or a call
-    turned : (told : List ℕ) (with_pec : Bool) → Stands members final Outside (answered member.device.address body told with_pec)
-        → Turned (checked with_pec (write_address member.device.address ∷ body ++ read_address member.device.address ∷ []) told)
+    turned : (told : List ℕ) (with_pec : Bool)
+        → Stands members final Outside (answered member.device.address body told with_pec)
+        → Turned (checked with_pec (write_address member.device.address ∷ body ++ read_address member.device.address
+        ∷ []) told)
     turned told with_pec stands =
         let d = member.device in
         let w = write_address d.address in
@@ -140,16 +158,28 @@ module _ (members : List InState) (member : InState) (same : (m : InState) → C
         let bytes = checked with_pec (w ∷ body ++ r ∷ []) told in
         let rest = nacked bytes ++ event.Stop ∷ [] in
         let reply_leg = leg (r ∷ []) ++ nacked bytes in
-        let spelled : answered d.address body told with_pec ≡ leg (w ∷ body) ++ (event.Start ∷ event.Byte r ∷ event.Ack ∷ rest) =
+        let spelled : answered d.address body told with_pec ≡ leg (w ∷ body)
+        ++ (event.Start ∷ event.Byte r ∷ event.Ack ∷ rest) =
         append_assoc (leg (w ∷ body)) reply_leg (event.Stop ∷ []) in
         let written =
-        run_leg members final Outside d.address body (event.Start ∷ event.Byte r ∷ event.Ack ∷ rest) (subst (Stands members final Outside) spelled stands) in
+        run_leg members final Outside d.address body (event.Start ∷ event.Byte r ∷ event.Ack ∷ rest)
+        (subst (Stands members final Outside) spelled stands) in
         let read = run_address members final (Inside [] asked_leg) r event.Ack rest written.stands in
-        let ack = subst (BusAnswers members (Inside (asked_leg ∷ []) []) (Byte r)) (acknowledged_is read.result read.recorded_as) read.answer in
+        let ack = subst (BusAnswers members (Inside (asked_leg ∷ []) []) (Byte r))
+        (acknowledged_is read.result read.recorded_as) read.answer in
         record {
           ok =
               read_taken members member in_bus (asked_leg ∷ []) body
-              (record { own = refl; asked = record { first = asked_leg; alone = refl; own = sent_bytes (w ∷ body); request = request } }) ack;
+              (record {
+                own = refl;
+                asked = record {
+                  first = asked_leg;
+                  alone = refl;
+                  own =
+                      sent_bytes (w ∷ body);
+                  request = request;
+                };
+              }) ack;
           stands = read.stands;
         }
 
@@ -166,7 +196,8 @@ module _ (members : List InState) (member : InState) (same : (m : InState) → C
         let answer_is = ok_of (answer d member.state body) behind.ok in
         let reply = answer_is.0 in
         let front =
-        reply_front members final alone (asked_leg ∷ []) (read_address d.address) d (reply_of d body form reply) (bus_gives reply answer_is.1) [] bytes
+        reply_front members final alone (asked_leg ∷ []) (read_address d.address) d (reply_of d body form reply)
+        (bus_gives reply answer_is.1) [] bytes
         behind.stands in
         let all : reply_of d body form reply ≡ bytes ++ front.0 = front.1 in
         let mine = checked_is (carries_pec d d.pec) before (form_of.wire form reply) in
@@ -174,8 +205,10 @@ module _ (members : List InState) (member : InState) (same : (m : InState) → C
         let code = code_behind with_pec before (form_of.wire form told) in
         let rows : form_of.wire form reply ++ code_behind (carries_pec d d.pec) before (form_of.wire form reply)
         ≡ form_of.wire form told ++ (code ++ front.0) =
-        sym mine ∙ all ∙ ap (λ (bs : List ℕ). bs ++ front.0) theirs ∙ append_assoc (form_of.wire form told) code front.0 in
+        sym mine ∙ all ∙ ap (λ (bs : List ℕ). bs ++ front.0) theirs
+        ∙ append_assoc (form_of.wire form told) code front.0 in
         let same_reply : reply ≡ told =
-        wire_front form reply told (code_behind (carries_pec d d.pec) before (form_of.wire form reply)) (code ++ front.0) (takes reply answer_is.1) taken
+        wire_front form reply told (code_behind (carries_pec d d.pec) before (form_of.wire form reply))
+        (code ++ front.0) (takes reply answer_is.1) taken
         rows in
         answer_is.1 ∙ ap (λ (bs : List ℕ). Ok bs) same_reply

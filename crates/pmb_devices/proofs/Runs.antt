@@ -1,6 +1,7 @@
 -- Where nothing is refused but an end inside a packet, each stretch of a run is one packet, and the
 -- devices are what the transactions make of them, one after the other.
-use Rattle.std.proofs.Common.{◌≡◌, ◌≢◌, ℕ, suc, ◌+◌, ◌<◌, inl, inr, List, [], ◌∷◌, ◌++◌, length, map, arith, refl, sym, ap, subst, ◌∙◌, append_assoc}
+use Rattle.std.proofs.Common.{◌≡◌, ◌≢◌, ℕ, suc, ◌+◌, ◌<◌, inl, inr, List, [], ◌∷◌, ◌++◌, length, map, arith, refl, sym}
+use Rattle.std.proofs.Common.{ap, subst, ◌∙◌, append_assoc}
 use Rattle.std.specs.List.{Contains}
 use Rattle.std.proofs.lemmas.List.{map-id}
 use Rattle.std.proofs.lemmas.Simd.{map-map}
@@ -43,14 +44,16 @@ recorded_no_stop : (signal : HostSignal) (result : DeviceSignal) (more : List Ev
     → HasNoStop (recorded signal result ++ more)
 recorded_no_stop Start result more other none = no_stop_behind wire.Start more (λ is. cc is) none
 recorded_no_stop (Byte b) result more other none =
-    no_stop_behind (wire.Byte b) (acknowledged result ∷ more) (λ is. cc is) (no_stop_behind _ more (acknowledged_no_stop result) none)
+    no_stop_behind (wire.Byte b) (acknowledged result ∷ more) (λ is. cc is)
+    (no_stop_behind _ more (acknowledged_no_stop result) none)
 recorded_no_stop Ask result more other none = no_stop_behind _ more (given_no_stop result) none
 recorded_no_stop Ack result more other none = no_stop_behind wire.Ack more (λ is. cc is) none
 recorded_no_stop Nack result more other none = no_stop_behind wire.Nack more (λ is. cc is) none
 recorded_no_stop Stop result more other none = absurd (other refl)
 
 -- So since the last STOP none is recorded.
-events_no_stop : (members : List InState) (legs : Legs) (history : List AnsweredSignal) → AreAnswered members legs history → HasNoStop (recorded_events history)
+events_no_stop : (members : List InState) (legs : Legs) (history : List AnsweredSignal)
+    → AreAnswered members legs history → HasNoStop (recorded_events history)
 events_no_stop members legs [] answered = no_stop_in_none
 events_no_stop members legs (exchange ∷ more) answered =
     recorded_no_stop exchange.signal exchange.result (recorded_events more) answered.0
@@ -85,24 +88,29 @@ all_are_applied t legs (old ∷ olds) (new ∷ news) ends each =
     ap (λ (m : InState). m ∷ news) new_is ∙ ap (λ (ms : List InState). after_one t old ∷ ms) later
 
 -- the devices stay
-same_devices : (t : TransactionData) (members : List InState) → map (λ m. m.device) (map (after_one t) members) ≡ map (λ m. m.device) members
+same_devices : (t : TransactionData) (members : List InState) → map (λ m. m.device) (map (after_one t) members)
+    ≡ map (λ m. m.device) members
 same_devices t members = map-map (λ m. m.device) (after_one t) members
 
 -- the first states are of the devices of the profile
 pub first_devices : (profile : List DeviceParts) → map (λ m. m.device) (first_members profile) ≡ profile
 first_devices profile =
-    map-map (λ (m : InState). m.device) (λ (d : DeviceParts). record { device = d; state = first_state d }) profile ∙ map-id profile
+    map-map (λ (m : InState). m.device) (λ (d : DeviceParts). record { device = d; state = first_state d }) profile
+    ∙ map-id profile
 
 -- transactions after a first one
 one_then_others : (t : TransactionData) (ts : List TransactionData) (members : List InState)
     → all_after ts (map (after_one t) members) ≡ all_after (t ∷ ts) members
 one_then_others t ts members =
-    map-map (λ (member : InState). record { device = member.device; state = apply_all member.device ts member.state }) (after_one t) members
+    map-map (λ (member : InState). record { device = member.device; state = apply_all member.device ts member.state })
+    (after_one t) members
 
 module _ (profile : List DeviceParts) where
-  module _ (bus : IsBus profile) (stops : (t : TransactionData) (events : List Event) → Packet profile t events → EndsAtFirstStop events)
+  module _ (bus : IsBus profile) (stops : (t : TransactionData) (events : List Event) → Packet profile t events
+      → EndsAtFirstStop events)
       (going : (events : List Event) → IsUnderWay profile events → HasNoStop events)
-      (other : (events : List Event) (event : Event) (reason : Reason) → IsReason profile events event reason → reason ≢ Truncated) where
+      (other : (events : List Event) (event : Event) (reason : Reason) → IsReason profile events event reason
+      → reason ≢ Truncated) where
     -- ---- what is read
 
     -- Events that a refusal ends inside a packet hold no STOP.
@@ -112,11 +120,13 @@ module _ (profile : List DeviceParts) where
     truncated_no_stop n events refusal is (inr w) = going events w.0.under_way
 
     -- So where no transaction is read, and nothing is refused but such an end, there is none.
-    end_no_stop : (n : ℕ) (events : List Event) (end : List Outcome) → IsTruncation end → ReadsFrom profile n events end → HasNoStop events
+    end_no_stop : (n : ℕ) (events : List Event) (end : List Outcome) → IsTruncation end → ReadsFrom profile n events end
+        → HasNoStop events
     end_no_stop n events end (inl none) reads =
         let empty : events ≡ [] = subst (ReadsFrom profile n events) none reads in
         subst HasNoStop (sym empty) no_stop_in_none
-    end_no_stop n events end (inr w) reads = truncated_no_stop n events w.0 w.2 (subst (ReadsFrom profile n events) w.1 reads)
+    end_no_stop n events end (inr w) reads =
+        truncated_no_stop n events w.0 w.2 (subst (ReadsFrom profile n events) w.1 reads)
 
     -- Without a STOP no transaction is read.
     nothing_accepted : (n : ℕ) (events : List Event) (ts : List TransactionData) (end : List Outcome) → HasNoStop events
@@ -130,36 +140,45 @@ module _ (profile : List DeviceParts) where
 
     -- A stretch that is a transaction's packet makes of the devices what the transaction makes of
     -- them.
-    stretch_applied : (members next : List InState) (stretch : List AnsweredSignal) (t : TransactionData) → map (λ m. m.device) members ≡ profile
+    stretch_applied : (members next : List InState) (stretch : List AnsweredSignal) (t : TransactionData)
+        → map (λ m. m.device) members ≡ profile
         → AreAnswered members Outside stretch → Packet profile t (recorded_events stretch ++ wire.Stop ∷ [])
         → AllEnd (legs_after Outside stretch) members next → next ≡ map (after_one t) members
     stretch_applied members next stretch t are answered packet ends =
         all_are_applied t (legs_after Outside stretch) members next ends
-        (λ member after inside ended. transactions_are_applied profile members stretch t member after bus are answered packet inside ended)
+        (λ member after inside ended. transactions_are_applied profile members stretch t member after bus are answered
+        packet inside ended)
 
     -- where a run's first stretch ends, and what comes after it
     first_stretch : (stretch : List AnsweredSignal) (more : List (List AnsweredSignal)) (history : List AnsweredSignal)
-        → run_events (stretch ∷ more) ++ recorded_events history ≡ recorded_events stretch ++ wire.Stop ∷ (run_events more ++ recorded_events history)
+        → run_events (stretch ∷ more) ++ recorded_events history ≡ recorded_events stretch ++ wire.Stop
+        ∷ (run_events more ++ recorded_events history)
     first_stretch stretch more history =
         append_assoc (recorded_events stretch ++ wire.Stop ∷ []) (run_events more) (recorded_events history)
         ∙ append_assoc (recorded_events stretch) (wire.Stop ∷ []) (run_events more ++ recorded_events history)
 
     -- Transactions are applied in turn, from whatever states.
-    run_applied : (stretches : List (List AnsweredSignal)) (n : ℕ) (members now : List InState) (history : List AnsweredSignal) (ts : List TransactionData)
-        (end : List Outcome) → map (λ m. m.device) members ≡ profile → Runs members stretches now → AreAnswered now Outside history
-        → ReadsFrom profile n (run_events stretches ++ recorded_events history) (map Accepted ts ++ end) → IsTruncation end → now ≡ all_after ts members
+    run_applied : (stretches : List (List AnsweredSignal)) (n : ℕ) (members now : List InState)
+        (history : List AnsweredSignal) (ts : List TransactionData)
+        (end : List Outcome) → map (λ m. m.device) members ≡ profile → Runs members stretches now
+        → AreAnswered now Outside history
+        → ReadsFrom profile n (run_events stretches ++ recorded_events history) (map Accepted ts ++ end)
+        → IsTruncation end → now ≡ all_after ts members
     run_applied [] n members now history ts end are runs answered reads truncated =
-        let none = nothing_accepted n (recorded_events history) ts end (events_no_stop now Outside history answered) reads in
+        let none = nothing_accepted n (recorded_events history) ts end (events_no_stop now Outside history answered)
+        reads in
         runs ∙ sym (map-id members) ∙ ap (λ (us : List TransactionData). all_after us members) (sym none)
     run_applied (stretch ∷ more) n members now history [] end are runs answered reads truncated =
         let none = end_no_stop n (run_events (stretch ∷ more) ++ recorded_events history) end truncated reads in
-        absurd (none (recorded_events stretch) (run_events more ++ recorded_events history) (first_stretch stretch more history))
+        absurd (none (recorded_events stretch) (run_events more ++ recorded_events history)
+        (first_stretch stretch more history))
     run_applied (stretch ∷ more) n members now history (t ∷ ts) end are runs answered reads truncated =
         let events = run_events (stretch ∷ more) ++ recorded_events history in
         let behind = run_events more ++ recorded_events history in
         let taken = up_to_stop profile stops t events reads.0 reads.1 reads.2 reads.3 in
         let cut =
-        same_cut taken.front (recorded_events stretch) reads.1 behind taken.no_stop (events_no_stop members Outside stretch runs.0)
+        same_cut taken.front (recorded_events stretch) reads.1 behind taken.no_stop
+        (events_no_stop members Outside stretch runs.0)
         (sym taken.split ∙ first_stretch stretch more history) in
         let packet = subst (λ (es : List Event). Packet profile t (es ++ wire.Stop ∷ [])) cut.0 taken.packet in
         let next_is = stretch_applied members runs.1.0 stretch t are runs.0 packet runs.1.1 in
@@ -167,15 +186,19 @@ module _ (profile : List DeviceParts) where
         ap (λ (ms : List InState). map (λ (m : InState). m.device) ms) next_is
         ∙ same_devices t members
         ∙ are in
-        let rest = subst (λ (es : List Event). ReadsFrom profile (n + length reads.0) es (map Accepted ts ++ end)) cut.1 reads.4 in
+        let rest = subst (λ (es : List Event). ReadsFrom profile (n + length reads.0) es (map Accepted ts ++ end)) cut.1
+        reads.4 in
         run_applied more (n + length reads.0) runs.1.0 now history ts end devices_are runs.1.2 answered rest truncated
         ∙ ap (λ (ms : List InState). all_after ts ms) next_is
         ∙ one_then_others t ts members
 
     -- Transactions are applied in turn.
-    pub applied_in_turn : (stretches : List (List AnsweredSignal)) (now : List InState) (history : List AnsweredSignal) (ts : List TransactionData)
+    pub applied_in_turn : (stretches : List (List AnsweredSignal)) (now : List InState) (history : List AnsweredSignal)
+        (ts : List TransactionData)
         (end : List Outcome) → Runs (first_members profile) stretches now → AreAnswered now Outside history
-        → ReadsFrom profile 0 (run_events stretches ++ recorded_events history) (map Accepted ts ++ end) → IsTruncation end
+        → ReadsFrom profile 0 (run_events stretches ++ recorded_events history) (map Accepted ts ++ end)
+        → IsTruncation end
         → now ≡ all_after ts (first_members profile)
     applied_in_turn stretches now history ts end runs answered reads truncated =
-        run_applied stretches 0 (first_members profile) now history ts end (first_devices profile) runs answered reads truncated
+        run_applied stretches 0 (first_members profile) now history ts end (first_devices profile) runs answered reads
+        truncated

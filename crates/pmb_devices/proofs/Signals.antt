@@ -31,39 +31,51 @@ AreApplied = (profile : List DeviceParts) (members : List InState) (history : Li
     → Contains members member → Ends member.device (legs_after Outside history) member.state after
     → after ≡ apply member.device t member.state
 
-module _ (bus new : Bus) (same : new.profile.now ≡ bus.profile.now) (standing : BusStanding) (at : BusStandsAt bus standing) where
+module _ (bus new : Bus) (same : new.profile.now ≡ bus.profile.now) (standing : BusStanding)
+    (at : BusStandsAt bus standing) where
   own_addresses : IsDistinct nat_eq (map (λ d. d.address) (map (λ m. m.device) standing.members))
-  own_addresses = subst (λ (ds : List DeviceParts). IsDistinct nat_eq (map (λ d. d.address) ds)) (sym at.profile) at.accepted.own_addresses
+  own_addresses = subst (λ (ds : List DeviceParts). IsDistinct nat_eq (map (λ d. d.address) ds))
+      (sym at.profile) at.accepted.own_addresses
 
   -- the profile stays
-  runs_so : (past : List (List AnsweredSignal)) (members : List InState) → Runs (first_members bus.profile.now) past members → Runs (first_members new.profile.now) past members
+  runs_so : (past : List (List AnsweredSignal)) (members : List InState)
+      → Runs (first_members bus.profile.now) past members → Runs (first_members new.profile.now) past members
   runs_so past members runs = subst (λ (ds : List DeviceParts). Runs (first_members ds) past members) (sym same) runs
 
   -- the answer on the bus
-  answers_are : (signal : HostSignal) (result : DeviceSignal) → HandsOn (legs_after Outside standing.history) signal standing.members result new.devices.items
+  answers_are : (signal : HostSignal) (result : DeviceSignal)
+      → HandsOn (legs_after Outside standing.history) signal standing.members result new.devices.items
       → BusAnswers standing.members (legs_after Outside standing.history) signal result
   answers_are signal result handed =
       subst (BusAnswers standing.members (legs_after Outside standing.history) signal) (sym handed.last)
-      (bus_answers (legs_after Outside standing.history) signal new.devices.items standing.members handed.results own_addresses handed.moved)
+      (bus_answers (legs_after Outside standing.history) signal new.devices.items standing.members handed.results
+      own_addresses handed.moved)
 
   -- where a signal other than STOP leads
   goes_on : (signal : HostSignal) (result : DeviceSignal) → signal ≢ Stop
-      → HandsOn (legs_after Outside standing.history) signal standing.members result new.devices.items → BusStandsAt new (behind standing signal result)
+      → HandsOn (legs_after Outside standing.history) signal standing.members result new.devices.items
+      → BusStandsAt new (behind standing signal result)
   goes_on signal result other handed =
       let next : AnsweredSignal = record { signal = signal; result = result } in
       record {
         accepted = subst IsBus (sym same) at.accepted;
         profile = at.profile ∙ sym same;
         runs = runs_so standing.past standing.members at.runs;
-        devices = subst (λ (legs : Legs). AllStand legs new.devices.items standing.members) (sym (legs_behind Outside standing.history next))
-            (all_stand_behind (legs_after Outside standing.history) signal other new.devices.items standing.members handed.results handed.moved);
-        answered = answered_behind standing.members Outside standing.history next at.answered other (answers_are signal result handed);
+        devices = subst (λ (legs : Legs). AllStand legs new.devices.items standing.members)
+            (sym (legs_behind Outside standing.history next))
+            (all_stand_behind (legs_after Outside standing.history) signal other new.devices.items standing.members
+            handed.results handed.moved);
+        answered = answered_behind standing.members Outside standing.history next at.answered other
+            (answers_are signal result handed);
       }
 
   -- and where STOP does
-  ends_so : (result : DeviceSignal) → AreApplied → HandsOn (legs_after Outside standing.history) Stop standing.members result new.devices.items → BusEnds standing new
+  ends_so : (result : DeviceSignal) → AreApplied
+      → HandsOn (legs_after Outside standing.history) Stop standing.members result new.devices.items
+      → BusEnds standing new
   ends_so result applied handed =
-      let ended = all_end (legs_after Outside standing.history) new.devices.items standing.members handed.results handed.moved in
+      let ended = all_end (legs_after Outside standing.history) new.devices.items standing.members handed.results
+      handed.moved in
       record {
         members = ended.news;
         ends = ended.ends;
@@ -71,7 +83,8 @@ module _ (bus new : Bus) (same : new.profile.now ≡ bus.profile.now) (standing 
           accepted = subst IsBus (sym same) at.accepted;
           profile = ended.same ∙ at.profile ∙ sym same;
           runs = runs_so (standing.past ++ standing.history ∷ []) ended.news
-              (runs_more (first_members bus.profile.now) standing.past standing.members standing.history ended.news at.runs at.answered ended.ends);
+              (runs_more (first_members bus.profile.now) standing.past standing.members standing.history ended.news
+              at.runs at.answered ended.ends);
           devices = ended.stand;
           answered = tt;
         };
@@ -83,7 +96,8 @@ module _ (bus new : Bus) (same : new.profile.now ≡ bus.profile.now) (standing 
       }
 
   leads_so : (signal : HostSignal) (result : DeviceSignal) → AreApplied
-      → HandsOn (legs_after Outside standing.history) signal standing.members result new.devices.items → BusLeads standing signal result new
+      → HandsOn (legs_after Outside standing.history) signal standing.members result new.devices.items
+      → BusLeads standing signal result new
   leads_so Start result applied handed = goes_on Start result (λ is. cc is) handed
   leads_so (Byte b) result applied handed = goes_on (Byte b) result (λ is. cc is) handed
   leads_so Ask result applied handed = goes_on Ask result (λ is. cc is) handed
@@ -92,7 +106,8 @@ module _ (bus new : Bus) (same : new.profile.now ≡ bus.profile.now) (standing 
   leads_so Stop result applied handed = ends_so result applied handed
 
   pub takes : (signal : HostSignal) (told result : DeviceSignal) → told ≡ result → AreApplied
-      → HandsOn (legs_after Outside standing.history) signal standing.members result new.devices.items → BusTakes standing signal told new
+      → HandsOn (legs_after Outside standing.history) signal standing.members result new.devices.items
+      → BusTakes standing signal told new
   takes signal told result is applied handed =
       subst (λ (r : DeviceSignal). BusTakes standing signal r new) (sym is)
       (record { answers = answers_are signal result handed; leads = leads_so signal result applied handed })

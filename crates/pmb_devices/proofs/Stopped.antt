@@ -1,6 +1,7 @@
 -- A reading goes from STOP to STOP: what is accepted or refused takes the events up to and including
 -- the first one.
-use Rattle.std.proofs.Common.{◌≡◌, ◌≢◌, ℕ, ◌+◌, ◌⊎◌, inl, inr, List, [], ◌∷◌, ◌++◌, length, refl, sym, ap, subst, ◌∙◌, append_assoc}
+use Rattle.std.proofs.Common.{◌≡◌, ◌≢◌, ℕ, ◌+◌, ◌⊎◌, inl, inr, List, [], ◌∷◌, ◌++◌, length, refl, sym, ap, subst, ◌∙◌}
+use Rattle.std.proofs.Common.{append_assoc}
 use Rattle.pmb_bus.specs.declared.event.Event.{Event}
 use Rattle.pmb_bus.specs.declared.event.Event.TheVariants.{Stop}
 use Rattle.pmb_command.specs.Parts.{DeviceParts}
@@ -18,7 +19,8 @@ no_stop_in_none [] after split = cc split
 no_stop_in_none (e ∷ before) after split = cc split
 
 -- nor do those after an event that is none
-pub no_stop_behind : (event : Event) (events : List Event) → event ≢ Stop → HasNoStop events → HasNoStop (event ∷ events)
+pub no_stop_behind : (event : Event) (events : List Event) → event ≢ Stop → HasNoStop events
+    → HasNoStop (event ∷ events)
 no_stop_behind event events other none [] after split = other (cc split)
 no_stop_behind event events other none (e ∷ before) after split = none before after (cc split)
 
@@ -33,7 +35,8 @@ first_is_other event events none is = none [] events (ap (λ (e : Event). e ∷ 
 
 -- nor do those after the first hold one
 pub no_stop_in_tail : (event : Event) (events : List Event) → HasNoStop (event ∷ events) → HasNoStop events
-no_stop_in_tail event events none before after split = none (event ∷ before) after (ap (λ (es : List Event). event ∷ es) split)
+no_stop_in_tail event events none before after split =
+    none (event ∷ before) after (ap (λ (es : List Event). event ∷ es) split)
 
 -- two lists end to end
 no_stop-append : (a b : List Event) → HasNoStop a → HasNoStop b → HasNoStop (a ++ b)
@@ -67,7 +70,8 @@ record Left (since rest : List Event) : Type 0 where
   split : rest ≡ before ++ (since ++ Stop ∷ [])
 
 -- it has a STOP in front that the others end with
-one_more_left : (since : List Event) (front rest : List Event) → rest ≡ front ++ Stop ∷ (since ++ Stop ∷ []) → Left since rest
+one_more_left : (since : List Event) (front rest : List Event) → rest ≡ front ++ Stop ∷ (since ++ Stop ∷ [])
+    → Left since rest
 one_more_left since front rest split = record {
   before = front ++ Stop ∷ [];
   stopped = inr (record { front = front; split = refl });
@@ -75,11 +79,13 @@ one_more_left since front rest split = record {
 }
 
 -- where the first STOP stands in those before
-left_behind : (since a front rest : List Event) → HasNoStop a → a ++ Stop ∷ rest ≡ front ++ Stop ∷ (since ++ Stop ∷ []) → Left since rest
+left_behind : (since a front rest : List Event) → HasNoStop a → a ++ Stop ∷ rest ≡ front ++ Stop ∷ (since ++ Stop ∷ [])
+    → Left since rest
 left_behind since [] [] rest none same = record { before = []; stopped = inl refl; split = cc same }
 left_behind since [] (e ∷ front) rest none same = one_more_left since front rest (cc same)
 left_behind since (e ∷ a) [] rest none same = absurd (first_is_other e a none (cc same))
-left_behind since (d ∷ a) (e ∷ front) rest none same = left_behind since a front rest (no_stop_in_tail d a none) (cc same)
+left_behind since (d ∷ a) (e ∷ front) rest none same = left_behind since a front rest (no_stop_in_tail d a none)
+    (cc same)
 
 -- The first STOP is the last one, or events are left that end so after it.
 behind_first : (since a before rest : List Event) → HasNoStop a → AreStopped before → HasNoStop since
@@ -111,9 +117,11 @@ module _ (profile : List DeviceParts) where
   pub not_in_none : (t : TransactionData) (rest : List Event) → UpToStop t [] rest → ⊥
   not_in_none t rest taken = no_stop_in_none taken.front rest taken.split
 
-  module _ (stops : (t : TransactionData) (events : List Event) → Packet profile t events → EndsAtFirstStop events) where
+  module _ (stops : (t : TransactionData) (events : List Event) → Packet profile t events
+      → EndsAtFirstStop events) where
     -- it ends with it, as a packet does
-    pub up_to_stop : (t : TransactionData) (events front rest : List Event) → events ≡ front ++ rest → Packet profile t front → UpToStop t events rest
+    pub up_to_stop : (t : TransactionData) (events front rest : List Event) → events ≡ front ++ rest
+        → Packet profile t front → UpToStop t events rest
     up_to_stop t events front rest split packet =
         let ends = stops t front packet in
         record {
@@ -124,7 +132,8 @@ module _ (profile : List DeviceParts) where
         }
 
     -- No transaction is read last of no events.
-    none_is_read : (n : ℕ) (outcomes : List Outcome) (t : TransactionData) → ReadsFrom profile n [] (outcomes ++ Accepted t ∷ []) → ⊥
+    none_is_read : (n : ℕ) (outcomes : List Outcome) (t : TransactionData)
+        → ReadsFrom profile n [] (outcomes ++ Accepted t ∷ []) → ⊥
     none_is_read n [] t reads = not_in_none t reads.1 (up_to_stop t [] reads.0 reads.1 reads.2 reads.3)
     none_is_read n (Accepted u ∷ more) t reads = not_in_none u reads.1 (up_to_stop u [] reads.0 reads.1 reads.2 reads.3)
     none_is_read n (Refusal refusal ∷ more) t (inl w) = not_none w.0 w.1 w.2 w.3
@@ -134,31 +143,39 @@ module _ (profile : List DeviceParts) where
 
     -- What is read last is after the first STOP, so it is no other than the last one that what is
     -- left has.
-    goes_on : (n : ℕ) (more : List Outcome) (t : TransactionData) (since a before rest : List Event) → HasNoStop a → AreStopped before → HasNoStop since
+    goes_on : (n : ℕ) (more : List Outcome) (t : TransactionData) (since a before rest : List Event) → HasNoStop a
+        → AreStopped before → HasNoStop since
         → a ++ Stop ∷ rest ≡ before ++ (since ++ Stop ∷ []) → ReadsFrom profile n rest (more ++ Accepted t ∷ [])
-        → ((left : List Event) → AreStopped left → rest ≡ left ++ (since ++ Stop ∷ []) → Packet profile t (since ++ Stop ∷ []))
+        → ((left : List Event) → AreStopped left → rest ≡ left ++ (since ++ Stop ∷ [])
+        → Packet profile t (since ++ Stop ∷ []))
         → Packet profile t (since ++ Stop ∷ [])
     goes_on n more t since a before rest none stopped nor same reads later =
         elim (behind_first since a before rest none stopped nor same) [
-          | inl w ↦ absurd (none_is_read n more t (subst (λ (es : List Event). ReadsFrom profile n es (more ++ Accepted t ∷ [])) w.1 reads))
+          | inl w ↦ absurd (none_is_read n more t (subst
+              (λ (es : List Event). ReadsFrom profile n es (more ++ Accepted t ∷ [])) w.1 reads))
           | inr w ↦ later w.before w.stopped w.split
         ]
 
     -- The last of what is read takes the events up to the last STOP.
     last_takes : (t : TransactionData) (since before events rest : List Event) → AreStopped before → HasNoStop since
-        → events ≡ before ++ (since ++ Stop ∷ []) → rest ≡ [] → (taken : UpToStop t events rest) → Packet profile t (since ++ Stop ∷ [])
+        → events ≡ before ++ (since ++ Stop ∷ []) → rest ≡ [] → (taken : UpToStop t events rest)
+        → Packet profile t (since ++ Stop ∷ [])
     last_takes t since before events rest stopped nor split empty taken =
         elim (behind_first since taken.front before rest taken.no_stop stopped nor (sym taken.split ∙ split)) [
           | inl w ↦ subst (λ (es : List Event). Packet profile t (es ++ Stop ∷ [])) w.0 taken.packet
-          | inr w ↦ absurd (not_none (w.before ++ since) Stop [] (sym empty ∙ w.split ∙ sym (append_assoc w.before since (Stop ∷ []))))
+          | inr w ↦ absurd (not_none (w.before ++ since) Stop []
+              (sym empty ∙ w.split ∙ sym (append_assoc w.before since (Stop ∷ []))))
         ]
 
     module _ (going : (events : List Event) → IsUnderWay profile events → HasNoStop events) where
       -- Transactions end at one STOP.
-      pub ends_at_one_stop : (outcomes : List Outcome) (n : ℕ) (before since events : List Event) (t : TransactionData) → AreStopped before → HasNoStop since
-          → events ≡ before ++ (since ++ Stop ∷ []) → ReadsFrom profile n events (outcomes ++ Accepted t ∷ []) → Packet profile t (since ++ Stop ∷ [])
+      pub ends_at_one_stop : (outcomes : List Outcome) (n : ℕ) (before since events : List Event) (t : TransactionData)
+          → AreStopped before → HasNoStop since
+          → events ≡ before ++ (since ++ Stop ∷ []) → ReadsFrom profile n events (outcomes ++ Accepted t ∷ [])
+          → Packet profile t (since ++ Stop ∷ [])
       ends_at_one_stop [] n before since events t stopped nor split reads =
-          last_takes t since before events reads.1 stopped nor split reads.4 (up_to_stop t events reads.0 reads.1 reads.2 reads.3)
+          last_takes t since before events reads.1 stopped nor split reads.4
+          (up_to_stop t events reads.0 reads.1 reads.2 reads.3)
       ends_at_one_stop (Accepted u ∷ more) n before since events t stopped nor split reads =
           let taken = up_to_stop u events reads.0 reads.1 reads.2 reads.3 in
           let m = n + length reads.0 in
@@ -169,7 +186,8 @@ module _ (profile : List DeviceParts) where
           let left = w.6 in
           elim (w.7) [
             | to_the_end all none nothing ↦
-                absurd (none_is_read m more t (subst (λ (es : List Event). ReadsFrom profile m es (more ++ Accepted t ∷ [])) nothing w.8))
+                absurd (none_is_read m more t (subst (λ (es : List Event). ReadsFrom profile m es
+                (more ++ Accepted t ∷ [])) nothing w.8))
             | to_first_stop over ends ↦
                 (
                 let a = w.0 ++ ends.front in
@@ -180,8 +198,10 @@ module _ (profile : List DeviceParts) where
                 ∙ ap (λ (es : List Event). w.0 ++ es) (sym at_stop)
                 ∙ sym w.3
                 ∙ split in
-                goes_on m more t since a before left (no_stop-append w.0 ends.front (going w.0 w.4.under_way) ends.no_stop) stopped nor spelled w.8
+                goes_on m more t since a before left (no_stop-append w.0 ends.front
+                (going w.0 w.4.under_way) ends.no_stop) stopped nor spelled w.8
                 (λ rest still rest_is. ends_at_one_stop more m rest since left t still nor rest_is w.8)
                 )
           ]
-      ends_at_one_stop (Refusal refusal ∷ more) n before since events t stopped nor split (inr w) = absurd (nothing_behind more (Accepted t) w.1)
+      ends_at_one_stop (Refusal refusal ∷ more) n before since events t stopped nor split (inr w) =
+          absurd (nothing_behind more (Accepted t) w.1)

@@ -46,10 +46,12 @@ recorded Stop result = events.Stop ∷ []
 -- A device answers this, or is silent.
 abbrev pub AnswersOrSilent : Legs → HostSignal → DeviceSignal → InState → Type 0
 AnswersOrSilent legs signal result member =
-    Answers member.device member.state legs signal result ⊎ Answers member.device member.state legs signal answers.Silent
+    Answers member.device member.state legs signal result
+    ⊎ Answers member.device member.state legs signal answers.Silent
 
 -- The answer on the bus is that of each device that is not silent, and silence where all are.
-pub record BusAnswers (members : List InState) (legs : Legs) (signal : HostSignal) (result : DeviceSignal) : Type 0 where
+pub record BusAnswers (members : List InState) (legs : Legs) (signal : HostSignal)
+    (result : DeviceSignal) : Type 0 where
   pub each : AllByRecursion (AnswersOrSilent legs signal result) members
   pub given_by_one : result ≢ answers.Silent
       → (member : InState) × Contains members member × Answers member.device member.state legs signal result

@@ -20,7 +20,8 @@ pub record Holds (state : DeviceState) (code page : ℕ) (form : Form) : Type 0 
 pub record IsState (device : DeviceParts) (state : DeviceState) : Type 0 where
   pub page : (state.page < device.pages) ⊎ (state.page ≡ all_pages)
   pub holds : (code page : ℕ) (command : CommandParts) (form : Form) → command_with code device.commands ≡ Some command
-      → register_form command.entry.shape ≡ Some form → (page < device.pages) ⊎ (command.entry.paged ≡ false) → Holds state code page form
+      → register_form command.entry.shape ≡ Some form → (page < device.pages) ⊎ (command.entry.paged ≡ false)
+      → Holds state code page form
 
 -- In the leg under way the host sent an address and no byte after it.
 abbrev pub HasAddressAlone : Legs → Type 0

@@ -23,7 +23,8 @@ abbrev pub AllEnd : Legs → List InState → List InState → Type 0
 AllEnd legs [] [] = Unit {0}
 AllEnd legs [] (new ∷ news) = ⊥
 AllEnd legs (old ∷ olds) [] = ⊥
-AllEnd legs (old ∷ olds) (new ∷ news) = (new.device ≡ old.device) × Ends old.device legs old.state new.state × AllEnd legs olds news
+AllEnd legs (old ∷ olds) (new ∷ news) = (new.device ≡ old.device) × Ends old.device legs old.state new.state
+    × AllEnd legs olds news
 
 -- The devices go from some states to others by stretches of signals, each ended by STOP.
 abbrev pub Runs : List InState → List (List AnsweredSignal) → List InState → Type 0
@@ -39,11 +40,16 @@ run_events (stretch ∷ more) = (recorded_events stretch ++ Stop ∷ []) ++ run_
 
 -- what transactions make of each device, in their order
 abbrev pub all_after : List TransactionData → List InState → List InState
-all_after ts members = map (λ member. record { device = member.device; state = apply_all member.device ts member.state }) members
+all_after ts members = map (λ member. record {
+  device = member.device;
+  state =
+      apply_all member.device ts member.state;
+}) members
 
 -- Nothing is refused but an end inside a packet.
 abbrev pub IsTruncation : List Outcome → Type 0
-IsTruncation outcomes = (outcomes ≡ []) ⊎ ((refusal : RefusalData) × (outcomes ≡ Refusal refusal ∷ []) × (refusal.reason ≡ Truncated))
+IsTruncation outcomes = (outcomes ≡ []) ⊎ ((refusal : RefusalData) × (outcomes ≡ Refusal refusal ∷ [])
+    × (refusal.reason ≡ Truncated))
 
 -- no events, or events that end with STOP
 abbrev pub AreStopped : List Event → Type 0

@@ -23,21 +23,30 @@ pub use Rattle.pmb_devices.specs.machine.Standing.{BusStanding, BusStandsAt}
 
 -- what a transaction makes of each device
 abbrev pub all_applied : TransactionData → List InState → List InState
-all_applied t members = map (λ member. record { device = member.device; state = apply member.device t member.state }) members
+all_applied t members = map (λ member. record { device = member.device; state = apply member.device t member.state })
+    members
 
 -- What STOP makes of the bus. Where the events since the last STOP, with this one, are the packet
 -- of a transaction, each device becomes what the transaction makes of it, whatever came before.
 pub record BusEnds (standing : BusStanding) (new : Bus) : Type 0 where
   pub members : List InState
   pub ends : AllEnd (legs_after Outside standing.history) standing.members members
-  pub stands : BusStandsAt new (record { past = standing.past ++ standing.history ∷ []; members = members; history = [] })
+  pub stands : BusStandsAt new (record {
+    past = standing.past ++ standing.history ∷ [];
+    members = members;
+    history =
+        [];
+  })
   pub applied : (t : TransactionData)
       → Packet (map (λ member. member.device) standing.members) t (recorded_events standing.history ++ events.Stop ∷ [])
       → members ≡ all_applied t standing.members
 
 -- where the bus stands after a signal and the answer to it, other than at STOP
 abbrev pub behind : BusStanding → HostSignal → DeviceSignal → BusStanding
-behind standing signal result = record standing { history = standing.history ++ record { signal = signal; result = result } ∷ [] }
+behind standing signal result = record standing {
+  history = standing.history
+      ++ record { signal = signal; result = result } ∷ [];
+}
 
 abbrev pub BusLeads : BusStanding → HostSignal → DeviceSignal → Bus → Type 0
 BusLeads standing Start result new = BusStandsAt new (behind standing Start result)
@@ -61,4 +70,9 @@ pub record Tells (standing : BusStanding) (address : ℕ) (device : Device) : Ty
   pub member : InState
   pub one_of : Contains standing.members member
   pub address_is : member.device.address ≡ address
-  pub stands : DeviceStandsAt device (record { device = member.device; state = member.state; legs = legs_after Outside standing.history })
+  pub stands : DeviceStandsAt device (record {
+    device = member.device;
+    state = member.state;
+    legs =
+        legs_after Outside standing.history;
+  })

@@ -1,6 +1,7 @@
 -- The device of an address among those of a bus, and what it answers to bytes that are written to
 -- it.
-use Rattle.std.proofs.Common.{◌≡◌, ℕ, suc, inl, inr, Bool, true, false, cond, Option, Some, List, [], ◌∷◌, map, nat_eq, refl, subst, arith}
+use Rattle.std.proofs.Common.{◌≡◌, ℕ, suc, inl, inr, Bool, true, false, cond, Option, Some, List, [], ◌∷◌, map, nat_eq}
+use Rattle.std.proofs.Common.{refl, subst, arith}
 use Rattle.std.specs.List.{Contains}
 use Rattle.std.proofs.lemmas.Bool.{eqb-true}
 use Rattle.std.proofs.lemmas.Option.{none-some, same_Some}
@@ -26,7 +27,8 @@ pub record Found (members : List InState) (addr : ℕ) (device : DeviceParts) : 
   pub device_is : member.device ≡ device
   pub address_is : member.device.address ≡ addr
 
-found_behind : (m : InState) (members : List InState) (addr : ℕ) (device : DeviceParts) → Found members addr device → Found (m ∷ members) addr device
+found_behind : (m : InState) (members : List InState) (addr : ℕ) (device : DeviceParts) → Found members addr device
+    → Found (m ∷ members) addr device
 found_behind m members addr device found = record {
   member = found.member;
   in_bus = (suc (found.in_bus.0), omega (arith, found.in_bus.1), found.in_bus.2);
@@ -34,8 +36,10 @@ found_behind m members addr device found = record {
   address_is = found.address_is;
 }
 
-found_by_test : (m : InState) (members : List InState) (addr : ℕ) (device : DeviceParts) (b : Bool) (o : Option DeviceParts) → nat_eq m.device.address addr ≡ b
-    → (o ≡ Some device → Found members addr device) → cond b (Some m.device) o ≡ Some device → Found (m ∷ members) addr device
+found_by_test : (m : InState) (members : List InState) (addr : ℕ) (device : DeviceParts) (b : Bool)
+    (o : Option DeviceParts) → nat_eq m.device.address addr ≡ b
+    → (o ≡ Some device → Found members addr device) → cond b (Some m.device) o ≡ Some device
+    → Found (m ∷ members) addr device
 found_by_test m members addr device true o is later known = record {
   member = m;
   in_bus = (0, omega arith, refl);
@@ -44,25 +48,30 @@ found_by_test m members addr device true o is later known = record {
 }
 found_by_test m members addr device false o is later known = found_behind m members addr device (later known)
 
-pub found_with : (members : List InState) (addr : ℕ) (device : DeviceParts) → device_with addr (map (λ m. m.device) members) ≡ Some device
+pub found_with : (members : List InState) (addr : ℕ) (device : DeviceParts)
+    → device_with addr (map (λ m. m.device) members) ≡ Some device
     → Found members addr device
 found_with [] addr device known = absurd (none-some device known)
 found_with (m ∷ members) addr device known =
-    found_by_test m members addr device (nat_eq m.device.address addr) (device_with addr (map (λ m. m.device) members)) refl
+    found_by_test m members addr device (nat_eq m.device.address addr) (device_with addr (map (λ m. m.device) members))
+    refl
     (λ later. found_with members addr device later) known
 
 -- ---- bytes that are written to it
 
 -- its own address for writing
 own_address : (device : DeviceParts) (state : DeviceState) (earlier : List Leg) (result : DeviceSignal)
-    → IsWritten device earlier (write_address device.address) → AnswersAddress device state earlier (write_address device.address) result
+    → IsWritten device earlier (write_address device.address)
+    → AnswersAddress device state earlier (write_address device.address) result
     → result ≡ answers.Ack
 own_address device state earlier result own (written is ack) = ack
-own_address device state earlier result own (read body is same) = absurd (no_read_address device.address device.address is.own)
+own_address device state earlier result own (read body is same) =
+    absurd (no_read_address device.address device.address is.own)
 own_address device state earlier result own (others none nor silent) = absurd (none own)
 
 -- a byte after bytes that it took
-own_byte : (device : DeviceParts) (state : DeviceState) (earlier : List Leg) (address : ℕ) (bytes : List ℕ) (b : ℕ) (result : DeviceSignal)
+own_byte : (device : DeviceParts) (state : DeviceState) (earlier : List Leg) (address : ℕ) (bytes : List ℕ) (b : ℕ)
+    (result : DeviceSignal)
     → IsWritten device earlier address → TakesAll device (leg_place earlier) [] bytes
     → AnswersByte device state earlier (sent (byte_leg (address ∷ bytes))) b result
     → Whether (TakesByte device (leg_place earlier) bytes b) (result ≡ answers.Ack) (result ≡ answers.Nack)
@@ -75,37 +84,46 @@ own_byte device state earlier address bytes b result own taken answered =
 module _ (members : List InState) (member : InState) (in_bus : Contains members member) (earlier : List Leg) where
   -- The bus acknowledges its address where no earlier leg is written to it.
   pub address_acked : (result : DeviceSignal) → some_is_to (write_address member.device.address) earlier ≡ false
-      → BusAnswers members (Inside earlier []) (Byte (write_address member.device.address)) result → result ≡ answers.Ack
+      → BusAnswers members (Inside earlier []) (Byte (write_address member.device.address)) result
+      → result ≡ answers.Ack
   address_acked result once bus =
-      let own : IsWritten member.device earlier (write_address member.device.address) = record { own = refl; once = once } in
-      elim (member_answers members member in_bus (Inside earlier []) (Byte (write_address member.device.address)) result bus) [
+      let own : IsWritten member.device earlier (write_address member.device.address) =
+      record { own = refl; once = once } in
+      elim (member_answers members member in_bus (Inside earlier []) (Byte (write_address member.device.address)) result
+      bus) [
         | inl answered ↦ own_address member.device member.state earlier result own answered
         | inr silent ↦ absurd (cc (own_address member.device member.state earlier answers.Silent own silent))
       ]
 
   module _ (once : some_is_to (write_address member.device.address) earlier ≡ false) (bytes : List ℕ) (b : ℕ)
       (taken : TakesAll member.device (leg_place earlier) [] bytes) (result : DeviceSignal)
-      (bus : BusAnswers members (Inside earlier (byte_leg (write_address member.device.address ∷ bytes))) (Byte b) result) where
+      (bus : BusAnswers members (Inside earlier (byte_leg (write_address member.device.address ∷ bytes)))
+      (Byte b) result) where
     own_leg : IsWritten member.device earlier (write_address member.device.address)
     own_leg = record { own = refl; once = once }
 
     -- the member's answer, or its silence
-    answered_by : (signal : DeviceSignal) → AnswersByte member.device member.state earlier (sent (byte_leg (write_address member.device.address ∷ bytes))) b signal
+    answered_by : (signal : DeviceSignal) → AnswersByte member.device member.state earlier
+        (sent (byte_leg (write_address member.device.address ∷ bytes))) b signal
         → Whether (TakesByte member.device (leg_place earlier) bytes b) (signal ≡ answers.Ack) (signal ≡ answers.Nack)
-    answered_by signal answered = own_byte member.device member.state earlier (write_address member.device.address) bytes b signal own_leg taken answered
+    answered_by signal answered = own_byte member.device member.state earlier (write_address member.device.address)
+        bytes b signal own_leg taken answered
 
     -- A byte that the device takes is acknowledged,
     pub byte_acked : TakesByte member.device (leg_place earlier) bytes b → result ≡ answers.Ack
     byte_acked takes =
-        elim (member_answers members member in_bus (Inside earlier (byte_leg (write_address member.device.address ∷ bytes))) (Byte b) result bus) [
+        elim (member_answers members member in_bus
+        (Inside earlier (byte_leg (write_address member.device.address ∷ bytes))) (Byte b) result bus) [
           | inl answered ↦ elim (answered_by result answered) [ inl w ↦ w.1 | inr w ↦ absurd (w.0 takes) ]
-          | inr silent ↦ elim (answered_by answers.Silent silent) [ inl w ↦ absurd (cc w.1) | inr w ↦ absurd (w.0 takes) ]
+          | inr silent ↦ elim (answered_by answers.Silent silent)
+              [ inl w ↦ absurd (cc w.1) | inr w ↦ absurd (w.0 takes) ]
         ]
 
     -- and one that it doesn't take is not.
     pub byte_not_acked : (TakesByte member.device (leg_place earlier) bytes b → ⊥) → result ≡ answers.Ack → ⊥
     byte_not_acked refused ack =
-        elim (member_answers members member in_bus (Inside earlier (byte_leg (write_address member.device.address ∷ bytes))) (Byte b) result bus) [
+        elim (member_answers members member in_bus
+        (Inside earlier (byte_leg (write_address member.device.address ∷ bytes))) (Byte b) result bus) [
           | inl answered ↦ elim (answered_by result answered) [ inl w ↦ refused w.0 | inr w ↦ cc (ack, w.1) ]
           | inr silent ↦ elim (answered_by answers.Silent silent) [ inl w ↦ refused w.0 | inr w ↦ cc w.1 ]
         ]

@@ -1,5 +1,6 @@
 -- The bytes of a write body, of which a device refuses a value of PAGE alone.
-use Rattle.std.proofs.Common.{◌≡◌, ◌≢◌, ℕ, ◌<◌, ◌≤◌, ◌⊎◌, inl, inr, Bool, Some, List, [], ◌∷◌, ◌++◌, length, nat_eq, refl, sym, ap, subst, ◌∙◌, append_assoc, arith}
+use Rattle.std.proofs.Common.{◌≡◌, ◌≢◌, ℕ, ◌<◌, ◌≤◌, ◌⊎◌, inl, inr, Bool, Some, List, [], ◌∷◌, ◌++◌, length, nat_eq}
+use Rattle.std.proofs.Common.{refl, sym, ap, subst, ◌∙◌, append_assoc, arith}
 use Rattle.std.proofs.lemmas.Bool.{eqb-true, eqb-false}
 use Rattle.std.proofs.lemmas.List.{append-nil}
 use Rattle.pmb_command.specs.declared.form.Form.{Form}
@@ -18,14 +19,17 @@ use Rattle.pmb_device.proofs.Requests.{page_form}
 use Rattle.pmb_devices.proofs.Writes.{by_test}
 
 -- a write body is allowed in each leg
-allowed_at : (device : DeviceParts) (place : LegPlace) (body : List ℕ) → IsWriteBody device body → AllowedAt device place body
+allowed_at : (device : DeviceParts) (place : LegPlace) (body : List ℕ) → IsWriteBody device body
+    → AllowedAt device place body
 allowed_at device First body write = inl write
 allowed_at device Later body write = write
 
 -- bytes that are taken, in two parts
-pub takes_parts : (device : DeviceParts) (place : LegPlace) (taken front back : List ℕ) → TakesAll device place taken (front ++ back)
+pub takes_parts : (device : DeviceParts) (place : LegPlace) (taken front back : List ℕ)
+    → TakesAll device place taken (front ++ back)
     → TakesAll device place taken front × TakesAll device place (taken ++ front) back
-takes_parts device place taken [] back all = (tt, subst (λ (bs : List ℕ). TakesAll device place bs back) (sym (append-nil taken)) all)
+takes_parts device place taken [] back all =
+    (tt, subst (λ (bs : List ℕ). TakesAll device place bs back) (sym (append-nil taken)) all)
 takes_parts device place taken (b ∷ front) back all =
     let more = takes_parts device place (taken ++ b ∷ []) front back all.1 in
     ((all.0, more.0), subst (λ (bs : List ℕ). TakesAll device place bs back) (append_assoc taken (b ∷ []) front) more.1)
@@ -36,7 +40,8 @@ one_byte [] long = absurd (omega (arith, long))
 one_byte (value ∷ []) long = (value, refl)
 one_byte (value ∷ next ∷ more) long = absurd (omega (arith, long))
 
-module _ (device : DeviceParts) (accepted : IsDevice device) (code : ℕ) (content : List ℕ) (with_pec : Bool) (body : List ℕ)
+module _ (device : DeviceParts) (accepted : IsDevice device) (code : ℕ) (content : List ℕ) (with_pec : Bool)
+    (body : List ℕ)
     (write : WriteBody device code content with_pec body) where
   -- The body of PAGE is its code and a value.
   pub record PageBody : Type 0 where
@@ -46,13 +51,15 @@ module _ (device : DeviceParts) (accepted : IsDevice device) (code : ℕ) (conte
     pub body_is : body ≡ 0x00 ∷ value ∷ rest
 
   -- the code comes first
-  pub code_first : body ≡ code ∷ (wire write.form content ++ code_behind with_pec (write_address device.address ∷ []) (code ∷ wire write.form content))
+  pub code_first : body ≡ code ∷ (wire write.form content ++ code_behind with_pec (write_address device.address ∷ [])
+      (code ∷ wire write.form content))
   code_first = write.spelled ∙ checked_is with_pec (write_address device.address ∷ []) (code ∷ wire write.form content)
 
   pub page_body : code ≡ 0x00 → PageBody
   page_body page =
       let form_is : write.form ≡ One =
-      page_form device write.form accepted (subst (λ (c : ℕ). (forms device c).write ≡ Some write.form) page write.written) in
+      page_form device write.form accepted (subst (λ (c : ℕ). (forms device c).write ≡ Some write.form) page
+      write.written) in
       let one = one_byte content (subst (λ (f : Form). Takes f (length content)) form_is write.fits.taken) in
       let behind = code_behind with_pec (write_address device.address ∷ []) (code ∷ wire write.form content) in
       let wire_is : wire write.form content ≡ one.0 ∷ [] = ap (λ (f : Form). wire f content) form_is ∙ one.1 in
@@ -60,7 +67,8 @@ module _ (device : DeviceParts) (accepted : IsDevice device) (code : ℕ) (conte
         value = one.0;
         content_is = one.1;
         rest = behind;
-        body_is = code_first ∙ ap (λ (c : ℕ). c ∷ (wire write.form content ++ behind)) page ∙ ap (λ (bs : List ℕ). 0x00 ∷ (bs ++ behind)) wire_is;
+        body_is = code_first ∙ ap (λ (c : ℕ). c ∷ (wire write.form content ++ behind)) page
+            ∙ ap (λ (bs : List ℕ). 0x00 ∷ (bs ++ behind)) wire_is;
       }
 
   -- ---- by the value
@@ -90,11 +98,19 @@ module _ (device : DeviceParts) (accepted : IsDevice device) (code : ℕ) (conte
   value_or_not : code ≡ 0x00 → (v : ℕ) → content ≡ v ∷ [] → PageOrNot
   value_or_not page v is =
       elim (small_or_not v device.pages) [
-        | inl small ↦ is_page (λ page value also. inl (subst (λ (n : ℕ). n < device.pages) (same_value v is value also) small))
+        | inl small ↦ is_page (λ page value also. inl
+            (subst (λ (n : ℕ). n < device.pages) (same_value v is value also) small))
         | inr large ↦
             by_test (nat_eq v all_pages) (nat_eq v all_pages) refl
             (λ all. is_page (λ page value also. inr (sym (same_value v is value also) ∙ eqb-true v all_pages all)))
-            (λ other. no_page (record { page = page; value = v; content_is = is; too_large = large; not_all = eqb-false v all_pages other }))
+            (λ other. no_page (record {
+              page = page;
+              value = v;
+              content_is = is;
+              too_large = large;
+              not_all =
+                  eqb-false v all_pages other;
+            }))
       ]
 
   -- One of them holds.
@@ -108,9 +124,16 @@ module _ (device : DeviceParts) (accepted : IsDevice device) (code : ℕ) (conte
 
   module _ (place : LegPlace) where
     -- a byte of the body that is no value of PAGE
-    pub takes_byte : (taken : List ℕ) (b : ℕ) (rest : List ℕ) → body ≡ taken ++ b ∷ rest → IsPageValue device taken b → TakesByte device place taken b
+    pub takes_byte : (taken : List ℕ) (b : ℕ) (rest : List ℕ) → body ≡ taken ++ b ∷ rest → IsPageValue device taken b
+        → TakesByte device place taken b
     takes_byte taken b rest is page = record {
-      begins = (body, rest, allowed_at device place body (code, content, with_pec, write), is ∙ sym (append_assoc taken (b ∷ []) rest));
+      begins = (
+        body,
+        rest,
+        allowed_at device place body (code, content, with_pec, write),
+        is
+            ∙ sym (append_assoc taken (b ∷ []) rest),
+      );
       page = page;
     }
 
@@ -124,11 +147,15 @@ module _ (device : DeviceParts) (accepted : IsDevice device) (code : ℕ) (conte
         let code_is : code ≡ 0x00 = cc (sym code_first ∙ here) in
         let p = page_body code_is in
         let value_is : p.value ≡ b = cc (sym p.body_is ∙ here) in
-        subst (λ (n : ℕ). (n < device.pages) ⊎ (n ≡ all_pages)) value_is (page code_is p.value p.content_is) in
-        (takes_byte taken b rest is value, takes_rest page (taken ++ b ∷ []) rest (is ∙ sym (append_assoc taken (b ∷ []) rest)))
+        subst (λ (n : ℕ). (n < device.pages) ⊎ (n ≡ all_pages)) value_is (page code_is p.value p.content_is) in (
+          takes_byte taken b rest is value,
+          takes_rest page (taken ++ b ∷ []) rest
+              (is ∙ sym (append_assoc taken (b ∷ []) rest)),
+        )
 
     -- A value that is no page is not.
-    pub no_page_refused : IsNoPage → (b : ℕ) (rest : List ℕ) → body ≡ 0x00 ∷ b ∷ rest → TakesByte device place (0x00 ∷ []) b → ⊥
+    pub no_page_refused : IsNoPage → (b : ℕ) (rest : List ℕ) → body ≡ 0x00 ∷ b ∷ rest
+        → TakesByte device place (0x00 ∷ []) b → ⊥
     no_page_refused bad b rest is takes =
         let p = page_body bad.page in
         let value_is : p.value ≡ b = cc (sym p.body_is ∙ is) in

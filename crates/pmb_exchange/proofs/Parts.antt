@@ -1,5 +1,6 @@
 -- The parts of a write: their legs, and their events.
-use Rattle.std.proofs.Common.{◌≡◌, ℕ, false, Option, Some, List, [], ◌∷◌, ◌++◌, map, flat_map, nat_eq, refl, sym, ap, subst, ◌∙◌}
+use Rattle.std.proofs.Common.{◌≡◌, ℕ, false, Option, Some, List, [], ◌∷◌, ◌++◌, map, flat_map, nat_eq, refl, sym, ap}
+use Rattle.std.proofs.Common.{subst, ◌∙◌}
 use Rattle.std.specs.List.{AllByRecursion, Contains, IsDistinct}
 use Rattle.std.proofs.lemmas.Bool.{ne_eqb, or_from}
 use Rattle.pmb_bus.specs.declared.event.Event.{Event}
@@ -23,7 +24,8 @@ use Rattle.pmb_exchange.proofs.Members.{found_with}
 
 -- ---- facts of each of some things
 
-pub all_parts : {X : Type 0} (P : X → Type 0) (front : List X) (x : X) (back : List X) → AllByRecursion P (front ++ x ∷ back)
+pub all_parts : {X : Type 0} (P : X → Type 0) (front : List X) (x : X) (back : List X)
+    → AllByRecursion P (front ++ x ∷ back)
     → AllByRecursion P front × P x
 all_parts P [] x back all = (tt, all.0)
 all_parts P (y ∷ front) x back all =
@@ -58,11 +60,13 @@ module _ (profile : List DeviceParts) where
         allowed = is.allowed;
         bytes_are =
             ap (λ (o : Option Form). w ∷ checked part.pec (w ∷ []) (part.code ∷ wire_in o part.bytes)) form_is
-            ∙ ap (λ (a : ℕ). w ∷ checked part.pec (write_address a ∷ []) (part.code ∷ wire form part.bytes)) (sym accepted.1)
+            ∙ ap (λ (a : ℕ). w ∷ checked part.pec (write_address a ∷ []) (part.code ∷ wire form part.bytes))
+            (sym accepted.1)
             ∙ ap (λ (bs : List ℕ). w ∷ bs) (sym is.allowed.spelled);
       }
 
-  pub have_legs : IsBus profile → (parts : List PartData) (events : List Event) → PartsEvents profile parts events → AllByRecursion HasLeg parts
+  pub have_legs : IsBus profile → (parts : List PartData) (events : List Event) → PartsEvents profile parts events
+      → AllByRecursion HasLeg parts
   have_legs bus [] events each = tt
   have_legs bus (part ∷ parts) events each = (has_leg bus part each.0 each.3, have_legs bus parts each.1 each.4)
 
@@ -73,36 +77,48 @@ module _ (profile : List DeviceParts) where
   legs_events legs = flat_map leg legs
 
   -- Parts that have legs have these events.
-  pub parts_events : (parts : List PartData) → AllByRecursion HasLeg parts → PartsEvents profile parts (legs_events (map (part_bytes profile) parts))
+  pub parts_events : (parts : List PartData) → AllByRecursion HasLeg parts
+      → PartsEvents profile parts (legs_events (map (part_bytes profile) parts))
   parts_events [] each = refl
   parts_events (part ∷ parts) each = (
     leg (part_bytes profile part),
     legs_events (map (part_bytes profile) parts),
     refl,
-    record { device = each.0.device; body = each.0.body; known = each.0.known; allowed = each.0.allowed; spelled = ap leg each.0.bytes_are },
+    record {
+      device = each.0.device;
+      body = each.0.body;
+      known = each.0.known;
+      allowed = each.0.allowed;
+      spelled =
+          ap leg each.0.bytes_are;
+    },
     parts_events parts each.1,
   )
 
   -- ---- addresses
 
   -- an address among others
-  all_at : (P : ℕ → Type 0) (before : List PartData) (part : PartData) (behind : List PartData) → AllByRecursion P (addresses (before ++ part ∷ behind)) → P part.addr
+  all_at : (P : ℕ → Type 0) (before : List PartData) (part : PartData) (behind : List PartData)
+      → AllByRecursion P (addresses (before ++ part ∷ behind)) → P part.addr
   all_at P [] part behind all = all.0
   all_at P (first ∷ before) part behind all = all_at P before part behind all.1
 
-  all_front : (P : ℕ → Type 0) (before more : List PartData) → AllByRecursion P (addresses (before ++ more)) → AllByRecursion P (addresses before)
+  all_front : (P : ℕ → Type 0) (before more : List PartData) → AllByRecursion P (addresses (before ++ more))
+      → AllByRecursion P (addresses before)
   all_front P [] more all = tt
   all_front P (first ∷ before) more all = (all.0, all_front P before more all.1)
 
   -- the first of distinct addresses are distinct
-  pub distinct_front : (before more : List PartData) → IsDistinct nat_eq (addresses (before ++ more)) → IsDistinct nat_eq (addresses before)
+  pub distinct_front : (before more : List PartData) → IsDistinct nat_eq (addresses (before ++ more))
+      → IsDistinct nat_eq (addresses before)
   unfolding IsDistinct
   distinct_front [] more own = tt
   distinct_front (first ∷ before) more own =
       (all_front (λ x. nat_eq first.addr x ≡ false) before more own.0, distinct_front before more own.1)
 
   -- An address is none of those before it.
-  pub others_before : (before : List PartData) (part : PartData) (behind : List PartData) → IsDistinct nat_eq (addresses (before ++ part ∷ behind))
+  pub others_before : (before : List PartData) (part : PartData) (behind : List PartData)
+      → IsDistinct nat_eq (addresses (before ++ part ∷ behind))
       → AllByRecursion (λ x. nat_eq part.addr x ≡ false) (addresses before)
   unfolding IsDistinct
   others_before [] part behind own = tt
@@ -111,7 +127,8 @@ module _ (profile : List DeviceParts) where
     others_before before part behind own.1,
   )
 
-  pub new_address : (before : List PartData) (part : PartData) (behind : List PartData) → IsDistinct nat_eq (addresses (before ++ part ∷ behind))
+  pub new_address : (before : List PartData) (part : PartData) (behind : List PartData)
+      → IsDistinct nat_eq (addresses (before ++ part ∷ behind))
       → IsNew part.addr (addresses before)
   new_address before part behind own = none_of part.addr (addresses before) (others_before before part behind own)
 
@@ -121,8 +138,10 @@ module _ (profile : List DeviceParts) where
   not_written addr [] others = refl
   not_written addr (first ∷ before) others =
       let w = write_address addr in
-      or_from (is_to w (byte_leg (part_bytes profile first))) (some_is_to w (map byte_leg (map (part_bytes profile) before)))
-      (ne_eqb (write_address first.addr) w (λ same. other_written addr first.addr others.0 (sym same))) (not_written addr before others.1)
+      or_from (is_to w (byte_leg (part_bytes profile first)))
+      (some_is_to w (map byte_leg (map (part_bytes profile) before)))
+      (ne_eqb (write_address first.addr) w (λ same. other_written addr first.addr others.0 (sym same)))
+      (not_written addr before others.1)
 
   -- ---- a part, its device and the legs before it
 
@@ -136,13 +155,16 @@ module _ (profile : List DeviceParts) where
       pub body : List ℕ
       pub write : WriteBody member.device part.code part.bytes part.pec body
       pub bytes_are : part_bytes profile part ≡ write_address member.device.address ∷ body
-      pub once : some_is_to (write_address member.device.address) (map byte_leg (map (part_bytes profile) before)) ≡ false
+      pub once : some_is_to (write_address member.device.address) (map byte_leg (map (part_bytes profile) before))
+          ≡ false
 
-    pub part_at : map (λ m. m.device) members ≡ profile → (before : List PartData) (part : PartData) (behind : List PartData)
+    pub part_at : map (λ m. m.device) members ≡ profile
+        → (before : List PartData) (part : PartData) (behind : List PartData)
         → IsDistinct nat_eq (addresses (before ++ part ∷ behind)) → HasLeg part → PartAt before part
     part_at devices_are before part behind distinct has =
         let found =
-        found_with members part.addr has.device (subst (λ (ds : List DeviceParts). device_with part.addr ds ≡ Some has.device) (sym devices_are) has.known) in
+        found_with members part.addr has.device (subst
+        (λ (ds : List DeviceParts). device_with part.addr ds ≡ Some has.device) (sym devices_are) has.known) in
         let once = not_written part.addr before (others_before before part behind distinct) in
         record {
           member = found.member;
@@ -150,7 +172,9 @@ module _ (profile : List DeviceParts) where
           accepted = subst IsDevice (sym found.device_is) has.accepted;
           address_is = found.address_is;
           body = has.body;
-          write = subst (λ (d : DeviceParts). WriteBody d part.code part.bytes part.pec has.body) (sym found.device_is) has.allowed;
+          write = subst (λ (d : DeviceParts). WriteBody d part.code part.bytes part.pec has.body)
+              (sym found.device_is) has.allowed;
           bytes_are = has.bytes_are ∙ ap (λ (a : ℕ). write_address a ∷ has.body) (sym found.address_is);
-          once = subst (λ (a : ℕ). some_is_to (write_address a) (map byte_leg (map (part_bytes profile) before)) ≡ false) (sym found.address_is) once;
+          once = subst (λ (a : ℕ). some_is_to (write_address a) (map byte_leg (map (part_bytes profile) before))
+              ≡ false) (sym found.address_is) once;
         }

@@ -20,7 +20,8 @@ legs_by legs [] = legs
 legs_by legs (signal ∷ more) = legs_by (with_signal legs signal) more
 
 -- the legs of answered signals are those of the signals
-pub legs_by_signals : (legs : Legs) (heard : List AnsweredSignal) → legs_after legs heard ≡ legs_by legs (sent_signals heard)
+pub legs_by_signals : (legs : Legs) (heard : List AnsweredSignal)
+    → legs_after legs heard ≡ legs_by legs (sent_signals heard)
 legs_by_signals legs [] = refl
 legs_by_signals legs (one ∷ heard) = legs_by_signals (with_signal legs one.signal) heard
 
@@ -55,7 +56,8 @@ legs_by_legs legs (bytes ∷ all) more =
 pub closed_legs : (legs : Legs) (all : List (List ℕ)) → closed (behind_legs legs all) ≡ closed legs ++ map byte_leg all
 closed_legs legs [] = sym (append-nil (closed legs))
 closed_legs legs (bytes ∷ all) =
-    closed_legs (Inside (closed legs) (byte_leg bytes)) all ∙ append_assoc (closed legs) (byte_leg bytes ∷ []) (map byte_leg all)
+    closed_legs (Inside (closed legs) (byte_leg bytes)) all ∙ append_assoc (closed legs) (byte_leg bytes ∷ [])
+    (map byte_leg all)
 
 -- After whole legs and some bytes of the next one.
 pub legs_at : (all : List (List ℕ)) (bytes : List ℕ)
@@ -74,13 +76,16 @@ module _ (members : List InState) where
       → AreAnswered members legs (before ++ one ∷ behind)
       → BusAnswers members (legs_by legs (sent_signals before)) one.signal one.result
   answer_at legs [] one behind answered = answered.1
-  answer_at legs (first ∷ before) one behind answered = answer_at (with_signal legs first.signal) before one behind answered.2
+  answer_at legs (first ∷ before) one behind answered =
+      answer_at (with_signal legs first.signal) before one behind answered.2
 
   -- what was answered after some signals
-  pub answered_behind : (legs : Legs) (before behind : List AnsweredSignal) → AreAnswered members legs (before ++ behind)
+  pub answered_behind : (legs : Legs) (before behind : List AnsweredSignal)
+      → AreAnswered members legs (before ++ behind)
       → AreAnswered members (legs_by legs (sent_signals before)) behind
   answered_behind legs [] behind answered = answered
-  answered_behind legs (first ∷ before) behind answered = answered_behind (with_signal legs first.signal) before behind answered.2
+  answered_behind legs (first ∷ before) behind answered =
+      answered_behind (with_signal legs first.signal) before behind answered.2
 
 -- A list of answered signals is cut where its signals are.
 pub record Cut (heard : List AnsweredSignal) (front back : List HostSignal) : Type 0 where
@@ -90,7 +95,8 @@ pub record Cut (heard : List AnsweredSignal) (front back : List HostSignal) : Ty
   pub first_are : sent_signals first ≡ front
   pub second_are : sent_signals second ≡ back
 
-pub cut : (heard : List AnsweredSignal) (front back : List HostSignal) → sent_signals heard ≡ front ++ back → Cut heard front back
+pub cut : (heard : List AnsweredSignal) (front back : List HostSignal) → sent_signals heard ≡ front ++ back
+    → Cut heard front back
 cut heard [] back is = record { first = []; second = heard; split = refl; first_are = refl; second_are = is }
 cut [] (signal ∷ front) back is = absurd (cc is)
 cut (one ∷ heard) (signal ∷ front) back is =
@@ -108,7 +114,8 @@ cut (one ∷ heard) (signal ∷ front) back is =
     }
 
 -- One signal with signals on both sides.
-pub record Place (heard : List AnsweredSignal) (front : List HostSignal) (signal : HostSignal) (back : List HostSignal) : Type 0 where
+pub record Place (heard : List AnsweredSignal) (front : List HostSignal) (signal : HostSignal)
+    (back : List HostSignal) : Type 0 where
   pub before : List AnsweredSignal
   pub one : AnsweredSignal
   pub behind : List AnsweredSignal
@@ -117,7 +124,8 @@ pub record Place (heard : List AnsweredSignal) (front : List HostSignal) (signal
   pub signal_is : one.signal ≡ signal
   pub behind_are : sent_signals behind ≡ back
 
-place_in : (heard first second : List AnsweredSignal) (front : List HostSignal) (signal : HostSignal) (back : List HostSignal) → heard ≡ first ++ second
+place_in : (heard first second : List AnsweredSignal) (front : List HostSignal) (signal : HostSignal)
+    (back : List HostSignal) → heard ≡ first ++ second
     → sent_signals first ≡ front → sent_signals second ≡ signal ∷ back → Place heard front signal back
 place_in heard first [] front signal back split are is = absurd (cc is)
 place_in heard first (one ∷ second) front signal back split are is = record {

@@ -1,6 +1,8 @@
 -- The bytes that a device gives to the Asks after its address for reading: those of its reply, one
 -- after the other.
-use Rattle.std.proofs.Common.{◌≡◌, ℕ, zero, suc, ◌<◌, ◌≤◌, ◌⊎◌, inl, inr, Bool, false, ◌||◌, if◌then◌else◌, Option, Some, None, Result, Ok, Err, List, [], ◌∷◌, ◌++◌, length, drop, refl, sym, ap, subst, ◌∙◌, append_assoc, length-append, arith}
+use Rattle.std.proofs.Common.{◌≡◌, ℕ, zero, suc, ◌<◌, ◌≤◌, ◌⊎◌, inl, inr, Bool, false, ◌||◌, if◌then◌else◌, Option}
+use Rattle.std.proofs.Common.{Some, None, Result, Ok, Err, List, [], ◌∷◌, ◌++◌, length, drop, refl, sym, ap, subst, ◌∙◌}
+use Rattle.std.proofs.Common.{append_assoc, length-append, arith}
 use Rattle.std.specs.List.{AllByRecursion, Contains, slice_get}
 use Rattle.std.proofs.Math.Seq.{drop-cons}
 use Rattle.std.proofs.lemmas.Option.{get_or_from_slice_get, slice_get_within}
@@ -18,7 +20,9 @@ use Rattle.pmb_device.specs.declared.signal.HostSignal.TheVariants.{Start, Byte,
 use Rattle.pmb_device.specs.declared.signal.DeviceSignal.{DeviceSignal}
 use Rattle.pmb_device.specs.declared.signal.DeviceSignal.TheVariants as answers
 use Rattle.pmb_device.specs.Legs.{Leg, Legs, Inside, sent, with_signal}
-use Rattle.pmb_device.specs.Rules.{AnswersAddress, AnswersAsk, IsRead, IsReplyTo, byte_or_silent, given_behind, is_ended, next_of, taken_or_not, waits_behind, written, read, others, replies, not_read}
+use Rattle.pmb_device.specs.Rules.{AnswersAddress, AnswersAsk, IsRead, IsReplyTo, byte_or_silent, given_behind}
+use Rattle.pmb_device.specs.Rules.{is_ended, next_of, taken_or_not, waits_behind, written, read, others, replies}
+use Rattle.pmb_device.specs.Rules.{not_read}
 use Rattle.pmb_devices.specs.Bus.{AreAnswered, AnsweredSignal, BusAnswers}
 use Rattle.pmb_devices.proofs.Givers.{member_answers, no_read_address}
 use Rattle.pmb_devices.proofs.OwnLegs.{byte_leg, sent_bytes}
@@ -37,7 +41,8 @@ asks_more zero = refl
 asks_more (suc k) = ap (λ (xs : List HostSignal). Ask ∷ Ack ∷ xs) (asks_more k)
 
 -- they stand in the leg
-pub legs_by_asks : (earlier : List Leg) (leg : Leg) (n : ℕ) → legs_by (Inside earlier leg) (asks n) ≡ Inside earlier (leg ++ asks n)
+pub legs_by_asks : (earlier : List Leg) (leg : Leg) (n : ℕ) → legs_by (Inside earlier leg) (asks n)
+    ≡ Inside earlier (leg ++ asks n)
 legs_by_asks earlier leg zero = ap (Inside earlier) (nil leg)
   where
     nil : (l : Leg) → l ≡ l ++ []
@@ -45,7 +50,8 @@ legs_by_asks earlier leg zero = ap (Inside earlier) (nil leg)
     nil (s ∷ l) = ap (λ (m : Leg). s ∷ m) (nil l)
 legs_by_asks earlier leg (suc n) =
     legs_by_asks earlier ((leg ++ Ask ∷ []) ++ Ack ∷ []) n
-    ∙ ap (Inside earlier) (append_assoc (leg ++ Ask ∷ []) (Ack ∷ []) (asks n) ∙ append_assoc leg (Ask ∷ []) (Ack ∷ asks n))
+    ∙ ap (Inside earlier) (append_assoc (leg ++ Ask ∷ []) (Ack ∷ []) (asks n)
+    ∙ append_assoc leg (Ask ∷ []) (Ack ∷ asks n))
 
 module _ (device : DeviceParts) where
   ended_asks : (k : ℕ) → is_ended device (asks k) ≡ false
@@ -63,9 +69,12 @@ module _ (device : DeviceParts) where
   -- After so many Asks and ACKs the byte at that place comes next.
   pub next_asks : (all : List ℕ) (k : ℕ) → next_of device all (asks k) ≡ byte_or_silent device (slice_get all k)
   next_asks all k =
-      let chosen = λ (ended waits : Bool) (n : ℕ). if ended || waits then answers.Silent else byte_or_silent device (slice_get all n) in
-      ap (λ (b : Bool). chosen b (waits_behind device false (asks k)) (given_behind device false (asks k))) (ended_asks k)
-      ∙ ap (λ (b : Bool). chosen false b (given_behind device false (asks k))) (waits_asks k) ∙ ap (chosen false false) (given_asks k)
+      let chosen = λ (ended waits : Bool) (n : ℕ). if ended || waits then answers.Silent else byte_or_silent device
+      (slice_get all n) in
+      ap (λ (b : Bool). chosen b (waits_behind device false (asks k)) (given_behind device false (asks k)))
+      (ended_asks k)
+      ∙ ap (λ (b : Bool). chosen false b (given_behind device false (asks k))) (waits_asks k)
+      ∙ ap (chosen false false) (given_asks k)
 
   byte_chosen : (o : Option ℕ) (b : ℕ) → byte_or_silent device o ≡ answers.Byte b → o ≡ Some b
   byte_chosen None b is = absurd (cc is)
@@ -87,7 +96,8 @@ byte_at (b ∷ all) (suc n) small = byte_at all n (omega (arith, small))
 -- ---- the device that is read
 
 module _ (members : List InState) (member : InState) (in_bus : Contains members member)
-    (same : (m : InState) → Contains members m → m.device.address ≡ member.device.address → m ≡ member) (body : List ℕ) (form : Form)
+    (same : (m : InState) → Contains members m → m.device.address ≡ member.device.address → m ≡ member) (body : List ℕ)
+    (form : Form)
     (only : (f : Form) → IsFormOfRequest member.device f body → f ≡ form) (request : IsRequest member.device body) where
   -- the leg in which it is asked
   abbrev pub asking_leg : Leg
@@ -97,7 +107,13 @@ module _ (members : List InState) (member : InState) (in_bus : Contains members 
   is_read : IsRead member.device (asking_leg ∷ []) (read_address member.device.address) body
   is_read = record {
     own = refl;
-    asked = record { first = asking_leg; alone = refl; own = sent_bytes (write_address member.device.address ∷ body); request = request };
+    asked = record {
+      first = asking_leg;
+      alone = refl;
+      own =
+          sent_bytes (write_address member.device.address ∷ body);
+      request = request;
+    };
   }
 
   -- and was asked this body alone
@@ -110,11 +126,14 @@ module _ (members : List InState) (member : InState) (in_bus : Contains members 
 
   -- ---- its address for reading
 
-  address_answer : (result : DeviceSignal) → AnswersAddress member.device member.state (asking_leg ∷ []) (read_address member.device.address) result
+  address_answer : (result : DeviceSignal)
+      → AnswersAddress member.device member.state (asking_leg ∷ []) (read_address member.device.address) result
       → result ≡ taken_or_not member.device (answer member.device member.state body)
-  address_answer result (written own ack) = absurd (no_read_address member.device.address member.device.address (sym own.own))
+  address_answer result (written own ack) =
+      absurd (no_read_address member.device.address member.device.address (sym own.own))
   address_answer result (read other is taken) =
-      taken ∙ ap (λ (bs : List ℕ). taken_or_not member.device (answer member.device member.state bs)) (body_read (read_address member.device.address) other is)
+      taken ∙ ap (λ (bs : List ℕ). taken_or_not member.device (answer member.device member.state bs))
+      (body_read (read_address member.device.address) other is)
   address_answer result (others none nor silent) = absurd (nor body is_read)
 
   not_silent : (r : Result (List ℕ) CmlBit) → answers.Silent ≡ taken_or_not member.device r → ⊥
@@ -122,12 +141,15 @@ module _ (members : List InState) (member : InState) (in_bus : Contains members 
   not_silent (Err bit) is = cc is
 
   -- The bus answers it as the device does: ACK, or NACK where it refuses to be read.
-  pub read_answer : (result : DeviceSignal) → BusAnswers members (Inside (asking_leg ∷ []) []) (Byte (read_address member.device.address)) result
+  pub read_answer : (result : DeviceSignal)
+      → BusAnswers members (Inside (asking_leg ∷ []) []) (Byte (read_address member.device.address)) result
       → result ≡ taken_or_not member.device (answer member.device member.state body)
   read_answer result bus =
-      elim (member_answers members member in_bus (Inside (asking_leg ∷ []) []) (Byte (read_address member.device.address)) result bus) [
+      elim (member_answers members member in_bus (Inside (asking_leg ∷ []) [])
+      (Byte (read_address member.device.address)) result bus) [
         | inl answered ↦ address_answer result answered
-        | inr silent ↦ absurd (not_silent (answer member.device member.state body) (address_answer answers.Silent silent))
+        | inr silent ↦ absurd (not_silent (answer member.device member.state body)
+            (address_answer answers.Silent silent))
       ]
 
   -- ---- the bytes of its reply
@@ -137,38 +159,46 @@ module _ (members : List InState) (member : InState) (in_bus : Contains members 
     abbrev pub all_bytes : List ℕ
     all_bytes = reply_of member.device body form reply
 
-    replied_all : (other replied all : List ℕ) → other ≡ body → answer member.device member.state other ≡ Ok replied → IsReplyTo member.device other replied all
+    replied_all : (other replied all : List ℕ) → other ≡ body → answer member.device member.state other ≡ Ok replied
+        → IsReplyTo member.device other replied all
         → all ≡ all_bytes
     replied_all other replied all body_is also is =
-        let form_is : is.form ≡ form = only is.form (subst (λ (bs : List ℕ). IsFormOfRequest member.device is.form bs) body_is is.asked) in
+        let form_is : is.form ≡ form = only is.form
+        (subst (λ (bs : List ℕ). IsFormOfRequest member.device is.form bs) body_is is.asked) in
         let rows : Ok replied ≡ Ok reply = sym also ∙ ap (answer member.device member.state) body_is ∙ ok in
         let reply_is : replied ≡ reply = cc rows in
         is.spelled ∙ ap (λ (bs : List ℕ). reply_of member.device bs is.form replied) body_is
-        ∙ ap (λ (f : Form). reply_of member.device body f replied) form_is ∙ ap (reply_of member.device body form) reply_is
+        ∙ ap (λ (f : Form). reply_of member.device body f replied) form_is
+        ∙ ap (reply_of member.device body form) reply_is
 
     ask_answer : (k : ℕ) (result : DeviceSignal)
-        → AnswersAsk member.device member.state (asking_leg ∷ []) (Byte (read_address member.device.address) ∷ asks k) result
+        → AnswersAsk member.device member.state (asking_leg ∷ []) (Byte (read_address member.device.address) ∷ asks k)
+        result
         → result ≡ byte_or_silent member.device (slice_get all_bytes k)
     ask_answer k result (replies address bytes sent_is other is replied all also spelled given) =
         given
-        ∙ ap (λ (bs : List ℕ). next_of member.device bs (asks k)) (replied_all other replied all (body_read address other is) also spelled)
+        ∙ ap (λ (bs : List ℕ). next_of member.device bs (asks k))
+        (replied_all other replied all (body_read address other is) also spelled)
         ∙ next_asks member.device all_bytes k
     ask_answer k result (not_read none given) =
         absurd (none (read_address member.device.address) (sent (asks k)) refl body is_read reply ok)
 
     -- An Ask after some gets the byte at its place, where there is one.
     pub ask_given : (k b : ℕ) (result : DeviceSignal) → slice_get all_bytes k ≡ Some b
-        → BusAnswers members (Inside (asking_leg ∷ []) (Byte (read_address member.device.address) ∷ asks k)) Ask result → result ≡ answers.Byte b
+        → BusAnswers members (Inside (asking_leg ∷ []) (Byte (read_address member.device.address) ∷ asks k)) Ask result
+        → result ≡ answers.Byte b
     ask_given k b result there bus =
         let byte = ap (λ (o : Option ℕ). byte_or_silent member.device o) there in
-        elim (member_answers members member in_bus (Inside (asking_leg ∷ []) (Byte (read_address member.device.address) ∷ asks k)) Ask result bus) [
+        elim (member_answers members member in_bus
+        (Inside (asking_leg ∷ []) (Byte (read_address member.device.address) ∷ asks k)) Ask result bus) [
           | inl answered ↦ ask_answer k result answered ∙ byte
           | inr silent ↦ absurd (cc (ask_answer k answers.Silent silent ∙ byte))
         ]
 
     -- a byte that the bus gives is the device's
     giver : (m : InState) (k b : ℕ) → Contains members m
-        → AnswersAsk m.device m.state (asking_leg ∷ []) (Byte (read_address member.device.address) ∷ asks k) (answers.Byte b) → m ≡ member
+        → AnswersAsk m.device m.state (asking_leg ∷ []) (Byte (read_address member.device.address) ∷ asks k)
+        (answers.Byte b) → m ≡ member
     giver m k b there (replies address bytes sent_is other is replied all also spelled given) =
         let first : asking_leg ≡ is.asked.first = cc (is.asked.alone) in
         let rows : write_address m.device.address ∷ other ≡ write_address member.device.address ∷ body =
@@ -177,32 +207,38 @@ module _ (members : List InState) (member : InState) (in_bus : Contains members 
         same m there (omega (arith, address_is))
     giver m k b there (not_read none given) = absurd (cc given)
 
-    bus_gives : (k b : ℕ) → BusAnswers members (Inside (asking_leg ∷ []) (Byte (read_address member.device.address) ∷ asks k)) Ask (answers.Byte b)
+    bus_gives : (k b : ℕ) → BusAnswers members
+        (Inside (asking_leg ∷ []) (Byte (read_address member.device.address) ∷ asks k)) Ask (answers.Byte b)
         → byte_or_silent member.device (slice_get all_bytes k) ≡ answers.Byte b
     bus_gives k b bus =
         let one = bus.given_by_one (λ silent. cc silent) in
         let answered =
-        subst (λ (m : InState). AnswersAsk m.device m.state (asking_leg ∷ []) (Byte (read_address member.device.address) ∷ asks k) (answers.Byte b))
+        subst (λ (m : InState). AnswersAsk m.device m.state (asking_leg ∷ [])
+        (Byte (read_address member.device.address) ∷ asks k) (answers.Byte b))
         (giver one.0 k b one.1 one.2) one.2 in
         sym (ask_answer k (answers.Byte b) answered)
 
     -- So a byte that was read is the one at its place.
     one_read : (k : ℕ) (signal : HostSignal) (result : DeviceSignal) → signal ≡ Ask
-        → BusAnswers members (Inside (asking_leg ∷ []) (Byte (read_address member.device.address) ∷ asks k)) signal result → IsGood signal result
+        → BusAnswers members (Inside (asking_leg ∷ []) (Byte (read_address member.device.address) ∷ asks k)) signal
+        result → IsGood signal result
         → (b : ℕ) × (byte_of signal result ≡ b ∷ []) × (drop k all_bytes ≡ b ∷ drop (suc k) all_bytes)
     one_read k signal result is bus good =
         let given = subst (λ (s : HostSignal). IsGood s result) is good in
         let b = given.0 in
         let bus_byte =
-        subst (BusAnswers members (Inside (asking_leg ∷ []) (Byte (read_address member.device.address) ∷ asks k)) Ask) given.1
-        (subst (λ (s : HostSignal). BusAnswers members (Inside (asking_leg ∷ []) (Byte (read_address member.device.address) ∷ asks k)) s result) is bus) in
+        subst (BusAnswers members (Inside (asking_leg ∷ []) (Byte (read_address member.device.address) ∷ asks k)) Ask)
+        given.1
+        (subst (λ (s : HostSignal). BusAnswers members
+        (Inside (asking_leg ∷ []) (Byte (read_address member.device.address) ∷ asks k)) s result) is bus) in
         let there = byte_chosen member.device (slice_get all_bytes k) b (bus_gives k b bus_byte) in
         (b, ap (λ (s : HostSignal). byte_of s result) is ∙ ap (byte_of Ask) given.1, from_here all_bytes k b there)
 
     -- The bytes that were read are the first ones of the reply.
     pub read_so_far : (asked : List ℕ) (k : ℕ) (heard : List AnsweredSignal) (more : List HostSignal)
         → reading_signals asked ++ Stop ∷ [] ≡ sent_signals heard ++ more
-        → AreAnswered members (Inside (asking_leg ∷ []) (Byte (read_address member.device.address) ∷ asks k)) heard → GoWell heard
+        → AreAnswered members (Inside (asking_leg ∷ []) (Byte (read_address member.device.address) ∷ asks k)) heard
+        → GoWell heard
         → (rest : List ℕ) × (drop k all_bytes ≡ bytes_read heard ++ rest)
     read_so_far asked k [] more is answered well = (drop k all_bytes, refl)
     read_so_far [] k (one ∷ heard) more is answered well = absurd (answered.0 (cc is))
@@ -215,7 +251,8 @@ module _ (members : List InState) (member : InState) (in_bus : Contains members 
         let none : byte_of two.signal two.result ≡ [] = ap (λ (s : HostSignal). byte_of s two.result) second in (
           drop (suc k) all_bytes,
           first.2 ∙ ap (λ (bs : List ℕ). (bs ++ ([] ++ [])) ++ drop (suc k) all_bytes) (sym first.1)
-              ∙ ap (λ (bs : List ℕ). (byte_of one.signal one.result ++ (bs ++ [])) ++ drop (suc k) all_bytes) (sym none),
+              ∙ ap (λ (bs : List ℕ). (byte_of one.signal one.result ++ (bs ++ [])) ++ drop (suc k) all_bytes)
+              (sym none),
         )
     read_so_far (b ∷ []) k (one ∷ two ∷ three ∷ heard) more is answered well = absurd (answered.2.2.0 (cc is))
     read_so_far (b ∷ c ∷ asked) k (one ∷ []) more is answered well =
@@ -228,12 +265,15 @@ module _ (members : List InState) (member : InState) (in_bus : Contains members 
         let rest_is : reading_signals (c ∷ asked) ++ Stop ∷ [] ≡ sent_signals heard ++ more = cc is in
         let first = one_read k one.signal one.result first_is answered.1 well.0 in
         let none : byte_of two.signal two.result ≡ [] = ap (λ (s : HostSignal). byte_of s two.result) second in
-        let legs_are : with_signal (with_signal (Inside (asking_leg ∷ []) (Byte r ∷ asks k)) one.signal) two.signal ≡ Inside (asking_leg ∷ []) (Byte r ∷ asks (suc k)) =
-        ap (λ (s : HostSignal). with_signal (with_signal (Inside (asking_leg ∷ []) (Byte r ∷ asks k)) s) two.signal) first_is
+        let legs_are : with_signal (with_signal (Inside (asking_leg ∷ []) (Byte r ∷ asks k)) one.signal) two.signal
+        ≡ Inside (asking_leg ∷ []) (Byte r ∷ asks (suc k)) =
+        ap (λ (s : HostSignal). with_signal (with_signal (Inside (asking_leg ∷ []) (Byte r ∷ asks k)) s) two.signal)
+        first_is
         ∙ ap (λ (s : HostSignal). with_signal (Inside (asking_leg ∷ []) ((Byte r ∷ asks k) ++ Ask ∷ [])) s) second
         ∙ ap (λ (l : Leg). Inside (asking_leg ∷ []) (Byte r ∷ l)) (asks_more k) in
         let later =
-        read_so_far (c ∷ asked) (suc k) heard more rest_is (subst (λ (ls : Legs). AreAnswered members ls heard) legs_are answered.2.2) well.1.1 in (
+        read_so_far (c ∷ asked) (suc k) heard more rest_is
+        (subst (λ (ls : Legs). AreAnswered members ls heard) legs_are answered.2.2) well.1.1 in (
           later.0,
           first.2 ∙ ap (λ (bs : List ℕ). first.0 ∷ bs) later.1
               ∙ ap (λ (bs : List ℕ). (bs ++ ([] ++ bytes_read heard)) ++ later.0) (sym first.1)
@@ -243,7 +283,8 @@ module _ (members : List InState) (member : InState) (in_bus : Contains members 
 -- ---- how many bytes were read
 
 -- as many as were asked for
-pub count_read : (n : ℕ) (heard : List AnsweredSignal) → sent_signals heard ≡ asks n → GoWell heard → length (bytes_read heard) ≡ n
+pub count_read : (n : ℕ) (heard : List AnsweredSignal) → sent_signals heard ≡ asks n → GoWell heard
+    → length (bytes_read heard) ≡ n
 count_read zero [] is well = refl
 count_read zero (one ∷ heard) is well = absurd (cc is)
 count_read (suc n) [] is well = absurd (cc is)
@@ -253,7 +294,8 @@ count_read (suc n) (one ∷ two ∷ heard) is well =
     let second : two.signal ≡ Ack = cc is in
     let rest : sent_signals heard ≡ asks n = cc is in
     let given = subst (λ (s : HostSignal). IsGood s one.result) first well.0 in
-    let byte : byte_of one.signal one.result ≡ given.0 ∷ [] = ap (λ (s : HostSignal). byte_of s one.result) first ∙ ap (byte_of Ask) given.1 in
+    let byte : byte_of one.signal one.result ≡ given.0 ∷ [] = ap (λ (s : HostSignal). byte_of s one.result) first
+    ∙ ap (byte_of Ask) given.1 in
     let none : byte_of two.signal two.result ≡ [] = ap (λ (s : HostSignal). byte_of s two.result) second in
     let both =
     ap (λ (bs : List ℕ). length (bs ++ (byte_of two.signal two.result ++ bytes_read heard))) byte
@@ -269,13 +311,15 @@ no_bytes Ack result is = absurd is
 no_bytes Nack result is = absurd is
 no_bytes Stop result is = absurd is
 
-pub reads_none : (heard : List AnsweredSignal) (xs : List HostSignal) → sent_signals heard ≡ xs → AllByRecursion IsWritten xs → bytes_read heard ≡ []
+pub reads_none : (heard : List AnsweredSignal) (xs : List HostSignal) → sent_signals heard ≡ xs
+    → AllByRecursion IsWritten xs → bytes_read heard ≡ []
 reads_none [] xs is all = refl
 reads_none (one ∷ heard) [] is all = absurd (cc is)
 reads_none (one ∷ heard) (x ∷ xs) is all =
     let here : one.signal ≡ x = cc is in
     let rest : sent_signals heard ≡ xs = cc is in
-    ap (λ (bs : List ℕ). bs ++ bytes_read heard) (no_bytes one.signal one.result (subst IsWritten (sym here) all.0)) ∙ reads_none heard xs rest all.1
+    ap (λ (bs : List ℕ). bs ++ bytes_read heard) (no_bytes one.signal one.result (subst IsWritten (sym here) all.0))
+    ∙ reads_none heard xs rest all.1
 
 -- ---- two wires that begin alike
 
@@ -290,8 +334,10 @@ long_wire Block a b same = ap suc same
 
 -- Bytes that were read, of a wire as long as another that begins so: if one goes on so does the
 -- other.
-pub goes_on_too : (form : Form) (told reply code behind bytes to_read rest : List ℕ) → Takes form (length told) → Takes form (length reply)
-    → length code ≤ length behind → bytes ++ to_read ≡ wire form told ++ code → bytes ++ rest ≡ wire form reply ++ behind
+pub goes_on_too : (form : Form) (told reply code behind bytes to_read rest : List ℕ) → Takes form (length told)
+    → Takes form (length reply)
+    → length code ≤ length behind → bytes ++ to_read ≡ wire form told ++ code
+    → bytes ++ rest ≡ wire form reply ++ behind
     → length bytes < length (bytes ++ to_read) → length bytes < length (bytes ++ rest)
 goes_on_too form told reply code behind bytes to_read rest takes also few is other more =
     let long = ap length is ∙ length-append (wire form told) code in
@@ -309,7 +355,8 @@ goes_on_too form told reply code behind bytes to_read rest takes also few is oth
         let also : b ≡ length reply = cc other in
         inl (sym count ∙ also)
 
-    by_form : (form : Form) (bytes : List ℕ) → Takes form (length told) → Takes form (length reply) → bytes ++ to_read ≡ wire form told ++ code
+    by_form : (form : Form) (bytes : List ℕ) → Takes form (length told) → Takes form (length reply)
+        → bytes ++ to_read ≡ wire form told ++ code
         → bytes ++ rest ≡ wire form reply ++ behind
         → (length told ≡ length reply) ⊎ ((length bytes ≡ 0) × (1 ≤ length (wire form reply)))
     by_form Zero bytes takes also is other = inl (takes ∙ sym also)

@@ -1,5 +1,6 @@
 -- The packet of a quantity that is set: a write of one part with two bytes.
-use Rattle.std.proofs.Common.{◌≡◌, ◌≢◌, ℕ, ◌<◌, true, ◌||◌, Option, Some, None, Ok, List, [], ◌∷◌, ◌++◌, nat_eq, refl, ap, subst, ◌∙◌, arith}
+use Rattle.std.proofs.Common.{◌≡◌, ◌≢◌, ℕ, ◌<◌, true, ◌||◌, Option, Some, None, Ok, List, [], ◌∷◌, ◌++◌, nat_eq, refl}
+use Rattle.std.proofs.Common.{ap, subst, ◌∙◌, arith}
 use Rattle.std.specs.List.{IsDistinct}
 use Rattle.std.specs.Option.{IfSome}
 use Rattle.pmb_bus.specs.declared.event.Event.TheVariants as events
@@ -43,7 +44,8 @@ two_bytes : (word : ℕ) → word < 65536 → Fits Two (word_bytes word)
 two_bytes word small = record { small = (omega arith, (omega (arith, small), tt)); taken = refl }
 
 -- what has a number format has two bytes
-number_form : (coefficients : Option Coefficients) (mode : Option ℕ) (kind : Kind) (number : NumberFormat) (form : Option Form)
+number_form : (coefficients : Option Coefficients) (mode : Option ℕ) (kind : Kind) (number : NumberFormat)
+    (form : Option Form)
     → Ok number ≡ number_of coefficients mode kind → kind_fits kind form ≡ true → is_form Two form ≡ true
 number_form coefficients mode kinds.Raw number form is fits = absurd (cc is)
 number_form coefficients mode kinds.Linear11 number form is fits = fits
@@ -78,7 +80,8 @@ write_two (Some form) (Some read) call data_is agree is =
     let both = subst (λ (f : Form). (same_form form Zero || same_form form f) ≡ true) (two_form read is) agree in
     ap (λ (f : Form). Some f) (written_two form data_is both)
 
-module _ (profile : List DeviceParts) (bus : IsBus profile) (c : Command) (value : Fraction) (mode : Option ℕ) (word : ℕ)
+module _ (profile : List DeviceParts) (bus : IsBus profile) (c : Command) (value : Fraction) (mode : Option ℕ)
+    (word : ℕ)
     (can : CanSet profile c value mode word) where
   -- the part that is written
   abbrev pub set_part : PartData
@@ -91,11 +94,13 @@ module _ (profile : List DeviceParts) (bus : IsBus profile) (c : Command) (value
       let fitting = (command_is is.device c.code is.command accepted is.has).0.entry.fitting in
       let shape = is.command.entry.shape in
       let here = ap (λ s. s.write) (forms_are profile c.addr c.code is.device is.known) in
-      let in_shape : (forms is.device c.code).write ≡ shape.write = ap (λ (o : Option CommandParts). (shape_of o).write) is.has in
+      let in_shape : (forms is.device c.code).write ≡ shape.write =
+      ap (λ (o : Option CommandParts). (shape_of o).write) is.has in
       let data_is : HasData shape.write = subst HasData (here ∙ in_shape) can.kept.1.1.0 in
       in_shape
       ∙ write_two shape.write shape.read shape.call data_is fitting.one_form
-      (number_form is.device.vout_direct mode is.command.entry.kind can.number (value_form shape) is.number_is fitting.kind)
+      (number_form is.device.vout_direct mode is.command.entry.kind can.number
+      (value_form shape) is.number_is fitting.kind)
 
   no_two : (n : ℕ) → IsDistinct nat_eq (n ∷ [])
   unfolding IsDistinct
@@ -117,7 +122,8 @@ module _ (profile : List DeviceParts) (bus : IsBus profile) (c : Command) (value
           form = Two;
           written = written_in_two;
           fits = two_bytes word (is_word can.number word can.nearest.is_code);
-          mode = subst (λ (o : Option DeviceParts). IfSome o (λ device. AllowsPec device.pec c.pec)) is.known can.has.kept;
+          mode = subst (λ (o : Option DeviceParts). IfSome o (λ device. AllowsPec device.pec c.pec)) is.known
+              can.has.kept;
           spelled = refl;
         };
         spelled = refl;

@@ -1,5 +1,6 @@
 -- The signals of a task: where a byte stands in its legs, and an Ask after them.
-use Rattle.std.proofs.Common.{◌≡◌, ◌≢◌, ℕ, zero, suc, ◌<◌, List, [], ◌∷◌, ◌++◌, length, map, flat_map, refl, sym, ap, ◌∙◌, append_assoc, arith}
+use Rattle.std.proofs.Common.{◌≡◌, ◌≢◌, ℕ, zero, suc, ◌<◌, List, [], ◌∷◌, ◌++◌, length, map, flat_map, refl, sym, ap}
+use Rattle.std.proofs.Common.{◌∙◌, append_assoc, arith}
 use Rattle.std.specs.List.{AllByRecursion}
 use Rattle.pmb_device.specs.declared.signal.HostSignal.{HostSignal}
 use Rattle.pmb_device.specs.declared.signal.HostSignal.TheVariants.{Start, Byte, Ask, Ack, Stop}
@@ -28,7 +29,8 @@ byte_within (c ∷ all) (d ∷ bytes) tail b behind none is =
     (more.0, cc)
 
 -- all bytes of a leg
-same_bytes : (all bytes : List ℕ) (tail behind : List HostSignal) → NoByteFirst tail → NoByteFirst behind → map Byte all ++ tail ≡ map Byte bytes ++ behind
+same_bytes : (all bytes : List ℕ) (tail behind : List HostSignal) → NoByteFirst tail → NoByteFirst behind
+    → map Byte all ++ tail ≡ map Byte bytes ++ behind
     → (all ≡ bytes) × (tail ≡ behind)
 same_bytes [] [] tail behind none nor is = (refl, is)
 same_bytes [] (c ∷ bytes) tail behind none nor is = absurd (none c (map Byte bytes ++ behind) is)
@@ -41,11 +43,13 @@ same_bytes (c ∷ all) (d ∷ bytes) tail behind none nor is =
     (cc, more.1)
 
 -- legs begin with START
-legs_first : (legs : List (List ℕ)) (tail : List HostSignal) → NoByteFirst tail → NoByteFirst (flat_map leg_signals legs ++ tail)
+legs_first : (legs : List (List ℕ)) (tail : List HostSignal) → NoByteFirst tail
+    → NoByteFirst (flat_map leg_signals legs ++ tail)
 legs_first [] tail none = none
 legs_first (leg ∷ legs) tail none = λ b more is. cc is
 
-leg_behind_first : (legs : List (List ℕ)) (bytes : List ℕ) (tail : List HostSignal) → NoByteFirst ((flat_map leg_signals legs ++ leg_signals bytes) ++ tail)
+leg_behind_first : (legs : List (List ℕ)) (bytes : List ℕ) (tail : List HostSignal)
+    → NoByteFirst ((flat_map leg_signals legs ++ leg_signals bytes) ++ tail)
 leg_behind_first [] bytes tail = λ b more is. cc is
 leg_behind_first (leg ∷ legs) bytes tail = λ b more is. cc is
 
@@ -55,8 +59,10 @@ pub record InLegs (legs before : List (List ℕ)) (bytes : List ℕ) (b : ℕ) :
   pub behind : List (List ℕ)
   pub split : legs ≡ before ++ (bytes ++ b ∷ more) ∷ behind
 
-pub in_legs : (legs before : List (List ℕ)) (bytes : List ℕ) (b : ℕ) (tail behind : List HostSignal) → NoByteFirst tail → NoStartFirst tail
-    → flat_map leg_signals legs ++ tail ≡ (flat_map leg_signals before ++ leg_signals bytes) ++ Byte b ∷ behind → InLegs legs before bytes b
+pub in_legs : (legs before : List (List ℕ)) (bytes : List ℕ) (b : ℕ) (tail behind : List HostSignal) → NoByteFirst tail
+    → NoStartFirst tail
+    → flat_map leg_signals legs ++ tail ≡ (flat_map leg_signals before ++ leg_signals bytes) ++ Byte b ∷ behind
+    → InLegs legs before bytes b
 in_legs [] [] bytes b tail behind no_byte no_start is = absurd (no_start (map Byte bytes ++ Byte b ∷ behind) is)
 in_legs [] (first ∷ before) bytes b tail behind no_byte no_start is =
     absurd (no_start (((map Byte first ++ flat_map leg_signals before) ++ leg_signals bytes) ++ Byte b ∷ behind) is)
@@ -67,14 +73,17 @@ in_legs (leg ∷ legs) [] bytes b tail behind no_byte no_start is =
     (sym (append_assoc (map Byte leg) (flat_map leg_signals legs) tail) ∙ rest) in
     record { more = within.0; behind = legs; split = ap (λ (l : List ℕ). l ∷ legs) within.1 }
 in_legs (leg ∷ legs) (first ∷ before) bytes b tail behind no_byte no_start is =
-    let rest : (map Byte leg ++ flat_map leg_signals legs) ++ tail ≡ ((map Byte first ++ flat_map leg_signals before) ++ leg_signals bytes) ++ Byte b ∷ behind =
+    let rest : (map Byte leg ++ flat_map leg_signals legs) ++ tail
+    ≡ ((map Byte first ++ flat_map leg_signals before) ++ leg_signals bytes) ++ Byte b ∷ behind =
     cc is in
     let right : ((map Byte first ++ flat_map leg_signals before) ++ leg_signals bytes) ++ Byte b ∷ behind
     ≡ map Byte first ++ ((flat_map leg_signals before ++ leg_signals bytes) ++ Byte b ∷ behind) =
-    ap (λ (xs : List HostSignal). xs ++ Byte b ∷ behind) (append_assoc (map Byte first) (flat_map leg_signals before) (leg_signals bytes))
+    ap (λ (xs : List HostSignal). xs ++ Byte b ∷ behind)
+    (append_assoc (map Byte first) (flat_map leg_signals before) (leg_signals bytes))
     ∙ append_assoc (map Byte first) (flat_map leg_signals before ++ leg_signals bytes) (Byte b ∷ behind) in
     let parts =
-    same_bytes leg first (flat_map leg_signals legs ++ tail) ((flat_map leg_signals before ++ leg_signals bytes) ++ Byte b ∷ behind)
+    same_bytes leg first (flat_map leg_signals legs ++ tail)
+    ((flat_map leg_signals before ++ leg_signals bytes) ++ Byte b ∷ behind)
     (legs_first legs tail no_byte) (leg_behind_first before bytes (Byte b ∷ behind))
     (sym (append_assoc (map Byte leg) (flat_map leg_signals legs) tail) ∙ rest ∙ right) in
     let more = in_legs legs before bytes b tail behind no_byte no_start parts.1 in
@@ -119,7 +128,8 @@ pub record AskBehind (front xs tail behind : List HostSignal) : Type 0 where
   pub front_is : xs ≡ front ++ asked
   pub tail_is : tail ≡ asked ++ Ask ∷ behind
 
-ask_behind : (front xs tail behind : List HostSignal) → NoAsk front → front ++ tail ≡ xs ++ Ask ∷ behind → AskBehind front xs tail behind
+ask_behind : (front xs tail behind : List HostSignal) → NoAsk front → front ++ tail ≡ xs ++ Ask ∷ behind
+    → AskBehind front xs tail behind
 ask_behind [] xs tail behind none is = record { asked = xs; front_is = refl; tail_is = is }
 ask_behind (signal ∷ front) [] tail behind none is = absurd (none.0 (cc is))
 ask_behind (signal ∷ front) (x ∷ xs) tail behind none is =
@@ -129,7 +139,8 @@ ask_behind (signal ∷ front) (x ∷ xs) tail behind none is =
     let front_is : xs ≡ front ++ more.asked = more.front_is in
     record { asked = more.asked; front_is = cc; tail_is = more.tail_is }
 
-pub ask_behind_legs : (legs : List (List ℕ)) (xs tail behind : List HostSignal) → flat_map leg_signals legs ++ tail ≡ xs ++ Ask ∷ behind
+pub ask_behind_legs : (legs : List (List ℕ)) (xs tail behind : List HostSignal) → flat_map leg_signals legs ++ tail ≡ xs
+    ++ Ask ∷ behind
     → AskBehind (flat_map leg_signals legs) xs tail behind
 ask_behind_legs legs xs tail behind is = ask_behind (flat_map leg_signals legs) xs tail behind (no_ask_legs legs) is
 
@@ -143,7 +154,8 @@ no_signal : (front : List HostSignal) (signal : HostSignal) (back : List HostSig
 no_signal [] signal back is = cc is
 no_signal (x ∷ front) signal back is = cc is
 
-pub asked_of : (bytes : List ℕ) (asked behind : List HostSignal) → reading_signals bytes ++ Stop ∷ [] ≡ asked ++ Ask ∷ behind → AskedOf bytes asked
+pub asked_of : (bytes : List ℕ) (asked behind : List HostSignal) → reading_signals bytes ++ Stop ∷ [] ≡ asked ++ Ask
+    ∷ behind → AskedOf bytes asked
 asked_of [] [] behind is = absurd (cc is)
 asked_of [] (x ∷ asked) behind is =
     let rest : [] ≡ asked ++ Ask ∷ behind = cc is in

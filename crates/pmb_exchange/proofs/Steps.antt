@@ -1,6 +1,7 @@
 -- The steps of an exchange: each signal of the host goes to the bus, and after STOP the exchange is
 -- over.
-use Rattle.std.proofs.Common.{◌≡◌, ◌≢◌, ℕ, ◌+◌, ◌<◌, Bool, true, false, Option, Some, None, List, [], ◌∷◌, ◌++◌, length, refl, sym, ap, subst, ◌∙◌, length-append, arith}
+use Rattle.std.proofs.Common.{◌≡◌, ◌≢◌, ℕ, ◌+◌, ◌<◌, Bool, true, false, Option, Some, None, List, [], ◌∷◌, ◌++◌, length}
+use Rattle.std.proofs.Common.{refl, sym, ap, subst, ◌∙◌, length-append, arith}
 use Rattle.std.specs.List.{AllByRecursion, Contains}
 use Rattle.std.proofs.lemmas.List.{append-nil}
 use Rattle.pmb_bus.specs.declared.event.Event.{Event}
@@ -35,8 +36,10 @@ use Rattle.pmb_exchange.proofs.Stops.{recorded-append}
 -- ---- one signal more
 
 -- what was answered, with one more
-answered_more : (members : List InState) (legs : Legs) (history : List AnsweredSignal) (one : AnsweredSignal) → AreAnswered members legs history
-    → one.signal ≢ Stop → BusAnswers members (legs_after legs history) one.signal one.result → AreAnswered members legs (history ++ one ∷ [])
+answered_more : (members : List InState) (legs : Legs) (history : List AnsweredSignal) (one : AnsweredSignal)
+    → AreAnswered members legs history
+    → one.signal ≢ Stop → BusAnswers members (legs_after legs history) one.signal one.result
+    → AreAnswered members legs (history ++ one ∷ [])
 answered_more members legs [] one answered other bus = (other, bus, tt)
 answered_more members legs (first ∷ history) one answered other bus =
     (answered.0, answered.1, answered_more members (with_signal legs first.signal) history one answered.2 other bus)
@@ -50,7 +53,8 @@ no_place : {X : Type 0} (front : List X) (x : X) (back : List X) → [] ≡ fron
 no_place [] x back is = cc is
 no_place (y ∷ front) x back is = cc is
 
-in_more : {X : Type 0} (xs : List X) (x : X) (before : List X) (one : X) (behind : List X) → xs ++ x ∷ [] ≡ before ++ one ∷ behind → InMore xs x before one
+in_more : {X : Type 0} (xs : List X) (x : X) (before : List X) (one : X) (behind : List X)
+    → xs ++ x ∷ [] ≡ before ++ one ∷ behind → InMore xs x before one
 in_more [] x [] one behind is = at_last refl (sym (cc is))
 in_more [] x (y ∷ before) one behind is =
     let rest : [] ≡ before ++ one ∷ behind = cc is in
@@ -63,12 +67,15 @@ in_more (y ∷ xs) x (z ∷ before) one behind is =
     let first : y ≡ z = cc is in
     more_first y z xs x before one first (in_more xs x before one behind rest)
   where
-    more_first : {X : Type 0} (y z : X) (xs : List X) (x : X) (before : List X) (one : X) → y ≡ z → InMore xs x before one → InMore (y ∷ xs) x (z ∷ before) one
+    more_first : {X : Type 0} (y z : X) (xs : List X) (x : X) (before : List X) (one : X) → y ≡ z
+        → InMore xs x before one → InMore (y ∷ xs) x (z ∷ before) one
     more_first y z xs x before one first (within later is) = within later (cc)
     more_first y z xs x before one first (at_last is also) = at_last (cc) also
 
-module _ (job : Job) (history : List AnsweredSignal) (one : AnsweredSignal) (turn : AreSentInTurn job history) (next : IsNext job history one.signal) where
-  by_place : (before : List AnsweredSignal) (x : AnsweredSignal) → InMore history one before x → IsNext job before x.signal
+module _ (job : Job) (history : List AnsweredSignal) (one : AnsweredSignal) (turn : AreSentInTurn job history)
+    (next : IsNext job history one.signal) where
+  by_place : (before : List AnsweredSignal) (x : AnsweredSignal) → InMore history one before x
+      → IsNext job before x.signal
   by_place before x (within behind split) = turn before x behind split
   by_place before x (at_last before_is x_is) =
       subst (λ (h : List AnsweredSignal). IsNext job h x.signal) (sym before_is)
@@ -81,21 +88,26 @@ module _ (job : Job) (history : List AnsweredSignal) (one : AnsweredSignal) (tur
 -- ---- STOP
 
 -- what was answered before STOP ends in another signal
-no_stop_last : (members : List InState) (legs : Legs) (front : List AnsweredSignal) (one : AnsweredSignal) → AreAnswered members legs (front ++ one ∷ [])
+no_stop_last : (members : List InState) (legs : Legs) (front : List AnsweredSignal) (one : AnsweredSignal)
+    → AreAnswered members legs (front ++ one ∷ [])
     → one.signal ≢ Stop
 no_stop_last members legs [] one answered = answered.0
-no_stop_last members legs (first ∷ front) one answered = no_stop_last members (with_signal legs first.signal) front one answered.2
+no_stop_last members legs (first ∷ front) one answered =
+    no_stop_last members (with_signal legs first.signal) front one answered.2
 
-stop_within : (history : List AnsweredSignal) (result : DeviceSignal) → AllByRecursion (λ one. one.signal ≢ Stop) (stopped history result) → ⊥
+stop_within : (history : List AnsweredSignal) (result : DeviceSignal)
+    → AllByRecursion (λ one. one.signal ≢ Stop) (stopped history result) → ⊥
 stop_within [] result none = none.0 refl
 stop_within (one ∷ history) result none = stop_within history result none.1
 
 -- an exchange does not end with a signal
-no_refused_send : (parts : List PartData) (sent : List ℕ) (at_read : Bool) (signal : HostSignal) → RefusedAt parts sent at_read (Send signal) → ⊥
+no_refused_send : (parts : List PartData) (sent : List ℕ) (at_read : Bool) (signal : HostSignal)
+    → RefusedAt parts sent at_read (Send signal) → ⊥
 no_refused_send parts sent true signal told = cc told
 no_refused_send parts sent false signal told = cc told
 
-no_send : (number : Option NumberFormat) (done : TransactionData) (signal : HostSignal) → EndsWith number done (Send signal) → ⊥
+no_send : (number : Option NumberFormat) (done : TransactionData) (signal : HostSignal)
+    → EndsWith number done (Send signal) → ⊥
 no_send number (Write parts) signal told = cc (told.1)
 no_send number (Read t) signal told = cc (told.1)
 no_send number (Call t) signal told = cc (told.1)
@@ -110,14 +122,23 @@ module _ (standing : ExchangeStanding) (new : Host) (bus after : Bus) (result : 
   abbrev pub with_events : List Event → ExchangeStanding
   with_events es = record standing { events = standing.events ++ es; sent = standing.sent + 1 }
 
-  module _ (history : List AnsweredSignal) (signal : HostSignal) (run : IsRunning standing history bus) (next : IsNext standing.job history signal)
-      (stands : HostStandsAt new (record { job = standing.job; heard = history; last = Some signal; ended = None })) where
+  module _ (history : List AnsweredSignal) (signal : HostSignal) (run : IsRunning standing history bus)
+      (next : IsNext standing.job history signal)
+      (stands : HostStandsAt new (record {
+        job = standing.job;
+        heard = history;
+        last = Some signal;
+        ended =
+            None;
+      })) where
     abbrev one : AnsweredSignal
     one = record { signal = signal; result = result }
 
-    recorded_more : (es : List Event) → es ≡ recorded signal result → standing.events ++ es ≡ recorded_events (history ++ one ∷ [])
+    recorded_more : (es : List Event) → es ≡ recorded signal result
+        → standing.events ++ es ≡ recorded_events (history ++ one ∷ [])
     recorded_more es is =
-        ap (λ (x : List Event). x ++ es) run.events_are ∙ ap (λ (x : List Event). recorded_events history ++ x) (is ∙ sym (append-nil (recorded signal result)))
+        ap (λ (x : List Event). x ++ es) run.events_are ∙ ap (λ (x : List Event). recorded_events history ++ x)
+        (is ∙ sym (append-nil (recorded signal result)))
         ∙ sym (recorded-append history (one ∷ []))
 
     sent_more : standing.sent + 1 ≡ length (history ++ one ∷ [])
@@ -147,10 +168,12 @@ module _ (standing : ExchangeStanding) (new : Host) (bus after : Bus) (result : 
         )
 
   -- STOP
-  stop_signal : (history : List AnsweredSignal) (es : List Event) → es ≡ recorded Stop result → IsRunning standing history bus
+  stop_signal : (history : List AnsweredSignal) (es : List Event) → es ≡ recorded Stop result
+      → IsRunning standing history bus
       → IsNext standing.job history Stop
       → HostStandsAt new (record { job = standing.job; heard = history; last = Some Stop; ended = None })
-      → BusEnds (record { past = standing.past; members = standing.members; history = history }) after → Stands new result after (with_events es)
+      → BusEnds (record { past = standing.past; members = standing.members; history = history }) after
+      → Stands new result after (with_events es)
   stop_signal history es is run next stands ends =
       at_end history stands
       (
@@ -165,25 +188,33 @@ module _ (standing : ExchangeStanding) (new : Host) (bus after : Bus) (result : 
         after = ends.members;
         stands = ends.stands;
         applied = ends.applied;
-        events_are = ap (λ (x : List Event). x ++ es) run.events_are ∙ ap (λ (x : List Event). recorded_events history ++ x) is;
+        events_are = ap (λ (x : List Event). x ++ es) run.events_are
+            ∙ ap (λ (x : List Event). recorded_events history ++ x) is;
       }
       )
 
   -- each of them
-  send_running : (history : List AnsweredSignal) (signal : HostSignal) (es : List Event) → es ≡ recorded signal result → IsRunning standing history bus
+  send_running : (history : List AnsweredSignal) (signal : HostSignal) (es : List Event) → es ≡ recorded signal result
+      → IsRunning standing history bus
       → IsNext standing.job history signal
       → HostStandsAt new (record { job = standing.job; heard = history; last = Some signal; ended = None })
       → BusTakes (record { past = standing.past; members = standing.members; history = history }) signal result after
       → Stands new result after (with_events es)
-  send_running history Start es is run next stands takes = other_signal history Start run next stands es is (λ stop. cc stop) takes.answers takes.leads
-  send_running history (Byte b) es is run next stands takes = other_signal history (Byte b) run next stands es is (λ stop. cc stop) takes.answers takes.leads
-  send_running history Ask es is run next stands takes = other_signal history Ask run next stands es is (λ stop. cc stop) takes.answers takes.leads
-  send_running history Ack es is run next stands takes = other_signal history Ack run next stands es is (λ stop. cc stop) takes.answers takes.leads
-  send_running history Nack es is run next stands takes = other_signal history Nack run next stands es is (λ stop. cc stop) takes.answers takes.leads
+  send_running history Start es is run next stands takes = other_signal history Start run next stands es is
+      (λ stop. cc stop) takes.answers takes.leads
+  send_running history (Byte b) es is run next stands takes = other_signal history (Byte b) run next stands es is
+      (λ stop. cc stop) takes.answers takes.leads
+  send_running history Ask es is run next stands takes = other_signal history Ask run next stands es is
+      (λ stop. cc stop) takes.answers takes.leads
+  send_running history Ack es is run next stands takes = other_signal history Ack run next stands es is
+      (λ stop. cc stop) takes.answers takes.leads
+  send_running history Nack es is run next stands takes = other_signal history Nack run next stands es is
+      (λ stop. cc stop) takes.answers takes.leads
   send_running history Stop es is run next stands takes = stop_signal history es is run next stands takes.leads
 
   -- The host sends a signal, and the bus takes it.
-  pub send_step : (host : Host) (answer : DeviceSignal) (signal : HostSignal) (es : List Event) → es ≡ recorded signal result → Stands host answer bus standing
+  pub send_step : (host : Host) (answer : DeviceSignal) (signal : HostSignal) (es : List Event)
+      → es ≡ recorded signal result → Stands host answer bus standing
       → ((hs : HostStanding) → HostStandsAt host hs → Steps hs answer (Send signal) new)
       → ((bs : BusStanding) → BusStandsAt bus bs → BusTakes bs signal result after)
       → (standing.sent < 4161) × Stands new result after (with_events es)
@@ -192,7 +223,12 @@ module _ (standing : ExchangeStanding) (new : Host) (bus after : Bus) (result : 
       let few : standing.sent < 4161 = omega (arith, sends.few, run.sent_is) in (
         few,
         send_running (heard ++ answered before answer) signal es is run sends.next sends.stands
-            (takes (record { past = standing.past; members = standing.members; history = heard ++ answered before answer }) run.stands),
+            (takes (record {
+              past = standing.past;
+              members = standing.members;
+              history = heard
+                  ++ answered before answer;
+            }) run.stands),
       )
   send_step host answer signal es is (at_end history stands stop) steps takes =
       let sends = steps (record { job = standing.job; heard = history; last = Some Stop; ended = None }) stands in
@@ -207,18 +243,22 @@ module _ (standing : ExchangeStanding) (new : Host) (bus after : Bus) (result : 
 
 -- ---- the end
 
-module _ (law : (job : Job) (members : List InState) (heard : List AnsweredSignal) (step : HostStep) → HasRun job members heard step
+module _ (law : (job : Job) (members : List InState) (heard : List AnsweredSignal) (step : HostStep)
+    → HasRun job members heard step
     → IsExchanged job members heard step) (standing : ExchangeStanding) (new : Host) (bus : Bus) (step : HostStep)
-    (first : (hs : HostStanding) (heard : List AnsweredSignal) → FirstSteps hs heard step new → Ends hs heard step new × HasEnded hs.job heard step) where
+    (first : (hs : HostStanding) (heard : List AnsweredSignal) → FirstSteps hs heard step new
+    → Ends hs heard step new × HasEnded hs.job heard step) where
   -- The host tells how it ended.
   pub end_step : (host : Host) (answer : DeviceSignal) → Stands host answer bus standing
-      → ((hs : HostStanding) → HostStandsAt host hs → Steps hs answer step new) → IsOver standing step bus × Stands new answer bus standing
+      → ((hs : HostStanding) → HostStandsAt host hs → Steps hs answer step new)
+      → IsOver standing step bus × Stands new answer bus standing
   end_step host answer (running heard before stands run) steps =
       let hs : HostStanding = record { job = standing.job; heard = heard; last = before; ended = None } in
       let ends = (first hs (heard ++ answered before answer) (steps hs stands)).0 in
       absurd
       (
-      no_stop_last standing.members Outside ends.front ends.last (subst (AreAnswered standing.members Outside) ends.split run.heard.answers) ends.stop
+      no_stop_last standing.members Outside ends.front ends.last
+      (subst (AreAnswered standing.members Outside) ends.split run.heard.answers) ends.stop
       )
   end_step host answer (at_end history stands stop) steps =
       let hs : HostStanding = record { job = standing.job; heard = history; last = Some Stop; ended = None } in
@@ -237,7 +277,8 @@ module _ (law : (job : Job) (members : List InState) (heard : List AnsweredSigna
       ) in
       let profile_is = stop.heard.on.devices_are in
       let applied : stop.after ≡ all_applied is.done standing.members =
-      stop.applied is.done (subst (λ (ps : List DeviceParts). Packet ps is.done (recorded_events history ++ events.Stop ∷ [])) (sym profile_is) is.packet) in
+      stop.applied is.done (subst (λ (ps : List DeviceParts). Packet ps is.done
+      (recorded_events history ++ events.Stop ∷ [])) (sym profile_is) is.packet) in
       let is_over : IsOver standing step bus =
       record {
         done = is.done;
@@ -246,7 +287,8 @@ module _ (law : (job : Job) (members : List InState) (heard : List AnsweredSigna
         told = is.told;
         stretch = history;
         stands =
-            subst (λ (ms : List InState). BusStandsAt bus (record { past = standing.past ++ history ∷ []; members = ms; history = [] })) applied stop.stands;
+            subst (λ (ms : List InState). BusStandsAt bus
+            (record { past = standing.past ++ history ∷ []; members = ms; history = [] })) applied stop.stands;
       } in
       (is_over, over (stopped history answer) step told.0.stands is_over)
   end_step host answer (over heard before stands o) steps =
@@ -256,8 +298,10 @@ module _ (law : (job : Job) (members : List InState) (heard : List AnsweredSigna
 -- ---- the beginning
 
 -- A new host and its bus between packets stand at the beginning.
-pub begins : ((profile : List DeviceParts) (stretches : List (List AnsweredSignal)) (now : List InState) (member : InState) → IsBus profile
-    → Runs (first_members profile) stretches now → Contains now member → IsState member.device member.state) → (profile : List DeviceParts)
+pub begins : ((profile : List DeviceParts) (stretches : List (List AnsweredSignal)) (now : List InState)
+    (member : InState) → IsBus profile
+    → Runs (first_members profile) stretches now → Contains now member → IsState member.device member.state)
+    → (profile : List DeviceParts)
     (request : RequestData) (host : Host) (bus : Bus) (b : Begins profile request host bus)
     → Stands host answers.Silent bus (beginning profile request host bus b)
 begins fit profile request host bus b =

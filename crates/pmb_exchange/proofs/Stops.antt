@@ -46,27 +46,33 @@ module _ (heard : List AnsweredSignal) (last : DeviceSignal) where
   pub stop_last : (legs : List (List ℕ)) (bytes : List ℕ) → sent_signals (stopped heard last) ≡ signals legs bytes
       → sent_signals heard ≡ flat_map leg_signals legs ++ reading_signals bytes
   stop_last legs bytes is =
-      let ends = map-append (λ (one : AnsweredSignal). one.signal) heard (record { signal = Stop; result = last } ∷ []) in
+      let ends = map-append (λ (one : AnsweredSignal). one.signal) heard
+      (record { signal = Stop; result = last } ∷ []) in
       same_front (sent_signals heard) (flat_map leg_signals legs ++ reading_signals bytes) Stop Stop
       (sym ends ∙ is ∙ sym (append_assoc (flat_map leg_signals legs) (reading_signals bytes) (Stop ∷ [])))
 
   -- the signal that failed comes before it
-  pub failed_last : (profile : List DeviceParts) (task : TransactionData) (front : List AnsweredSignal) (failed : AnsweredSignal) → StopsBehind profile task (stopped heard last) front failed → heard ≡ front ++ failed ∷ []
+  pub failed_last : (profile : List DeviceParts) (task : TransactionData) (front : List AnsweredSignal)
+      (failed : AnsweredSignal) → StopsBehind profile task (stopped heard last) front failed
+      → heard ≡ front ++ failed ∷ []
   failed_last profile task front failed stops =
-      same_front heard (front ++ failed ∷ []) (record { signal = Stop; result = last }) (record { signal = Stop; result = stops.result })
+      same_front heard (front ++ failed ∷ []) (record { signal = Stop; result = last })
+      (record { signal = Stop; result = stops.result })
       (stops.split ∙ sym (append_assoc front (failed ∷ []) (record { signal = Stop; result = stops.result } ∷ [])))
 
   -- STOP reads nothing
   pub stop_reads_nothing : bytes_read (stopped heard last) ≡ bytes_read heard
   stop_reads_nothing =
-      flat_map-append (λ (one : AnsweredSignal). byte_of one.signal one.result) heard (record { signal = Stop; result = last } ∷ []) ∙ append-nil (bytes_read heard)
+      flat_map-append (λ (one : AnsweredSignal). byte_of one.signal one.result) heard
+      (record { signal = Stop; result = last } ∷ []) ∙ append-nil (bytes_read heard)
 
   -- before it all went well where all did
   pub well_before : GoWell (stopped heard last) → GoWell heard
   well_before well = (well_parts heard (record { signal = Stop; result = last } ∷ []) well).0
 
 -- the first of answered signals
-pub answered_front : (members : List InState) (legs : Legs) (before behind : List AnsweredSignal) → AreAnswered members legs (before ++ behind)
+pub answered_front : (members : List InState) (legs : Legs) (before behind : List AnsweredSignal)
+    → AreAnswered members legs (before ++ behind)
     → AreAnswered members legs before
 answered_front members legs [] behind answered = tt
 answered_front members legs (one ∷ before) behind answered =
@@ -74,14 +80,16 @@ answered_front members legs (one ∷ before) behind answered =
 
 -- ---- events
 
-pub recorded-append : (before behind : List AnsweredSignal) → recorded_events (before ++ behind) ≡ recorded_events before ++ recorded_events behind
+pub recorded-append : (before behind : List AnsweredSignal) → recorded_events (before ++ behind)
+    ≡ recorded_events before ++ recorded_events behind
 recorded-append [] behind = refl
 recorded-append (one ∷ before) behind =
     ap (λ (es : List Event). recorded one.signal one.result ++ es) (recorded-append before behind)
     ∙ sym (append_assoc (recorded one.signal one.result) (recorded_events before) (recorded_events behind))
 
 -- with STOP
-pub recorded_stopped : (heard : List AnsweredSignal) (last : DeviceSignal) → recorded_events (stopped heard last) ≡ recorded_events heard ++ events.Stop ∷ []
+pub recorded_stopped : (heard : List AnsweredSignal) (last : DeviceSignal) → recorded_events (stopped heard last)
+    ≡ recorded_events heard ++ events.Stop ∷ []
 recorded_stopped heard last = recorded-append heard (record { signal = Stop; result = last } ∷ [])
 
 -- a byte that is not acknowledged
@@ -109,7 +117,8 @@ IsWritten Ack = ⊥
 IsWritten Nack = ⊥
 IsWritten Stop = ⊥
 
-recorded_taken : (signal : HostSignal) (result : DeviceSignal) → IsWritten signal → IsGood signal result → recorded signal result ≡ taken_events signal
+recorded_taken : (signal : HostSignal) (result : DeviceSignal) → IsWritten signal → IsGood signal result
+    → recorded signal result ≡ taken_events signal
 recorded_taken Start result written good = refl
 recorded_taken (Byte b) result written good = ap (λ (r : DeviceSignal). events.Byte b ∷ acknowledged r ∷ []) good
 recorded_taken Ask result written good = absurd written
@@ -118,7 +127,8 @@ recorded_taken Nack result written good = absurd written
 recorded_taken Stop result written good = absurd written
 
 -- what is recorded of signals that went well
-pub recorded_well : (heard : List AnsweredSignal) (xs : List HostSignal) → sent_signals heard ≡ xs → AllByRecursion IsWritten xs → GoWell heard
+pub recorded_well : (heard : List AnsweredSignal) (xs : List HostSignal) → sent_signals heard ≡ xs
+    → AllByRecursion IsWritten xs → GoWell heard
     → recorded_events heard ≡ flat_map taken_events xs
 recorded_well [] [] is written well = refl
 recorded_well [] (x ∷ xs) is written well = absurd (cc is)
@@ -133,11 +143,13 @@ recorded_well (one ∷ heard) (x ∷ xs) is written well =
 
 -- ---- of legs
 
-bytes_written : (bytes : List ℕ) (tail : List HostSignal) → AllByRecursion IsWritten tail → AllByRecursion IsWritten (map Byte bytes ++ tail)
+bytes_written : (bytes : List ℕ) (tail : List HostSignal) → AllByRecursion IsWritten tail
+    → AllByRecursion IsWritten (map Byte bytes ++ tail)
 bytes_written [] tail all = all
 bytes_written (b ∷ bytes) tail all = (tt, bytes_written bytes tail all)
 
-pub legs_written : (legs : List (List ℕ)) (bytes : List ℕ) → AllByRecursion IsWritten (flat_map leg_signals legs ++ leg_signals bytes)
+pub legs_written : (legs : List (List ℕ)) (bytes : List ℕ)
+    → AllByRecursion IsWritten (flat_map leg_signals legs ++ leg_signals bytes)
 legs_written [] bytes = (tt, subst (AllByRecursion IsWritten) (append-nil (map Byte bytes)) (bytes_written bytes [] tt))
 legs_written (first ∷ legs) bytes = (
   tt,

@@ -3,7 +3,8 @@
 --
 -- A request that a host was made for is refused in two ways alone: a device takes no value of PAGE but
 -- one of its pages or ffh, and it may refuse to be read. Which they are is this project's own rule.
-use Rattle.std.specs.Prelude.{◌≡◌, ◌≢◌, ℕ, ◌≤◌, ◌+◌, Bool, true, false, Option, Some, None, Result, Ok, Err, List, [], ◌∷◌, ◌++◌, length}
+use Rattle.std.specs.Prelude.{◌≡◌, ◌≢◌, ℕ, ◌≤◌, ◌+◌, Bool, true, false, Option, Some, None, Result, Ok, Err, List, []}
+use Rattle.std.specs.Prelude.{◌∷◌, ◌++◌, length}
 use Rattle.std.specs.List.{AllByRecursion, Contains}
 use Rattle.pmb_command.specs.declared.form.Form.{Form}
 use Rattle.pmb_command.specs.Parts.{DeviceParts}
@@ -64,7 +65,8 @@ module _ (members : List InState) where
   asked_address NoAlert = None
 
   -- A device is asked, with this body, and answers this.
-  pub record IsAnswered (task : TransactionData) (address : ℕ) (body : List ℕ) (result : Result (List ℕ) CmlBit) : Type 0 where
+  pub record IsAnswered (task : TransactionData) (address : ℕ) (body : List ℕ) (result : Result (List ℕ) CmlBit) : Type
+      0 where
     pub asked : asked_address task ≡ Some address
     pub member : InState
     pub is_at : IsAt members address member
@@ -77,11 +79,15 @@ module _ (members : List InState) where
   -- up to the first part that is not, a refused packet; a read or a call with the device's reply, or a
   -- refused one where the device refuses to be read.
   pub data Exchanges (task done : TransactionData) : Type 0 where
-    written : (parts : List PartData) → task ≡ Write parts → AllByRecursion IsTaken parts → done ≡ Write parts → Exchanges task done
-    part_refused : (before : List PartData) (part : PartData) (behind : List PartData) → task ≡ Write (before ++ part ∷ behind)
+    written : (parts : List PartData) → task ≡ Write parts → AllByRecursion IsTaken parts → done ≡ Write parts
+        → Exchanges task done
+    part_refused : (before : List PartData) (part : PartData) (behind : List PartData)
+        → task ≡ Write (before ++ part ∷ behind)
         → AllByRecursion IsTaken before → WritesNoPage part
-        → done ≡ Refused (record { parts = before; addr = part.addr; sent = part.code ∷ part.bytes; at_read = false }) → Exchanges task done
-    answered : (address : ℕ) (body reply : List ℕ) → IsAnswered task address body (Ok reply) → done ≡ replied task reply → Exchanges task done
+        → done ≡ Refused (record { parts = before; addr = part.addr; sent = part.code ∷ part.bytes; at_read = false })
+        → Exchanges task done
+    answered : (address : ℕ) (body reply : List ℕ) → IsAnswered task address body (Ok reply) → done ≡ replied task reply
+        → Exchanges task done
     read_refused : (address : ℕ) (body : List ℕ) (bit : CmlBit) → IsAnswered task address body (Err bit)
         → done ≡ Refused (record { parts = []; addr = address; sent = body; at_read = true }) → Exchanges task done
 
@@ -90,7 +96,8 @@ module _ (members : List InState) where
 -- the bytes of a reply, or the value of the word that they are
 pub data IsReplyTold (number : Option NumberFormat) (reply : List ℕ) (told : ReplyData) : Type 0 where
   bytes : number ≡ None → told ≡ AllBytes reply → IsReplyTold number reply told
-  value : (format : NumberFormat) (word : ℕ) → number ≡ Some format → reply ≡ word_bytes word → told ≡ OneValue (value_of (number_coding format) word)
+  value : (format : NumberFormat) (word : ℕ) → number ≡ Some format → reply ≡ word_bytes word
+      → told ≡ OneValue (value_of (number_coding format) word)
       → IsReplyTold number reply told
 
 -- where the last byte sent was refused: the leg counts from 1, and in it the bytes from 0, the address

@@ -37,13 +37,15 @@ pub record AreMembers (job : Job) (members : List InState) : Type 0 where
 -- The host sent each signal as the next one after those before it.
 abbrev pub AreSentInTurn : Job → List AnsweredSignal → Type 0
 AreSentInTurn job heard =
-    (before : List AnsweredSignal) (one : AnsweredSignal) (behind : List AnsweredSignal) → heard ≡ before ++ one ∷ behind → IsNext job before one.signal
+    (before : List AnsweredSignal) (one : AnsweredSignal) (behind : List AnsweredSignal)
+    → heard ≡ before ++ one ∷ behind → IsNext job before one.signal
 
 -- By what it heard the host ends so.
 abbrev pub HasEnded : Job → List AnsweredSignal → HostStep → Type 0
 HasEnded job heard (Send signal) = ⊥
 HasEnded job heard (Done answer) =
-    (reply : List ℕ) × Succeeds job.profile job.task heard reply × IsTold job.profile job.task job.number reply (reply_data answer)
+    (reply : List ℕ) × Succeeds job.profile job.task heard reply × IsTold job.profile job.task job.number reply
+    (reply_data answer)
 HasEnded job heard (Failed fault) = Fails job.profile job.task heard fault
 
 -- Signals, and STOP after them.
@@ -52,7 +54,8 @@ stopped heard result = heard ++ record { signal = Stop; result = result } ∷ []
 
 -- What a host did on a bus is the exchange that its task asks for: that transaction is recorded,
 -- and the end that is told is its.
-pub record IsExchanged (job : Job) (members : List InState) (heard : List AnsweredSignal) (step : HostStep) : Type 0 where
+pub record IsExchanged (job : Job) (members : List InState) (heard : List AnsweredSignal)
+    (step : HostStep) : Type 0 where
   pub done : TransactionData
   pub exchanges : Exchanges members job.task done
   pub packet : Packet job.profile done (recorded_events heard ++ events.Stop ∷ [])

@@ -13,8 +13,8 @@ use Rattle.pmb_host.specs.declared.host.Host.{Host}
 use Rattle.pmb_host.specs.Host.{IsNewHost}
 use Rattle.pmb_host.specs.Task.{task_of}
 use Rattle.pmb_exchange.specs.declared.exchange.Exchange.{Exchange}
-use Rattle.pmb_exchange.specs.declared.exchange.Step.{Step}
-use Rattle.pmb_exchange.specs.declared.exchange.Step.TheVariants.{Recorded, End}
+use Rattle.pmb_exchange.specs.declared.exchange.ExchangeStep.{ExchangeStep}
+use Rattle.pmb_exchange.specs.declared.exchange.ExchangeStep.TheVariants.{Recorded, End}
 pub use Rattle.pmb_exchange.specs.machine.Standing.{ExchangeStanding, ExchangeStandsAt, IsOver}
 
 -- A host that was not asked for a step, and a bus of its profile's devices between packets.
@@ -26,7 +26,8 @@ pub record Begins (profile : List DeviceParts) (request : RequestData) (host : H
   pub stands : BusStandsAt bus (record { past = past; members = members; history = [] })
 
 -- where their exchange stands: nothing was sent
-abbrev pub beginning : (profile : List DeviceParts) (request : RequestData) (host : Host) (bus : Bus) → Begins profile request host bus → ExchangeStanding
+abbrev pub beginning : (profile : List DeviceParts) (request : RequestData) (host : Host) (bus : Bus)
+    → Begins profile request host bus → ExchangeStanding
 beginning profile request host bus b = record {
   job = record { profile = profile; task = task_of request b.new.word; number = b.new.number };
   past = b.past;
@@ -37,8 +38,12 @@ beginning profile request host bus b = record {
 
 -- One signal more was recorded, of at most 4,161; or the exchange is over, and its end is told, and will
 -- be told again.
-abbrev pub StepsTo : ExchangeStanding → Step → Exchange → Bus → Type 0
+abbrev pub StepsTo : ExchangeStanding → ExchangeStep → Exchange → Bus → Type 0
 StepsTo standing (Recorded recorded) exchange bus =
     (standing.sent < 4161)
-    × ExchangeStandsAt exchange bus (record standing { events = standing.events ++ recorded.events; sent = standing.sent + 1 })
+    × ExchangeStandsAt exchange bus (record standing {
+      events = standing.events ++ recorded.events;
+      sent =
+          standing.sent + 1;
+    })
 StepsTo standing (End step) exchange bus = IsOver standing step bus × ExchangeStandsAt exchange bus standing

@@ -17,7 +17,7 @@ use pmb_host::{Host, HostStep};
 
 /// What an exchange does next.
 #[derive(Debug, Drop)]
-pub enum Step {
+pub enum ExchangeStep {
     /// The host sent a signal, of which this was recorded.
     Recorded(Recorded),
     /// The host told how it ended.
@@ -49,7 +49,7 @@ impl<'p> Exchange<'p> {
     /// The next signal and what is recorded of it, or how the host ended: there are at most 4,161
     /// signals, the last of them STOP, at which the devices act. After the end it is told again,
     /// and the bus is left alone. It is always the same bus.
-    pub fn next(&mut self, bus: &mut Bus<'p>) -> Step
+    pub fn next(&mut self, bus: &mut Bus<'p>) -> ExchangeStep
         ensures { (standing : ExchangeStanding) → ExchangeStandsAt self.old bus.old standing → StepsTo standing result self.new bus.new }
     {
         runs_are_exchanges();
@@ -57,10 +57,10 @@ impl<'p> Exchange<'p> {
             HostStep::Send(signal) => {
                 let recorded = bus.signal(signal);
                 self.answer = recorded.answer();
-                Step::Recorded(recorded)
+                ExchangeStep::Recorded(recorded)
             }
-            HostStep::Done(reply) => Step::End(HostStep::Done(reply)),
-            HostStep::Failed(fault) => Step::End(HostStep::Failed(fault)),
+            HostStep::Done(reply) => ExchangeStep::End(HostStep::Done(reply)),
+            HostStep::Failed(fault) => ExchangeStep::End(HostStep::Failed(fault)),
         }
     }
 }

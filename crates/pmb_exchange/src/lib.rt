@@ -10,8 +10,8 @@
 //! let mut exchange = Exchange::new(Host::new(&profile, request)?);
 //! for _ in 0..4162 {
 //!     match exchange.next(&mut bus) {
-//!         Step::Recorded(recorded) => events.extend_from_slice(recorded.events())?,
-//!         Step::End(end) => return Ok(end),
+//!         ExchangeStep::Recorded(recorded) => events.extend_from_slice(recorded.events())?,
+//!         ExchangeStep::End(end) => return Ok(end),
 //!     }
 //! }
 //! ```
@@ -20,4 +20,4 @@
 mod exchange;
 pub mod laws;
 
-pub use exchange::{Exchange, Step};
+pub use exchange::{Exchange, ExchangeStep};

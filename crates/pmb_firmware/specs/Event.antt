@@ -6,10 +6,10 @@ use Rattle.pmb_bus.specs.declared.lexer.LexFault.{LexFault}
 use Rattle.pmb_bus.specs.declared.lexer.Step.{Step}
 use Rattle.pmb_bus.specs.declared.lexer.Step.TheVariants as answers
 use Rattle.pmb_firmware.specs.declared.event.PmbEvent.{PmbEvent}
-use Rattle.pmb_firmware.specs.declared.status.Status.TheVariants.{Done, NoEvent, BadToken}
-use Rattle.pmb_firmware.specs.Status.{number_of}
-use Rattle.pmb_lexer.specs.declared.lexer.PmbLexer.{PmbLexer}
-use Rattle.pmb_lexer.specs.Lexer.{Feeds, Finishes}
+use Rattle.pmb_firmware.specs.declared.call_status.CallStatus.TheVariants.{Done, NoEvent, BadToken}
+use Rattle.pmb_firmware.specs.CallStatus.{number_of}
+use Rattle.pmb_firmware.specs.declared.lexer.PmbLexer.{PmbLexer}
+use Rattle.pmb_firmware.specs.Lexer.{Feeds, Finishes}
 
 -- the numbers of an event
 abbrev pub event_numbers : Event → PmbEvent
@@ -30,7 +30,8 @@ TellsStep answers.Need event status left = Tells status (number_of NoEvent) even
 TellsStep (answers.Fault fault) event status left = Tells status (number_of BadToken) event left
 
 -- What a lexer that stands at a text answers for a piece more of it is told.
-pub record Lexes (n : ℕ) (text : List ℕ) (events : List Event) (piece : List ℕ) (used : ℕ) (after : PmbLexer) (event : PmbEvent) (status : ℤ) (left : PmbEvent) : Type 0 where
+pub record Lexes (n : ℕ) (text : List ℕ) (events : List Event) (piece : List ℕ) (used : ℕ) (after : PmbLexer)
+    (event : PmbEvent) (status : ℤ) (left : PmbEvent) : Type 0 where
   pub step : Step
   pub feeds : Feeds n text events piece used step after
   pub tells : TellsStep step event status left
@@ -47,7 +48,8 @@ TellsEnd (Ok None) event status left = Tells status (number_of NoEvent) event le
 TellsEnd (Err fault) event status left = Tells status (number_of BadToken) event left
 
 -- .. and at its end
-pub record Ends (n : ℕ) (text : List ℕ) (events : List Event) (after : PmbLexer) (event : PmbEvent) (status : ℤ) (left : PmbEvent) : Type 0 where
+pub record Ends (n : ℕ) (text : List ℕ) (events : List Event) (after : PmbLexer) (event : PmbEvent) (status : ℤ)
+    (left : PmbEvent) : Type 0 where
   pub answer : Result (Option Event) LexFault
   pub finishes : Finishes n text events answer after
   pub tells : TellsEnd answer event status left

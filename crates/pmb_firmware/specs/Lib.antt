@@ -1,6 +1,8 @@
-pub mod Status
+pub mod CallStatus
 pub mod Format
 pub mod Quantity
 pub mod Number
 pub mod Room
 pub mod Event
+pub mod Lexer
+pub mod machine

@@ -8,9 +8,9 @@ use Rattle.pmb_value.specs.NumberFormat.{number_coding}
 use Rattle.pmb_value.specs.declared.number_format.NumberFormat.{NumberFormat}
 use Rattle.pmb_convert.specs.declared.format_fault.FormatFault.{FormatFault}
 use Rattle.pmb_firmware.specs.declared.quantity.PmbQuantity.{PmbQuantity}
-use Rattle.pmb_firmware.specs.declared.status.Status.TheVariants.{Done, Range, Format, Quantity}
+use Rattle.pmb_firmware.specs.declared.call_status.CallStatus.TheVariants.{Done, Range, Format, Quantity}
 use Rattle.pmb_firmware.specs.Quantity.{numbers}
-use Rattle.pmb_firmware.specs.Status.{number_of}
+use Rattle.pmb_firmware.specs.CallStatus.{number_of}
 
 -- A quantity in range leaves its nearest code. Another leaves the code that stood there, and the
 -- status says on which side of the range it is.

@@ -4,12 +4,12 @@ ghost use Rattle.std.specs.Prelude.{◌≡◌, ◌≤◌, ℕ, List, length};
 ghost use Rattle.pmb_bus.specs.declared.event.Event.{Event as BusEvent};
 ghost use Rattle.pmb_bus.specs.declared.lexer.LexFault.{LexFault};
 ghost use Rattle.pmb_firmware.specs.Event.{Ends, Lexes, StaysFaulted, TellsStep, event_numbers};
-ghost use Rattle.pmb_firmware.specs.Status.{number_of};
-ghost use Rattle.pmb_lexer.specs.Lexer.{IsFaulted, StandsAt};
+ghost use Rattle.pmb_firmware.specs.CallStatus.{number_of};
+ghost use Rattle.pmb_firmware.specs.Lexer.{IsFaulted, StandsAt};
 
-use crate::status::Status;
+use crate::call_status::CallStatus;
+use crate::lexer::PmbLexer;
 use pmb_bus::{Event, Step};
-use pmb_lexer::PmbLexer;
 
 /// An event of a bus.
 #[repr(C)]
@@ -62,10 +62,10 @@ fn tell(step: Step, event: &mut PmbEvent) -> i32
     match step {
         Step::Event(found) => {
             *event = PmbEvent::of(found);
-            Status::Done.number()
+            CallStatus::Done.number()
         }
-        Step::Need => Status::NoEvent.number(),
-        Step::Fault(_) => Status::BadToken.number(),
+        Step::Need => CallStatus::NoEvent.number(),
+        Step::Fault(_) => CallStatus::BadToken.number(),
     }
 }
 
@@ -83,9 +83,9 @@ pub fn lex_end(lexer: &mut PmbLexer, event: &mut PmbEvent) -> i32
     match lexer.finish() {
         Ok(Some(found)) => {
             *event = PmbEvent::of(found);
-            Status::Done.number()
+            CallStatus::Done.number()
         }
-        Ok(None) => Status::NoEvent.number(),
-        Err(_) => Status::BadToken.number(),
+        Ok(None) => CallStatus::NoEvent.number(),
+        Err(_) => CallStatus::BadToken.number(),
     }
 }

@@ -4,8 +4,8 @@ ghost use Rattle.pmb_command.specs.Commands.{standard_entry};
 ghost use Rattle.pmb_command.specs.StatusBits.{bit_text};
 ghost use Rattle.pmb_firmware.specs.Room.{put_some, some_name};
 
+use crate::call_status::CallStatus;
 use crate::room::{put, put_none};
-use crate::status::Status;
 use pmb_command::standard;
 
 /// Writes the name of a standard command (PMBus Part II Appendix I), as `READ_VIN` of 88h. It has 32
@@ -20,7 +20,7 @@ pub fn command_name(code: u8, text: &mut [u8], length: &mut usize) -> i32
 {
     match standard(code) {
         Some(entry) => put(entry.name.as_str().as_bytes(), text, length),
-        None => put_none(Status::NoName, length),
+        None => put_none(CallStatus::NoName, length),
     }
 }
 
@@ -36,6 +36,6 @@ pub fn bit_name(code: u8, bit: u8, text: &mut [u8], length: &mut usize) -> i32
 {
     match pmb_command::bit_name(code, bit) {
         Some(name) => put(name.as_bytes(), text, length),
-        None => put_none(Status::NoName, length),
+        None => put_none(CallStatus::NoName, length),
     }
 }

@@ -6,9 +6,9 @@ ghost use Rattle.pmb_firmware.specs.Format.{named};
 ghost use Rattle.pmb_firmware.specs.Quantity.{quantity_of};
 ghost use Rattle.pmb_firmware.specs.Number.{Decodes, Encodes, EncodesQuantity, Parses};
 
+use crate::call_status::CallStatus;
 use crate::format::PmbFormat;
 use crate::quantity::PmbQuantity;
-use crate::status::Status;
 use pmb_value::{Format, NumberFormat, Quantity, RangeFault, Steps};
 
 /// Writes the code nearest to a quantity, the even one at a tie. A quantity outside the range is
@@ -21,7 +21,7 @@ pub fn encode(format: &PmbFormat, quantity: PmbQuantity, code: &mut u16) -> i32
 {
     match format.named() {
         Ok(format) => encode_fraction(&format, quantity, code),
-        Err(fault) => Status::Format(fault).number(),
+        Err(fault) => CallStatus::Format(fault).number(),
     }
 }
 
@@ -31,7 +31,7 @@ fn encode_fraction(format: &NumberFormat, quantity: PmbQuantity, code: &mut u16)
 {
     match quantity.value() {
         Ok(quantity) => encode_quantity(format, &quantity, code),
-        Err(fault) => Status::Quantity(fault).number(),
+        Err(fault) => CallStatus::Quantity(fault).number(),
     }
 }
 
@@ -42,10 +42,10 @@ fn encode_quantity(format: &NumberFormat, quantity: &Quantity, code: &mut u16) -
     match format.encode(quantity, &mut Steps::new()) {
         Ok(nearest) => {
             *code = nearest;
-            Status::Done.number()
+            CallStatus::Done.number()
         }
-        Err(RangeFault::Below) => Status::Range(RangeFault::Below).number(),
-        Err(RangeFault::Above) => Status::Range(RangeFault::Above).number(),
+        Err(RangeFault::Below) => CallStatus::Range(RangeFault::Below).number(),
+        Err(RangeFault::Above) => CallStatus::Range(RangeFault::Above).number(),
     }
 }
 
@@ -58,9 +58,9 @@ pub fn decode(format: &PmbFormat, code: u16, quantity: &mut PmbQuantity) -> i32
     match format.named() {
         Ok(format) => {
             *quantity = PmbQuantity::of(&format.decode(code));
-            Status::Done.number()
+            CallStatus::Done.number()
         }
-        Err(fault) => Status::Format(fault).number(),
+        Err(fault) => CallStatus::Format(fault).number(),
     }
 }
 
@@ -74,8 +74,8 @@ pub fn parse(text: &[u8], quantity: &mut PmbQuantity) -> i32
     match Quantity::parse(text) {
         Ok(parsed) => {
             *quantity = PmbQuantity::of(&parsed);
-            Status::Done.number()
+            CallStatus::Done.number()
         }
-        Err(fault) => Status::Quantity(fault).number(),
+        Err(fault) => CallStatus::Quantity(fault).number(),
     }
 }

@@ -1,9 +1,9 @@
 //! A text put into the room that the caller has for it.
 ghost use Rattle.std.specs.Prelude.{◌≡◌, ◌+◌, ◌<◌, ◌∷◌, ◌++◌, drop, length};
 ghost use Rattle.pmb_firmware.specs.Room.{put};
-ghost use Rattle.pmb_firmware.specs.Status.{number_of};
+ghost use Rattle.pmb_firmware.specs.CallStatus.{number_of};
 
-use crate::status::Status;
+use crate::call_status::CallStatus;
 
 /// Puts a text and a NUL at the start of the room and tells the text's length. Where both don't fit
 /// the room stays as it was.
@@ -12,10 +12,10 @@ pub(crate) fn put(text: &[u8], room: &mut [u8], length: &mut usize) -> i32
 {
     *length = text.len();
     if text.len() >= room.len() {
-        return Status::NoRoom.number();
+        return CallStatus::NoRoom.number();
     }
     put_terminated(text, room);
-    Status::Done.number()
+    CallStatus::Done.number()
 }
 
 /// Puts a text and a NUL at the start of a room in which both fit.
@@ -29,7 +29,7 @@ fn put_terminated(text: &[u8], room: &mut [u8])
 }
 
 /// Tells that there is no text: the room stays as it was.
-pub(crate) fn put_none(status: Status, length: &mut usize) -> i32
+pub(crate) fn put_none(status: CallStatus, length: &mut usize) -> i32
     ensures status { result ≡ number_of status }
     ensures length { length.new ≡ 0 }
 {

@@ -3,9 +3,9 @@ ghost use Rattle.std.specs.Prelude.{◌≡◌};
 ghost use Rattle.pmb_firmware.specs.Quantity.{quantity_of};
 ghost use Rattle.pmb_firmware.specs.Room.{put_some, quantity_text};
 
+use crate::call_status::CallStatus;
 use crate::quantity::PmbQuantity;
 use crate::room::{put, put_none};
-use crate::status::Status;
 
 /// Writes a quantity as its shortest exact decimal, as `-1.5`, where one has at most 24 digits after
 /// the point, and otherwise as numerator and denominator in lowest terms, as `-2/3`. It has 45
@@ -20,6 +20,6 @@ pub fn quantity_text(quantity: PmbQuantity, text: &mut [u8], length: &mut usize)
 {
     match quantity.value() {
         Ok(quantity) => put(quantity.text().as_str().as_bytes(), text, length),
-        Err(fault) => put_none(Status::Quantity(fault), length),
+        Err(fault) => put_none(CallStatus::Quantity(fault), length),
     }
 }

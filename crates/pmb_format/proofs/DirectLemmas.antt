@@ -1,5 +1,6 @@
 -- The numerators of DIRECT.
-use Rattle.std.proofs.Common.{◌≡◌, ◌≢◌, ℕ, zero, suc, ◌*◌, ◌^◌, ◌<◌, ℤ, pos, negsuc, neg_ℤ, ◌-ℤ◌, ◌*ℤ◌, ◌<ℤ◌, ◌≤ℤ◌, unsigned_abs, refl, subst, arith}
+use Rattle.std.proofs.Common.{◌≡◌, ◌≢◌, ℕ, zero, suc, ◌*◌, ◌^◌, ◌<◌, ℤ, pos, negsuc, neg_ℤ, ◌-ℤ◌, ◌*ℤ◌, ◌<ℤ◌, ◌≤ℤ◌}
+use Rattle.std.proofs.Common.{unsigned_abs, refl, subst, arith}
 use Rattle.std.proofs.lemmas.Int.{ints}
 use Rattle.std.proofs.Math.Nat.{one-le-pow, mul-lt-mul_of_pos_right}
 use Rattle.pmb_format.specs.Words.{twos_complement}
@@ -12,12 +13,15 @@ ten_positive k = omega (arith, one-le-pow k 10 (omega arith))
 
 -- the numerator without the sign of m
 abbrev pub unsigned_numerator : Coefficients → ℕ → ℤ
-unsigned_numerator d code = twos_complement 16 code *ℤ pos (10 ^ positive_part (neg_ℤ d.r)) -ℤ d.b *ℤ pos (10 ^ positive_part d.r)
+unsigned_numerator d code = twos_complement 16 code *ℤ pos (10 ^ positive_part (neg_ℤ d.r)) -ℤ d.b *ℤ pos
+    (10 ^ positive_part d.r)
 
 pub denominator_positive : (m : ℤ) (k : ℕ) → m ≢ pos 0 → 0 < unsigned_abs m * 10 ^ k
 denominator_positive (pos zero) k slope = absurd (slope refl)
-denominator_positive (pos (suc n)) k slope = omega (arith, mul-lt-mul_of_pos_right {m = 0} {n = suc n} (omega arith) (ten_positive k))
-denominator_positive (negsuc n) k slope = omega (arith, mul-lt-mul_of_pos_right {m = 0} {n = suc n} (omega arith) (ten_positive k))
+denominator_positive (pos (suc n)) k slope =
+    omega (arith, mul-lt-mul_of_pos_right {m = 0} {n = suc n} (omega arith) (ten_positive k))
+denominator_positive (negsuc n) k slope =
+    omega (arith, mul-lt-mul_of_pos_right {m = 0} {n = suc n} (omega arith) (ten_positive k))
 
 -- a positive and a negative slope
 abbrev pub with_slope : ℤ → ℤ → ℤ → Coefficients
@@ -34,7 +38,11 @@ sign_of-positive (pos (suc n)) z slope more = one-scale z
 sign_of-positive (negsuc n) z slope more = absurd (omega (arith, ints))
 
 -- the numerator, step by step
-pub numerator_is : (code : ℕ) (d i : Coefficients) (complement word from offset result : ℤ) (down up : ℕ) → i ≡ d → complement ≡ twos_complement 16 code → down ≡ 10 ^ positive_part (neg_ℤ i.r) → word ≡ complement *ℤ pos down → from ≡ i.b → up ≡ 10 ^ positive_part i.r → offset ≡ from *ℤ pos up → result ≡ sign_of i.m *ℤ (word -ℤ offset) → result ≡ sign_of d.m *ℤ unsigned_numerator d code
-numerator_is code d i complement word from offset result down up same complement_is down_is word_is from_is up_is offset_is result_is =
+pub numerator_is : (code : ℕ) (d i : Coefficients) (complement word from offset result : ℤ) (down up : ℕ) → i ≡ d
+    → complement ≡ twos_complement 16 code → down ≡ 10 ^ positive_part (neg_ℤ i.r) → word ≡ complement *ℤ pos down
+    → from ≡ i.b → up ≡ 10 ^ positive_part i.r → offset ≡ from *ℤ pos up → result ≡ sign_of i.m *ℤ (word -ℤ offset)
+    → result ≡ sign_of d.m *ℤ unsigned_numerator d code
+numerator_is code d i complement word from offset result down up same complement_is down_is word_is from_is up_is
+    offset_is result_is =
     let P : Coefficients → Type 0 = λ e. result ≡ sign_of e.m *ℤ unsigned_numerator e code in
     subst P same (cc)

@@ -1,5 +1,6 @@
 -- The codes of DIRECT are evenly spaced.
-use Rattle.std.proofs.Common.{◌≡◌, ◌≢◌, ℕ, zero, suc, ◌-◌, ◌^◌, ◌≤◌, inl, inr, ℤ, pos, negsuc, neg_ℤ, ◌*ℤ◌, ◌<ℤ◌, ◌≤ℤ◌, refl, ap, ◌∙◌, arith}
+use Rattle.std.proofs.Common.{◌≡◌, ◌≢◌, ℕ, zero, suc, ◌-◌, ◌^◌, ◌≤◌, inl, inr, ℤ, pos, negsuc, neg_ℤ, ◌*ℤ◌, ◌<ℤ◌, ◌≤ℤ◌}
+use Rattle.std.proofs.Common.{refl, ap, ◌∙◌, arith}
 use Rattle.std.proofs.lemmas.Int.{ints}
 use Rattle.std.proofs.Math.IntN.{neg_ℤ-neg_ℤ}
 use Rattle.pmb_coefficients.specs.Coefficients.{Coefficients}
@@ -7,7 +8,8 @@ use Rattle.pmb_format.specs.Coding.{Coding, IsWord}
 use Rattle.pmb_format.specs.Row.{Rises, IsRow, IsLeast, IsGreatest, mirrored}
 use Rattle.pmb_format.proofs.Rounded.{at}
 use Rattle.pmb_format.proofs.OneNearest.{IsSeparated}
-use Rattle.pmb_format.proofs.EvenRows.{sum-product, row_separated, first_is_least, last_is_greatest, first_is_greatest, last_is_least}
+use Rattle.pmb_format.proofs.EvenRows.{sum-product, row_separated, first_is_least, last_is_greatest, first_is_greatest}
+use Rattle.pmb_format.proofs.EvenRows.{last_is_least}
 use Rattle.pmb_format.specs.Words.{signed_at}
 use Rattle.pmb_format.proofs.Scaling.{one-scale, minus_one-scale}
 use Rattle.pmb_format.proofs.Words.{signed_number, counts_signed}
@@ -16,9 +18,11 @@ use Rattle.pmb_format.specs.machine.DirectRow.{direct_row}
 use Rattle.pmb_format.proofs.DirectLemmas.{ten_positive, denominator_positive, with_slope, unsigned_numerator}
 
 module _ (b r : ℤ) where
-  value_at : (m : ℤ) (i : ℕ) → i ≤ 2 ^ 16 - 1 → unsigned_numerator (with_slope m b r) (signed_at i) ≡ at (direct_row (with_slope m b r)).first (direct_row (with_slope m b r)).spacing i
+  value_at : (m : ℤ) (i : ℕ) → i ≤ 2 ^ 16 - 1 → unsigned_numerator (with_slope m b r) (signed_at i)
+      ≡ at (direct_row (with_slope m b r)).first (direct_row (with_slope m b r)).spacing i
   value_at m i inside =
-      let product = ap (λ z. z *ℤ pos (10 ^ positive_part (neg_ℤ r))) (signed_number i (omega arith)) ∙ sum-product (negsuc 32767) i (10 ^ positive_part (neg_ℤ r)) in
+      let product = ap (λ z. z *ℤ pos (10 ^ positive_part (neg_ℤ r))) (signed_number i (omega arith))
+      ∙ sum-product (negsuc 32767) i (10 ^ positive_part (neg_ℤ r)) in
       omega (arith, ints, product)
 
   index_of : (k : ℕ) → IsWord k → (i : ℕ) × (i ≤ 2 ^ 16 - 1) × (signed_at i ≡ k)
@@ -29,17 +33,20 @@ module _ (b r : ℤ) where
     positive = denominator_positive (pos (suc n)) (positive_part r) (λ none. absurd (omega (arith, ints, none)));
     spaced = ten_positive _;
     written = λ i inside. (counts_signed.word i (omega arith), tt);
-    value = λ i inside. one-scale (unsigned_numerator (with_slope (pos (suc n)) b r) (signed_at i)) ∙ value_at (pos (suc n)) i inside;
+    value = λ i inside. one-scale (unsigned_numerator (with_slope (pos (suc n)) b r) (signed_at i))
+        ∙ value_at (pos (suc n)) i inside;
     parity = λ i inside. counts_signed.parity i (omega arith);
     index = index_of;
   }
 
-  falls_direct : (n : ℕ) → Rises (mirrored (direct (with_slope (negsuc n) b r))) (direct_row (with_slope (negsuc n) b r))
+  falls_direct : (n : ℕ) → Rises (mirrored (direct (with_slope (negsuc n) b r)))
+      (direct_row (with_slope (negsuc n) b r))
   falls_direct n = record {
     positive = denominator_positive (negsuc n) (positive_part r) (λ none. absurd (omega (arith, ints, none)));
     spaced = ten_positive _;
     written = λ i inside. (counts_signed.word i (omega arith), tt);
-    value = λ i inside. ap neg_ℤ (minus_one-scale (unsigned_numerator (with_slope (negsuc n) b r) (signed_at i))) ∙ neg_ℤ-neg_ℤ (unsigned_numerator (with_slope (negsuc n) b r) (signed_at i)) ∙ value_at (negsuc n) i inside;
+    value = λ i inside. ap neg_ℤ (minus_one-scale (unsigned_numerator (with_slope (negsuc n) b r) (signed_at i)))
+        ∙ neg_ℤ-neg_ℤ (unsigned_numerator (with_slope (negsuc n) b r) (signed_at i)) ∙ value_at (negsuc n) i inside;
     parity = λ i inside. counts_signed.parity i (omega arith);
     index = index_of;
   }

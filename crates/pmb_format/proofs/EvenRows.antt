@@ -1,5 +1,6 @@
 -- Codes whose values are evenly spaced.
-use Rattle.std.proofs.Common.{◌≡◌, ℕ, ◌+◌, ◌*◌, ◌%◌, ◌<◌, ◌≤◌, inl, inr, ℤ, pos, neg_ℤ, ◌+ℤ◌, ◌*ℤ◌, ◌<ℤ◌, ◌≤ℤ◌, sym, ap, ◌∙◌, arith}
+use Rattle.std.proofs.Common.{◌≡◌, ℕ, ◌+◌, ◌*◌, ◌%◌, ◌<◌, ◌≤◌, inl, inr, ℤ, pos, neg_ℤ, ◌+ℤ◌, ◌*ℤ◌, ◌<ℤ◌, ◌≤ℤ◌, sym, ap}
+use Rattle.std.proofs.Common.{◌∙◌, arith}
 use Rattle.std.proofs.lemmas.Int.{ints}
 use Rattle.std.proofs.lemmas.Bool.{cases_lt}
 use Rattle.std.proofs.Math.IntN.{*ℤ_comm, neg_ℤ-neg_ℤ}
@@ -15,7 +16,8 @@ use Rattle.pmb_format.proofs.OneNearest.{IsSeparated}
 -- a sum in front
 pub sum-product : (x : ℤ) (i p : ℕ) → (x +ℤ pos i) *ℤ pos p ≡ x *ℤ pos p +ℤ pos (i * p)
 sum-product x i p =
-    *ℤ_comm (x +ℤ pos i) (pos p) ∙ product-sum p x (pos i) ∙ ap (λ z. z +ℤ pos (p * i)) (*ℤ_comm (pos p) x) ∙ ap (λ k. x *ℤ pos p +ℤ pos k) (mul_comm p i)
+    *ℤ_comm (x +ℤ pos i) (pos p) ∙ product-sum p x (pos i) ∙ ap (λ z. z +ℤ pos (p * i)) (*ℤ_comm (pos p) x)
+    ∙ ap (λ k. x *ℤ pos p +ℤ pos k) (mul_comm p i)
 
 -- values of different indices are different
 at_less : (first : ℤ) (spacing i j : ℕ) → 0 < spacing → i < j → at first spacing i <ℤ at first spacing j
@@ -28,7 +30,13 @@ module _ (f : Coding) (row : Row) (rises : Rises f row) where
   code_is i inside = let w = rises.written i inside in w.0
 
   order : (i j : ℕ) → i ≤ j → j ≤ row.last → f.numerator (row.code_at i) ≤ℤ f.numerator (row.code_at j)
-  order i j less inside = omega (arith, ints, rises.value i (omega arith), rises.value j inside, at_rises row.first row.spacing i j less)
+  order i j less inside = omega (
+    arith,
+    ints,
+    rises.value i (omega arith),
+    rises.value j inside,
+    at_rises row.first row.spacing i j less,
+  )
 
   pub first_is_least : IsLeast f (row.code_at 0)
   first_is_least = record {
@@ -50,13 +58,15 @@ module _ (f : Coding) (row : Row) (rises : Rises f row) where
 
   -- ---- the laws
 
-  at_index : (k : ℕ) → f.IsCode k → (i : ℕ) × (i ≤ row.last) × (row.code_at i ≡ k) × (f.numerator k ≡ at row.first row.spacing i)
+  at_index : (k : ℕ) → f.IsCode k → (i : ℕ) × (i ≤ row.last) × (row.code_at i ≡ k)
+      × (f.numerator k ≡ at row.first row.spacing i)
   at_index k code =
       let index = rises.index k code in
       (index.0, index.1, index.2, ap f.numerator (sym index.2) ∙ rises.value index.0 index.1)
 
   -- the index rises with the value
-  index_less : (a b : ℕ) (a_code : f.IsCode a) (b_code : f.IsCode b) → f.numerator a <ℤ f.numerator b → (at_index a a_code).0 < (at_index b b_code).0
+  index_less : (a b : ℕ) (a_code : f.IsCode a) (b_code : f.IsCode b) → f.numerator a <ℤ f.numerator b
+      → (at_index a a_code).0 < (at_index b b_code).0
   index_less a b a_code b_code less =
       let i = at_index a a_code in
       let j = at_index b b_code in
@@ -70,28 +80,52 @@ module _ (f : Coding) (row : Row) (rises : Rises f row) where
       let i = at_index a a_code in
       let j = at_index b b_code in
       elim (cases_lt i.0 j.0) [
-        | inl less ↦ absurd (omega (arith, ints, same, i.3, j.3, at_less row.first row.spacing i.0 j.0 rises.spaced less))
+        | inl less ↦ absurd (omega (
+          arith,
+          ints,
+          same,
+          i.3,
+          j.3,
+          at_less row.first row.spacing i.0 j.0 rises.spaced less,
+        ))
         | inr others ↦
             elim (cases_lt j.0 i.0) [
-              | inl more ↦ absurd (omega (arith, ints, same, i.3, j.3, at_less row.first row.spacing j.0 i.0 rises.spaced more))
+              | inl more ↦ absurd (omega (
+                arith,
+                ints,
+                same,
+                i.3,
+                j.3,
+                at_less row.first row.spacing j.0 i.0 rises.spaced more,
+              ))
               | inr none ↦
                   let one : i.0 ≡ j.0 = omega arith in
                   sym i.2 ∙ ap row.code_at one ∙ j.2
             ]
       ]
 
-  row_between : (a b : ℕ) → f.IsCode a → f.IsCode b → f.IsCanonical a → f.IsCanonical b → a % 2 ≡ b % 2 → f.numerator a <ℤ f.numerator b → (j : ℕ) × f.IsCode j × (f.numerator a <ℤ f.numerator j) × (f.numerator j <ℤ f.numerator b)
+  row_between : (a b : ℕ) → f.IsCode a → f.IsCode b → f.IsCanonical a → f.IsCanonical b → a % 2 ≡ b % 2
+      → f.numerator a <ℤ f.numerator b → (j : ℕ) × f.IsCode j × (f.numerator a <ℤ f.numerator j)
+      × (f.numerator j <ℤ f.numerator b)
   row_between a b a_code b_code a_canonical b_canonical parity less =
       let i = at_index a a_code in
       let j = at_index b b_code in
       let order = index_less a b a_code b_code less in
-      let same_parity : i.0 % 2 ≡ j.0 % 2 = sym (rises.parity i.0 i.1) ∙ ap (λ k. k % 2) i.2 ∙ parity ∙ ap (λ k. k % 2) (sym j.2) ∙ rises.parity j.0 j.1 in
+      let same_parity : i.0 % 2 ≡ j.0 % 2 = sym (rises.parity i.0 i.1) ∙ ap (λ k. k % 2) i.2 ∙ parity
+      ∙ ap (λ k. k % 2) (sym j.2) ∙ rises.parity j.0 j.1 in
       let inside : i.0 + 1 ≤ row.last = omega (arith, order, j.1) in
       let value = rises.value (i.0 + 1) inside in (
         row.code_at (i.0 + 1),
         code_is (i.0 + 1) inside,
         omega (arith, ints, i.3, value, at_less row.first row.spacing i.0 (i.0 + 1) rises.spaced (omega arith)),
-        omega (arith, ints, j.3, value, at_less row.first row.spacing (i.0 + 1) j.0 rises.spaced (omega (arith, order, same_parity))),
+        omega (
+          arith,
+          ints,
+          j.3,
+          value,
+          at_less row.first row.spacing (i.0 + 1) j.0 rises.spaced
+              (omega (arith, order, same_parity)),
+        ),
       )
 
   pub rises_separated : IsSeparated f
@@ -107,12 +141,14 @@ module _ (f : Coding) (row : Row) (rises : Rises f row) where
 -- the same for a falling row
 mirror_separated : (f : Coding) → IsSeparated (mirrored f) → IsSeparated f
 mirror_separated f separated = record {
-  one_code = λ a b a_code b_code a_canonical b_canonical same. separated.one_code a b a_code b_code a_canonical b_canonical (ap neg_ℤ same);
+  one_code = λ a b a_code b_code a_canonical b_canonical same. separated.one_code a b a_code b_code a_canonical
+      b_canonical (ap neg_ℤ same);
   canonical_codes = λ k code.
       let c = separated.canonical_codes k code in
       (c.0, c.1, c.2, sym (neg_ℤ-neg_ℤ (f.numerator c.0)) ∙ ap neg_ℤ c.3 ∙ neg_ℤ-neg_ℤ (f.numerator k));
   between = λ a b a_code b_code a_canonical b_canonical parity less.
-      let middle = separated.between b a b_code a_code b_canonical a_canonical (sym parity) (omega (arith, ints, less)) in
+      let middle = separated.between b a b_code a_code b_canonical a_canonical (sym parity)
+      (omega (arith, ints, less)) in
       (middle.0, middle.1, omega (arith, ints, middle.3), omega (arith, ints, middle.2));
 }
 

@@ -20,5 +20,7 @@ keeps_values f positive code nearest is_code is_nearest =
     let none : distance f q nearest ≡ 0 = omega (arith, at_most, no_distance f code) in
     let same : scaled f q ≡ scaled_code f q nearest = omega (arith, ints, none) in
     let own : scaled f q ≡ scaled_code f q code = lowest_terms-same (f.numerator code) f.denominator in
-    unscale_eq (f.numerator nearest) (f.numerator code) q.denominator (lowest_terms-positive (f.numerator code) f.denominator positive)
-    (*ℤ_comm (f.numerator nearest) (pos q.denominator) ∙ sym same ∙ own ∙ *ℤ_comm (pos q.denominator) (f.numerator code))
+    unscale_eq (f.numerator nearest) (f.numerator code) q.denominator
+    (lowest_terms-positive (f.numerator code) f.denominator positive)
+    (*ℤ_comm (f.numerator nearest) (pos q.denominator) ∙ sym same ∙ own
+    ∙ *ℤ_comm (pos q.denominator) (f.numerator code))

@@ -3,11 +3,13 @@ use Rattle.std.proofs.Common.{◌≡◌, ℕ, suc, ◌*◌, ◌<◌, ℤ, pos, n
 use Rattle.std.proofs.lemmas.Int.{ints}
 use Rattle.std.proofs.Math.Nat.{mul-lt-mul_of_pos_left}
 use Rattle.pmb_quantity.specs.Fraction.{Fraction}
-use Rattle.pmb_format.specs.Coding.{Coding, IsBelow, IsAbove, ReachesSome, IsReachedBySome, scaled, scaled_code, distance}
+use Rattle.pmb_format.specs.Coding.{Coding, IsBelow, IsAbove, ReachesSome, IsReachedBySome, scaled, scaled_code}
+use Rattle.pmb_format.specs.Coding.{distance}
 use Rattle.pmb_format.specs.Written.{HasCode}
 
 -- what lies between two equally near numbers is nearer than both
-pub nearer_between : (a x y z : ℤ) → x <ℤ z → z <ℤ y → unsigned_abs (a -ℤ x) ≡ unsigned_abs (a -ℤ y) → unsigned_abs (a -ℤ z) < unsigned_abs (a -ℤ x)
+pub nearer_between : (a x y z : ℤ) → x <ℤ z → z <ℤ y → unsigned_abs (a -ℤ x) ≡ unsigned_abs (a -ℤ y)
+    → unsigned_abs (a -ℤ z) < unsigned_abs (a -ℤ x)
 nearer_between a x y z low high tie = grind (arith, ints)
 
 -- a positive factor keeps the order
@@ -24,9 +26,12 @@ scale_lt d (negsuc a) (negsuc b) positive less =
     omega (arith, ints)
 
 -- the first of two equally near codes with another between them is not best
-pub not_best : (f : Coding) (q : Fraction) (c k j : ℕ) → 0 < q.denominator → distance f q k ≡ distance f q c → f.numerator c <ℤ f.numerator j → f.numerator j <ℤ f.numerator k → distance f q j < distance f q c
+pub not_best : (f : Coding) (q : Fraction) (c k j : ℕ) → 0 < q.denominator → distance f q k ≡ distance f q c
+    → f.numerator c <ℤ f.numerator j → f.numerator j <ℤ f.numerator k → distance f q j < distance f q c
 not_best f q c k j positive tie low high =
-    nearer_between (scaled f q) (scaled_code f q c) (scaled_code f q k) (scaled_code f q j) (scale_lt q.denominator (f.numerator c) (f.numerator j) positive low) (scale_lt q.denominator (f.numerator j) (f.numerator k) positive high) (sym tie)
+    nearer_between (scaled f q) (scaled_code f q c) (scaled_code f q k) (scaled_code f q j)
+    (scale_lt q.denominator (f.numerator c) (f.numerator j) positive low)
+    (scale_lt q.denominator (f.numerator j) (f.numerator k) positive high) (sym tie)
 
 -- no quantity is both below and above a format that has a code
 pub not_both : (f : Coding) (q : Fraction) → HasCode f → IsBelow f q → IsAbove f q → ⊥

@@ -1,5 +1,6 @@
 -- From the nearer of two neighbours to the nearest of all codes.
-use Rattle.std.proofs.Common.{◌≡◌, ◌≢◌, ℕ, ◌%◌, ◌<◌, ◌≤◌, ◌⊎◌, inl, inr, ℤ, pos, neg_ℤ, ◌-ℤ◌, ◌*ℤ◌, ◌<ℤ◌, ◌≤ℤ◌, unsigned_abs, sym, ap, ◌∙◌, arith}
+use Rattle.std.proofs.Common.{◌≡◌, ◌≢◌, ℕ, ◌%◌, ◌<◌, ◌≤◌, ◌⊎◌, inl, inr, ℤ, pos, neg_ℤ, ◌-ℤ◌, ◌*ℤ◌, ◌<ℤ◌, ◌≤ℤ◌}
+use Rattle.std.proofs.Common.{unsigned_abs, sym, ap, ◌∙◌, arith}
 use Rattle.std.proofs.lemmas.Int.{ints, by_lt_z}
 use Rattle.std.proofs.Math.IntN.{*ℤ_comm, neg_ℤ-neg_ℤ}
 use Rattle.pmb_quantity.specs.Fraction.{Fraction}
@@ -34,13 +35,16 @@ pub record IsNearLow (f : Coding) (q : Fraction) (c : ℕ) (high : ℤ) : Type 0
   pub nearer : distance f q c ≤ unsigned_abs (scaled f q -ℤ pos q.denominator *ℤ high)
   pub even : distance f q c ≡ unsigned_abs (scaled f q -ℤ pos q.denominator *ℤ high) → c % 2 ≡ 0
 
-module _ (f : Coding) (q : Fraction) (c : ℕ) (high : ℤ) (positive : 0 < q.denominator) (near : IsNearLow f q c high) where
+module _ (f : Coding) (q : Fraction) (c : ℕ) (high : ℤ) (positive : 0 < q.denominator)
+    (near : IsNearLow f q c high) where
   low_none_nearer : (k : ℕ) → f.IsCode k → distance f q c ≤ distance f q k
   low_none_nearer k code =
       elim (near.gap k code) [
-        | inl low ↦ beyond_low (scaled f q) (scaled_code f q c) (scaled_code f q k) (product_le q.denominator (f.numerator k) (f.numerator c) positive low) near.from_low
+        | inl low ↦ beyond_low (scaled f q) (scaled_code f q c) (scaled_code f q k)
+            (product_le q.denominator (f.numerator k) (f.numerator c) positive low) near.from_low
         | inr beyond ↦
-            let farther = beyond_high (scaled f q) (pos q.denominator *ℤ high) (scaled_code f q k) (product_le q.denominator high (f.numerator k) positive beyond) near.to_high in
+            let farther = beyond_high (scaled f q) (pos q.denominator *ℤ high) (scaled_code f q k)
+            (product_le q.denominator high (f.numerator k) positive beyond) near.to_high in
             omega (arith, farther, near.nearer)
       ]
 
@@ -50,11 +54,13 @@ module _ (f : Coding) (q : Fraction) (c : ℕ) (high : ℤ) (positive : 0 < q.de
         | inl low ↦
             by_lt_z (f.numerator k) (f.numerator c)
             (λ less.
-            let farther = below_low (scaled f q) (scaled_code f q c) (scaled_code f q k) (scale_lt q.denominator (f.numerator k) (f.numerator c) positive less) near.from_low in
+            let farther = below_low (scaled f q) (scaled_code f q c) (scaled_code f q k)
+            (scale_lt q.denominator (f.numerator k) (f.numerator c) positive less) near.from_low in
             absurd (omega (arith, farther, tie)))
             (λ at_least. absurd (other (omega (arith, ints, low, at_least))))
         | inr beyond ↦
-            let farther = beyond_high (scaled f q) (pos q.denominator *ℤ high) (scaled_code f q k) (product_le q.denominator high (f.numerator k) positive beyond) near.to_high in
+            let farther = beyond_high (scaled f q) (pos q.denominator *ℤ high) (scaled_code f q k)
+            (product_le q.denominator high (f.numerator k) positive beyond) near.to_high in
             near.even (omega (arith, farther, tie, near.nearer))
       ]
 
@@ -70,21 +76,30 @@ module _ (f : Coding) (q : Fraction) (c : ℕ) (high : ℤ) (positive : 0 < q.de
 
 mirror_scaled : (f : Coding) (q : Fraction) → scaled (mirrored f) (negative q) ≡ neg_ℤ (scaled f q)
 mirror_scaled f q =
-    *ℤ_comm (neg_ℤ q.numerator) (pos f.denominator) ∙ product-neg f.denominator q.numerator ∙ ap neg_ℤ (*ℤ_comm (pos f.denominator) q.numerator)
+    *ℤ_comm (neg_ℤ q.numerator) (pos f.denominator) ∙ product-neg f.denominator q.numerator
+    ∙ ap neg_ℤ (*ℤ_comm (pos f.denominator) q.numerator)
 
 -- a quantity and the values, each with the other sign, are as far apart
-pub mirror_distance : (f : Coding) (q : Fraction) (z : ℤ) → unsigned_abs (scaled (mirrored f) (negative q) -ℤ pos q.denominator *ℤ neg_ℤ z) ≡ unsigned_abs (scaled f q -ℤ pos q.denominator *ℤ z)
+pub mirror_distance : (f : Coding) (q : Fraction) (z : ℤ)
+    → unsigned_abs (scaled (mirrored f) (negative q) -ℤ pos q.denominator *ℤ neg_ℤ z)
+    ≡ unsigned_abs (scaled f q -ℤ pos q.denominator *ℤ z)
 mirror_distance f q z =
     let value = product-neg q.denominator z in
     let quantity = mirror_scaled f q in
-    let difference : scaled (mirrored f) (negative q) -ℤ pos q.denominator *ℤ neg_ℤ z ≡ neg_ℤ (scaled f q -ℤ pos q.denominator *ℤ z) = omega (arith, ints, value, quantity) in
+    let difference : scaled (mirrored f) (negative q) -ℤ pos q.denominator *ℤ neg_ℤ z
+    ≡ neg_ℤ (scaled f q -ℤ pos q.denominator *ℤ z) = omega (arith, ints, value, quantity) in
     ap unsigned_abs difference ∙ unsigned_abs-neg (scaled f q -ℤ pos q.denominator *ℤ z)
 
 pub mirror_nearest : (f : Coding) (q : Fraction) (c : ℕ) → IsNearest (mirrored f) (negative q) c → IsNearest f q c
 mirror_nearest f q c nearest = record {
   is_code = nearest.is_code;
   canonical = nearest.canonical;
-  none_nearer = λ k code. omega (arith, nearest.none_nearer k code, mirror_distance f q (f.numerator c), mirror_distance f q (f.numerator k));
+  none_nearer = λ k code. omega (
+    arith,
+    nearest.none_nearer k code,
+    mirror_distance f q (f.numerator c),
+    mirror_distance f q (f.numerator k),
+  );
   even_at_tie = λ k code other tie.
       nearest.even_at_tie k code
       (λ same. other (sym (neg_ℤ-neg_ℤ (f.numerator k)) ∙ ap neg_ℤ same ∙ neg_ℤ-neg_ℤ (f.numerator c)))
@@ -104,7 +119,8 @@ mirror_gap : (f : Coding) (low high : ℤ) → IsGap f low high → IsGap (mirro
 mirror_gap f low high gap k code =
     elim (gap k code) [ inl below ↦ inr (omega (arith, ints, below)) | inr above ↦ inl (omega (arith, ints, above)) ]
 
-mirror_near : (f : Coding) (q : Fraction) (c : ℕ) (low : ℤ) → IsNearHigh f q c low → IsNearLow (mirrored f) (negative q) c (neg_ℤ low)
+mirror_near : (f : Coding) (q : Fraction) (c : ℕ) (low : ℤ) → IsNearHigh f q c low
+    → IsNearLow (mirrored f) (negative q) c (neg_ℤ low)
 mirror_near f q c low near =
     let quantity = mirror_scaled f q in
     let value = product-neg q.denominator (f.numerator c) in
@@ -120,7 +136,8 @@ mirror_near f q c low near =
       even = λ tie. near.even (sym own ∙ tie ∙ other);
     }
 
-pub nearest_high : (f : Coding) (q : Fraction) (c : ℕ) (low : ℤ) → 0 < q.denominator → IsNearHigh f q c low → IsNearest f q c
+pub nearest_high : (f : Coding) (q : Fraction) (c : ℕ) (low : ℤ) → 0 < q.denominator → IsNearHigh f q c low
+    → IsNearest f q c
 nearest_high f q c low positive near =
     mirror_nearest f q c (nearest_low (mirrored f) (negative q) c (neg_ℤ low) positive (mirror_near f q c low near))
 

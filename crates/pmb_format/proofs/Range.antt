@@ -17,7 +17,8 @@ true_less a b test = grind (arith, ints)
 false_less : (a b : ℤ) → lt_z a b ≡ false → b ≤ℤ a
 false_less a b test = grind (arith, ints)
 
-pub below_by_least : (f : Coding) (q : Fraction) (code : ℕ) (s v : ℤ) → 0 < q.denominator → IsLeast f code → s ≡ scaled f q → v ≡ scaled_code f q code → MatchBool (lt_z s v) (IsBelow f q) (ReachesSome f q)
+pub below_by_least : (f : Coding) (q : Fraction) (code : ℕ) (s v : ℤ) → 0 < q.denominator → IsLeast f code
+    → s ≡ scaled f q → v ≡ scaled_code f q code → MatchBool (lt_z s v) (IsBelow f q) (ReachesSome f q)
 below_by_least f q code s v positive least s_is v_is =
     by_test (IsBelow f q) (ReachesSome f q) (lt_z s v)
     (λ test k k_code.
@@ -25,7 +26,8 @@ below_by_least f q code s v positive least s_is v_is =
     omega (arith, ints, true_less s v test, order, s_is, v_is))
     (λ test. (code, least.is_code, omega (arith, ints, false_less s v test, s_is, v_is)))
 
-pub above_by_greatest : (f : Coding) (q : Fraction) (code : ℕ) (s v : ℤ) → 0 < q.denominator → IsGreatest f code → s ≡ scaled f q → v ≡ scaled_code f q code → MatchBool (lt_z v s) (IsAbove f q) (IsReachedBySome f q)
+pub above_by_greatest : (f : Coding) (q : Fraction) (code : ℕ) (s v : ℤ) → 0 < q.denominator → IsGreatest f code
+    → s ≡ scaled f q → v ≡ scaled_code f q code → MatchBool (lt_z v s) (IsAbove f q) (IsReachedBySome f q)
 above_by_greatest f q code s v positive greatest s_is v_is =
     by_test (IsAbove f q) (IsReachedBySome f q) (lt_z v s)
     (λ test k k_code.

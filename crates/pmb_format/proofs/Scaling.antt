@@ -1,5 +1,6 @@
 -- Whole numbers times a power of two.
-use Rattle.std.proofs.Common.{◌≡◌, ℕ, suc, ◌*◌, ◌+◌, ◌-◌, ◌^◌, ◌<◌, ◌≤◌, ℤ, pos, negsuc, neg_ℤ, ◌*ℤ◌, ◌≤ℤ◌, sym, ap, ◌∙◌, arith}
+use Rattle.std.proofs.Common.{◌≡◌, ℕ, suc, ◌*◌, ◌+◌, ◌-◌, ◌^◌, ◌<◌, ◌≤◌, ℤ, pos, negsuc, neg_ℤ, ◌*ℤ◌, ◌≤ℤ◌, sym, ap}
+use Rattle.std.proofs.Common.{◌∙◌, arith}
 use Rattle.std.proofs.lemmas.Nat.{pow-add, pow_below, mul-le}
 use Rattle.std.proofs.lemmas.Int.{ints}
 use Rattle.pmb_quantity.proofs.Scaling.{scale-scale}
@@ -8,7 +9,8 @@ use Rattle.pmb_quantity.proofs.Scaling.{scale-scale}
 pub power_splits : (m : ℤ) (i j : ℕ) → i ≤ j → m *ℤ pos (2 ^ j) ≡ (m *ℤ pos (2 ^ (j - i))) *ℤ pos (2 ^ i)
 power_splits m i j order =
     let sum : (j - i) + i ≡ j = omega arith in
-    ap (λ k. m *ℤ pos (2 ^ k)) (sym sum) ∙ ap (λ p. m *ℤ pos p) (pow-add 2 (j - i) i) ∙ sym (scale-scale m (2 ^ (j - i)) (2 ^ i))
+    ap (λ k. m *ℤ pos (2 ^ k)) (sym sum) ∙ ap (λ p. m *ℤ pos p) (pow-add 2 (j - i) i)
+    ∙ sym (scale-scale m (2 ^ (j - i)) (2 ^ i))
 
 -- a power above 0 is 2 or more
 pub two_or_more : (k : ℕ) → 0 < k → 2 ≤ 2 ^ k

@@ -3,7 +3,8 @@ use Rattle.std.proofs.Common.{◌≡◌, ℕ, zero, suc, ◌+◌, ◌-◌, ◌^�
 use Rattle.pmb_format.specs.Steps.{steps_counted}
 
 -- one step after others
-pub one_more : (before steps now after : ℕ) → now ≡ steps_counted before steps → after ≡ min (now + 1) (2 ^ 64 - 1) → after ≡ steps_counted before (steps + 1)
+pub one_more : (before steps now after : ℕ) → now ≡ steps_counted before steps → after ≡ min (now + 1) (2 ^ 64 - 1)
+    → after ≡ steps_counted before (steps + 1)
 one_more before zero now after now_is after_is = omega arith
 one_more before (suc more) now after now_is after_is =
     let plain : after ≡ min (before + suc (suc more)) (2 ^ 64 - 1) = omega arith in

@@ -10,9 +10,11 @@ unfolding twos_complement
 complement_low bits field low = sym (cond_below field (2 ^ (bits - 1)) (pos field) (pos field -ℤ pos (2 ^ bits)) low)
 
 -- the upper half are negative
-pub complement_high : (bits field : ℕ) → 2 ^ (bits - 1) ≤ field → twos_complement bits field ≡ pos field -ℤ pos (2 ^ bits)
+pub complement_high : (bits field : ℕ) → 2 ^ (bits - 1) ≤ field
+    → twos_complement bits field ≡ pos field -ℤ pos (2 ^ bits)
 unfolding twos_complement
-complement_high bits field high = sym (cond_above field (2 ^ (bits - 1)) (pos field) (pos field -ℤ pos (2 ^ bits)) (pos field -ℤ pos (2 ^ bits)) high refl)
+complement_high bits field high = sym (cond_above field (2 ^ (bits - 1)) (pos field) (pos field -ℤ pos (2 ^ bits))
+    (pos field -ℤ pos (2 ^ bits)) high refl)
 
 -- ---- in the order of their numbers
 

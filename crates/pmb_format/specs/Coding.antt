@@ -38,7 +38,8 @@ pub record IsNearest (f : Coding) (q : Fraction) (code : ℕ) : Type 0 where
   pub is_code : f.IsCode code
   pub canonical : f.IsCanonical code
   pub none_nearer : (k : ℕ) → f.IsCode k → distance f q code ≤ distance f q k
-  pub even_at_tie : (k : ℕ) → f.IsCode k → f.numerator k ≢ f.numerator code → distance f q k ≡ distance f q code → code % 2 ≡ 0
+  pub even_at_tie : (k : ℕ) → f.IsCode k → f.numerator k ≢ f.numerator code → distance f q k ≡ distance f q code
+      → code % 2 ≡ 0
 
 -- the quantity is under every value of the format
 abbrev pub IsBelow : Coding → Fraction → Type 0

@@ -8,7 +8,7 @@ use toml::{Table, Value};
 
 /// Where a table stands in a profile's text.
 #[derive(Clone, Copy)]
-pub(crate) struct Place<'a> {
+pub(crate) struct TablePlace<'a> {
     pub(crate) text: &'a str,
     /// The number of its device, from 0, if it is not the whole.
     pub(crate) device: Option<usize>,
@@ -16,7 +16,7 @@ pub(crate) struct Place<'a> {
     pub(crate) command: Option<usize>,
 }
 
-impl<'a> Place<'a> {
+impl<'a> TablePlace<'a> {
     /// A table at this place, and the tables before it in its array.
     pub(crate) fn keys_of(self, table: &'a Table, before: &'a [Value]) -> Keyed<'a> {
         Keyed {
@@ -31,7 +31,7 @@ impl<'a> Place<'a> {
 /// A table of a profile, whose keys are written with their values.
 #[derive(Clone, Copy)]
 pub(crate) struct Keyed<'a> {
-    place: Place<'a>,
+    place: TablePlace<'a>,
     /// What comes before its keys where they are written.
     pub(crate) prefix: &'static str,
     pub(crate) table: &'a Table,

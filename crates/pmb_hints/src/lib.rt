@@ -1,5 +1,5 @@
-//! What helps with a fault of a profile: the key, its value, the rule that it breaks, and what would
-//! do.
+//! Hints for mistakes in a profile: the key, its value, the rule that it breaks, and what would be
+//! right.
 //!
 //! [`hints`] reads the text anew and looks for the fault, of which only its name and its place are
 //! known. What it writes is for people, and no program should read it. No clause says which lines
@@ -14,6 +14,7 @@
 #![tactic(auto)]
 
 mod coded;
+mod explanation;
 mod forms;
 mod initial;
 mod keyed;
@@ -26,4 +27,5 @@ mod syntax;
 mod values;
 mod words;
 
+pub use explanation::{Explanation, FaultText, explanation, fault_text};
 pub use lines::{Hints, hints};

@@ -3,7 +3,7 @@
 ghost use Rattle.std.specs.Prelude.{◌≡◌, []};
 ghost use Rattle.pmb_keys.specs.declared.fault.FaultKind.TheVariants.{OutOfMemory};
 
-use crate::keyed::Place;
+use crate::keyed::TablePlace;
 use crate::mistakes::{EACH_COMMAND, EACH_DEVICE, command_hint, device_hint, top_hint};
 use crate::syntax::{syntax_hint, utf8_hint};
 use arrayvec::ArrayString;
@@ -40,7 +40,7 @@ fn text_hint(alloc: Global, text: &str, fault: ProfileFault, lines: &mut Hints) 
 
 /// What helps with the fault of a document's table.
 fn table_hint(text: &str, table: &Table, fault: ProfileFault, lines: &mut Hints) {
-    let mut place = Place {
+    let mut place = TablePlace {
         text,
         device: None,
         command: None,
@@ -67,7 +67,13 @@ fn table_hint(text: &str, table: &Table, fault: ProfileFault, lines: &mut Hints)
 }
 
 /// What helps with the fault of a command of a device.
-fn in_command(place: Place<'_>, device: &Table, number: usize, what: FaultKind, lines: &mut Hints) {
+fn in_command(
+    place: TablePlace<'_>,
+    device: &Table,
+    number: usize,
+    what: FaultKind,
+    lines: &mut Hints,
+) {
     let Some((command, before)) = item(device, "command", number) else {
         return;
     };

@@ -6,7 +6,7 @@
 
 ghost use Rattle.std.specs.Prelude.{◌≤◌};
 
-use crate::keyed::Place;
+use crate::keyed::TablePlace;
 use crate::values::Shown;
 use arrayvec::ArrayString;
 
@@ -31,7 +31,7 @@ impl Walk {
     }
 
     /// Whether the table at a place may be in these lines. Without a header, it may.
-    fn may_have(self, place: Place<'_>) -> bool {
+    fn may_have(self, place: TablePlace<'_>) -> bool {
         let is_device = self.device.is_none() || self.device == place.device;
         let is_command = self.command.is_none() || self.command == place.command;
         is_device && is_command
@@ -53,7 +53,7 @@ fn header(line: &str) -> Option<&str> {
 }
 
 /// The number of a key as it stands in the lines of a table.
-pub(crate) fn spelled(place: Place<'_>, key: &str, number: i64) -> Option<Shown> {
+pub(crate) fn spelled(place: TablePlace<'_>, key: &str, number: i64) -> Option<Shown> {
     let mut walk = Walk {
         device: None,
         command: None,

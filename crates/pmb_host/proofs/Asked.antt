@@ -1,5 +1,6 @@
 -- What a request that is allowed asks for has a packet.
-use Rattle.std.proofs.Common.{◌≡◌, ◌≢◌, ℕ, true, Option, Some, None, Ok, IfSome, is_some, if◌then◌else◌, List, [], ◌∷◌, refl, sym, ap, subst, ◌∙◌, arith}
+use Rattle.std.proofs.Common.{◌≡◌, ◌≢◌, ℕ, true, Option, Some, None, Ok, IfSome, is_some, if◌then◌else◌, List, [], ◌∷◌}
+use Rattle.std.proofs.Common.{refl, sym, ap, subst, ◌∙◌, arith}
 use Rattle.std.specs.Option.{option_and_then}
 use Rattle.pmb_coefficients.specs.Coefficients.{Coefficients}
 use Rattle.pmb_command.specs.declared.form.Form.{Form}
@@ -46,14 +47,17 @@ written_as_read Four agree some = absurd (cc agree)
 written_as_read Eight agree some = absurd (cc agree)
 written_as_read Block agree some = absurd (cc agree)
 
-two_written : (write read : Option Form) → is_form Two (if is_some read then read else write) ≡ true → ways_agree write read ≡ true → HasData write → write ≡ Some Two
+two_written : (write read : Option Form) → is_form Two (if is_some read then read else write) ≡ true
+    → ways_agree write read ≡ true → HasData write → write ≡ Some Two
 two_written None read two agree some = absurd some
 two_written (Some write) None two agree some = ap Some (two_form write two)
 two_written (Some write) (Some read) two agree some =
-    ap Some (written_as_read write (subst (λ (form : Form). ways_agree (Some write) (Some form) ≡ true) (two_form read two) agree) some)
+    ap Some (written_as_read write (subst (λ (form : Form). ways_agree (Some write) (Some form) ≡ true)
+    (two_form read two) agree) some)
 
 -- a number has two bytes
-number_form : (coefficients : Option Coefficients) (mode : Option ℕ) (kind : Kind) (number : NumberFormat) (form : Option Form)
+number_form : (coefficients : Option Coefficients) (mode : Option ℕ) (kind : Kind) (number : NumberFormat)
+    (form : Option Form)
     → Ok number ≡ number_of coefficients mode kind → kind_fits kind form ≡ true → is_form Two form ≡ true
 number_form coefficients mode kinds.Raw number form is fits = absurd (cc is)
 number_form coefficients mode kinds.Linear11 number form is fits = fits
@@ -77,15 +81,19 @@ word_fits word small = record { small = (omega arith, (omega (arith, small), tt)
 
 module _ (profile : List DeviceParts) (bus : IsBus profile) where
   -- a quantity is set by a command of two bytes
-  pub set_form : (c : Command) (value : Fraction) (mode : Option ℕ) (word : ℕ) → CanSet profile c value mode word → (forms_at profile c.addr c.code).write ≡ Some Two
+  pub set_form : (c : Command) (value : Fraction) (mode : Option ℕ) (word : ℕ) → CanSet profile c value mode word
+      → (forms_at profile c.addr c.code).write ≡ Some Two
   set_form c value mode word can =
       let found = can.has.number_is in
       let device = device_is profile c.addr found.device bus found.known in
       let command = command_is found.device c.code found.command device.0 found.has in
       let shape = found.command.entry.shape in
-      let of_device : (forms_at profile c.addr c.code).write ≡ (shape_of (command_with c.code found.device.commands)).write =
-      ap (λ it. (shape_of (option_and_then (λ (d : DeviceParts). command_with c.code d.commands) it)).write) found.known in
-      let of_command : (forms_at profile c.addr c.code).write ≡ shape.write = of_device ∙ ap (λ (it : Option CommandParts). (shape_of it).write) found.has in
+      let of_device : (forms_at profile c.addr c.code).write
+      ≡ (shape_of (command_with c.code found.device.commands)).write =
+      ap (λ it. (shape_of (option_and_then (λ (d : DeviceParts). command_with c.code d.commands) it)).write)
+      found.known in
+      let of_command : (forms_at profile c.addr c.code).write ≡ shape.write = of_device
+      ∙ ap (λ (it : Option CommandParts). (shape_of it).write) found.has in
       let fitting = command.0.entry.fitting in
       of_command ∙ two_written shape.write shape.read
       (number_form found.device.vout_direct mode found.command.entry.kind can.number _ found.number_is fitting.kind)
@@ -118,15 +126,19 @@ module _ (profile : List DeviceParts) (bus : IsBus profile) where
 
   -- ---- a command that is read or called
 
-  both_fit : (form : Option Form) (P Q : Form → Type 0) → IfSome form P → IfSome form Q → IfSome form (λ it. P it × Q it)
+  both_fit : (form : Option Form) (P Q : Form → Type 0) → IfSome form P → IfSome form Q
+      → IfSome form (λ it. P it × Q it)
   both_fit None P Q first second = tt
   both_fit (Some form) P Q first second = (first, second)
 
-  pub asked_packet : (request : RequestData) (word : ℕ) (number : Option NumberFormat) (reply : List ℕ) → IsAllowed profile request word number
-      → IfSome (reply_form profile (task_of request word)) (λ form. Fits form reply) → HasPacket profile (replied (task_of request word) reply)
+  pub asked_packet : (request : RequestData) (word : ℕ) (number : Option NumberFormat) (reply : List ℕ)
+      → IsAllowed profile request word number
+      → IfSome (reply_form profile (task_of request word)) (λ form. Fits form reply)
+      → HasPacket profile (replied (task_of request word) reply)
   asked_packet (WriteParts parts) word number reply allowed fits = allowed.0
   asked_packet (ReadBytes c) word number reply (kept, none) fits =
-      kept_has_packet profile (replied (task_of (ReadBytes c) word) reply) tt (kept.0, (kept.1.0, (kept.1.1.0, (fits, (kept.1.1.1.0, tt)))))
+      kept_has_packet profile (replied (task_of (ReadBytes c) word) reply) tt
+      (kept.0, (kept.1.0, (kept.1.1.0, (fits, (kept.1.1.1.0, tt)))))
   asked_packet (CallBytes c bytes) word number reply (kept, none) fits =
       kept_has_packet profile (replied (task_of (CallBytes c bytes) word) reply) tt (
         kept.0,
@@ -135,7 +147,8 @@ module _ (profile : List DeviceParts) (bus : IsBus profile) where
           (
             kept.1.1.0,
             (
-              both_fit (forms_at profile c.addr c.code).call (λ form. Fits form bytes) (λ form. Fits form reply) kept.1.1.1.0 fits,
+              both_fit (forms_at profile c.addr c.code).call (λ form. Fits form bytes)
+                  (λ form. Fits form reply) kept.1.1.1.0 fits,
               (kept.1.1.1.1.0, tt),
             ),
           ),
@@ -144,4 +157,5 @@ module _ (profile : List DeviceParts) (bus : IsBus profile) where
   asked_packet (Set c value mode) word number reply (can, none) fits = set_packet c value mode word can
   asked_packet (Get c mode) word None reply (kept, has, some) fits = absurd (some refl)
   asked_packet (Get c mode) word (Some number) reply (kept, has, some) fits =
-      kept_has_packet profile (replied (task_of (Get c mode) word) reply) tt (kept.0, (kept.1.0, (kept.1.1.0, (fits, (has.kept, tt)))))
+      kept_has_packet profile (replied (task_of (Get c mode) word) reply) tt
+      (kept.0, (kept.1.0, (kept.1.1.0, (fits, (has.kept, tt)))))

@@ -1,6 +1,7 @@
 -- How many signals there are at most: 16 legs of at most 259 bytes, or two legs and a reply of at
 -- most 257 bytes.
-use Rattle.std.proofs.Common.{◌≡◌, ℕ, ◌+◌, ◌*◌, ◌<◌, ◌≤◌, Bool, true, false, if◌then◌else◌, Option, Some, None, List, [], ◌∷◌, ◌++◌, length, map, flat_map, refl, ap, ◌∙◌, arith, length-append}
+use Rattle.std.proofs.Common.{◌≡◌, ℕ, ◌+◌, ◌*◌, ◌<◌, ◌≤◌, Bool, true, false, if◌then◌else◌, Option, Some, None, List}
+use Rattle.std.proofs.Common.{[], ◌∷◌, ◌++◌, length, map, flat_map, refl, ap, ◌∙◌, arith, length-append}
 use Rattle.std.specs.List.{AllByRecursion}
 use Rattle.std.proofs.lemmas.List.{length-map}
 use Rattle.pmb_bus.specs.Address.{write_address}
@@ -64,12 +65,14 @@ module _ (profile : List DeviceParts) where
       let short = small.short in
       omega (arith, many, coded, written, short)
 
-  pub parts_short : (parts : List PartData) → AllByRecursion IsSmallPart parts → length (flat_map leg_signals (map (part_bytes profile) parts)) ≤ 260 * length parts
+  pub parts_short : (parts : List PartData) → AllByRecursion IsSmallPart parts
+      → length (flat_map leg_signals (map (part_bytes profile) parts)) ≤ 260 * length parts
   parts_short [] small = omega arith
   parts_short (part ∷ parts) small =
       let first = part_short part small.0 in
       let others = parts_short parts small.1 in
-      let both = length-append (leg_signals (part_bytes profile part)) (flat_map leg_signals (map (part_bytes profile) parts)) in
+      let both = length-append (leg_signals (part_bytes profile part))
+      (flat_map leg_signals (map (part_bytes profile) parts)) in
       omega (arith, first, others, both)
 
 -- ---- what is read
@@ -84,7 +87,8 @@ code_short : (with_pec : Bool) → (if with_pec then 1 else 0) ≤ 1
 code_short false = omega arith
 code_short true = omega arith
 
-pub read_short : (form : Option Form) (with_pec : Bool) (bytes : List ℕ) → AreRead form with_pec bytes → length bytes ≤ 257
+pub read_short : (form : Option Form) (with_pec : Bool) (bytes : List ℕ) → AreRead form with_pec bytes
+    → length bytes ≤ 257
 read_short None with_pec bytes none = let no_bytes = ap length none in omega (arith, no_bytes)
 read_short (Some form) with_pec bytes all =
     let many = ap length all.spelled ∙ length-append (wire form all.reply) all.code in
@@ -97,7 +101,8 @@ read_short (Some form) with_pec bytes all =
 -- ---- all
 
 -- after the legs are those with which bytes are read, and STOP
-pub signals_length : (legs : List (List ℕ)) (bytes : List ℕ) → length (signals legs bytes) ≡ length (flat_map leg_signals legs) + 2 * length bytes + 1
+pub signals_length : (legs : List (List ℕ)) (bytes : List ℕ)
+    → length (signals legs bytes) ≡ length (flat_map leg_signals legs) + 2 * length bytes + 1
 signals_length legs bytes =
     let all = length-append (flat_map leg_signals legs) (reading_signals bytes ++ Stop ∷ []) in
     let reading = length-append (reading_signals bytes) (Stop ∷ []) in

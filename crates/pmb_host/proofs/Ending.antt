@@ -1,5 +1,6 @@
 -- How it ended is told, and told again.
-use Rattle.std.proofs.Common.{◌≡◌, inl, inr, ◌⊎◌, flat_map, ℕ, ◌+◌, ◌*◌, ◌/◌, ◌%◌, Bool, true, false, Option, Some, None, is_some, List, [], ◌∷◌, ◌++◌, refl, sym, ap, subst, ◌∙◌, arith}
+use Rattle.std.proofs.Common.{◌≡◌, inl, inr, ◌⊎◌, flat_map, ℕ, ◌+◌, ◌*◌, ◌/◌, ◌%◌, Bool, true, false, Option, Some}
+use Rattle.std.proofs.Common.{None, is_some, List, [], ◌∷◌, ◌++◌, refl, sym, ap, subst, ◌∙◌, arith}
 use Rattle.std.specs.Option.{MatchOption}
 use Rattle.std.proofs.lemmas.List.{append-nil}
 use Rattle.pmb_bus.specs.declared.event.Event.TheVariants as events
@@ -15,7 +16,7 @@ use Rattle.pmb_device.specs.declared.signal.HostSignal.TheVariants.{Stop}
 use Rattle.pmb_device.specs.declared.signal.DeviceSignal.{DeviceSignal}
 use Rattle.pmb_devices.specs.Bus.{AnsweredSignal, recorded_events}
 use Rattle.pmb_host.specs.declared.host.Host.{Host}
-use Rattle.pmb_host.specs.declared.host.Phase.TheVariants as phases
+use Rattle.pmb_host.specs.declared.host.HostPhase.TheVariants as phases
 use Rattle.pmb_value.specs.declared.number_format.NumberFormat.{NumberFormat}
 use Rattle.pmb_host.specs.declared.reply.Incoming.{Incoming}
 use Rattle.pmb_host.specs.declared.step.HostFault.{HostFault}
@@ -26,7 +27,8 @@ use Rattle.pmb_host.specs.declared.step.Reply.TheVariants.{Written, Bytes, Value
 use Rattle.pmb_host.specs.Host.{Ends, FirstSteps, HostStanding, HostStandsAt, IsDone, Steps, heard_with}
 use Rattle.pmb_value.specs.NumberFormat.{number_coding}
 use Rattle.pmb_host.specs.Signals.{Say, SayReply, legs_of, reply_form, reply_has_pec}
-use Rattle.pmb_host.specs.Steps.{Completes, Fails, IsTold, OneValue, ReplyData, SaysReply, Succeeds, bytes, bytes_before, bytes_read, reply_data, value, written}
+use Rattle.pmb_host.specs.Steps.{Completes, Fails, IsTold, OneValue, ReplyData, SaysReply, Succeeds, bytes}
+use Rattle.pmb_host.specs.Steps.{bytes_before, bytes_read, reply_data, value, written}
 use Rattle.pmb_host.specs.Task.{replied, word_bytes}
 use Rattle.pmb_host.specs.machine.Replies.{Holds, told_data}
 use Rattle.pmb_host.specs.machine.Standing.{AtEnd, EndsSo, HasJob, InEnd, InPhase, IsIncoming, IsToldOf, Job, Tells}
@@ -36,9 +38,12 @@ use Rattle.pmb_host.proofs.Words.{quantity_is_word}
 -- ---- the data that were read
 
 -- Bytes that say data hold them.
-holds_said : (form : Form) (with_pec : Bool) (before content read : List ℕ) → SayReply form with_pec before content read → Holds form content read
-holds_said form false before content read says = record { fits = says.fits; rest = []; split = says.spelled ∙ sym (append-nil (wire form content)) }
-holds_said form true before content read says = record { fits = says.fits; rest = pec (before ++ wire form content) ∷ []; split = says.spelled }
+holds_said : (form : Form) (with_pec : Bool) (before content read : List ℕ) → SayReply form with_pec before content read
+    → Holds form content read
+holds_said form false before content read says =
+    record { fits = says.fits; rest = []; split = says.spelled ∙ sym (append-nil (wire form content)) }
+holds_said form true before content read says =
+    record { fits = says.fits; rest = pec (before ++ wire form content) ∷ []; split = says.spelled }
 
 -- they are those of a reply of its form
 record SaysKept (reply : Incoming) (form : Option Form) (content : List ℕ) : Type 0 where
@@ -48,7 +53,8 @@ record SaysKept (reply : Incoming) (form : Option Form) (content : List ℕ) : T
   pub fits : Fits of content
   pub holds : Holds reply.form content reply.bytes.items
 
-kept_says : (reply : Incoming) (form : Option Form) (with_pec : Bool) (before content read : List ℕ) → IsIncoming (Some reply) form with_pec read → Say form with_pec before content read
+kept_says : (reply : Incoming) (form : Option Form) (with_pec : Bool) (before content read : List ℕ)
+    → IsIncoming (Some reply) form with_pec read → Say form with_pec before content read
     → SaysKept reply form content
 kept_says reply None with_pec before content read kept says = absurd kept
 kept_says reply (Some form) with_pec before content read kept says = record {
@@ -56,7 +62,8 @@ kept_says reply (Some form) with_pec before content read kept says = record {
   of = form;
   form_is = refl;
   fits = says.fits;
-  holds = subst (λ (bs : List ℕ). Holds reply.form content bs) (sym kept.2) (subst (λ (f : Form). Holds f content read) (sym kept.0) (holds_said form with_pec before content read says));
+  holds = subst (λ (bs : List ℕ). Holds reply.form content bs) (sym kept.2)
+      (subst (λ (f : Form). Holds f content read) (sym kept.0) (holds_said form with_pec before content read says));
 }
 
 no_form : (form : Option Form) (with_pec : Bool) (read : List ℕ) → IsIncoming None form with_pec read → form ≡ None
@@ -66,7 +73,8 @@ no_form (Some form) with_pec read kept = absurd kept
 -- ---- what is told of them
 
 -- a value of two bytes is that of their word
-told_word : (format : NumberFormat) (content : List ℕ) → Fits Two content → (word : ℕ) × (content ≡ word_bytes word) × (told_data (Some format) content ≡ OneValue (value_of (number_coding format) word))
+told_word : (format : NumberFormat) (content : List ℕ) → Fits Two content → (word : ℕ) × (content ≡ word_bytes word)
+    × (told_data (Some format) content ≡ OneValue (value_of (number_coding format) word))
 told_word format [] fits = absurd (cc fits.taken)
 told_word format (b ∷ []) fits = absurd (cc fits.taken)
 told_word format (low ∷ high ∷ []) fits =
@@ -77,8 +85,10 @@ told_word format (low ∷ high ∷ []) fits =
 told_word format (a ∷ b ∷ c ∷ content) fits = absurd (omega (arith, fits.taken))
 
 module _ (job : Job) where
-  told_of : (number : Option NumberFormat) (content : List ℕ) (told : ReplyData) → is_some (reply_form job.profile job.task) ≡ true
-      → ((format : NumberFormat) → number ≡ Some format → Fits Two content) → told ≡ told_data number content → IsTold job.profile job.task number content told
+  told_of : (number : Option NumberFormat) (content : List ℕ) (told : ReplyData)
+      → is_some (reply_form job.profile job.task) ≡ true
+      → ((format : NumberFormat) → number ≡ Some format → Fits Two content) → told ≡ told_data number content
+      → IsTold job.profile job.task number content told
   told_of None content told some two is = bytes some refl is
   told_of (Some format) content told some two is =
       let word = told_word format content (two format refl) in
@@ -90,7 +100,8 @@ same_reply Written Written same = refl
 same_reply Written (Bytes b) same = absurd (cc same)
 same_reply Written (Value b) same = absurd (cc same)
 same_reply (Bytes a) Written same = absurd (cc same)
-same_reply (Bytes a) (Bytes b) same = let items : a.items ≡ b.items = cc same in ap (λ (items : List ℕ). Bytes (record { items = items })) items
+same_reply (Bytes a) (Bytes b) same = let items : a.items ≡ b.items = cc same in
+    ap (λ (items : List ℕ). Bytes (record { items = items })) items
 same_reply (Bytes a) (Value b) same = absurd (cc same)
 same_reply (Value a) Written same = absurd (cc same)
 same_reply (Value a) (Bytes b) same = absurd (cc same)
@@ -112,27 +123,34 @@ module _ (standing : HostStanding) (heard : List AnsweredSignal) (host : Host) (
   task = standing.job.task
 
   -- all went well, so the packet of the task was recorded
-  succeeds : Completes profile task heard → (content : List ℕ) → SaysReply profile task content (bytes_read heard) → Succeeds profile task heard content
+  succeeds : Completes profile task heard → (content : List ℕ) → SaysReply profile task content (bytes_read heard)
+      → Succeeds profile task heard content
   succeeds done content says =
       let asked = has.asked in
       let here = subst (λ t. SaysReply profile t content (bytes_read heard)) asked.task_is says in
-      let recorded = recorded_done profile task heard done ∙ ap (λ t. flat_map leg (legs_of profile t) ++ (nacked (bytes_read heard) ++ events.Stop ∷ [])) asked.task_is in record {
+      let recorded = recorded_done profile task heard done
+      ∙ ap (λ t. flat_map leg (legs_of profile t) ++ (nacked (bytes_read heard) ++ events.Stop ∷ []))
+      asked.task_is in record {
         completes = done;
         says = says;
         packet = subst (λ t. Packet profile (replied t content) (recorded_events heard)) (sym asked.task_is)
-            (packet_of profile has.accepted asked.request asked.word standing.job.number content (bytes_read heard) (recorded_events heard) asked.allowed here recorded);
+            (packet_of profile has.accepted asked.request asked.word standing.job.number content (bytes_read heard)
+            (recorded_events heard) asked.allowed here recorded);
       }
 
   -- a reply that is told as a quantity has two bytes
-  quantity_fits : (of : Form) (content : List ℕ) → reply_form profile task ≡ Some of → Fits of content → (format : NumberFormat) → standing.job.number ≡ Some format → Fits Two content
+  quantity_fits : (of : Form) (content : List ℕ) → reply_form profile task ≡ Some of → Fits of content
+      → (format : NumberFormat) → standing.job.number ≡ Some format → Fits Two content
   quantity_fits of content form_is fits format is =
       let asked = has.asked in
-      let word = quantity_is_word profile has.accepted asked.request asked.word standing.job.number format asked.allowed is in
+      let word = quantity_is_word profile has.accepted asked.request asked.word standing.job.number format asked.allowed
+      is in
       let both : Some of ≡ Some Two = sym form_is ∙ ap (λ t. reply_form profile t) asked.task_is ∙ word in
       let two : of ≡ Two = cc both in
       subst (λ (f : Form). Fits f content) two fits
 
-  end_told : (fault : Option HostFault) (reply : Option Incoming) (number : Option NumberFormat) (step : HostStep) → number ≡ standing.job.number → EndsSo reply fault standing.job heard
+  end_told : (fault : Option HostFault) (reply : Option Incoming) (number : Option NumberFormat) (step : HostStep)
+      → number ≡ standing.job.number → EndsSo reply fault standing.job heard
       → IsToldOf fault reply number step → IsEnd standing heard step
   end_told (Some fault) reply number step number_is ends tells = inr (fault, tells, ends)
   end_told None None number step number_is ends tells =
@@ -146,7 +164,8 @@ module _ (standing : HostStanding) (heard : List AnsweredSignal) (host : Host) (
         },
       )
   end_told None (Some reply) number step number_is ends tells =
-      let kept = kept_says reply (reply_form profile task) (reply_has_pec task) (bytes_before profile task) ends.2.0 (bytes_read heard) ends.0 ends.2.1 in
+      let kept = kept_says reply (reply_form profile task) (reply_has_pec task) (bytes_before profile task) ends.2.0
+      (bytes_read heard) ends.0 ends.2.1 in
       let told = tells ends.2.0 kept.holds in
       inl (
         told.0,
@@ -154,14 +173,16 @@ module _ (standing : HostStanding) (heard : List AnsweredSignal) (host : Host) (
         record {
           reply = ends.2.0;
           succeeds = succeeds ends.1 ends.2.0 ends.2.1;
-          told = told_of standing.job standing.job.number ends.2.0 (reply_data told.0) kept.some (quantity_fits kept.of ends.2.0 kept.form_is kept.fits)
+          told = told_of standing.job standing.job.number ends.2.0 (reply_data told.0) kept.some
+              (quantity_fits kept.of ends.2.0 kept.form_is kept.fits)
               (told.2 ∙ ap (λ (n : Option NumberFormat). told_data n ends.2.0) number_is);
         },
       )
 
 -- ---- the step
 
-module _ (standing : HostStanding) (heard : List AnsweredSignal) (host : Host) (phase_is : host.phase ≡ phases.End) where
+module _ (standing : HostStanding) (heard : List AnsweredSignal) (host : Host)
+    (phase_is : host.phase ≡ phases.End) where
   -- the end was told, and stands
   ends_with : AtEnd host standing.job heard → (step : HostStep) → Tells host step → Ends standing heard step host
   ends_with at step tells = record {
@@ -170,33 +191,47 @@ module _ (standing : HostStanding) (heard : List AnsweredSignal) (host : Host) (
     split = at.split;
     stop = refl;
     one = at.one;
-    stands = subst (InPhase host (record { job = standing.job; heard = heard; last = None; ended = Some step })) (sym phase_is) (at, tells);
+    stands = subst (InPhase host (record { job = standing.job; heard = heard; last = None; ended = Some step }))
+        (sym phase_is) (at, tells);
   }
 
-  first_by : (step : HostStep) → Ends standing heard step host → IsEnd standing heard step → FirstSteps standing heard step host
-  first_by step ends (inl done) = subst (λ (s : HostStep). FirstSteps standing heard s host) (sym done.1) (subst (λ (s : HostStep). Ends standing heard s host) done.1 ends, done.2)
-  first_by step ends (inr failed) = subst (λ (s : HostStep). FirstSteps standing heard s host) (sym failed.1) (subst (λ (s : HostStep). Ends standing heard s host) failed.1 ends, failed.2)
+  first_by : (step : HostStep) → Ends standing heard step host → IsEnd standing heard step
+      → FirstSteps standing heard step host
+  first_by step ends (inl done) = subst (λ (s : HostStep). FirstSteps standing heard s host) (sym done.1)
+      (subst (λ (s : HostStep). Ends standing heard s host) done.1 ends, done.2)
+  first_by step ends (inr failed) = subst (λ (s : HostStep). FirstSteps standing heard s host) (sym failed.1)
+      (subst (λ (s : HostStep). Ends standing heard s host) failed.1 ends, failed.2)
 
   -- the end is told first
   first_end : AtEnd host standing.job heard → (step : HostStep) → Tells host step → FirstSteps standing heard step host
   first_end at step tells =
-      first_by step (ends_with at step tells) (end_told standing heard host at.job_is host.fault host.reply host.number step at.job_is.number_is at.ends tells)
+      first_by step (ends_with at step tells) (end_told standing heard host at.job_is host.fault host.reply host.number
+      step at.job_is.number_is at.ends tells)
 
 -- the same is told of the same
-same_told : (job : Job) (heard : List AnsweredSignal) (fault : Option HostFault) (reply : Option Incoming) (number : Option NumberFormat) (step last : HostStep) → EndsSo reply fault job heard
+same_told : (job : Job) (heard : List AnsweredSignal) (fault : Option HostFault) (reply : Option Incoming)
+    (number : Option NumberFormat) (step last : HostStep) → EndsSo reply fault job heard
     → IsToldOf fault reply number step → IsToldOf fault reply number last → step ≡ last
 same_told job heard (Some fault) reply number step last ends tells before = tells ∙ sym before
 same_told job heard None None number step last ends tells before = tells ∙ sym before
 same_told job heard None (Some reply) number step last ends tells before =
-    let kept = kept_says reply (reply_form job.profile job.task) (reply_has_pec job.task) (bytes_before job.profile job.task) ends.2.0 (bytes_read heard) ends.0 ends.2.1 in
+    let kept = kept_says reply (reply_form job.profile job.task) (reply_has_pec job.task)
+    (bytes_before job.profile job.task) ends.2.0 (bytes_read heard) ends.0 ends.2.1 in
     let now = tells ends.2.0 kept.holds in
     let then = before ends.2.0 kept.holds in
     now.1 ∙ ap Done (same_reply now.0 then.0 (now.2 ∙ sym then.2)) ∙ sym then.1
 
 -- A host after STOP tells how it ended, the first time and each time.
-pub end_steps : (standing : HostStanding) (answer : DeviceSignal) (host : Host) (step : HostStep) → host.phase ≡ phases.End → HostStandsAt host standing → Tells host step → Steps standing answer step host
-end_steps standing answer host step phase_is at tells = by_ended standing.ended (subst (InPhase host standing) phase_is at) where
-  by_ended : (ended : Option HostStep) → InEnd host standing ended
-      → MatchOption ended (FirstSteps standing (heard_with standing answer) step host) (λ last. (step ≡ last) × HostStandsAt host standing)
-  by_ended None here = first_end standing (heard_with standing answer) host phase_is (here answer) step tells
-  by_ended (Some last) here = (same_told standing.job standing.heard host.fault host.reply host.number step last here.0.ends tells here.1, at)
+pub end_steps : (standing : HostStanding) (answer : DeviceSignal) (host : Host) (step : HostStep)
+    → host.phase ≡ phases.End → HostStandsAt host standing → Tells host step → Steps standing answer step host
+end_steps standing answer host step phase_is at tells =
+    by_ended standing.ended (subst (InPhase host standing) phase_is at) where
+      by_ended : (ended : Option HostStep) → InEnd host standing ended
+          → MatchOption ended (FirstSteps standing (heard_with standing answer) step host)
+          (λ last. (step ≡ last) × HostStandsAt host standing)
+      by_ended None here = first_end standing (heard_with standing answer) host phase_is (here answer) step tells
+      by_ended (Some last) here = (
+        same_told standing.job standing.heard host.fault host.reply host.number step last
+            here.0.ends tells here.1,
+        at,
+      )

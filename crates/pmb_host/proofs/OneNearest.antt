@@ -13,10 +13,16 @@ module _ (f : Coding) (one_even : HasOneEvenNeighbour f) (q : Fraction) (positiv
   -- a code between them would be nearer, so they are neighbours
   are_neighbours : (a b : ℕ) → IsNearest f q a → IsNearest f q b → f.numerator a <ℤ f.numerator b → AreNeighbours f a b
   are_neighbours a b first second less =
-      let between = λ (k : ℕ) (is_code : f.IsCode k) (above : f.numerator a <ℤ f.numerator k) (below : f.numerator k <ℤ f.numerator b).
-      let nearer : distance f q k < distance f q a = not_best f q a b k positive (equally_far a b first second) above below in
-      absurd (omega (arith, first.none_nearer k is_code, nearer)) in
-      (less, λ k is_code. by_lt_z (f.numerator a) (f.numerator k) (λ above. by_lt_z (f.numerator k) (f.numerator b) (λ below. between k is_code above below) (λ at_least. inr at_least)) (λ at_most. inl at_most))
+      let between = λ (k : ℕ) (is_code : f.IsCode k) (above : f.numerator a <ℤ f.numerator k)
+      (below : f.numerator k <ℤ f.numerator b).
+      let nearer : distance f q k < distance f q a =
+      not_best f q a b k positive (equally_far a b first second) above below in
+      absurd (omega (arith, first.none_nearer k is_code, nearer)) in (
+        less,
+        λ k is_code. by_lt_z (f.numerator a) (f.numerator k)
+            (λ above. by_lt_z (f.numerator k) (f.numerator b) (λ below. between k is_code above below)
+            (λ at_least. inr at_least)) (λ at_most. inl at_most),
+      )
 
   -- and both even, which two neighbours are not
   not_less : (a b : ℕ) → IsNearest f q a → IsNearest f q b → f.numerator a <ℤ f.numerator b → ⊥
@@ -24,11 +30,15 @@ module _ (f : Coding) (one_even : HasOneEvenNeighbour f) (q : Fraction) (positiv
       let tie = equally_far a b first second in
       let a_even : a % 2 ≡ 0 = first.even_at_tie b second.is_code (λ same. omega (arith, ints, less)) tie in
       let b_even : b % 2 ≡ 0 = second.even_at_tie a first.is_code (λ same. omega (arith, ints, less)) (sym tie) in
-      let one = one_even a b first.is_code second.is_code first.canonical second.canonical (are_neighbours a b first second less) in
+      let one = one_even a b first.is_code second.is_code first.canonical second.canonical
+      (are_neighbours a b first second less) in
       omega (arith, a_even, b_even, one)
 
 pub one_nearest : (f : Coding) → HasOneCode f → HasOneEvenNeighbour f → HasOneNearest f
 one_nearest f one_code one_even q a b positive first second =
-    by_lt_z (f.numerator a) (f.numerator b) (λ less. absurd (not_less f one_even q positive a b first second less)) (λ at_most.
-    by_lt_z (f.numerator b) (f.numerator a) (λ more. absurd (not_less f one_even q positive b a second first more)) (λ at_least.
-    one_code a b first.is_code second.is_code first.canonical second.canonical (omega (arith, ints, at_most, at_least))))
+    by_lt_z (f.numerator a) (f.numerator b) (λ less. absurd (not_less f one_even q positive a b first second less))
+    (λ at_most.
+    by_lt_z (f.numerator b) (f.numerator a) (λ more. absurd (not_less f one_even q positive b a second first more))
+    (λ at_least.
+    one_code a b first.is_code second.is_code first.canonical second.canonical
+    (omega (arith, ints, at_most, at_least))))

@@ -1,5 +1,6 @@
 -- The bytes of a reply: whether they are all, and the signals with which they are read.
-use Rattle.std.proofs.Common.{◌≡◌, ℕ, ◌+◌, ◌-◌, ◌<◌, ◌≤◌, Bool, if◌then◌else◌, List, [], ◌∷◌, ◌++◌, length, replicate, take, drop, refl, sym, ap, ◌∙◌, arith, length-append, zero, suc}
+use Rattle.std.proofs.Common.{◌≡◌, ℕ, ◌+◌, ◌-◌, ◌<◌, ◌≤◌, Bool, if◌then◌else◌, List, [], ◌∷◌, ◌++◌, length, replicate}
+use Rattle.std.proofs.Common.{take, drop, refl, sym, ap, ◌∙◌, arith, length-append, zero, suc}
 use Rattle.std.proofs.lemmas.List.{length-replicate, length-take-le, take-append-drop}
 use Rattle.pmb_command.specs.declared.form.Form.{Form}
 use Rattle.pmb_command.specs.declared.form.Form.TheVariants.{Zero, One, Two, Four, Eight, Block}
@@ -36,8 +37,10 @@ code_length with_pec = if with_pec then 1 else 0
 at_least : (n m k : ℕ) → k ≡ n + m → n ≤ k
 at_least n m k is = omega (arith, is)
 
-all_of : (n : ℕ) (form : Form) (with_pec : Bool) (full : List ℕ) → AreByteValues full → length full ≡ n + code_length with_pec
-    → ((reply : List ℕ) → AreByteValues reply → length reply ≡ n → Fits form reply) → ((reply : List ℕ) → wire form reply ≡ reply) → AreAll form with_pec full
+all_of : (n : ℕ) (form : Form) (with_pec : Bool) (full : List ℕ) → AreByteValues full
+    → length full ≡ n + code_length with_pec
+    → ((reply : List ℕ) → AreByteValues reply → length reply ≡ n → Fits form reply)
+    → ((reply : List ℕ) → wire form reply ≡ reply) → AreAll form with_pec full
 all_of n form with_pec full small many fits plain =
     let front = length-take-le n full (at_least n (code_length with_pec) (length full) many) in record {
       reply = take n full;
@@ -47,12 +50,18 @@ all_of n form with_pec full small many fits plain =
       spelled = sym (take-append-drop n full) ∙ ap (λ (bs : List ℕ). bs ++ drop n full) (sym (plain (take n full)));
     }
 
-pub are_all : (form : Form) (with_pec : Bool) (full : List ℕ) → AreByteValues full → length full ≡ wire_length form full + code_length with_pec → AreAll form with_pec full
-are_all Zero with_pec full small many = all_of 0 Zero with_pec full small many (λ reply small many. record { small = small; taken = many }) (λ reply. refl)
-are_all One with_pec full small many = all_of 1 One with_pec full small many (λ reply small many. record { small = small; taken = many }) (λ reply. refl)
-are_all Two with_pec full small many = all_of 2 Two with_pec full small many (λ reply small many. record { small = small; taken = many }) (λ reply. refl)
-are_all Four with_pec full small many = all_of 4 Four with_pec full small many (λ reply small many. record { small = small; taken = many }) (λ reply. refl)
-are_all Eight with_pec full small many = all_of 8 Eight with_pec full small many (λ reply small many. record { small = small; taken = many }) (λ reply. refl)
+pub are_all : (form : Form) (with_pec : Bool) (full : List ℕ) → AreByteValues full
+    → length full ≡ wire_length form full + code_length with_pec → AreAll form with_pec full
+are_all Zero with_pec full small many = all_of 0 Zero with_pec full small many
+    (λ reply small many. record { small = small; taken = many }) (λ reply. refl)
+are_all One with_pec full small many = all_of 1 One with_pec full small many
+    (λ reply small many. record { small = small; taken = many }) (λ reply. refl)
+are_all Two with_pec full small many = all_of 2 Two with_pec full small many
+    (λ reply small many. record { small = small; taken = many }) (λ reply. refl)
+are_all Four with_pec full small many = all_of 4 Four with_pec full small many
+    (λ reply small many. record { small = small; taken = many }) (λ reply. refl)
+are_all Eight with_pec full small many = all_of 8 Eight with_pec full small many
+    (λ reply small many. record { small = small; taken = many }) (λ reply. refl)
 are_all Block with_pec [] small many = absurd (omega (arith, many))
 are_all Block with_pec (count ∷ bytes) small many =
     let enough : length bytes ≡ count + code_length with_pec = omega (arith, many) in
@@ -61,13 +70,15 @@ are_all Block with_pec (count ∷ bytes) small many =
       code = drop count bytes;
       fits = record { small = small_take count bytes small.1; taken = omega (arith, front, small.0) };
       one = length_drop count (code_length with_pec) bytes enough;
-      spelled = ap (λ (bs : List ℕ). count ∷ bs) (sym (take-append-drop count bytes)) ∙ ap (λ (c : ℕ). c ∷ (take count bytes ++ drop count bytes)) (sym front);
+      spelled = ap (λ (bs : List ℕ). count ∷ bs) (sym (take-append-drop count bytes))
+          ∙ ap (λ (c : ℕ). c ∷ (take count bytes ++ drop count bytes)) (sym front);
     }
 
 -- ---- more that would be all
 
 -- zeros after them change nothing in their number
-same_length : (form : Form) (bytes : List ℕ) (n : ℕ) → wire_length form (bytes ++ replicate n 0) ≡ wire_length form bytes
+same_length : (form : Form) (bytes : List ℕ) (n : ℕ) → wire_length form (bytes ++ replicate n 0)
+    ≡ wire_length form bytes
 same_length Zero bytes n = refl
 same_length One bytes n = refl
 same_length Two bytes n = refl
@@ -81,7 +92,8 @@ same_length Block (count ∷ bytes) n = refl
 missing : (m n : ℕ) → m < n → (k : ℕ) × (n ≡ m + suc k)
 missing m n less = (n - suc m, omega (arith, less))
 
-pub to_be_read : (form : Form) (with_pec : Bool) (bytes : List ℕ) → AreByteValues bytes → length bytes < wire_length form bytes + code_length with_pec
+pub to_be_read : (form : Form) (with_pec : Bool) (bytes : List ℕ) → AreByteValues bytes
+    → length bytes < wire_length form bytes + code_length with_pec
     → (byte : ℕ) × (rest : List ℕ) × AreAll form with_pec (bytes ++ byte ∷ rest)
 to_be_read form with_pec bytes small less =
     let m = missing (length bytes) (wire_length form bytes + code_length with_pec) less in
@@ -91,12 +103,14 @@ to_be_read form with_pec bytes small less =
       0,
       replicate m.0 0,
       are_all form with_pec (bytes ++ replicate (suc m.0) 0) (small_both bytes _ small (zeros_small (suc m.0)))
-          (long ∙ ap (λ (n : ℕ). length bytes + n) zeros ∙ sym m.1 ∙ ap (λ (n : ℕ). n + code_length with_pec) (sym same)),
+          (long ∙ ap (λ (n : ℕ). length bytes + n) zeros ∙ sym m.1 ∙ ap (λ (n : ℕ). n + code_length with_pec)
+          (sym same)),
     )
 
 -- ---- the signals
 
-pub reading_behind : (bytes : List ℕ) (byte : ℕ) (rest : List ℕ) → (tail : List HostSignal) × (reading_signals (bytes ++ byte ∷ rest) ≡ acked_asks bytes ++ Ask ∷ tail)
+pub reading_behind : (bytes : List ℕ) (byte : ℕ) (rest : List ℕ)
+    → (tail : List HostSignal) × (reading_signals (bytes ++ byte ∷ rest) ≡ acked_asks bytes ++ Ask ∷ tail)
 reading_behind [] byte [] = (Nack ∷ [], refl)
 reading_behind [] byte (c ∷ rest) = (Ack ∷ reading_signals (c ∷ rest), refl)
 reading_behind (b ∷ []) byte rest =

@@ -1,5 +1,6 @@
 -- Each request is allowed, or has a first fault.
-use Rattle.std.proofs.Common.{◌≡◌, ◌≢◌, ℕ, ℤ, ◌<◌, ◌%◌, ◌^◌, ◌⊎◌, Bool, true, false, Option, Some, None, IsSome, IfSome, Result, Ok, Err, List, refl, sym, ap, subst, inl, inr, arith}
+use Rattle.std.proofs.Common.{◌≡◌, ◌≢◌, ℕ, ℤ, ◌<◌, ◌%◌, ◌^◌, ◌⊎◌, Bool, true, false, Option, Some, None, IsSome, IfSome}
+use Rattle.std.proofs.Common.{Result, Ok, Err, List, refl, sym, ap, subst, inl, inr, arith}
 use Rattle.std.specs.Prelude.{◌/◌, ◌==◌, if◌then◌else◌}
 use Rattle.std.specs.Option.{option_and_then}
 use Rattle.pmb_coefficients.specs.Coefficients.{Coefficients, MakeFormat}
@@ -30,15 +31,18 @@ use Rattle.pmb_value.specs.declared.vout.VoutFormat.{VoutFormat}
 use Rattle.pmb_value.specs.declared.vout.VoutFormat.TheVariants.{Unsigned, Signed, Direct}
 use Rattle.pmb_writer.specs.declared.invalid.Invalid.TheVariants.{PecMode}
 use Rattle.pmb_writer.specs.Invalid.{AreKept, Rule, command_at, forms_at}
-use Rattle.pmb_writer.proofs.Decisions.{AreDecided, IsDecided, fits, if_there, is_there, keeps, packet_or_fault, settled}
+use Rattle.pmb_writer.proofs.Decisions.{AreDecided, IsDecided, fits, if_there, is_there, keeps, packet_or_fault}
+use Rattle.pmb_writer.proofs.Decisions.{settled}
 use Rattle.pmb_request.specs.Request.{Command, RequestData, WriteParts, ReadBytes, CallBytes, Set, Get}
-use Rattle.pmb_host.specs.declared.number.Sign.{Sign}
-use Rattle.pmb_host.specs.declared.number.Sign.TheVariants as signs
+use Rattle.pmb_value.specs.declared.sign.Sign.{Sign}
+use Rattle.pmb_value.specs.declared.sign.Sign.TheVariants as signs
 use Rattle.pmb_host.specs.declared.step.HostFault.{HostFault}
 use Rattle.pmb_host.specs.declared.step.HostFault.TheVariants as faults
 use Rattle.pmb_host.specs.Number.{is_signed, named_format, number_of, vout_number}
 use Rattle.pmb_host.specs.Requests.{IsSound, KindMakesFormat, MakeFormats}
-use Rattle.pmb_host.specs.Rules.{HasData, HasNoNumber, HasNumber, IsAllowed, IsFault, IsNumber, IsRefusedBy, above, below, call_rules, get_rules, no_format, no_number, no_quantity, outside, read_rules, refused, set_rules, wrong_pec}
+use Rattle.pmb_host.specs.Rules.{HasData, HasNoNumber, HasNumber, IsAllowed, IsFault, IsNumber, IsRefusedBy, above}
+use Rattle.pmb_host.specs.Rules.{below, call_rules, get_rules, no_format, no_number, no_quantity, outside, read_rules}
+use Rattle.pmb_host.specs.Rules.{refused, set_rules, wrong_pec}
 
 -- ---- formats
 
@@ -70,7 +74,8 @@ module _ (laws : AreGood) where
   none_good : (fault : ModeFault) → NamedGood (Err fault)
   none_good fault = record { good = tt }
 
-  chosen_good : (is : Bool) (a b : Result VoutFormat ModeFault) → NamedGood a → NamedGood b → NamedGood (if is then a else b)
+  chosen_good : (is : Bool) (a b : Result VoutFormat ModeFault) → NamedGood a → NamedGood b
+      → NamedGood (if is then a else b)
   chosen_good true a b first second = first
   chosen_good false a b first second = second
 
@@ -78,11 +83,13 @@ module _ (laws : AreGood) where
   linear_good true exponent is = record { good = laws.signed exponent is }
   linear_good false exponent is = record { good = laws.unsigned exponent is }
 
-  direct_good : (coefficients : Option Coefficients) → IfSome coefficients MakeFormat → NamedGood (direct_of coefficients)
+  direct_good : (coefficients : Option Coefficients) → IfSome coefficients MakeFormat
+      → NamedGood (direct_of coefficients)
   direct_good None make = none_good NoCoefficients
   direct_good (Some d) make = record { good = laws.direct d make }
 
-  format_good : (mode : ℕ) (signed : Bool) (coefficients : Option Coefficients) → IfSome coefficients MakeFormat → NamedGood (format_of mode signed coefficients)
+  format_good : (mode : ℕ) (signed : Bool) (coefficients : Option Coefficients) → IfSome coefficients MakeFormat
+      → NamedGood (format_of mode signed coefficients)
   format_good mode signed coefficients make =
       let kind = mode / 2 ^ 5 % 2 ^ 2 in
       let small : mode % 32 < 32 = omega arith in
@@ -97,12 +104,16 @@ module _ (laws : AreGood) where
   named_good (Ok format) is = is.good
   named_good (Err fault) is = tt
 
-  vout_good : (sign : Sign) (coefficients : Option Coefficients) (mode : Option ℕ) → IfSome coefficients MakeFormat → IfGood (vout_number sign coefficients mode)
+  vout_good : (sign : Sign) (coefficients : Option Coefficients) (mode : Option ℕ) → IfSome coefficients MakeFormat
+      → IfGood (vout_number sign coefficients mode)
   vout_good sign coefficients None make = tt
-  vout_good sign coefficients (Some mode) make = named_good (format_of mode (is_signed sign) coefficients) (format_good mode (is_signed sign) coefficients make)
+  vout_good sign coefficients (Some mode) make = named_good (format_of mode (is_signed sign) coefficients)
+      (format_good mode (is_signed sign) coefficients make)
 
-  number_good : (coefficients : Option Coefficients) (mode : Option ℕ) (kind : Kind) → IfSome coefficients MakeFormat → KindMakesFormat kind
-      → ((exponent : ℤ) → kind ≡ kinds.Linear11Fixed exponent → IsExponent exponent) → IfGood (number_of coefficients mode kind)
+  number_good : (coefficients : Option Coefficients) (mode : Option ℕ) (kind : Kind) → IfSome coefficients MakeFormat
+      → KindMakesFormat kind
+      → ((exponent : ℤ) → kind ≡ kinds.Linear11Fixed exponent → IsExponent exponent)
+      → IfGood (number_of coefficients mode kind)
   number_good coefficients mode kinds.Raw make own exponent = tt
   number_good coefficients mode kinds.Linear11 make own exponent = laws.linear11
   number_good coefficients mode (kinds.Linear11Fixed fixed) make own exponent = laws.fixed fixed (exponent fixed refl)
@@ -122,7 +133,8 @@ the_one : {A : Type 0} (o : Option A) → IsSome o → (x : A) × (o ≡ Some x)
 the_one None some = absurd (cc some)
 the_one (Some x) some = (x, refl)
 
-is_quantity : (number : Result NumberFormat HostFault) → (number ≡ Err faults.NotAQuantity) ⊎ (number ≢ Err faults.NotAQuantity)
+is_quantity : (number : Result NumberFormat HostFault) → (number ≡ Err faults.NotAQuantity)
+    ⊎ (number ≢ Err faults.NotAQuantity)
 is_quantity (Ok number) = inr (λ is. cc is)
 is_quantity (Err faults.NotAQuantity) = inl refl
 is_quantity (Err _) = inr (λ is. cc is)
@@ -134,12 +146,16 @@ module _ (profile : List DeviceParts) (bus : IsBus profile) (formed : MakeFormat
   IsSettled rules = AreKept rules ⊎ ((fault : HostFault) × IsRefusedBy profile rules fault)
 
   by_rules : (rules : List Rule) → AreDecided rules → IsSettled rules
-  by_rules rules decided = elim (settled rules decided) [ inl kept ↦ inl kept | inr broken ↦ inr (faults.Invalid broken.0, (broken.0, refl, broken.1)) ]
+  by_rules rules decided = elim (settled rules decided)
+      [ inl kept ↦ inl kept | inr broken ↦ inr (faults.Invalid broken.0, (broken.0, refl, broken.1)) ]
 
   read_decided : (c : Command) → AreDecided (read_rules profile c)
   read_decided c = (
     is_there (device_with c.addr profile),
-    (is_there (command_at profile c.addr c.code), (is_there (forms_at profile c.addr c.code).read, (keeps profile c.addr c.pec, tt))),
+    (
+      is_there (command_at profile c.addr c.code),
+      (is_there (forms_at profile c.addr c.code).read, (keeps profile c.addr c.pec, tt)),
+    ),
   )
 
   call_decided : (c : Command) (bytes : List ℕ) → AreDecided (call_rules profile c bytes)
@@ -149,24 +165,35 @@ module _ (profile : List DeviceParts) (bus : IsBus profile) (formed : MakeFormat
       is_there (command_at profile c.addr c.code),
       (
         is_there (forms_at profile c.addr c.code).call,
-        (if_there (λ form. Fits form bytes) (λ form. fits form bytes) (forms_at profile c.addr c.code).call, (keeps profile c.addr c.pec, tt)),
+        (
+          if_there (λ form. Fits form bytes) (λ form. fits form bytes) (forms_at profile c.addr c.code).call,
+          (keeps profile c.addr c.pec, tt),
+        ),
       ),
     ),
   )
 
   set_decided : (c : Command) → AreDecided (set_rules profile c)
-  set_decided c = (is_there (device_with c.addr profile), (is_there (command_at profile c.addr c.code), (has_data (forms_at profile c.addr c.code).write, tt)))
+  set_decided c = (
+    is_there (device_with c.addr profile),
+    (is_there (command_at profile c.addr c.code), (has_data (forms_at profile c.addr c.code).write, tt)),
+  )
 
   get_decided : (c : Command) → AreDecided (get_rules profile c)
-  get_decided c = (is_there (device_with c.addr profile), (is_there (command_at profile c.addr c.code), (is_there (forms_at profile c.addr c.code).read, tt)))
+  get_decided c = (
+    is_there (device_with c.addr profile),
+    (is_there (command_at profile c.addr c.code), (is_there (forms_at profile c.addr c.code).read, tt)),
+  )
 
   -- ---- numbers
 
   module _ (c : Command) (mode : Option ℕ) where
     abbrev HasOne : Type 0
-    HasOne = ((number : NumberFormat) × HasNumber profile c mode number) ⊎ ((fault : HostFault) × HasNoNumber profile c mode fault)
+    HasOne = ((number : NumberFormat) × HasNumber profile c mode number)
+        ⊎ ((fault : HostFault) × HasNoNumber profile c mode fault)
 
-    formatted : (number : Result NumberFormat HostFault) → IsNumber profile c mode number → number ≢ Err faults.NotAQuantity
+    formatted : (number : Result NumberFormat HostFault) → IsNumber profile c mode number
+        → number ≢ Err faults.NotAQuantity
         → IfSome (device_with c.addr profile) (λ device. AllowsPec device.pec c.pec) → HasOne
     formatted (Ok number) is some kept = inl (number, record { number_is = is; kept = kept })
     formatted (Err fault) is some kept = inr (fault, no_format is (λ same. some (ap Err same)) kept)
@@ -183,13 +210,17 @@ module _ (profile : List DeviceParts) (bus : IsBus profile) (formed : MakeFormat
         ]
 
     -- the number of a command that is there
-    its_number : IsSome (device_with c.addr profile) → IsSome (command_at profile c.addr c.code) → (number : Result NumberFormat HostFault) × IsNumber profile c mode number
+    its_number : IsSome (device_with c.addr profile) → IsSome (command_at profile c.addr c.code)
+        → (number : Result NumberFormat HostFault) × IsNumber profile c mode number
     its_number some known =
         let device = the_one (device_with c.addr profile) some in
         let here : IsSome (command_with c.code device.0.commands) =
-        subst (λ (o : Option DeviceParts). IsSome (option_and_then (λ (d : DeviceParts). command_with c.code d.commands) o)) device.1 known in
-        let command = the_one (command_with c.code device.0.commands) here in
-        (number_of device.0.vout_direct mode command.0.entry.kind, record { device = device.0; command = command.0; known = device.1; has = command.1; number_is = refl })
+        subst (λ (o : Option DeviceParts). IsSome
+        (option_and_then (λ (d : DeviceParts). command_with c.code d.commands) o)) device.1 known in
+        let command = the_one (command_with c.code device.0.commands) here in (
+          number_of device.0.vout_direct mode command.0.entry.kind,
+          record { device = device.0; command = command.0; known = device.1; has = command.1; number_is = refl },
+        )
 
     has_or_none : IsSome (device_with c.addr profile) → IsSome (command_at profile c.addr c.code) → HasOne
     has_or_none some known = let number = its_number some known in numbered number.0 number.1
@@ -201,14 +232,17 @@ module _ (profile : List DeviceParts) (bus : IsBus profile) (formed : MakeFormat
         let command = command_is found.device c.code found.command device.0 found.has in
         let vout = formed.vout c.addr found.device found.known in
         let own = formed.commands c.addr c.code found.device found.command found.known found.has in
-        subst IfGood (sym found.number_is) (number_good good found.device.vout_direct mode found.command.entry.kind vout own command.0.entry.fitting.exponent)
+        subst IfGood (sym found.number_is) (number_good good found.device.vout_direct mode found.command.entry.kind vout
+        own command.0.entry.fitting.exponent)
 
   -- ---- requests
 
   abbrev pub IsMade : RequestData → Type 0
-  IsMade request = ((word : ℕ) × (number : Option NumberFormat) × IsAllowed profile request word number) ⊎ ((fault : HostFault) × IsFault profile request fault)
+  IsMade request = ((word : ℕ) × (number : Option NumberFormat) × IsAllowed profile request word number)
+      ⊎ ((fault : HostFault) × IsFault profile request fault)
 
-  set_in : (c : Command) (value : Fraction) (mode : Option ℕ) → 0 < value.denominator → AreKept (set_rules profile c) → (number : NumberFormat) → HasNumber profile c mode number
+  set_in : (c : Command) (value : Fraction) (mode : Option ℕ) → 0 < value.denominator → AreKept (set_rules profile c)
+      → (number : NumberFormat) → HasNumber profile c mode number
       → IsMade (Set c value mode)
   set_in c value mode positive kept number has =
       let laws = is_good c mode number has in
@@ -265,8 +299,10 @@ module _ (profile : List DeviceParts) (bus : IsBus profile) (formed : MakeFormat
         | inl packet ↦ inl (0, None, (packet, refl))
         | inr first ↦ inr (faults.Invalid first.0, (first.0, refl, first.1))
       ]
-  request_made (ReadBytes c) typed = elim (by_rules (read_rules profile c) (read_decided c)) [ inl kept ↦ inl (0, None, (kept, refl)) | inr broken ↦ inr broken ]
+  request_made (ReadBytes c) typed = elim (by_rules (read_rules profile c) (read_decided c))
+      [ inl kept ↦ inl (0, None, (kept, refl)) | inr broken ↦ inr broken ]
   request_made (CallBytes c bytes) typed =
-      elim (by_rules (call_rules profile c bytes) (call_decided c bytes)) [ inl kept ↦ inl (0, None, (kept, refl)) | inr broken ↦ inr broken ]
+      elim (by_rules (call_rules profile c bytes) (call_decided c bytes))
+      [ inl kept ↦ inl (0, None, (kept, refl)) | inr broken ↦ inr broken ]
   request_made (Set c value mode) typed = set_made c value mode typed
   request_made (Get c mode) typed = get_made c mode

@@ -27,7 +27,14 @@ pub record IsNewHost (profile : List DeviceParts) (request : RequestData) (host 
   pub word : ℕ
   pub number : Option NumberFormat
   pub allowed : IsAllowed profile request word number
-  pub stands : HostStandsAt host (record { job = record { profile = profile; task = task_of request word; number = number }; heard = []; last = None; ended = None })
+  pub stands : HostStandsAt host (record {
+    job =
+        record { profile = profile; task = task_of request word; number = number };
+    heard = [];
+    last = None;
+    ended =
+        None;
+  })
 
 -- what was heard, with the answer to the last signal
 abbrev pub heard_with : HostStanding → DeviceSignal → List AnsweredSignal
@@ -40,7 +47,8 @@ pub data IsNext (job : Job) (heard : List AnsweredSignal) (signal : HostSignal) 
   gives_up : GivesUp job.profile job.task heard signal → IsNext job heard signal
 
 -- It is sent: there are at most 4,161, and none after STOP.
-pub record Sends (standing : HostStanding) (heard : List AnsweredSignal) (signal : HostSignal) (new : Host) : Type 0 where
+pub record Sends (standing : HostStanding) (heard : List AnsweredSignal) (signal : HostSignal)
+    (new : Host) : Type 0 where
   pub next : IsNext standing.job heard signal
   pub few : length heard < 4161
   pub no_stop : AllByRecursion (λ one. one.signal ≢ Stop) heard
@@ -64,7 +72,8 @@ pub record IsDone (standing : HostStanding) (heard : List AnsweredSignal) (answe
 abbrev pub FirstSteps : HostStanding → List AnsweredSignal → HostStep → Host → Type 0
 FirstSteps standing heard (Send signal) new = Sends standing heard signal new
 FirstSteps standing heard (Done answer) new = Ends standing heard (Done answer) new × IsDone standing heard answer
-FirstSteps standing heard (Failed fault) new = Ends standing heard (Failed fault) new × Fails standing.job.profile standing.job.task heard fault
+FirstSteps standing heard (Failed fault) new = Ends standing heard (Failed fault) new
+    × Fails standing.job.profile standing.job.task heard fault
 
 -- What a step is, after the answer to the signal before. After the last one it is that one for
 -- ever.

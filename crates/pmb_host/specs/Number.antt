@@ -9,8 +9,8 @@ use Rattle.pmb_value.specs.declared.vout.VoutFormat.TheVariants.{Direct}
 use Rattle.pmb_value.specs.Vout.{format_of}
 use Rattle.pmb_value.specs.declared.number_format.NumberFormat.{NumberFormat}
 use Rattle.pmb_value.specs.declared.number_format.NumberFormat.TheVariants.{Linear11, Linear11Fixed, Word}
-use Rattle.pmb_host.specs.declared.number.Sign.{Sign}
-use Rattle.pmb_host.specs.declared.number.Sign.TheVariants.{Unsigned, Signed}
+use Rattle.pmb_value.specs.declared.sign.Sign.{Sign}
+use Rattle.pmb_value.specs.declared.sign.Sign.TheVariants.{Unsigned, Signed}
 use Rattle.pmb_host.specs.declared.step.HostFault.{HostFault}
 use Rattle.pmb_host.specs.declared.step.HostFault.TheVariants.{NotAQuantity, ModeUnknown, Mode}
 

@@ -2,7 +2,8 @@
 use Rattle.std.specs.Prelude.{◌≡◌, ℕ, ◌<◌, ◌≤◌, Some, IfSome, List, length}
 use Rattle.pmb_coefficients.specs.Coefficients.{MakeFormat}
 use Rattle.pmb_command.specs.declared.entry.Kind.{Kind}
-use Rattle.pmb_command.specs.declared.entry.Kind.TheVariants.{Raw, Linear11, Linear11Fixed, Vout, VoutSigned, Direct, Status}
+use Rattle.pmb_command.specs.declared.entry.Kind.TheVariants.{Raw, Linear11, Linear11Fixed, Vout, VoutSigned, Direct}
+use Rattle.pmb_command.specs.declared.entry.Kind.TheVariants.{Status}
 use Rattle.pmb_command.specs.Parts.{CommandParts, DeviceParts, command_with, device_with}
 use Rattle.pmb_request.specs.Request.{RequestData, WriteParts, ReadBytes, CallBytes, Set, Get}
 
@@ -26,6 +27,8 @@ KindMakesFormat Status = Unit {0}
 
 -- So do those of each device's output voltage, and of each of its commands.
 pub record MakeFormats (profile : List DeviceParts) : Type 0 where
-  pub vout : (address : ℕ) (device : DeviceParts) → device_with address profile ≡ Some device → IfSome device.vout_direct MakeFormat
-  pub commands : (address code : ℕ) (device : DeviceParts) (command : CommandParts) → device_with address profile ≡ Some device
+  pub vout : (address : ℕ) (device : DeviceParts) → device_with address profile ≡ Some device
+      → IfSome device.vout_direct MakeFormat
+  pub commands : (address code : ℕ) (device : DeviceParts) (command : CommandParts)
+      → device_with address profile ≡ Some device
       → command_with code device.commands ≡ Some command → KindMakesFormat command.entry.kind

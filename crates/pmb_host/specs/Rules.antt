@@ -10,7 +10,8 @@ use Rattle.pmb_quantity.specs.Fraction.{Fraction}
 use Rattle.pmb_transaction.specs.Transaction.{Write}
 use Rattle.pmb_writer.specs.declared.invalid.Invalid.{Invalid}
 use Rattle.pmb_writer.specs.declared.invalid.Invalid.TheVariants.{NotAllowed, PecMode}
-use Rattle.pmb_writer.specs.Invalid.{AreKept, HasPacket, IsFirstBroken, IsFirstFault, Rule, allows_form, fits_form, forms_at, has_command, has_device, keeps_mode, rule_unless}
+use Rattle.pmb_writer.specs.Invalid.{AreKept, HasPacket, IsFirstBroken, IsFirstFault, Rule, allows_form, fits_form}
+use Rattle.pmb_writer.specs.Invalid.{forms_at, has_command, has_device, keeps_mode, rule_unless}
 use Rattle.pmb_value.specs.declared.number_format.NumberFormat.{NumberFormat}
 use Rattle.pmb_host.specs.declared.step.HostFault.{HostFault}
 use Rattle.pmb_host.specs.declared.step.HostFault.TheVariants as faults
@@ -83,7 +84,8 @@ module _ (profile : List DeviceParts) where
     no_quantity : IsNumber c mode (Err faults.NotAQuantity) → fault ≡ faults.NotAQuantity → HasNoNumber c mode fault
     wrong_pec : (number : Result NumberFormat HostFault) → IsNumber c mode number → number ≢ Err faults.NotAQuantity
         → ((keeps_mode profile c.addr c.pec).need → ⊥) → fault ≡ faults.Invalid PecMode → HasNoNumber c mode fault
-    no_format : IsNumber c mode (Err fault) → fault ≢ faults.NotAQuantity → (keeps_mode profile c.addr c.pec).need → HasNoNumber c mode fault
+    no_format : IsNumber c mode (Err fault) → fault ≢ faults.NotAQuantity → (keeps_mode profile c.addr c.pec).need
+        → HasNoNumber c mode fault
 
   -- the number can be written or read
   pub record HasNumber (c : Command) (mode : Option ℕ) (number : NumberFormat) : Type 0 where
@@ -95,7 +97,8 @@ module _ (profile : List DeviceParts) where
   pub data IsSetFault (c : Command) (value : Fraction) (mode : Option ℕ) (fault : HostFault) : Type 0 where
     refused : IsRefusedBy (set_rules c) fault → IsSetFault c value mode fault
     no_number : AreKept (set_rules c) → HasNoNumber c mode fault → IsSetFault c value mode fault
-    outside : AreKept (set_rules c) → (number : NumberFormat) → HasNumber c mode number → IsOutside number value fault → IsSetFault c value mode fault
+    outside : AreKept (set_rules c) → (number : NumberFormat) → HasNumber c mode number → IsOutside number value fault
+        → IsSetFault c value mode fault
 
   pub data IsGetFault (c : Command) (mode : Option ℕ) (fault : HostFault) : Type 0 where
     refused : IsRefusedBy (get_rules c) fault → IsGetFault c mode fault
@@ -103,7 +106,8 @@ module _ (profile : List DeviceParts) where
 
   -- the first fault of a request; a write's are those of its transaction
   abbrev pub IsFault : RequestData → HostFault → Type 0
-  IsFault (WriteParts parts) fault = (invalid : Invalid) × (fault ≡ faults.Invalid invalid) × IsFirstFault profile (Write parts) invalid
+  IsFault (WriteParts parts) fault = (invalid : Invalid) × (fault ≡ faults.Invalid invalid)
+      × IsFirstFault profile (Write parts) invalid
   IsFault (ReadBytes c) fault = IsRefusedBy (read_rules c) fault
   IsFault (CallBytes c bytes) fault = IsRefusedBy (call_rules c bytes) fault
   IsFault (Set c value mode) fault = IsSetFault c value mode fault

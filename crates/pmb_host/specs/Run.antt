@@ -1,5 +1,6 @@
 -- A whole run of a host, from its first signal to its end.
-use Rattle.std.specs.Prelude.{◌≡◌, ◌≢◌, ◌≤◌, ◌↔◌, ℕ, IsOk, MatchResult, Result, Ok, Err, None, Some, List, [], ◌∷◌, ◌++◌, length}
+use Rattle.std.specs.Prelude.{◌≡◌, ◌≢◌, ◌≤◌, ◌↔◌, ℕ, IsOk, MatchResult, Result, Ok, Err, None, Some, List, [], ◌∷◌}
+use Rattle.std.specs.Prelude.{◌++◌, length}
 use Rattle.std.specs.List.{AllByRecursion}
 use Rattle.pmb_device.specs.declared.signal.HostSignal.TheVariants.{Stop}
 use Rattle.pmb_devices.specs.Bus.{AnsweredSignal}
@@ -42,7 +43,8 @@ pub record IsRun (job : Job) (heard : List AnsweredSignal) (result : Result Repl
 
 -- A host made a run on a wire, and has ended: a wire that stood at some signals stands at these
 -- after them.
-pub record Drives (job : Job) (Before After : List AnsweredSignal → Type 0) (new : Host) (result : Result Reply HostFault) : Type 0 where
+pub record Drives (job : Job) (Before After : List AnsweredSignal → Type 0) (new : Host)
+    (result : Result Reply HostFault) : Type 0 where
   pub heard : List AnsweredSignal
   pub put : (earlier : List AnsweredSignal) → Before earlier → After (earlier ++ heard)
   pub run : IsRun job heard result

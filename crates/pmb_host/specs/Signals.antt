@@ -3,7 +3,8 @@
 -- Of a written leg they are START and its bytes, which the device acknowledges. To read, the
 -- address for reading has a leg of its own, and after it an Ask stands for each byte of the reply,
 -- with ACK after it, but after the last one NACK (SMBus 3.0 section 6.5).
-use Rattle.std.specs.Prelude.{◌≡◌, ℕ, Bool, false, if◌then◌else◌, Option, Some, None, List, [], ◌∷◌, ◌++◌, length, map, flat_map, slice_get}
+use Rattle.std.specs.Prelude.{◌≡◌, ℕ, Bool, false, if◌then◌else◌, Option, Some, None, List, [], ◌∷◌, ◌++◌, length, map}
+use Rattle.std.specs.Prelude.{flat_map, slice_get}
 use Rattle.pmb_bus.specs.Address.{write_address, read_address}
 use Rattle.pmb_command.specs.declared.form.Form.{Form}
 use Rattle.pmb_command.specs.Parts.{DeviceParts}
@@ -26,14 +27,16 @@ module _ (profile : List DeviceParts) where
   abbrev pub part_bytes : PartData → List ℕ
   part_bytes part =
       write_address part.addr
-      ∷ checked part.pec (write_address part.addr ∷ []) (part.code ∷ wire_in (forms_at profile part.addr part.code).write part.bytes)
+      ∷ checked part.pec (write_address part.addr ∷ [])
+      (part.code ∷ wire_in (forms_at profile part.addr part.code).write part.bytes)
 
   -- the bytes of each leg that is written; no host is asked for another transaction
   abbrev pub legs_of : TransactionData → List (List ℕ)
   legs_of (Write parts) = map part_bytes parts
   legs_of (Read t) = (write_address t.addr ∷ t.code ∷ []) ∷ (read_address t.addr ∷ []) ∷ []
   legs_of (Call t) =
-      (write_address t.addr ∷ t.code ∷ wire_in (forms_at profile t.addr t.code).call t.bytes) ∷ (read_address t.addr ∷ []) ∷ []
+      (write_address t.addr ∷ t.code ∷ wire_in (forms_at profile t.addr t.code).call t.bytes)
+      ∷ (read_address t.addr ∷ []) ∷ []
   legs_of (Refused t) = []
   legs_of (Alert t) = []
   legs_of NoAlert = []

@@ -2,7 +2,8 @@
 --
 -- While all goes well it sends the signals of its transaction in order. After the first that does
 -- not go well it sends STOP, which is always the last one. Then it tells how it ended.
-use Rattle.std.specs.Prelude.{◌≡◌, ◌≢◌, ℕ, ◌+◌, Bool, true, ◌&&◌, Option, Some, None, List, [], ◌∷◌, ◌++◌, is_some, length, map, flat_map, nat_eq}
+use Rattle.std.specs.Prelude.{◌≡◌, ◌≢◌, ℕ, ◌+◌, Bool, true, ◌&&◌, Option, Some, None, List, [], ◌∷◌, ◌++◌, is_some}
+use Rattle.std.specs.Prelude.{length, map, flat_map, nat_eq}
 use Rattle.std.specs.List.{AllByRecursion}
 use Rattle.pmb_command.specs.Parts.{DeviceParts}
 use Rattle.pmb_format.specs.Coding.{value_of}
@@ -151,7 +152,8 @@ module _ (profile : List DeviceParts) (task : TransactionData) where
 
   -- How it ended, where it failed.
   pub data Fails (heard : List AnsweredSignal) (fault : HostFault) : Type 0 where
-    refused : (leg byte : ℕ) (at_read : Bool) → IsRefused heard leg byte at_read → fault ≡ Refused leg byte at_read → Fails heard fault
+    refused : (leg byte : ℕ) (at_read : Bool) → IsRefused heard leg byte at_read → fault ≡ Refused leg byte at_read
+        → Fails heard fault
     no_byte : GetsNoByte heard → fault ≡ NoByte → Fails heard fault
     bad_pec : HasBadPec heard → fault ≡ BadPec → Fails heard fault
 

@@ -15,8 +15,16 @@ read_by c = Read (record { addr = c.addr; code = c.code; reply = []; pec = c.pec
 abbrev pub task_of : RequestData → ℕ → TransactionData
 task_of (WriteParts parts) word = Write parts
 task_of (ReadBytes c) word = read_by c
-task_of (CallBytes c bytes) word = Call (record { addr = c.addr; code = c.code; bytes = bytes; reply = []; pec = c.pec })
-task_of (Set c value mode) word = Write (record { addr = c.addr; code = c.code; bytes = word_bytes word; pec = c.pec } ∷ [])
+task_of (CallBytes c bytes) word = Call (record {
+  addr = c.addr;
+  code = c.code;
+  bytes = bytes;
+  reply = [];
+  pec =
+      c.pec;
+})
+task_of (Set c value mode) word = Write (record { addr = c.addr; code = c.code; bytes = word_bytes word; pec = c.pec }
+    ∷ [])
 task_of (Get c mode) word = read_by c
 
 -- a transaction with this reply in place of its own

@@ -1,6 +1,6 @@
 //! The host.
 //!
-//! [`Phase`] says what comes next, and `leg` and `place` where in the transaction that is: each
+//! [`HostPhase`] says what comes next, and `leg` and `place` where in the transaction that is: each
 //! byte is found by its place, so that nothing of the transaction is copied. After the legs the
 //! bytes of the reply are kept as they come.
 
@@ -31,7 +31,7 @@ use pmb_value::NumberFormat;
 
 /// What a host does next.
 #[derive(Clone, Copy, Debug, PartialEq, Eq)]
-enum Phase {
+enum HostPhase {
     /// It begins a leg.
     Start,
     /// It sends the leg's first byte.
@@ -58,7 +58,7 @@ pub struct Host<'p> {
     reply: Option<Incoming>,
     /// The format in which the reply is told as a quantity.
     number: Option<NumberFormat>,
-    phase: Phase,
+    phase: HostPhase,
     /// How many legs have begun.
     leg: u8,
     /// How many bytes of the leg under way were sent.
@@ -126,7 +126,7 @@ impl<'p> Host<'p> {
             transaction,
             reply,
             number,
-            phase: Phase::Start,
+            phase: HostPhase::Start,
             leg: 0,
             place: 0,
             form: None,
@@ -142,13 +142,13 @@ impl<'p> Host<'p> {
         ensures { (standing : HostStanding) → HostStandsAt self.old standing → Steps standing answer result self.new }
     {
         match self.phase {
-            Phase::Start => self.start(),
-            Phase::Address => self.go_on(),
-            Phase::Byte => self.heard_of_byte(answer),
-            Phase::Ask => self.ask(),
-            Phase::Given => self.heard_of_ask(answer),
-            Phase::Stop => self.stop(),
-            Phase::End => self.end(),
+            HostPhase::Start => self.start(),
+            HostPhase::Address => self.go_on(),
+            HostPhase::Byte => self.heard_of_byte(answer),
+            HostPhase::Ask => self.ask(),
+            HostPhase::Given => self.heard_of_ask(answer),
+            HostPhase::Stop => self.stop(),
+            HostPhase::End => self.end(),
         }
     }
 }

@@ -18,8 +18,8 @@
 
 mod checks;
 mod host;
+mod host_leg;
 pub mod laws;
-mod leg;
 mod number;
 mod reply;
 mod run;

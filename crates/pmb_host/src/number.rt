@@ -10,7 +10,7 @@ ghost use Rattle.pmb_host.specs.Rules.{IsOutside};
 use crate::step::HostFault;
 use pmb_command::Kind;
 use pmb_value::{
-    Direct, Format, Linear11Fixed, NumberFormat, Quantity, RangeFault, Steps, VoutFormat,
+    Direct, Format, Linear11Fixed, NumberFormat, Quantity, RangeFault, Sign, Steps, VoutFormat,
     vout_format,
 };
 
@@ -33,13 +33,6 @@ pub(crate) fn word_of(format: NumberFormat, value: &Quantity) -> Result<u16, Hos
         Err(RangeFault::Below) => Err(HostFault::Range(RangeFault::Below)),
         Err(RangeFault::Above) => Err(HostFault::Range(RangeFault::Above)),
     }
-}
-
-/// Whether the words of an output voltage are signed, in the linear formats of VOUT_MODE.
-#[derive(Clone, Copy, Debug, PartialEq, Eq)]
-pub(crate) enum Sign {
-    Unsigned,
-    Signed,
 }
 
 /// The format that VOUT_MODE names, where that is known.

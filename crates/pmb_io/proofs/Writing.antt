@@ -1,5 +1,7 @@
 -- What a writer and a reader are left with after one call and then another.
-use Rattle.std.proofs.Common.{◌≡◌, ℕ, ◌<◌, ◌≢◌, ◌∙◌, Bool, true, false, length, Option, Some, None, Result, Ok, Err, OnOk, List, [], ◌++◌, sym, ap, subst, refl, append_assoc, append-nil, take, drop, take-append-drop, rules, arith}
+use Rattle.std.proofs.Common.{◌≡◌, ℕ, ◌<◌, ◌≢◌, ◌∙◌, Bool, true, false, length, Option, Some, None, Result, Ok, Err}
+use Rattle.std.proofs.Common.{OnOk, List, [], ◌++◌, sym, ap, subst, refl, append_assoc, append-nil, take, drop}
+use Rattle.std.proofs.Common.{take-append-drop, rules, arith}
 use Rattle.std.specs.Io.KnownBytes.{Appends, Consumes, Keeps}
 use Rattle.std.proofs.lemmas.Bool.Decides.{nat_tests}
 use Rattle.pmb_io.specs.Calls.{TellsEnd, AppendsFront}
@@ -31,7 +33,8 @@ consumes_nothing None = tt
 consumes_nothing (Some a) = search rules
 
 -- a text and then another
-pub writes_then : (h0 h1 h2 : Option (List ℕ)) (w0 w1 w2 a b : List ℕ) → PutsText h0 w0 h1 w1 a → PutsText h1 w1 h2 w2 b → PutsText h0 w0 h2 w2 (a ++ b)
+pub writes_then : (h0 h1 h2 : Option (List ℕ)) (w0 w1 w2 a b : List ℕ) → PutsText h0 w0 h1 w1 a → PutsText h1 w1 h2 w2 b
+    → PutsText h0 w0 h2 w2 (a ++ b)
 writes_then h0 h1 h2 w0 w1 w2 a b first second = record {
   sent = first.sent ++ second.sent;
   appended = appends_then h0 h1 h2 first.sent second.sent first.appended second.appended;
@@ -44,8 +47,10 @@ pub writes_nothing : (h : Option (List ℕ)) (w : List ℕ) → PutsText h w h w
 writes_nothing h w = record { sent = []; appended = appends_nothing h; whole = search rules }
 
 -- the same of equal texts and equal rests
-pub writes_as : (h0 h1 : Option (List ℕ)) (w0 w1 w2 a b : List ℕ) → w1 ≡ w2 → a ≡ b → PutsText h0 w0 h1 w1 a → PutsText h0 w0 h1 w2 b
-writes_as h0 h1 w0 w1 w2 a b e f h = subst (λ (w : List ℕ). PutsText h0 w0 h1 w b) e (subst (λ (t : List ℕ). PutsText h0 w0 h1 w1 t) f h)
+pub writes_as : (h0 h1 : Option (List ℕ)) (w0 w1 w2 a b : List ℕ) → w1 ≡ w2 → a ≡ b → PutsText h0 w0 h1 w1 a
+    → PutsText h0 w0 h1 w2 b
+writes_as h0 h1 w0 w1 w2 a b e f h = subst (λ (w : List ℕ). PutsText h0 w0 h1 w b) e
+    (subst (λ (t : List ℕ). PutsText h0 w0 h1 w1 t) f h)
 
 -- where nothing waited and nothing waits, the text was appended
 pub writes_all : (h0 h1 : Option (List ℕ)) (a : List ℕ) → PutsText h0 [] h1 [] a → Appends h0 h1 a
@@ -69,11 +74,13 @@ keeps_appends (Some a) None h = absurd h
 keeps_appends (Some a) (Some b) h = h ∙ sym (append-nil a)
 
 -- a read of nothing into a buffer with room tells the end
-pub told_end : (old new : Bool) (count : ℕ) (buffer : List ℕ) → TellsEnd {F = RunFault} old new (Ok count) buffer → count ≡ 0 → 0 < length buffer → new ≡ true
+pub told_end : (old new : Bool) (count : ℕ) (buffer : List ℕ) → TellsEnd {F = RunFault} old new (Ok count) buffer
+    → count ≡ 0 → 0 < length buffer → new ≡ true
 told_end old new count buffer told none room = grind (arith, nat_tests)
 
 -- and a read of something tells no more of it
-pub told_no_end : (old new : Bool) (count : ℕ) (buffer : List ℕ) → TellsEnd {F = RunFault} old new (Ok count) buffer → count ≢ 0 → new ≡ old
+pub told_no_end : (old new : Bool) (count : ℕ) (buffer : List ℕ) → TellsEnd {F = RunFault} old new (Ok count) buffer
+    → count ≢ 0 → new ≡ old
 told_no_end true new count buffer told some = told
 told_no_end false new count buffer told some = grind (arith, nat_tests)
 
@@ -89,25 +96,37 @@ pub up_to_none : (h : Option (List ℕ)) (bytes : List ℕ) → WritesUpTo h h b
 up_to_none h bytes = record { sent = []; whole = refl; appended = appends_nothing h }
 
 -- nothing is left
-pub up_to_all : (h0 h1 : Option (List ℕ)) (bytes rest : List ℕ) → WritesUpTo h0 h1 bytes rest → rest ≡ [] → Appends h0 h1 bytes
+pub up_to_all : (h0 h1 : Option (List ℕ)) (bytes rest : List ℕ) → WritesUpTo h0 h1 bytes rest → rest ≡ []
+    → Appends h0 h1 bytes
 up_to_all h0 h1 bytes rest so_far none =
-    subst (λ (t : List ℕ). Appends h0 h1 t) (sym (so_far.whole ∙ (ap (λ r. so_far.sent ++ r) none ∙ append-nil so_far.sent))) so_far.appended
+    subst (λ (t : List ℕ). Appends h0 h1 t) (sym
+    (so_far.whole ∙ (ap (λ r. so_far.sent ++ r) none ∙ append-nil so_far.sent))) so_far.appended
 
 -- some more go out
-pub up_to_more : (h0 h1 h2 : Option (List ℕ)) (bytes rest : List ℕ) (count : ℕ) → WritesUpTo h0 h1 bytes rest → Appends h1 h2 (take count rest) → WritesUpTo h0 h2 bytes (drop count rest)
+pub up_to_more : (h0 h1 h2 : Option (List ℕ)) (bytes rest : List ℕ) (count : ℕ) → WritesUpTo h0 h1 bytes rest
+    → Appends h1 h2 (take count rest) → WritesUpTo h0 h2 bytes (drop count rest)
 up_to_more h0 h1 h2 bytes rest count so_far appended = record {
   sent = so_far.sent ++ take count rest;
-  whole = so_far.whole ∙ (ap (λ r. so_far.sent ++ r) (sym (take-append-drop count rest)) ∙ sym (append_assoc so_far.sent (take count rest) (drop count rest)));
+  whole = so_far.whole ∙ (ap (λ r. so_far.sent ++ r) (sym (take-append-drop count rest))
+      ∙ sym (append_assoc so_far.sent (take count rest) (drop count rest)));
   appended = appends_then h0 h1 h2 so_far.sent (take count rest) so_far.appended appended;
 }
 
 -- none does
-pub up_to_kept : (h0 h1 h2 : Option (List ℕ)) (bytes rest : List ℕ) → WritesUpTo h0 h1 bytes rest → Keeps h1 h2 → WritesUpTo h0 h2 bytes rest
+pub up_to_kept : (h0 h1 h2 : Option (List ℕ)) (bytes rest : List ℕ) → WritesUpTo h0 h1 bytes rest → Keeps h1 h2
+    → WritesUpTo h0 h2 bytes rest
 up_to_kept h0 h1 h2 bytes rest so_far kept = record {
   sent = so_far.sent ++ [];
   whole = so_far.whole ∙ ap (λ t. t ++ rest) (sym (append-nil so_far.sent));
   appended = appends_then h0 h1 h2 so_far.sent [] so_far.appended (keeps_appends h1 h2 kept);
 }
 
-pub up_to_front : (h0 h1 : Option (List ℕ)) (bytes rest : List ℕ) → WritesUpTo h0 h1 bytes rest → AppendsFront h0 h1 bytes
-up_to_front h0 h1 bytes rest so_far = record { sent = so_far.sent; rest = rest; whole = so_far.whole; appended = so_far.appended }
+pub up_to_front : (h0 h1 : Option (List ℕ)) (bytes rest : List ℕ) → WritesUpTo h0 h1 bytes rest
+    → AppendsFront h0 h1 bytes
+up_to_front h0 h1 bytes rest so_far = record {
+  sent = so_far.sent;
+  rest = rest;
+  whole = so_far.whole;
+  appended =
+      so_far.appended;
+}

@@ -1,5 +1,6 @@
 -- What calls of a reader and a writer tell of them.
-use Rattle.std.specs.Prelude.{◌≡◌, ℕ, ◌==◌, ◌||◌, ◌&&◌, if◌then◌else◌, min, nat_lt, Bool, Option, Result, Ok, Err, List, ◌++◌, length, ◌⊎◌}
+use Rattle.std.specs.Prelude.{◌≡◌, ℕ, ◌==◌, ◌||◌, ◌&&◌, if◌then◌else◌, min, nat_lt, Bool, Option, Result, Ok, Err, List}
+use Rattle.std.specs.Prelude.{◌++◌, length, ◌⊎◌}
 use Rattle.std.specs.Io.KnownBytes.{Appends}
 use Rattle.pmb_io.specs.Count.{raised}
 use Rattle.pmb_io.specs.declared.fault.IoFault.{IoFault}

@@ -1,11 +1,12 @@
 -- The lines of a text.
-use Rattle.std.specs.Prelude.{◌≡◌, ◌≢◌, ℕ, ◌==◌, nat_lt, if◌then◌else◌, List, [], ◌∷◌, ◌++◌, codes, length, map, slice_index}
+use Rattle.std.specs.Prelude.{◌≡◌, ◌≢◌, ℕ, ◌==◌, nat_lt, if◌then◌else◌, List, [], ◌∷◌, ◌++◌, codes, length, map}
+use Rattle.std.specs.Prelude.{slice_index}
 use Rattle.std.specs.Borrow.{RattleType}
 use Rattle.std.specs.List.{flat_map}
 use Rattle.std.specs.Mem.{FitsInMemory}
 use Rattle.pmb_io.specs.contracts.lines.Lines.{the_row}
-use Rattle.pmb_io.specs.declared.line.Line.{Line}
-use Rattle.pmb_io.specs.declared.line.Line.TheVariants as lines
+use Rattle.pmb_io.specs.declared.input_line.InputLine.{InputLine}
+use Rattle.pmb_io.specs.declared.input_line.InputLine.TheVariants as lines
 
 -- A line, by what is said of it: what stands before an LF; what follows the last LF; or nothing, where it is too long.
 pub data TextLine : Type 0 where
@@ -14,7 +15,7 @@ pub data TextLine : Type 0 where
   TooLong : TextLine
 
 -- what a call is given as a line
-abbrev pub line_text : Line → TextLine
+abbrev pub line_text : InputLine → TextLine
 line_text (lines.Ended text) = Ended text.now
 line_text (lines.Last text) = Last text.now
 line_text lines.TooLong = TooLong

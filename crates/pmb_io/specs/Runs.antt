@@ -40,12 +40,17 @@ pub record Gave (old new : ReaderTold) (read : List ℕ) : Type 0 where
   pub consumed : Consumes old.left new.left read
   pub given : new.given ≡ raised old.given (length read)
 
--- One read gave the last piece of the bytes, and `first` and the bytes before it left something open. `middle` is the reader
--- as it was before that read. `R` is any type of readers, since for one type, such as slices, a `middle` could be made up;
--- code over every type has no readers but those that `old` became. So a body is refused that reads on after a piece which
--- left nothing open, as one that fills a buffer by two reads may: by one read, no reader that it had gave all the bytes that
+-- One read gave the last piece of the bytes, and `first` and the bytes before it left something
+-- open. `middle` is the reader
+-- as it was before that read. `R` is any type of readers, since for one type, such as slices, a
+-- `middle` could be made up;
+-- code over every type has no readers but those that `old` became. So a body is refused that reads
+-- on after a piece which
+-- left nothing open, as one that fills a buffer by two reads may: by one read, no reader that it
+-- had gave all the bytes that
 -- came after something was open.
-pub record InTime {R : Type 0} (told : R → ReaderTold) (IsOpen : List ℕ → Type 0) (first : List ℕ) (old new : R) (read : List ℕ) : Type 0 where
+pub record InTime {R : Type 0} (told : R → ReaderTold) (IsOpen : List ℕ → Type 0) (first : List ℕ) (old new : R)
+    (read : List ℕ) : Type 0 where
   pub before : List ℕ
   pub piece : List ℕ
   pub whole : read ≡ before ++ piece
@@ -81,8 +86,10 @@ pub record Job (A : Type 0) : Type 1 where
   pub IsOpen : List ℕ → Type 0
 
 module _ {R W : Type 0} (reader_told : R → ReaderTold) (writer_told : W → WriterTold) where
-  -- No more of the input was wanted: so it was at `first`, and nothing was read, or at the last piece, which came by one read.
-  pub record Stopped (Holds : List ℕ → List ℕ → Type 0) (IsOpen : List ℕ → Type 0) (first : List ℕ) (old new : R × W) : Type 0 where
+  -- No more of the input was wanted: so it was at `first`, and nothing was read, or at the last
+  -- piece, which came by one read.
+  pub record Stopped (Holds : List ℕ → List ℕ → Type 0) (IsOpen : List ℕ → Type 0) (first : List ℕ)
+      (old new : R × W) : Type 0 where
     pub through : Through Holds first (told_by reader_told writer_told old) (told_by reader_told writer_told new)
     pub in_time : OpenBefore reader_told IsOpen first old.0 new.0 through.read
 
@@ -94,10 +101,12 @@ module _ {R W : Type 0} (reader_told : R → ReaderTold) (writer_told : W → Wr
 
   -- A part of it is done, of an input that may go on.
   abbrev pub PartDone : {A : Type 0} → Job A → List ℕ → R × W → R × W → Type 0
-  PartDone job first old new = Through job.Front first (told_by reader_told writer_told old) (told_by reader_told writer_told new)
+  PartDone job first old new = Through job.Front first (told_by reader_told writer_told old)
+      (told_by reader_told writer_told new)
 
   -- A run of a job over a reader and a writer, as they were before it and after it.
-  pub record Ran {A : Type 0} (job : Job A) (first : List ℕ) (old new : R × W) (result : Result A RunFault) : Type 0 where
+  pub record Ran {A : Type 0} (job : Job A) (first : List ℕ) (old new : R × W)
+      (result : Result A RunFault) : Type 0 where
     -- What was written is the job's text for `first` and the bytes read, however the reader cut them.
     pub ok : IfOk result (λ answer. Done job answer first old new)
     -- The reader failed in this run exactly where it returns `Read`, the writer where it returns `Write`.

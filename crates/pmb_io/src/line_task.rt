@@ -8,7 +8,7 @@ ghost use Rattle.pmb_io.specs.Runs.{Job};
 ghost use Rattle.pmb_io.specs.declared.tally.Tally.{Tally as Counted};
 
 use crate::fault::RunFault;
-use crate::line::Line;
+use crate::input_line::InputLine;
 use crate::output::Waiting;
 use crate::sink::Sink;
 use crate::tally::Tally;
@@ -39,7 +39,7 @@ pub trait LineTask {
     /// Takes the next line, and puts out the text for it.
     fn take_line<W: Sink>(
         &mut self,
-        line: Line<'_>,
+        line: InputLine<'_>,
         waiting: &mut Waiting,
         writer: &mut W,
     ) -> Result<(), RunFault>

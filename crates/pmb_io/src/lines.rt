@@ -12,7 +12,7 @@ ghost use Rattle.pmb_io.specs.machine.Lines.{StandsInLine, ended_kept};
 
 use crate::engine::{Engine, Flow};
 use crate::fault::{RunFault, ToolFault};
-use crate::line::Line;
+use crate::input_line::InputLine;
 use crate::line_task::LineTask;
 use crate::output::Waiting;
 use crate::pieces::each_piece;
@@ -111,13 +111,13 @@ impl<T: LineTask, const MOST: usize> Lines<T, MOST> {
 }
 
 /// The line that an LF ended, of which these bytes are kept.
-fn ended_line(kept: &[u8], is_longer: bool) -> Line<'_>
+fn ended_line(kept: &[u8], is_longer: bool) -> InputLine<'_>
     ensures { line_text result ≡ ended_kept kept.now is_longer }
 {
     if is_longer {
-        Line::TooLong
+        InputLine::TooLong
     } else {
-        Line::Ended(kept)
+        InputLine::Ended(kept)
     }
 }
 
@@ -145,13 +145,13 @@ impl<T: LineTask, const MOST: usize> Engine for Lines<T, MOST> {
 
     fn end<W: Sink>(&mut self, waiting: &mut Waiting, writer: &mut W) -> Result<(), RunFault> {
         if self.is_longer {
-            return self.task.take_line(Line::TooLong, waiting, writer);
+            return self.task.take_line(InputLine::TooLong, waiting, writer);
         }
         if self.line.is_empty() {
             return Ok(());
         }
         self.task
-            .take_line(Line::Last(self.line.as_slice()), waiting, writer)
+            .take_line(InputLine::Last(self.line.as_slice()), waiting, writer)
     }
 
     ghost stops_for_good = { λ start now bytes text more never. never };

@@ -8,7 +8,8 @@ use Rattle.pmb_json.specs.Text.{IsBehindLine}
 use Rattle.pmb_json.proofs.Lines.{SplitsLine, bad_behind, bad_in_line, behind_front, front_cut}
 
 -- a text has one line at its front, and what stands after that
-pub one_line : (a b x y : List ℕ) → HasNoLf a → HasNoLf b → IsBehindLine x → IsBehindLine y → a ++ x ≡ b ++ y → (a ≡ b) × (x ≡ y)
+pub one_line : (a b x y : List ℕ) → HasNoLf a → HasNoLf b → IsBehindLine x → IsBehindLine y → a ++ x ≡ b ++ y
+    → (a ≡ b) × (x ≡ y)
 one_line [] [] x y here there behind also same = (refl, same)
 one_line [] (c ∷ b) [] y here there behind also same = absurd (cc same)
 one_line [] (c ∷ b) (lf ∷ x) y here there behind also same =
@@ -23,7 +24,8 @@ one_line (c ∷ a) (d ∷ b) x y here there behind also same =
     (ap (λ (l : List ℕ). c ∷ l) parts.0 ∙ ap (λ (z : ℕ). z ∷ b) heads, parts.1)
 
 -- a line's first bad word is that of a text which goes on with a LF or not at all
-pub bad_word_in_text : (front line rest : List ℕ) (events : List Event) → IsBehindLine rest → FirstBadWord (front ++ line) events (length front)
+pub bad_word_in_text : (front line rest : List ℕ) (events : List Event) → IsBehindLine rest
+    → FirstBadWord (front ++ line) events (length front)
     → FirstBadWord (front ++ line ++ rest) events (length front)
 bad_word_in_text front line rest events behind bad =
     let here = behind_front front line events bad in
@@ -40,7 +42,8 @@ bad_word_in_text front line rest events behind bad =
     )
 
 -- a text's first bad word is that of its line
-pub bad_word_of_line : (text : List ℕ) (events : List Event) (place : ℕ) (bad : FirstBadWord text events place) (here : SplitsLine bad.rest)
+pub bad_word_of_line : (text : List ℕ) (events : List Event) (place : ℕ) (bad : FirstBadWord text events place)
+    (here : SplitsLine bad.rest)
     → FirstBadWord (bad.front ++ here.line) events (length bad.front)
 bad_word_of_line text events place bad here =
     let same = sym (ap front_word here.split) in

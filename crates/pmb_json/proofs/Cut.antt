@@ -1,27 +1,28 @@
 -- The objects of a piece of a capture beside those of the whole.
-use Rattle.std.proofs.Common.{◌≡◌, ℕ, ◌+◌, Bool, true, cond, List, [], ◌∷◌, ◌++◌, codes, filter, length, take, refl, sym, ◌∙◌, ap, subst, append_assoc, length-append, arith}
+use Rattle.std.proofs.Common.{◌≡◌, ℕ, ◌+◌, Bool, true, cond, List, [], ◌∷◌, ◌++◌, codes, filter, length, take, refl}
+use Rattle.std.proofs.Common.{sym, ◌∙◌, ap, subst, append_assoc, length-append, arith}
 use Rattle.std.specs.List.{All}
 use Rattle.std.proofs.lemmas.List.Elements.{All-head, All-tail, filter-append}
 use Rattle.pmb_bus.specs.declared.event.Event.{Event}
 use Rattle.pmb_bus.specs.Text.{EndsBetween, FirstBadWord, Spells}
 use Rattle.pmb_command.specs.Parts.{DeviceParts}
-use Rattle.pmb_late.specs.declared.start.Start.{Start}
-use Rattle.pmb_late.specs.declared.start.Start.TheVariants.{AllKnown}
-use Rattle.pmb_object.specs.Json.{string}
-use Rattle.pmb_object.specs.Member.{named}
+use Rattle.pmb_unknown_start.specs.declared.start.Start.{Start}
+use Rattle.pmb_unknown_start.specs.declared.start.Start.TheVariants.{AllKnown}
+use Rattle.pmb_json_text.specs.Json.{string}
+use Rattle.pmb_json_text.specs.Member.{named}
 use Rattle.pmb_places.specs.declared.places.Place.{Place}
 use Rattle.pmb_spans.specs.Spans.{Span, Spans, SpansFrom, ReadSpan, RefusedSpan, TruncatedSpan, is_whole, moved_spans}
 use Rattle.pmb_transaction.specs.Cut.{EndsWithStop}
 use Rattle.pmb_transaction.specs.Transaction.{TransactionData}
-use Rattle.pmb_json.specs.declared.bad_words.BadWords.{BadWords}
-use Rattle.pmb_json.specs.declared.bad_words.BadWords.TheVariants.{End, GoOn}
-use Rattle.pmb_objects.specs.BadToken.{bad_token_object}
-use Rattle.pmb_stream.specs.Before.{Before, at_first}
-use Rattle.pmb_stream.specs.Choice.{ChoiceData}
-use Rattle.pmb_objects.specs.Counts.{CountsData, nothing_counted}
-use Rattle.pmb_objects.specs.Object.{Object}
+use Rattle.pmb_json.specs.declared.after_bad_token.AfterBadToken.{AfterBadToken}
+use Rattle.pmb_json.specs.declared.after_bad_token.AfterBadToken.TheVariants.{End, GoOn}
+use Rattle.pmb_json_objects.specs.BadToken.{bad_token_object}
+use Rattle.pmb_json_stream.specs.Before.{Before, at_first}
+use Rattle.pmb_json_stream.specs.Choice.{ChoiceData}
+use Rattle.pmb_json_objects.specs.Counts.{CountsData, nothing_counted}
+use Rattle.pmb_json_objects.specs.Object.{Object}
 use Rattle.pmb_json.specs.Pieces.{CanBeCutBehind, EachSaysNoMore, SaysNoMore}
-use Rattle.pmb_stream.specs.Spans.{after_spans, event_place, span_objects, transactions_in}
+use Rattle.pmb_json_stream.specs.Spans.{after_spans, event_place, span_objects, transactions_in}
 use Rattle.pmb_json.specs.Text.{BadLine, GoesOn, ObjectsFrom, bad_line_objects, behind_line, front_objects, word_object}
 use Rattle.pmb_json.proofs.Objects.{objects_append, transactions_moved, whole_moved}
 use Rattle.pmb_json.proofs.Pieces.{Agree, both, head_said, pairs_append, same, spans_said}
@@ -33,7 +34,8 @@ all_whole : (spans : List Span) → All (λ span. is_whole span ≡ true) spans 
 all_whole [] whole = refl
 all_whole (span ∷ spans) whole =
     let rest = all_whole spans (All-tail (λ (s : Span). is_whole s ≡ true) span spans whole) in
-    ap (λ (b : Bool). cond b (span ∷ filter is_whole spans) (filter is_whole spans)) (All-head (λ (s : Span). is_whole s ≡ true) span spans whole)
+    ap (λ (b : Bool). cond b (span ∷ filter is_whole spans) (filter is_whole spans))
+    (All-head (λ (s : Span). is_whole s ≡ true) span spans whole)
     ∙ ap (λ (l : List Span). span ∷ l) rest
 
 -- the transactions of two lists of spans
@@ -46,15 +48,19 @@ transactions_append (TruncatedSpan m front refusal ∷ a) b = transactions_appen
 -- ---- a bad word
 
 -- its object
-token_said : (at next : ℕ) (place there : Place) (word : List ℕ) → SaysNoMore (bad_token_object at place word) (bad_token_object next there word)
+token_said : (at next : ℕ) (place there : Place) (word : List ℕ)
+    → SaysNoMore (bad_token_object at place word) (bad_token_object next there word)
 token_said at next place there word = record {
   device = refl;
-  members = both (head_said at next place there (codes "bad_token")) (same (named (codes "word") (string (take 32 word)) ∷ []));
+  members = both (head_said at next place there (codes "bad_token"))
+      (same (named (codes "word") (string (take 32 word)) ∷ []));
 }
 
-module _ (places : ℕ) (profile : List DeviceParts) (devices : List ℕ) (late : Start) (m : ℕ) (before : List TransactionData)
+module _ (places : ℕ) (profile : List DeviceParts) (devices : List ℕ) (late : Start) (m : ℕ)
+    (before : List TransactionData)
     (agree : (ts : List TransactionData) → Agree profile late AllKnown ts (before ++ ts))
-    (spans_move : (n k : ℕ) (events : List Event) (spans : List Span) → SpansFrom profile k events spans → SpansFrom profile (n + k) events (moved_spans n spans)) where
+    (spans_move : (n k : ℕ) (events : List Event) (spans : List Span) → SpansFrom profile k events spans
+    → SpansFrom profile (n + k) events (moved_spans n spans)) where
   abbrev piece : ChoiceData
   piece = record { digits = places; start = late; devices = devices }
 
@@ -67,23 +73,29 @@ module _ (places : ℕ) (profile : List DeviceParts) (devices : List ℕ) (late 
     n : w.n ≡ m + b.n
     ts : w.ts ≡ before ++ b.ts
 
-  agree_there : (b w : Before) → Beside b w → (ts : List TransactionData) → Agree profile late AllKnown (b.ts ++ ts) (w.ts ++ ts)
+  agree_there : (b w : Before) → Beside b w → (ts : List TransactionData)
+      → Agree profile late AllKnown (b.ts ++ ts) (w.ts ++ ts)
   agree_there b w beside ts =
       subst (λ (l : List TransactionData). Agree profile late AllKnown (b.ts ++ ts) l)
-      (sym (append_assoc before b.ts ts) ∙ ap (λ (l : List TransactionData). l ++ ts) (sym beside.ts)) (agree (b.ts ++ ts))
+      (sym (append_assoc before b.ts ts) ∙ ap (λ (l : List TransactionData). l ++ ts) (sym beside.ts))
+      (agree (b.ts ++ ts))
 
   spans_beside : (b w : Before) → Beside b w → (place there : ℕ → Place) (spans : List Span)
-      → EachSaysNoMore (span_objects piece profile place b.ts spans) (span_objects whole profile there w.ts (moved_spans m spans))
-  spans_beside b w beside place there spans = spans_said places profile devices devices late AllKnown place there m spans b.ts w.ts (agree_there b w beside)
+      → EachSaysNoMore (span_objects piece profile place b.ts spans)
+      (span_objects whole profile there w.ts (moved_spans m spans))
+  spans_beside b w beside place there spans =
+      spans_said places profile devices devices late AllKnown place there m spans b.ts w.ts (agree_there b w beside)
 
-  reads_beside : (b w : Before) → Beside b w → (events : List Event) (spans : List Span) → SpansFrom profile b.n events spans
+  reads_beside : (b w : Before) → Beside b w → (events : List Event) (spans : List Span)
+      → SpansFrom profile b.n events spans
       → SpansFrom profile w.n events (moved_spans m spans)
-  reads_beside b w beside events spans reads = subst (λ (k : ℕ). SpansFrom profile k events (moved_spans m spans)) (sym beside.n) (spans_move m b.n events spans reads)
+  reads_beside b w beside events spans reads = subst (λ (k : ℕ). SpansFrom profile k events (moved_spans m spans))
+      (sym beside.n) (spans_move m b.n events spans reads)
 
   -- ---- on from there
 
   -- the whole has objects from there on, and these say no more
-  record Others (after : BadWords) (w : Before) (bytes : List ℕ) (objects : List Object) : Type 0 where
+  record Others (after : AfterBadToken) (w : Before) (bytes : List ℕ) (objects : List Object) : Type 0 where
     bad : List BadLine
     others : List Object
     counts : CountsData
@@ -91,7 +103,8 @@ module _ (places : ℕ) (profile : List DeviceParts) (devices : List ℕ) (late 
     no_more : EachSaysNoMore objects others
 
   -- .. and after a bad line
-  record OthersBehind (after : BadWords) (w : Before) (line : BadLine) (rest : List ℕ) (objects : List Object) : Type 0 where
+  record OthersBehind (after : AfterBadToken) (w : Before) (line : BadLine) (rest : List ℕ)
+      (objects : List Object) : Type 0 where
     more : List BadLine
     others : List Object
     counts : CountsData
@@ -99,8 +112,10 @@ module _ (places : ℕ) (profile : List DeviceParts) (devices : List ℕ) (late 
         ((more ≡ []) × (others ≡ []) × (counts ≡ (behind_line w line).counts))
     no_more : EachSaysNoMore objects others
 
-  others_behind : (after : BadWords) (b w : Before) (x y : BadLine) (rest : List ℕ) (more : List BadLine) (objects : List Object) (c : CountsData)
-      → ((bytes : List ℕ) → ObjectsFrom piece profile GoOn (behind_line b x) bytes more objects c → Others GoOn (behind_line w y) bytes objects)
+  others_behind : (after : AfterBadToken) (b w : Before) (x y : BadLine) (rest : List ℕ) (more : List BadLine)
+      (objects : List Object) (c : CountsData)
+      → ((bytes : List ℕ) → ObjectsFrom piece profile GoOn (behind_line b x) bytes more objects c
+      → Others GoOn (behind_line w y) bytes objects)
       → GoesOn after rest (λ bytes. ObjectsFrom piece profile after (behind_line b x) bytes more objects c)
       ((more ≡ []) × (objects ≡ []) × (c ≡ (behind_line b x).counts))
       → OthersBehind after w y rest objects
@@ -120,10 +135,18 @@ module _ (places : ℕ) (profile : List DeviceParts) (devices : List ℕ) (late 
   }
   others_behind GoOn b w x y (lf ∷ bytes) more objects c later goes =
       let there = later bytes goes in
-      record { more = there.bad; others = there.others; counts = there.counts; behind = there.from_there; no_more = there.no_more }
+      record {
+        more = there.bad;
+        others = there.others;
+        counts = there.counts;
+        behind = there.from_there;
+        no_more =
+            there.no_more;
+      }
 
   line_beside : (b w : Before) → Beside b w → (bad : BadLine)
-      → Beside (behind_line b bad) (behind_line w (record { front = bad.front; events = bad.events; spans = moved_spans m bad.spans; line = bad.line }))
+      → Beside (behind_line b bad) (behind_line w
+      (record { front = bad.front; events = bad.events; spans = moved_spans m bad.spans; line = bad.line }))
   line_beside b w beside bad = record {
     n = omega (arith, beside.n);
     ts = ap (λ (l : List TransactionData). l ++ transactions_in (moved_spans m bad.spans)) beside.ts
@@ -131,7 +154,8 @@ module _ (places : ℕ) (profile : List DeviceParts) (devices : List ℕ) (late 
         ∙ append_assoc before b.ts (transactions_in bad.spans);
   }
 
-  onwards : (after : BadWords) (bads : List BadLine) (b w : Before) → Beside b w → (bytes : List ℕ) (objects : List Object) (c : CountsData)
+  onwards : (after : AfterBadToken) (bads : List BadLine) (b w : Before) → Beside b w
+      → (bytes : List ℕ) (objects : List Object) (c : CountsData)
       → ObjectsFrom piece profile after b bytes bads objects c → Others after w bytes objects
   onwards after [] b w beside bytes objects c x = record {
     bad = [];
@@ -145,14 +169,22 @@ module _ (places : ℕ) (profile : List DeviceParts) (devices : List ℕ) (late 
       all = refl;
       behind = refl;
     };
-    no_more = subst (λ (os : List Object). EachSaysNoMore os (span_objects whole profile (event_place w.read w.n bytes) w.ts (moved_spans m x.spans))) (sym x.all)
+    no_more = subst (λ (os : List Object). EachSaysNoMore os
+        (span_objects whole profile (event_place w.read w.n bytes) w.ts (moved_spans m x.spans))) (sym x.all)
         (spans_beside b w beside (event_place b.read b.n bytes) (event_place w.read w.n bytes) x.spans);
   }
   onwards after (bad ∷ more) b w beside bytes objects c x =
-      let moved : BadLine = record { front = bad.front; events = bad.events; spans = moved_spans m bad.spans; line = bad.line } in
+      let moved : BadLine = record {
+        front = bad.front;
+        events = bad.events;
+        spans = moved_spans m bad.spans;
+        line =
+            bad.line;
+      } in
       let line = x.4 in
       let there = others_behind after b w bad moved x.0 more x.1 c
-      (λ next y. onwards GoOn more (behind_line b bad) (behind_line w moved) (line_beside b w beside bad) next x.1 c y) x.6 in record {
+      (λ next y. onwards GoOn more (behind_line b bad) (behind_line w moved) (line_beside b w beside bad) next x.1 c y)
+      x.6 in record {
         bad = moved ∷ there.more;
         others = bad_line_objects whole profile w moved ++ there.others;
         counts = there.counts;
@@ -171,11 +203,15 @@ module _ (places : ℕ) (profile : List DeviceParts) (devices : List ℕ) (late 
           refl,
           there.behind,
         );
-        no_more = subst (λ (os : List Object). EachSaysNoMore os (bad_line_objects whole profile w moved ++ there.others)) (sym x.5)
+        no_more = subst (λ (os : List Object). EachSaysNoMore os
+            (bad_line_objects whole profile w moved ++ there.others)) (sym x.5)
             (
-            pairs_append (bad_line_objects piece profile b bad) (bad_line_objects whole profile w moved) x.1 there.others
-            (pairs_append (front_objects piece profile b bad) (front_objects whole profile w moved) (word_object piece profile b bad ∷ []) (word_object whole profile w moved ∷ [])
-            (spans_beside b w beside (event_place b.read b.n (bad.front ++ bad.line)) (event_place w.read w.n (bad.front ++ bad.line)) bad.spans)
+            pairs_append (bad_line_objects piece profile b bad) (bad_line_objects whole profile w moved) x.1
+            there.others
+            (pairs_append (front_objects piece profile b bad) (front_objects whole profile w moved)
+            (word_object piece profile b bad ∷ []) (word_object whole profile w moved ∷ [])
+            (spans_beside b w beside (event_place b.read b.n (bad.front ++ bad.line))
+            (event_place w.read w.n (bad.front ++ bad.line)) bad.spans)
             (token_said _ _ _ _ _, tt))
             there.no_more
             );
@@ -183,13 +219,18 @@ module _ (places : ℕ) (profile : List DeviceParts) (devices : List ℕ) (late 
 
 -- ---- cut after a first piece
 
-module _ (places : ℕ) (profile : List DeviceParts) (devices : List ℕ) (late : Start) (front : List ℕ) (first : CanBeCutBehind profile late front)
+module _ (places : ℕ) (profile : List DeviceParts) (devices : List ℕ) (late : Start) (front : List ℕ)
+    (first : CanBeCutBehind profile late front)
     (agree : (ts : List TransactionData) → Agree profile late AllKnown ts (transactions_in first.spans ++ ts))
-    (spans_move : (n k : ℕ) (events : List Event) (spans : List Span) → SpansFrom profile k events spans → SpansFrom profile (n + k) events (moved_spans n spans))
-    (spelled : (x y : List ℕ) (events more : List Event) → EndsBetween x → Spells x events → Spells y more → Spells (x ++ y) (events ++ more))
-    (bad_word : (x y : List ℕ) (events more : List Event) (place : ℕ) → EndsBetween x → Spells x events → FirstBadWord y more place
+    (spans_move : (n k : ℕ) (events : List Event) (spans : List Span) → SpansFrom profile k events spans
+    → SpansFrom profile (n + k) events (moved_spans n spans))
+    (spelled : (x y : List ℕ) (events more : List Event) → EndsBetween x → Spells x events → Spells y more
+    → Spells (x ++ y) (events ++ more))
+    (bad_word : (x y : List ℕ) (events more : List Event) (place : ℕ) → EndsBetween x → Spells x events
+    → FirstBadWord y more place
     → FirstBadWord (x ++ y) (events ++ more) (length x + place))
-    (joined : (x y : List Event) (spans others : List Span) → EndsWithStop x → Spans profile x spans → Spans profile y others
+    (joined : (x y : List Event) (spans others : List Span) → EndsWithStop x → Spans profile x spans
+    → Spans profile y others
     → Spans profile (x ++ y) (spans ++ moved_spans (length x) others))
     (whole_first : All (λ span. is_whole span ≡ true) first.spans) where
   abbrev m : ℕ
@@ -205,7 +246,7 @@ module _ (places : ℕ) (profile : List DeviceParts) (devices : List ℕ) (late 
   known_choice = record { digits = places; start = AllKnown; devices = devices }
 
   -- the whole has objects, and the last of them say no less
-  pub record WholeOthers (after : BadWords) (bytes : List ℕ) (objects : List Object) : Type 0 where
+  pub record WholeOthers (after : AfterBadToken) (bytes : List ℕ) (objects : List Object) : Type 0 where
     pub bad : List BadLine
     pub firsts : List Object
     pub others : List Object
@@ -225,11 +266,15 @@ module _ (places : ℕ) (profile : List DeviceParts) (devices : List ℕ) (late 
   bad_word_there : (bad : BadLine) → FirstBadWord (bad.front ++ bad.line) bad.events (length bad.front)
       → FirstBadWord (front ++ bad.front ++ bad.line) (first.events ++ bad.events) (length (front ++ bad.front))
   bad_word_there bad word =
-      subst (λ (k : ℕ). FirstBadWord (front ++ bad.front ++ bad.line) (first.events ++ bad.events) k) (sym (length-append front bad.front))
-      (subst (λ (text : List ℕ). FirstBadWord text (first.events ++ bad.events) (length front + length bad.front)) (sym (append_assoc front bad.front bad.line))
-      (bad_word front (bad.front ++ bad.line) first.events bad.events (length bad.front) first.between first.spells word))
+      subst (λ (k : ℕ). FirstBadWord (front ++ bad.front ++ bad.line) (first.events ++ bad.events) k)
+      (sym (length-append front bad.front))
+      (subst (λ (text : List ℕ). FirstBadWord text (first.events ++ bad.events) (length front + length bad.front))
+      (sym (append_assoc front bad.front bad.line))
+      (bad_word front (bad.front ++ bad.line) first.events bad.events (length bad.front) first.between first.spells
+      word))
 
-  split_there : (bad : BadLine) (back rest : List ℕ) → back ≡ bad.front ++ bad.line ++ rest → front ++ back ≡ front ++ bad.front ++ bad.line ++ rest
+  split_there : (bad : BadLine) (back rest : List ℕ) → back ≡ bad.front ++ bad.line ++ rest
+      → front ++ back ≡ front ++ bad.front ++ bad.line ++ rest
   split_there bad back rest split =
       ap (λ (l : List ℕ). front ++ l) split
       ∙ sym (append_assoc front (bad.front ++ bad.line) rest)
@@ -243,13 +288,15 @@ module _ (places : ℕ) (profile : List DeviceParts) (devices : List ℕ) (late 
       ∙ ap (λ (l : List Span). l ++ filter is_whole (moved_spans m all)) (sym (all_whole first.spans whole_first))
       ∙ sym (filter-append is_whole first.spans (moved_spans m all))
 
-  line_beside_there : (bad : BadLine) → Beside places profile devices late m before agree spans_move (behind_line at_first bad) (behind_line at_first (in_whole bad))
+  line_beside_there : (bad : BadLine) → Beside places profile devices late m before agree spans_move
+      (behind_line at_first bad) (behind_line at_first (in_whole bad))
   line_beside_there bad = record {
     n = omega (arith, length-append first.events bad.events);
-    ts = transactions_append first.spans (moved_spans m bad.spans) ∙ ap (λ (l : List TransactionData). before ++ l) (transactions_moved m bad.spans);
+    ts = transactions_append first.spans (moved_spans m bad.spans) ∙ ap (λ (l : List TransactionData). before ++ l)
+        (transactions_moved m bad.spans);
   }
 
-  pub cut : (after : BadWords) (bads : List BadLine) (back : List ℕ) (objects : List Object) (c : CountsData)
+  pub cut : (after : AfterBadToken) (bads : List BadLine) (back : List ℕ) (objects : List Object) (c : CountsData)
       → ObjectsFrom late_choice profile after at_first back bads objects c → WholeOthers after (front ++ back) objects
   cut after [] back objects c x =
       let place = event_place [] 0 (front ++ back) in
@@ -267,12 +314,15 @@ module _ (places : ℕ) (profile : List DeviceParts) (devices : List ℕ) (late 
           behind = refl;
         };
         no_more = subst (λ (os : List Object). EachSaysNoMore os others) (sym x.all)
-            (spans_said places profile devices devices late AllKnown (event_place [] 0 back) place m x.spans [] before agree);
+            (spans_said places profile devices devices late AllKnown (event_place [] 0 back) place m x.spans [] before
+            agree);
       }
   cut after (bad ∷ more) back objects c x =
       let line = x.4 in
-      let there = others_behind places profile devices late m before agree spans_move after at_first at_first bad (in_whole bad) x.0 more x.1 c
-      (λ next y. onwards places profile devices late m before agree spans_move GoOn more (behind_line at_first bad) (behind_line at_first (in_whole bad)) (line_beside_there bad) next x.1 c y) x.6 in
+      let there = others_behind places profile devices late m before agree spans_move after at_first at_first bad
+      (in_whole bad) x.0 more x.1 c
+      (λ next y. onwards places profile devices late m before agree spans_move GoOn more (behind_line at_first bad)
+      (behind_line at_first (in_whole bad)) (line_beside_there bad) next x.1 c y) x.6 in
       let near = event_place [] 0 (bad.front ++ bad.line) in
       let place = event_place [] 0 (front ++ bad.front ++ bad.line) in
       let firsts = span_objects known_choice profile place [] first.spans in
@@ -296,13 +346,15 @@ module _ (places : ℕ) (profile : List DeviceParts) (devices : List ℕ) (late 
           },
           sym (append_assoc firsts (moved ++ word) there.others)
               ∙ ap (λ (os : List Object). os ++ there.others) (sym (append_assoc firsts moved word))
-              ∙ ap (λ (os : List Object). (os ++ word) ++ there.others) (sym (objects_append known_choice profile place [] first.spans (moved_spans m bad.spans))),
+              ∙ ap (λ (os : List Object). (os ++ word) ++ there.others)
+              (sym (objects_append known_choice profile place [] first.spans (moved_spans m bad.spans))),
           there.behind,
         );
         no_more = subst (λ (os : List Object). EachSaysNoMore os ((moved ++ word) ++ there.others)) (sym x.5)
             (
             pairs_append (bad_line_objects late_choice profile at_first bad) (moved ++ word) x.1 there.others
-            (pairs_append (front_objects late_choice profile at_first bad) moved (word_object late_choice profile at_first bad ∷ []) word
+            (pairs_append (front_objects late_choice profile at_first bad) moved
+            (word_object late_choice profile at_first bad ∷ []) word
             (spans_said places profile devices devices late AllKnown near place m bad.spans [] before agree)
             (token_said _ _ _ _ _, tt))
             there.no_more

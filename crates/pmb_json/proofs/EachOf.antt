@@ -1,5 +1,6 @@
 -- What holds of each element of a list holds of what is taken of it.
-use Rattle.std.proofs.Common.{ℕ, zero, suc, Bool, true, false, if◌then◌else◌, Option, Some, None, List, [], ◌∷◌, ◌++◌, filter, slice_index_or}
+use Rattle.std.proofs.Common.{ℕ, zero, suc, Bool, true, false, if◌then◌else◌, Option, Some, None, List, [], ◌∷◌, ◌++◌}
+use Rattle.std.proofs.Common.{filter, slice_index_or}
 use Rattle.std.specs.Prelude.{IfSome}
 use Rattle.std.specs.List.{AllByRecursion, find}
 
@@ -29,7 +30,8 @@ module _ {A : Type 0} (P : A → Type 0) where
 
   pub the_found : (test : A → Bool) (xs : List A) → AllByRecursion P xs → IfSome (find test xs) P
   the_found test [] all = tt
-  the_found test (x ∷ xs) all = of_either (λ (o : Option A). IfSome o P) (test x) (Some x) (find test xs) all.0 (the_found test xs all.1)
+  the_found test (x ∷ xs) all = of_either (λ (o : Option A). IfSome o P) (test x) (Some x) (find test xs) all.0
+      (the_found test xs all.1)
 
   -- the one at an index, or another one
   pub the_one_at : (xs : List A) (k : ℕ) (other : A) → AllByRecursion P xs → P other → P (slice_index_or xs k other)

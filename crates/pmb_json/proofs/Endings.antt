@@ -1,5 +1,6 @@
 -- What is still to be written if the bytes end there.
-use Rattle.std.proofs.Common.{◌≡◌, ◌⊎◌, ℕ, ◌+◌, inl, inr, List, [], ◌∷◌, ◌++◌, refl, sym, ap, subst, ◌∙◌, append_assoc, append-nil}
+use Rattle.std.proofs.Common.{◌≡◌, ◌⊎◌, ℕ, ◌+◌, inl, inr, List, [], ◌∷◌, ◌++◌, refl, sym, ap, subst, ◌∙◌, append_assoc}
+use Rattle.std.proofs.Common.{append-nil}
 use Rattle.pmb_bus.specs.declared.event.Event.{Event}
 use Rattle.pmb_bus.specs.Text.{BeginsText, EndedWordsSpell, FirstBadWord, Spells, front_word, is_word}
 use Rattle.pmb_bus.specs.Event.{event_of}
@@ -8,12 +9,14 @@ use Rattle.pmb_io.specs.Count.{capped}
 use Rattle.pmb_io.specs.Lines.{HasNoLf}
 use Rattle.pmb_io.specs.Tally.{IsTallyOf}
 use Rattle.pmb_io.specs.declared.tally.Tally.{Tally}
-use Rattle.pmb_json.specs.declared.bad_words.BadWords.{BadWords}
-use Rattle.pmb_json.specs.declared.engine.Inside.{Inside}
-use Rattle.pmb_json.specs.declared.engine.Inside.TheVariants.{Words, BadWord, BadLine as InLine}
+use Rattle.pmb_json.specs.declared.after_bad_token.AfterBadToken.{AfterBadToken}
+use Rattle.pmb_json.specs.declared.engine.EngineState.{EngineState}
+use Rattle.pmb_json.specs.declared.engine.EngineState.TheVariants.{Words, BadWord, BadLine as InLine}
 use Rattle.pmb_json.specs.declared.engine.Json.{Json}
-use Rattle.pmb_json.specs.Text.{BadLine, IsBadLine, IsBehindLine, WritesJson, bad_line_objects, behind_line, front_objects, word_object}
-use Rattle.pmb_json.specs.machine.Standing.{Behind, InWords, StandsIn, json_bad_words, json_choice, json_profile, longer_line}
+use Rattle.pmb_json.specs.Text.{BadLine, IsBadLine, IsBehindLine, WritesJson, bad_line_objects, behind_line}
+use Rattle.pmb_json.specs.Text.{front_objects, word_object}
+use Rattle.pmb_json.specs.machine.Standing.{Behind, InWords, StandsIn, json_bad_words, json_choice, json_profile}
+use Rattle.pmb_json.specs.machine.Standing.{longer_line}
 use Rattle.pmb_json.proofs.Fronts.{bad_line_now}
 use Rattle.pmb_json.proofs.Leading.{writes_bad_line}
 use Rattle.pmb_json.proofs.Lines.{front_cut, split_line}
@@ -21,40 +24,45 @@ use Rattle.pmb_json.proofs.MetWords.{met_reads, met_whole, read_from}
 use Rattle.pmb_json.proofs.Objects.{lines_append}
 use Rattle.pmb_json.proofs.Reading.{MovesSpans, ends_json, lines_by, reads_on, under}
 use Rattle.pmb_json.proofs.Words.{solid_no_lf}
-use Rattle.pmb_objects.specs.Counts.{CountsData, end_objects}
-use Rattle.pmb_objects.specs.Object.{Object, object_lines}
+use Rattle.pmb_json_objects.specs.Counts.{CountsData, end_objects}
+use Rattle.pmb_json_objects.specs.Object.{Object, object_lines}
 use Rattle.pmb_scan.specs.declared.scan.Scan.{Scan}
 use Rattle.pmb_scan.specs.Reached.{EndsWith, Reached}
 use Rattle.pmb_scan.specs.Scan.{HasRead}
 use Rattle.pmb_spans.specs.Spans.{Span, Spans, moved_spans}
-use Rattle.pmb_stream.specs.declared.stream.Stream.{Stream}
-use Rattle.pmb_stream.specs.Before.{Before}
-use Rattle.pmb_stream.specs.Choice.{ChoiceData}
-use Rattle.pmb_stream.specs.Spans.{after_spans, event_place, span_objects, transactions_in}
+use Rattle.pmb_json_stream.specs.declared.stream.Stream.{Stream}
+use Rattle.pmb_json_stream.specs.Before.{Before}
+use Rattle.pmb_json_stream.specs.Choice.{ChoiceData}
+use Rattle.pmb_json_stream.specs.Spans.{after_spans, event_place, span_objects, transactions_in}
 
 -- ---- what is used of laws
 
 -- a text that spells events has no bad word
 abbrev pub SpellsNoBadWord : Type 0
-SpellsNoBadWord = (text : List ℕ) (events others : List Event) (place : ℕ) → Spells text events → FirstBadWord text others place → ⊥
+SpellsNoBadWord = (text : List ℕ) (events others : List Event) (place : ℕ) → Spells text events
+    → FirstBadWord text others place → ⊥
 
 -- where the bytes end in words, the last one is a token, or none, or the first bad word
 abbrev pub EndsInLastWord : List ℕ → List Event → Type 0
-EndsInLastWord text events = Spells text events ⊎ (((event : Event) × Spells text (events ++ event ∷ [])) ⊎ ((place : ℕ) × FirstBadWord text events place))
+EndsInLastWord text events = Spells text events
+    ⊎ (((event : Event) × Spells text (events ++ event ∷ [])) ⊎ ((place : ℕ) × FirstBadWord text events place))
 
 -- ---- a bad word in a text with which some text that spells events begins
 
 -- it has not ended, so no LF comes after it
-no_lf_behind : SpellsNoBadWord → (text : List ℕ) (events : List Event) (place : ℕ) → BeginsText text → (bad : FirstBadWord text events place) → (line rest : List ℕ) → bad.rest ≡ line ++ rest
+no_lf_behind : SpellsNoBadWord → (text : List ℕ) (events : List Event) (place : ℕ) → BeginsText text
+    → (bad : FirstBadWord text events place) → (line rest : List ℕ) → bad.rest ≡ line ++ rest
     → HasNoLf line → IsBehindLine rest → HasNoLf bad.rest
 no_lf_behind spells_none text events place begins bad line [] split in_line behind =
     subst (λ (l : List ℕ). HasNoLf l) (sym (split ∙ append-nil line)) in_line
 no_lf_behind spells_none text events place begins bad line (b ∷ rest) split in_line behind =
     let more = begins.0 in
-    let longer : bad.rest ++ more ≡ line ++ (b ∷ (rest ++ more)) = ap (λ (l : List ℕ). l ++ more) split ∙ append_assoc line (b ∷ rest) more in
+    let longer : bad.rest ++ more ≡ line ++ (b ∷ (rest ++ more)) = ap (λ (l : List ℕ). l ++ more) split
+    ∙ append_assoc line (b ∷ rest) more in
     let same : front_word (bad.rest ++ more) ≡ front_word bad.rest =
     ap (λ (l : List ℕ). front_word l) longer
-    ∙ (front_cut line (b ∷ (rest ++ more)) behind ∙ (sym (front_cut line (b ∷ rest) behind) ∙ ap (λ (l : List ℕ). front_word l) (sym split))) in
+    ∙ (front_cut line (b ∷ (rest ++ more)) behind
+    ∙ (sym (front_cut line (b ∷ rest) behind) ∙ ap (λ (l : List ℕ). front_word l) (sym split))) in
     absurd
     (
     spells_none (text ++ more) begins.1 events place begins.2
@@ -79,14 +87,16 @@ tally_of counts = record { packets = capped counts.packets; refusals = capped (c
 tally_of_is : (counts : CountsData) → IsTallyOf counts.packets (counts.refusals + counts.bad_tokens) (tally_of counts)
 tally_of_is counts = record { packets_counted = refl; refusals_counted = refl }
 
-module _ (choice : ChoiceData) (profile : List DeviceParts) (after : BadWords) (bytes text : List ℕ) where
+module _ (choice : ChoiceData) (profile : List DeviceParts) (after : AfterBadToken) (bytes text : List ℕ) where
   -- the text is the beginning of what is written for the bytes
   abbrev pub WritesMore : Type 0
   WritesMore = (rest : List ℕ) × (tally : Tally) × WritesJson choice profile after bytes (text ++ rest) tally
 
   -- The bytes end in a bad line, and some of its objects are out.
-  ends_bad : (Holds : Before → List ℕ → List ℕ → Type 0) (behind : Behind choice profile after Holds bytes text) (bad : BadLine) (out left : List Object)
-      → behind.used ≡ bad.front ++ bad.line → IsBadLine choice profile behind.b bad → out ++ left ≡ bad_line_objects choice profile behind.b bad
+  ends_bad : (Holds : Before → List ℕ → List ℕ → Type 0) (behind : Behind choice profile after Holds bytes text)
+      (bad : BadLine) (out left : List Object)
+      → behind.used ≡ bad.front ++ bad.line → IsBadLine choice profile behind.b bad
+      → out ++ left ≡ bad_line_objects choice profile behind.b bad
       → behind.put ≡ object_lines choice.devices out → WritesMore
   ends_bad Holds behind bad out left used_are is_bad both put_are =
       let counts = (behind_line behind.b bad).counts in
@@ -97,14 +107,17 @@ module _ (choice : ChoiceData) (profile : List DeviceParts) (after : BadWords) (
       let lines_are : behind.put ++ said ≡ lines (bad_line_objects choice profile behind.b bad ++ end_objects counts) =
       ap (λ (l : List ℕ). l ++ said) put_are
       ∙ (sym (lines_append choice.devices out (left ++ end_objects counts))
-      ∙ ap lines (sym (append_assoc out left (end_objects counts)) ∙ ap (λ (l : List Object). l ++ end_objects counts) both)) in (
+      ∙ ap lines (sym (append_assoc out left (end_objects counts))
+      ∙ ap (λ (l : List Object). l ++ end_objects counts) both)) in (
         said,
         tally_of counts,
         subst (λ (l : List ℕ). WritesJson choice profile after l (text ++ said) (tally_of counts)) (append-nil bytes)
-            (writes_bad_line choice profile after Holds bytes text behind [] said bad [] (tally_of counts) bytes_are is_bad tt (inr refl) lines_are (tally_of_is counts)),
+            (writes_bad_line choice profile after Holds bytes text behind [] said bad []
+            (tally_of counts) bytes_are is_bad tt (inr refl) lines_are (tally_of_is counts)),
       )
 
-  module _ (scan : Scan) (stream : Stream) (behind : Behind choice profile after (InWords choice profile scan stream) bytes text) (move : MovesSpans) where
+  module _ (scan : Scan) (stream : Stream)
+      (behind : Behind choice profile after (InWords choice profile scan stream) bytes text) (move : MovesSpans) where
     -- They spell events, of which some were not told.
     ends_read : (events : List Event) (others : List Span) → Spells behind.holds.reached.text events
         → Spans behind.holds.reached.profile events (behind.holds.reached.spans ++ others) → WritesMore
@@ -115,23 +128,38 @@ module _ (choice : ChoiceData) (profile : List DeviceParts) (after : BadWords) (
         let told = words.told.told b words.begins in
         let same = under choice profile b scan stream behind.used behind.put words there behind.put stream told in
         let counts = after_spans b.counts (there.spans ++ others) in
-        let said = object_lines choice.devices (span_objects choice profile (event_place b.read b.n there.text) (b.ts ++ transactions_in there.spans) (moved_spans b.n others) ++ end_objects counts) in
-        let reads = reads_on choice profile b scan stream behind.used behind.put words there events others behind.put said words.is_text
-        (lines_by choice profile b scan stream behind.used behind.put words there behind.put stream told) (subst (λ (l : List ℕ). Spells l events) words.is_text spells)
-        (read_from choice profile b there.profile events (there.spans ++ others) move same spans) refl in
-        (said, tally_of counts, ends_json choice profile after _ bytes text said counts (tally_of counts) behind reads (tally_of_is counts))
+        let said = object_lines choice.devices (span_objects choice profile (event_place b.read b.n there.text)
+        (b.ts ++ transactions_in there.spans) (moved_spans b.n others) ++ end_objects counts) in
+        let reads = reads_on choice profile b scan stream behind.used behind.put words there events others behind.put
+        said words.is_text
+        (lines_by choice profile b scan stream behind.used behind.put words there behind.put stream told)
+        (subst (λ (l : List ℕ). Spells l events) words.is_text spells)
+        (read_from choice profile b there.profile events (there.spans ++ others) move same spans) refl in (
+          said,
+          tally_of counts,
+          ends_json choice profile after _ bytes text said counts (tally_of counts) behind reads
+              (tally_of_is counts),
+        )
 
     -- Their last word is no token.
-    ends_in_word : SpellsNoBadWord → (last : List Span) (place : ℕ) → EndsWith behind.holds.reached last → FirstBadWord behind.holds.reached.text behind.holds.reached.events place → WritesMore
+    ends_in_word : SpellsNoBadWord → (last : List Span) (place : ℕ) → EndsWith behind.holds.reached last
+        → FirstBadWord behind.holds.reached.text behind.holds.reached.events place → WritesMore
     ends_in_word spells_none last place end first =
         let b = behind.b in
         let words = behind.holds in
         let there = words.reached in
         let told = words.told.told b words.begins in
         let same = under choice profile b scan stream behind.used behind.put words there behind.put stream told in
-        let bad : BadLine = record { front = first.front; events = there.events; spans = moved_spans b.n there.spans; line = first.rest } in
+        let bad : BadLine = record {
+          front = first.front;
+          events = there.events;
+          spans =
+              moved_spans b.n there.spans;
+          line = first.rest;
+        } in
         let cut = split_line first.rest in
-        ends_bad _ behind bad (front_objects choice profile b bad) (word_object choice profile b bad ∷ []) (sym words.is_text ∙ first.split)
+        ends_bad _ behind bad (front_objects choice profile b bad) (word_object choice profile b bad ∷ [])
+        (sym words.is_text ∙ first.split)
         (record {
           word = record {
             front = first.front;
@@ -143,38 +171,49 @@ module _ (choice : ChoiceData) (profile : List DeviceParts) (after : BadWords) (
             word = first.word;
             no_token = first.no_token;
           };
-          in_line = no_lf_behind spells_none there.text there.events place words.scans.lexer.begins first cut.line cut.rest cut.split cut.in_line cut.behind;
+          in_line = no_lf_behind spells_none there.text there.events place words.scans.lexer.begins first cut.line
+              cut.rest cut.split cut.in_line cut.behind;
           all = moved_spans b.n (there.spans ++ last);
           reads = met_reads choice profile b there last move same end;
           reported = met_whole choice profile b.n there last end;
         })
         refl
         (lines_by choice profile b scan stream behind.used behind.put words there behind.put stream told []
-        ∙ ap (λ (l : List ℕ). object_lines choice.devices (span_objects choice profile (event_place b.read b.n l) b.ts (moved_spans b.n there.spans))) (append-nil there.text ∙ first.split))
+        ∙ ap (λ (l : List ℕ). object_lines choice.devices
+        (span_objects choice profile (event_place b.read b.n l) b.ts (moved_spans b.n there.spans)))
+        (append-nil there.text ∙ first.split))
 
     -- The bytes end in words that may be tokens.
     ends_in_words : SpellsNoBadWord → (last : List Span) → EndsWith behind.holds.reached last
-        → ((rest : List Event) → (others : List Span) × Spans behind.holds.reached.profile (behind.holds.reached.events ++ rest) (behind.holds.reached.spans ++ others))
+        → ((rest : List Event) → (others : List Span) × Spans behind.holds.reached.profile
+        (behind.holds.reached.events ++ rest) (behind.holds.reached.spans ++ others))
         → EndsInLastWord behind.holds.reached.text behind.holds.reached.events → WritesMore
-    ends_in_words spells_none last end follows (inl spells) = ends_read behind.holds.reached.events last spells end.spans
+    ends_in_words spells_none last end follows (inl spells) =
+        ends_read behind.holds.reached.events last spells end.spans
     ends_in_words spells_none last end follows (inr (inl one)) =
         let others = follows (one.0 ∷ []) in
         ends_read (behind.holds.reached.events ++ one.0 ∷ []) others.0 one.1 others.1
     ends_in_words spells_none last end follows (inr (inr bad)) = ends_in_word spells_none last bad.0 end bad.1
 
 -- wherever they end
-pub ends_in : (inside : Inside) (start now : Json) (bytes text : List ℕ) → MovesSpans → SpellsNoBadWord → ((text : List ℕ) (events : List Event) → EndedWordsSpell text events → EndsInLastWord text events)
-    → ((reached : Reached) → reached.profile ≡ json_profile start → HasRead now.scan reached → (last : List Span) × EndsWith reached last)
-    → ((reached : Reached) (rest : List Event) → reached.profile ≡ json_profile start → HasRead now.scan reached → (others : List Span) × Spans reached.profile (reached.events ++ rest) (reached.spans ++ others))
-    → StandsIn inside start now bytes text → WritesMore (json_choice start) (json_profile start) (json_bad_words start) bytes text
+pub ends_in : (inside : EngineState) (start now : Json) (bytes text : List ℕ) → MovesSpans → SpellsNoBadWord
+    → ((text : List ℕ) (events : List Event) → EndedWordsSpell text events → EndsInLastWord text events)
+    → ((reached : Reached) → reached.profile ≡ json_profile start → HasRead now.scan reached
+    → (last : List Span) × EndsWith reached last)
+    → ((reached : Reached) (rest : List Event) → reached.profile ≡ json_profile start → HasRead now.scan reached
+    → (others : List Span) × Spans reached.profile (reached.events ++ rest) (reached.spans ++ others))
+    → StandsIn inside start now bytes text → WritesMore (json_choice start) (json_profile start)
+    (json_bad_words start) bytes text
 ends_in Words start now bytes text move spells_none last_word ends follows stands =
     let behind = stands.behind in
     let words = behind.holds in
     let there = words.reached in
     let told = words.told.told behind.b words.begins in
-    let same = under (json_choice start) (json_profile start) behind.b now.scan now.stream behind.used behind.put words there behind.put now.stream told in
+    let same = under (json_choice start) (json_profile start) behind.b now.scan now.stream behind.used behind.put words
+    there behind.put now.stream told in
     let end = ends there same words.scans.reader in
-    ends_in_words (json_choice start) (json_profile start) (json_bad_words start) bytes text now.scan now.stream behind move spells_none end.0 end.1
+    ends_in_words (json_choice start) (json_profile start) (json_bad_words start) bytes text now.scan now.stream behind
+    move spells_none end.0 end.1
     (λ rest. follows there rest same words.scans.reader) (last_word there.text there.events words.scans.lexer.ended)
 ends_in BadWord start now bytes text move spells_none last_word ends follows stands =
     let choice = json_choice start in
@@ -182,15 +221,19 @@ ends_in BadWord start now bytes text move spells_none last_word ends follows sta
     let behind = stands.behind in
     let has = behind.holds.word in
     let bad = longer_line has.bad [] in
-    ends_bad choice profile (json_bad_words start) bytes text _ behind bad (front_objects choice profile behind.b bad) (word_object choice profile behind.b bad ∷ [])
+    ends_bad choice profile (json_bad_words start) bytes text _ behind bad (front_objects choice profile behind.b bad)
+    (word_object choice profile behind.b bad ∷ [])
     (has.is_text ∙ ap (λ (l : List ℕ). has.bad.front ++ l) (sym (append-nil has.bad.line)))
-    (bad_line_now choice profile behind.b has.bad has.so_far (solid_no_lf has.bad.line has.under_way)) refl (has.lines [])
+    (bad_line_now choice profile behind.b has.bad has.so_far (solid_no_lf has.bad.line has.under_way)) refl
+    (has.lines [])
 ends_in InLine start now bytes text move spells_none last_word ends follows stands =
     let choice = json_choice start in
     let profile = json_profile start in
     let behind = stands.1.behind in
     let has = behind.holds in
     let bad = longer_line has.bad [] in
-    ends_bad choice profile (json_bad_words start) bytes text _ behind bad (bad_line_objects choice profile behind.b bad) []
+    ends_bad choice profile (json_bad_words start) bytes text _ behind bad
+    (bad_line_objects choice profile behind.b bad) []
     (has.is_text ∙ ap (λ (l : List ℕ). has.bad.front ++ l) (sym (append-nil has.bad.line)))
-    (bad_line_now choice profile behind.b has.bad has.so_far has.in_line) (append-nil (bad_line_objects choice profile behind.b bad)) (has.lines [] [] [] refl tt)
+    (bad_line_now choice profile behind.b has.bad has.so_far has.in_line)
+    (append-nil (bad_line_objects choice profile behind.b bad)) (has.lines [] [] [] refl tt)

@@ -2,94 +2,115 @@
 use Rattle.std.proofs.Common.{◌≡◌, ◌⊎◌, ℕ, inl, inr, List, [], ◌++◌, length, refl, sym, ap, subst, ◌∙◌, append-nil}
 use Rattle.pmb_bus.specs.Text.{BeginsText, FirstBadWord}
 use Rattle.pmb_command.specs.Parts.{DeviceParts}
-use Rattle.pmb_json.specs.declared.bad_words.BadWords.{BadWords}
-use Rattle.pmb_json.specs.declared.bad_words.BadWords.TheVariants.{End, GoOn}
-use Rattle.pmb_json.specs.declared.engine.Inside.{Inside}
-use Rattle.pmb_json.specs.declared.engine.Inside.TheVariants.{Words, BadWord, BadLine as InLine}
+use Rattle.pmb_json.specs.declared.after_bad_token.AfterBadToken.{AfterBadToken}
+use Rattle.pmb_json.specs.declared.after_bad_token.AfterBadToken.TheVariants.{End, GoOn}
+use Rattle.pmb_json.specs.declared.engine.EngineState.{EngineState}
+use Rattle.pmb_json.specs.declared.engine.EngineState.TheVariants.{Words, BadWord, BadLine as InLine}
 use Rattle.pmb_json.specs.declared.engine.Json.{Json}
 use Rattle.pmb_json.specs.Json.{EndsInShortBadWord, IsOpenJson}
 use Rattle.pmb_json.specs.SoFar.{HasWrittenJson}
 use Rattle.pmb_json.specs.Text.{BadLine, IsBadLine, bad_line_objects, front_objects}
-use Rattle.pmb_json.specs.machine.Standing.{IsBadSoFar, StandsIn, json_bad_words, json_choice, json_profile, longer_line}
+use Rattle.pmb_json.specs.machine.Standing.{IsBadSoFar, StandsIn, json_bad_words, json_choice, json_profile}
+use Rattle.pmb_json.specs.machine.Standing.{longer_line}
 use Rattle.pmb_json.proofs.Leading.{bad_line_is, has_bad_line, has_written}
 use Rattle.pmb_json.proofs.Reading.{MovesSpans, reads_so_far, under}
 use Rattle.pmb_json.proofs.Words.{solid_no_lf}
 use Rattle.pmb_io.specs.Lines.{HasNoLf}
-use Rattle.pmb_objects.specs.Object.{object_lines}
+use Rattle.pmb_json_objects.specs.Object.{object_lines}
 use Rattle.pmb_scan.specs.Reached.{EndsWith, Reached}
 use Rattle.pmb_scan.specs.Scan.{HasRead}
 use Rattle.pmb_spans.specs.Spans.{Span}
-use Rattle.pmb_stream.specs.Before.{Before}
-use Rattle.pmb_stream.specs.Choice.{ChoiceData}
+use Rattle.pmb_json_stream.specs.Before.{Before}
+use Rattle.pmb_json_stream.specs.Choice.{ChoiceData}
 
 -- no bytes more
 pub same_line : (bad : BadLine) → longer_line bad [] ≡ bad
 same_line bad = ap (λ (l : List ℕ). record bad { line = l }) (append-nil bad.line)
 
 -- a bad line so far is one where nothing follows
-pub bad_line_now : (choice : ChoiceData) (profile : List DeviceParts) (b : Before) (bad : BadLine) → IsBadSoFar choice profile b bad [] → HasNoLf bad.line → IsBadLine choice profile b (longer_line bad [])
-bad_line_now choice profile b bad so_far in_line = bad_line_is choice profile b bad [] [] [] [] so_far refl in_line tt tt
+pub bad_line_now : (choice : ChoiceData) (profile : List DeviceParts) (b : Before) (bad : BadLine)
+    → IsBadSoFar choice profile b bad [] → HasNoLf bad.line → IsBadLine choice profile b (longer_line bad [])
+bad_line_now choice profile b bad so_far in_line =
+    bad_line_is choice profile b bad [] [] [] [] so_far refl in_line tt tt
 
-pub so_far_in : (inside : Inside) (start now : Json) (bytes text : List ℕ) → MovesSpans
-    → ((reached : Reached) → reached.profile ≡ json_profile start → HasRead now.scan reached → (last : List Span) × EndsWith reached last)
-    → StandsIn inside start now bytes text → HasWrittenJson (json_choice start) (json_profile start) (json_bad_words start) bytes text
+pub so_far_in : (inside : EngineState) (start now : Json) (bytes text : List ℕ) → MovesSpans
+    → ((reached : Reached) → reached.profile ≡ json_profile start → HasRead now.scan reached
+    → (last : List Span) × EndsWith reached last)
+    → StandsIn inside start now bytes text → HasWrittenJson (json_choice start) (json_profile start)
+    (json_bad_words start) bytes text
 so_far_in Words start now bytes text move ends stands =
     let behind = stands.behind in
     let words = behind.holds in
     let told = words.told.told behind.b words.begins in
-    let same = under (json_choice start) (json_profile start) behind.b now.scan now.stream behind.used behind.put words words.reached behind.put now.stream told in
+    let same = under (json_choice start) (json_profile start) behind.b now.scan now.stream behind.used behind.put words
+    words.reached behind.put now.stream told in
     let end = ends words.reached same words.scans.reader in
-    let reads = reads_so_far (json_choice start) (json_profile start) behind.b now.scan now.stream behind.used behind.put words end.0 move end.1 in
-    has_written (json_choice start) (json_profile start) (json_bad_words start) _ bytes text behind [] reads.0 reads.1 reads.2
+    let reads = reads_so_far (json_choice start) (json_profile start) behind.b now.scan now.stream behind.used
+    behind.put words end.0 move end.1 in
+    has_written (json_choice start) (json_profile start) (json_bad_words start) _ bytes text behind [] reads.0 reads.1
+    reads.2
 so_far_in BadWord start now bytes text move ends stands =
     let choice = json_choice start in
     let behind = stands.behind in
     let has = behind.holds.word in
     let is_bad = subst (λ (l : BadLine). IsBadLine choice (json_profile start) behind.b l) (same_line has.bad)
     (bad_line_now choice (json_profile start) behind.b has.bad has.so_far (solid_no_lf has.bad.line has.under_way)) in
-    has_bad_line choice (json_profile start) (json_bad_words start) _ bytes text behind has.bad (front_objects choice (json_profile start) behind.b has.bad) has.is_text is_bad (λ none. has.so_far.word)
+    has_bad_line choice (json_profile start) (json_bad_words start) _ bytes text behind has.bad
+    (front_objects choice (json_profile start) behind.b has.bad) has.is_text is_bad (λ none. has.so_far.word)
     (inl ((refl, has.under_way, behind.holds.short refl), refl))
-    (has.lines [] ∙ ap (λ (l : BadLine). object_lines choice.devices (front_objects choice (json_profile start) behind.b l)) (same_line has.bad))
+    (has.lines [] ∙ ap (λ (l : BadLine). object_lines choice.devices
+    (front_objects choice (json_profile start) behind.b l)) (same_line has.bad))
 so_far_in InLine start now bytes text move ends stands =
     let choice = json_choice start in
     let behind = stands.1.behind in
     let has = behind.holds in
     let is_bad = subst (λ (l : BadLine). IsBadLine choice (json_profile start) behind.b l) (same_line has.bad)
     (bad_line_now choice (json_profile start) behind.b has.bad has.so_far has.in_line) in
-    has_bad_line choice (json_profile start) (json_bad_words start) _ bytes text behind has.bad (bad_line_objects choice (json_profile start) behind.b has.bad) has.is_text is_bad (λ none. has.so_far.word)
+    has_bad_line choice (json_profile start) (json_bad_words start) _ bytes text behind has.bad
+    (bad_line_objects choice (json_profile start) behind.b has.bad) has.is_text is_bad (λ none. has.so_far.word)
     (inr (λ under_way. has.over has.bad.line [] (sym (append-nil has.bad.line)) under_way.1 under_way.2, refl))
-    (has.lines [] [] [] refl tt ∙ ap (λ (l : BadLine). object_lines choice.devices (bad_line_objects choice (json_profile start) behind.b l)) (same_line has.bad))
+    (has.lines [] [] [] refl tt ∙ ap (λ (l : BadLine). object_lines choice.devices
+    (bad_line_objects choice (json_profile start) behind.b l)) (same_line has.bad))
 
 -- ---- where more is wanted
 
-is_open : (after : BadWords) (bytes : List ℕ) → (after ≡ End → BeginsText bytes ⊎ EndsInShortBadWord bytes) → IsOpenJson after bytes
+is_open : (after : AfterBadToken) (bytes : List ℕ) → (after ≡ End → BeginsText bytes ⊎ EndsInShortBadWord bytes)
+    → IsOpenJson after bytes
 is_open End bytes opens = opens refl
 is_open GoOn bytes opens = tt
 
 -- where reading ends at bad words all bytes stand after the first
-from_first : (after : BadWords) (read used bytes : List ℕ) → after ≡ End → (read ≡ []) ⊎ (after ≡ GoOn) → bytes ≡ read ++ used → bytes ≡ used
+from_first : (after : AfterBadToken) (read used bytes : List ℕ) → after ≡ End → (read ≡ []) ⊎ (after ≡ GoOn)
+    → bytes ≡ read ++ used → bytes ≡ used
 from_first after read used bytes ends (inl none) is = is ∙ ap (λ (l : List ℕ). l ++ used) none
 from_first after read used bytes ends (inr goes) is = let differ : End ≡ GoOn = sym ends ∙ goes in absurd (cc differ)
 
-pub opens_in : (inside : Inside) (start now : Json) (bytes text : List ℕ) → StandsIn inside start now bytes text → IsOpenJson (json_bad_words start) bytes
+pub opens_in : (inside : EngineState) (start now : Json) (bytes text : List ℕ) → StandsIn inside start now bytes text
+    → IsOpenJson (json_bad_words start) bytes
 opens_in Words start now bytes text stands =
     let behind = stands.behind in
     let words = behind.holds in
     is_open (json_bad_words start) bytes (λ ends.
-    inl (subst (λ (l : List ℕ). BeginsText l) (words.is_text ∙ sym (from_first (json_bad_words start) behind.b.read behind.used bytes ends behind.first behind.bytes_are)) words.scans.lexer.begins))
+    inl (subst (λ (l : List ℕ). BeginsText l)
+    (words.is_text ∙ sym (from_first (json_bad_words start) behind.b.read behind.used bytes ends behind.first
+    behind.bytes_are)) words.scans.lexer.begins))
 opens_in BadWord start now bytes text stands =
     let behind = stands.behind in
     let has = behind.holds.word in
     let bad = has.bad in
     is_open (json_bad_words start) bytes (λ ends.
-    let split : bytes ≡ bad.front ++ bad.line = from_first (json_bad_words start) behind.b.read behind.used bytes ends behind.first behind.bytes_are ∙ has.is_text in
+    let split : bytes ≡ bad.front ++ bad.line =
+    from_first (json_bad_words start) behind.b.read behind.used bytes ends behind.first behind.bytes_are
+    ∙ has.is_text in
     inr (record {
       front = bad.front;
       word = bad.line;
       events = bad.events;
       split = split;
-      bad = subst (λ (l : List ℕ). FirstBadWord l bad.events (length bad.front)) (ap (λ (l : List ℕ). bad.front ++ l) (append-nil bad.line) ∙ sym split) (has.so_far.word []);
+      bad = subst (λ (l : List ℕ). FirstBadWord l bad.events (length bad.front))
+          (ap (λ (l : List ℕ). bad.front ++ l) (append-nil bad.line) ∙ sym split) (has.so_far.word []);
       under_way = has.under_way;
       short = behind.holds.short refl;
     }))
-opens_in InLine start now bytes text stands = is_open (json_bad_words start) bytes (λ ends. let differ : End ≡ GoOn = sym ends ∙ stands.0 in absurd (cc differ))
+opens_in InLine start now bytes text stands = is_open (json_bad_words start) bytes
+    (λ ends. let differ : End ≡ GoOn = sym ends ∙ stands.0 in absurd (cc differ))

@@ -1,5 +1,6 @@
 -- A word that is no token, and the rest of its line.
-use Rattle.std.proofs.Common.{◌≡◌, ◌≢◌, ℕ, ◌+◌, ◌<◌, true, inl, inr, None, List, [], ◌∷◌, ◌++◌, length, take, refl, sym, ap, subst, ◌∙◌, append-nil, arith, length-append}
+use Rattle.std.proofs.Common.{◌≡◌, ◌≢◌, ℕ, ◌+◌, ◌<◌, true, inl, inr, None, List, [], ◌∷◌, ◌++◌, length, take, refl, sym}
+use Rattle.std.proofs.Common.{ap, subst, ◌∙◌, append-nil, arith, length-append}
 use Rattle.std.proofs.lemmas.Bool.{cases_Bool, cases_eq}
 use Rattle.std.proofs.lemmas.List.{take-append-le}
 use Rattle.pmb_bus.specs.declared.event.Event.{Event}
@@ -22,7 +23,8 @@ front_cut [] (b ∷ rest) is = ends_at_lf b rest is
 front_cut (x ∷ line) rest is =
     elim (cases_Bool (ends_word x)) [
       | inl ends ↦ front_ends x (line ++ rest) ends ∙ sym (front_ends x line ends)
-      | inr keeps ↦ front_keeps x (line ++ rest) keeps ∙ (ap (λ (l : List ℕ). x ∷ l) (front_cut line rest is) ∙ sym (front_keeps x line keeps))
+      | inr keeps ↦ front_keeps x (line ++ rest) keeps
+          ∙ (ap (λ (l : List ℕ). x ∷ l) (front_cut line rest is) ∙ sym (front_keeps x line keeps))
     ]
 
 -- bytes up to a LF, and what stands after
@@ -40,15 +42,24 @@ split_line (b ∷ bytes) =
       | inl lf ↦ record { line = []; rest = b ∷ bytes; split = refl; in_line = tt; behind = lf }
       | inr other ↦
           let more = split_line bytes in
-          record { line = b ∷ more.line; rest = more.rest; split = ap (λ (l : List ℕ). b ∷ l) more.split; in_line = (other, more.in_line); behind = more.behind }
+          record {
+            line = b ∷ more.line;
+            rest = more.rest;
+            split = ap (λ (l : List ℕ). b ∷ l) more.split;
+            in_line =
+                (other, more.in_line);
+            behind = more.behind;
+          }
     ]
 
 -- ---- what is told of a word
 
 -- of which no more is told, it stays so
-pub told_for_good : (word at_hand more : List ℕ) → front_word word ≡ word → IsOver word at_hand → take 32 (front_word (word ++ (at_hand ++ more))) ≡ take 32 word
+pub told_for_good : (word at_hand more : List ℕ) → front_word word ≡ word → IsOver word at_hand
+    → take 32 (front_word (word ++ (at_hand ++ more))) ≡ take 32 word
 told_for_good word at_hand more solid (inl ended) =
-    ap (take 32) (solid_then word (at_hand ++ more) solid ∙ (ap (λ (l : List ℕ). word ++ l) (front_none at_hand more ended.0 ended.1) ∙ append-nil word))
+    ap (take 32) (solid_then word (at_hand ++ more) solid
+    ∙ (ap (λ (l : List ℕ). word ++ l) (front_none at_hand more ended.0 ended.1) ∙ append-nil word))
 told_for_good word at_hand more solid (inr full) =
     ap (take 32) (solid_then word (at_hand ++ more) solid) ∙ take-append-le 32 word (front_word (at_hand ++ more)) full
 
@@ -57,16 +68,20 @@ some_bytes [] some = absurd (some refl)
 some_bytes (b ∷ bytes) some = omega arith
 
 -- and it is not under way any more
-pub never_under_way : (word at_hand more whole : List ℕ) → front_word word ≡ word → IsOver word at_hand → whole ≡ word ++ (at_hand ++ more) → front_word whole ≡ whole → length whole < 32 → ⊥
+pub never_under_way : (word at_hand more whole : List ℕ) → front_word word ≡ word → IsOver word at_hand
+    → whole ≡ word ++ (at_hand ++ more) → front_word whole ≡ whole → length whole < 32 → ⊥
 never_under_way word at_hand more whole solid (inl ended) is under_way few =
     let told : front_word whole ≡ word =
-    ap (λ (l : List ℕ). front_word l) is ∙ (solid_then word (at_hand ++ more) solid ∙ (ap (λ (l : List ℕ). word ++ l) (front_none at_hand more ended.0 ended.1) ∙ append-nil word)) in
+    ap (λ (l : List ℕ). front_word l) is ∙ (solid_then word (at_hand ++ more) solid
+    ∙ (ap (λ (l : List ℕ). word ++ l) (front_none at_hand more ended.0 ended.1) ∙ append-nil word)) in
     let same : length whole ≡ length word = ap (λ (l : List ℕ). length l) (sym under_way ∙ told) in
     let lengths : length whole ≡ length word + (length at_hand + length more) =
-    ap (λ (l : List ℕ). length l) is ∙ (length-append word (at_hand ++ more) ∙ ap (λ (n : ℕ). length word + n) (length-append at_hand more)) in
+    ap (λ (l : List ℕ). length l) is ∙ (length-append word (at_hand ++ more)
+    ∙ ap (λ (n : ℕ). length word + n) (length-append at_hand more)) in
     omega (arith, some_bytes at_hand ended.0)
 never_under_way word at_hand more whole solid (inr full) is under_way few =
-    let lengths : length whole ≡ length word + length (at_hand ++ more) = ap (λ (l : List ℕ). length l) is ∙ length-append word (at_hand ++ more) in
+    let lengths : length whole ≡ length word + length (at_hand ++ more) = ap (λ (l : List ℕ). length l) is
+    ∙ length-append word (at_hand ++ more) in
     omega (arith, full)
 
 -- ---- the first bad word
@@ -90,7 +105,8 @@ pub record IsBadBehind (front rest : List ℕ) (events : List Event) : Type 0 wh
   pub word : is_word (front_word rest) ≡ true
   pub no_token : event_of (front_word rest) ≡ None
 
-pub behind_front : (front rest : List ℕ) (events : List Event) → FirstBadWord (front ++ rest) events (length front) → IsBadBehind front rest events
+pub behind_front : (front rest : List ℕ) (events : List Event) → FirstBadWord (front ++ rest) events (length front)
+    → IsBadBehind front rest events
 behind_front front rest events bad =
     let same = same_split bad.front front bad.rest rest (sym bad.split) bad.at in record {
       between = subst (λ (f : List ℕ). EndsBetween f) same.0 bad.between;
@@ -99,7 +115,8 @@ behind_front front rest events bad =
       no_token = subst (λ (r : List ℕ). event_of (front_word r) ≡ None) same.1 bad.no_token;
     }
 
-pub bad_behind : (front rest : List ℕ) (events : List Event) → IsBadBehind front rest events → FirstBadWord (front ++ rest) events (length front)
+pub bad_behind : (front rest : List ℕ) (events : List Event) → IsBadBehind front rest events
+    → FirstBadWord (front ++ rest) events (length front)
 bad_behind front rest events bad = record {
   front = front;
   rest = rest;
@@ -112,7 +129,8 @@ bad_behind front rest events bad = record {
 }
 
 -- it is bad in its line alone
-pub bad_in_line : (front line rest : List ℕ) (events : List Event) → IsBehindLine rest → FirstBadWord (front ++ (line ++ rest)) events (length front) → FirstBadWord (front ++ line) events (length front)
+pub bad_in_line : (front line rest : List ℕ) (events : List Event) → IsBehindLine rest
+    → FirstBadWord (front ++ (line ++ rest)) events (length front) → FirstBadWord (front ++ line) events (length front)
 bad_in_line front line rest events is bad =
     let whole = behind_front front (line ++ rest) events bad in
     let same = front_cut line rest is in

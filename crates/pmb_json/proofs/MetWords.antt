@@ -1,5 +1,6 @@
 -- A word that is no token: where it is met, how it goes on, and what is put out of it.
-use Rattle.std.proofs.Common.{◌≡◌, ℕ, ◌+◌, true, List, [], ◌∷◌, ◌++◌, filter, length, take, refl, sym, ap, subst, ◌∙◌, add-zero, append_assoc, append-nil, arith, length-append}
+use Rattle.std.proofs.Common.{◌≡◌, ℕ, ◌+◌, true, List, [], ◌∷◌, ◌++◌, filter, length, take, refl, sym, ap, subst, ◌∙◌}
+use Rattle.std.proofs.Common.{add-zero, append_assoc, append-nil, arith, length-append}
 use Rattle.std.proofs.lemmas.List.Elements.{filter-append}
 use Rattle.pmb_bus.specs.declared.event.Event.{Event}
 use Rattle.pmb_bus.specs.LexFault.{OpenWordIsBad}
@@ -8,37 +9,42 @@ use Rattle.pmb_command.specs.Parts.{DeviceParts}
 use Rattle.pmb_io.specs.Count.{capped}
 use Rattle.pmb_io.specs.Lines.{HasNoLf}
 use Rattle.pmb_json.specs.Text.{BadLine, bad_line_objects, behind_line, front_objects, word_object}
-use Rattle.pmb_json.specs.machine.Standing.{HasBadWord, InBadLine, IsBadSoFar, behind_bytes, behind_object, last_word_objects, longer_line}
+use Rattle.pmb_json.specs.machine.Standing.{HasBadWord, InBadLine, IsBadSoFar, behind_bytes, behind_object}
+use Rattle.pmb_json.specs.machine.Standing.{last_word_objects, longer_line}
 use Rattle.pmb_json.proofs.Lines.{behind_front}
 use Rattle.pmb_json.proofs.Objects.{counts_moved, lines_append, transactions_moved, whole_moved}
 use Rattle.pmb_json.proofs.Words.{no_lf_append, solid_both}
-use Rattle.pmb_objects.specs.BadToken.{bad_token_object}
-use Rattle.pmb_objects.specs.Counts.{CountsData, end_objects}
-use Rattle.pmb_objects.specs.Object.{Object, object_lines}
+use Rattle.pmb_json_objects.specs.BadToken.{bad_token_object}
+use Rattle.pmb_json_objects.specs.Counts.{CountsData, end_objects}
+use Rattle.pmb_json_objects.specs.Object.{Object, object_lines}
 use Rattle.pmb_places.specs.declared.places.Place.{Place}
 use Rattle.pmb_places.specs.Places.{place_behind, place_of_last_word}
 use Rattle.pmb_scan.specs.Reached.{EndsWith, Reached}
 use Rattle.pmb_spans.specs.Spans.{Span, Spans, SpansFrom, is_whole, moved_spans}
-use Rattle.pmb_stream.specs.declared.stream.Stream.{Stream}
-use Rattle.pmb_stream.specs.Before.{Before, with_bytes, with_reached}
-use Rattle.pmb_stream.specs.Choice.{ChoiceData}
-use Rattle.pmb_stream.specs.Spans.{after_spans, event_place, span_objects, transactions_in}
-use Rattle.pmb_stream.specs.Stream.{AreLinesOf, StreamKnows}
+use Rattle.pmb_json_stream.specs.declared.stream.Stream.{Stream}
+use Rattle.pmb_json_stream.specs.Before.{Before, with_bytes, with_reached}
+use Rattle.pmb_json_stream.specs.Choice.{ChoiceData}
+use Rattle.pmb_json_stream.specs.Spans.{after_spans, event_place, span_objects, transactions_in}
+use Rattle.pmb_json_stream.specs.Stream.{AreLinesOf, StreamKnows}
 use Rattle.pmb_transaction.specs.Transaction.{TransactionData}
 
 -- ---- what a stream knows, said otherwise
 
-pub knows_as : (read other : List ℕ) (n : ℕ) (ts us : List TransactionData) (c d : CountsData) (stream : Stream) → read ≡ other → ts ≡ us → c ≡ d
-    → StreamKnows (record { read = read; n = n; ts = ts; counts = c }) stream → StreamKnows (record { read = other; n = n; ts = us; counts = d }) stream
+pub knows_as : (read other : List ℕ) (n : ℕ) (ts us : List TransactionData) (c d : CountsData) (stream : Stream)
+    → read ≡ other → ts ≡ us → c ≡ d
+    → StreamKnows (record { read = read; n = n; ts = ts; counts = c }) stream
+    → StreamKnows (record { read = other; n = n; ts = us; counts = d }) stream
 knows_as read other n ts us c d stream reads transactions counts knows =
     subst (λ (r : List ℕ). StreamKnows (record { read = r; n = n; ts = us; counts = d }) stream) reads
-    (subst (λ (t : List TransactionData). StreamKnows (record { read = read; n = n; ts = t; counts = d }) stream) transactions
+    (subst (λ (t : List TransactionData). StreamKnows (record { read = read; n = n; ts = t; counts = d }) stream)
+    transactions
     (subst (λ (e : CountsData). StreamKnows (record { read = read; n = n; ts = ts; counts = e }) stream) counts knows))
 
 -- ---- its object
 
 -- at most 32 bytes are told
-object_same : (at : ℕ) (place : Place) (word other : List ℕ) → take 32 word ≡ take 32 other → bad_token_object at place word ≡ bad_token_object at place other
+object_same : (at : ℕ) (place : Place) (word other : List ℕ) → take 32 word ≡ take 32 other
+    → bad_token_object at place word ≡ bad_token_object at place other
 object_same at place word other same = rw same refl
 
 -- where it stands, by what is under way
@@ -53,107 +59,154 @@ some_told [] [] same some = some
 some_told (x ∷ word) [] same some = absurd (cc same)
 
 -- by the laws of words under way, whatever follows
-pub stands_there : ((read front word : List ℕ) → EndsBetween read → EndsBetween front → front_word word ≡ word → open_word ((read ++ front) ++ word) ≡ word)
-    → ((read front word : List ℕ) → EndsBetween read → EndsBetween front → front_word word ≡ word → is_word word ≡ true → place_of_last_word ((read ++ front) ++ word) ≡ place_behind (read ++ front))
-    → (b : Before) (bad : BadLine) (rest : List ℕ) → EndsBetween b.read → FirstBadWord (bad.front ++ (bad.line ++ rest)) bad.events (length bad.front) → front_word bad.line ≡ bad.line
+pub stands_there : ((read front word : List ℕ) → EndsBetween read → EndsBetween front → front_word word ≡ word
+    → open_word ((read ++ front) ++ word) ≡ word)
+    → ((read front word : List ℕ) → EndsBetween read → EndsBetween front → front_word word ≡ word → is_word word ≡ true
+    → place_of_last_word ((read ++ front) ++ word) ≡ place_behind (read ++ front))
+    → (b : Before) (bad : BadLine) (rest : List ℕ) → EndsBetween b.read
+    → FirstBadWord (bad.front ++ (bad.line ++ rest)) bad.events (length bad.front) → front_word bad.line ≡ bad.line
     → take 32 (front_word (bad.line ++ rest)) ≡ take 32 bad.line → StandsThere b bad
 stands_there opened placed b bad rest between first solid told =
     let behind = behind_front bad.front (bad.line ++ rest) bad.events first in record {
       opened = opened b.read bad.front bad.line between behind.between solid;
-      placed = placed b.read bad.front bad.line between behind.between solid (some_told (front_word (bad.line ++ rest)) bad.line told behind.word);
+      placed = placed b.read bad.front bad.line between behind.between solid
+          (some_told (front_word (bad.line ++ rest)) bad.line told behind.word);
     }
 
 module _ (choice : ChoiceData) (profile : List DeviceParts) where
   -- the object that goes out is that of the word of the line, however that goes on
-  pub word_is : (b : Before) (bad : BadLine) (more : List ℕ) → StandsThere b bad → take 32 (front_word (bad.line ++ more)) ≡ take 32 bad.line
-      → bad_token_object (capped (b.n + length bad.events)) (place_of_last_word ((b.read ++ bad.front) ++ bad.line)) (open_word ((b.read ++ bad.front) ++ bad.line)) ≡ word_object choice profile b (longer_line bad more)
+  pub word_is : (b : Before) (bad : BadLine) (more : List ℕ) → StandsThere b bad
+      → take 32 (front_word (bad.line ++ more)) ≡ take 32 bad.line
+      → bad_token_object (capped (b.n + length bad.events)) (place_of_last_word ((b.read ++ bad.front) ++ bad.line))
+      (open_word ((b.read ++ bad.front) ++ bad.line)) ≡ word_object choice profile b (longer_line bad more)
   word_is b bad more there told =
-      ap (λ (place : Place). bad_token_object (capped (b.n + length bad.events)) place (open_word ((b.read ++ bad.front) ++ bad.line))) there.placed
-      ∙ object_same (capped (b.n + length bad.events)) (place_behind (b.read ++ bad.front)) (open_word ((b.read ++ bad.front) ++ bad.line)) (front_word (bad.line ++ more)) (ap (take 32) there.opened ∙ sym told)
+      ap (λ (place : Place). bad_token_object (capped (b.n + length bad.events)) place
+      (open_word ((b.read ++ bad.front) ++ bad.line))) there.placed
+      ∙ object_same (capped (b.n + length bad.events)) (place_behind (b.read ++ bad.front))
+      (open_word ((b.read ++ bad.front) ++ bad.line)) (front_word (bad.line ++ more))
+      (ap (take 32) there.opened ∙ sym told)
 
   -- it goes out after those before it
-  pub lines_with_word : (b : Before) (bad : BadLine) (more put said : List ℕ) (word : Object) → put ≡ object_lines choice.devices (front_objects choice profile b (longer_line bad more))
+  pub lines_with_word : (b : Before) (bad : BadLine) (more put said : List ℕ) (word : Object)
+      → put ≡ object_lines choice.devices (front_objects choice profile b (longer_line bad more))
       → said ≡ object_lines choice.devices (word ∷ []) → word ≡ word_object choice profile b (longer_line bad more)
       → put ++ said ≡ object_lines choice.devices (bad_line_objects choice profile b (longer_line bad more))
   lines_with_word b bad more put said word put_are said_are is =
       let front = front_objects choice profile b (longer_line bad more) in
       ap (λ (l : List ℕ). l ++ said) put_are
-      ∙ (ap (λ (l : List ℕ). object_lines choice.devices front ++ l) (said_are ∙ ap (λ (o : Object). object_lines choice.devices (o ∷ [])) is)
+      ∙ (ap (λ (l : List ℕ). object_lines choice.devices front ++ l)
+      (said_are ∙ ap (λ (o : Object). object_lines choice.devices (o ∷ [])) is)
       ∙ sym (lines_append choice.devices front (word_object choice profile b (longer_line bad more) ∷ [])))
 
   -- and the counts after it
-  pub lines_with_counts : (b : Before) (bad : BadLine) (more put said : List ℕ) (counts : CountsData) → put ≡ object_lines choice.devices (bad_line_objects choice profile b (longer_line bad more))
-      → said ≡ object_lines choice.devices (end_objects counts) → put ++ said ≡ object_lines choice.devices (bad_line_objects choice profile b (longer_line bad more) ++ end_objects counts)
+  pub lines_with_counts : (b : Before) (bad : BadLine) (more put said : List ℕ) (counts : CountsData)
+      → put ≡ object_lines choice.devices (bad_line_objects choice profile b (longer_line bad more))
+      → said ≡ object_lines choice.devices (end_objects counts)
+      → put ++ said ≡ object_lines choice.devices (bad_line_objects choice profile b (longer_line bad more)
+      ++ end_objects counts)
   lines_with_counts b bad more put said counts put_are said_are =
       let objects = bad_line_objects choice profile b (longer_line bad more) in
-      ap (λ (l : List ℕ). l ++ said) put_are ∙ (ap (λ (l : List ℕ). object_lines choice.devices objects ++ l) said_are ∙ sym (lines_append choice.devices objects (end_objects counts)))
+      ap (λ (l : List ℕ). l ++ said) put_are ∙ (ap (λ (l : List ℕ). object_lines choice.devices objects ++ l) said_are
+      ∙ sym (lines_append choice.devices objects (end_objects counts)))
 
   -- both
-  pub lines_with_last : (b : Before) (bad : BadLine) (more put said : List ℕ) → StandsThere b bad → take 32 (front_word (bad.line ++ more)) ≡ take 32 bad.line
-      → put ≡ object_lines choice.devices (front_objects choice profile b (longer_line bad more)) → said ≡ object_lines choice.devices (last_word_objects (behind_bytes b bad))
-      → put ++ said ≡ object_lines choice.devices (bad_line_objects choice profile b (longer_line bad more) ++ end_objects (behind_line b (longer_line bad more)).counts)
+  pub lines_with_last : (b : Before) (bad : BadLine) (more put said : List ℕ) → StandsThere b bad
+      → take 32 (front_word (bad.line ++ more)) ≡ take 32 bad.line
+      → put ≡ object_lines choice.devices (front_objects choice profile b (longer_line bad more))
+      → said ≡ object_lines choice.devices (last_word_objects (behind_bytes b bad))
+      → put ++ said ≡ object_lines choice.devices (bad_line_objects choice profile b (longer_line bad more)
+      ++ end_objects (behind_line b (longer_line bad more)).counts)
   lines_with_last b bad more put said there told put_are said_are =
-      let word = bad_token_object (capped (b.n + length bad.events)) (place_of_last_word ((b.read ++ bad.front) ++ bad.line)) (open_word ((b.read ++ bad.front) ++ bad.line)) in
+      let word = bad_token_object (capped (b.n + length bad.events))
+      (place_of_last_word ((b.read ++ bad.front) ++ bad.line)) (open_word ((b.read ++ bad.front) ++ bad.line)) in
       let counts = (behind_line b (longer_line bad more)).counts in
       let ends = object_lines choice.devices (end_objects counts) in
       let own = object_lines choice.devices (word ∷ []) in
       ap (λ (l : List ℕ). put ++ l) (said_are ∙ lines_append choice.devices (word ∷ []) (end_objects counts))
       ∙ (sym (append_assoc put own ends)
-      ∙ lines_with_counts b bad more (put ++ own) ends counts (lines_with_word b bad more put own word put_are refl (word_is b bad more there told)) refl)
+      ∙ lines_with_counts b bad more (put ++ own) ends counts
+      (lines_with_word b bad more put own word put_are refl (word_is b bad more there told)) refl)
 
   -- ---- it is met
 
   -- the word under way of what a scan has reached
   abbrev pub met : Before → Reached → List ℕ → BadLine
-  met b reached front = record { front = front; events = reached.events; spans = moved_spans b.n reached.spans; line = open_word reached.text }
+  met b reached front = record {
+    front = front;
+    events = reached.events;
+    spans = moved_spans b.n reached.spans;
+    line =
+        open_word reached.text;
+  }
 
   -- the first bad word stands after that front
-  pub met_word : (reached : Reached) (front rest : List ℕ) → reached.text ≡ front ++ open_word reached.text → OpenWordIsBad reached.text (reached.text ++ rest) reached.events
+  pub met_word : (reached : Reached) (front rest : List ℕ) → reached.text ≡ front ++ open_word reached.text
+      → OpenWordIsBad reached.text (reached.text ++ rest) reached.events
       → FirstBadWord (front ++ (open_word reached.text ++ rest)) reached.events (length front)
   met_word reached front rest split bad =
-      let lengths : length reached.text ≡ length front + length (open_word reached.text) = ap (λ (l : List ℕ). length l) split ∙ length-append front (open_word reached.text) in
+      let lengths : length reached.text ≡ length front + length (open_word reached.text) =
+      ap (λ (l : List ℕ). length l) split ∙ length-append front (open_word reached.text) in
       let place : bad.0 ≡ length front = omega (arith, bad.1, lengths) in
-      subst (λ (l : List ℕ). FirstBadWord l reached.events (length front)) (ap (λ (l : List ℕ). l ++ rest) split ∙ append_assoc front (open_word reached.text) rest)
+      subst (λ (l : List ℕ). FirstBadWord l reached.events (length front))
+      (ap (λ (l : List ℕ). l ++ rest) split ∙ append_assoc front (open_word reached.text) rest)
       (subst (λ (n : ℕ). FirstBadWord (reached.text ++ rest) reached.events n) place bad.2)
 
   -- events that read as spans from their beginning, where others came before
-  pub read_from : (b : Before) (p : List DeviceParts) (events : List Event) (spans : List Span) → ((p : List DeviceParts) (n m : ℕ) (events : List Event) (spans : List Span) → SpansFrom p m events spans → SpansFrom p (n + m) events (moved_spans n spans))
+  pub read_from : (b : Before) (p : List DeviceParts) (events : List Event) (spans : List Span)
+      → ((p : List DeviceParts) (n m : ℕ) (events : List Event) (spans : List Span) → SpansFrom p m events spans
+      → SpansFrom p (n + m) events (moved_spans n spans))
       → p ≡ profile → Spans p events spans → SpansFrom profile b.n events (moved_spans b.n spans)
   read_from b p events spans move under reads =
       subst (λ (n : ℕ). SpansFrom profile n events (moved_spans b.n spans)) (add-zero b.n)
       (move profile b.n 0 events spans (subst (λ (q : List DeviceParts). SpansFrom q 0 events spans) under reads))
 
   -- the packets and refusals before it
-  pub met_reads : (b : Before) (reached : Reached) (last : List Span) → ((p : List DeviceParts) (n m : ℕ) (events : List Event) (spans : List Span) → SpansFrom p m events spans → SpansFrom p (n + m) events (moved_spans n spans))
-      → reached.profile ≡ profile → EndsWith reached last → SpansFrom profile b.n reached.events (moved_spans b.n (reached.spans ++ last))
-  met_reads b reached last move under end = read_from b reached.profile reached.events (reached.spans ++ last) move under end.spans
+  pub met_reads : (b : Before) (reached : Reached) (last : List Span)
+      → ((p : List DeviceParts) (n m : ℕ) (events : List Event) (spans : List Span) → SpansFrom p m events spans
+      → SpansFrom p (n + m) events (moved_spans n spans))
+      → reached.profile ≡ profile → EndsWith reached last
+      → SpansFrom profile b.n reached.events (moved_spans b.n (reached.spans ++ last))
+  met_reads b reached last move under end = read_from b reached.profile reached.events
+      (reached.spans ++ last) move under end.spans
 
-  pub met_whole : (n : ℕ) (reached : Reached) (last : List Span) → EndsWith reached last → moved_spans n reached.spans ≡ filter is_whole (moved_spans n (reached.spans ++ last))
+  pub met_whole : (n : ℕ) (reached : Reached) (last : List Span) → EndsWith reached last
+      → moved_spans n reached.spans ≡ filter is_whole (moved_spans n (reached.spans ++ last))
   met_whole n reached last end =
       sym (whole_moved n (reached.spans ++ last)
-      ∙ ap (moved_spans n) (filter-append is_whole reached.spans last ∙ (ap (λ (l : List Span). l ++ filter is_whole last) end.whole ∙ (ap (λ (l : List Span). reached.spans ++ l) end.inside ∙ append-nil reached.spans))))
+      ∙ ap (moved_spans n) (filter-append is_whole reached.spans last
+      ∙ (ap (λ (l : List Span). l ++ filter is_whole last) end.whole
+      ∙ (ap (λ (l : List Span). reached.spans ++ l) end.inside ∙ append-nil reached.spans))))
 
   -- and what the stream knows there
-  pub met_knows : (b : Before) (reached : Reached) (front : List ℕ) (stream : Stream) → reached.text ≡ front ++ open_word reached.text → StreamKnows (with_reached b reached) stream
+  pub met_knows : (b : Before) (reached : Reached) (front : List ℕ) (stream : Stream)
+      → reached.text ≡ front ++ open_word reached.text → StreamKnows (with_reached b reached) stream
       → StreamKnows (behind_bytes b (met b reached front)) stream
   met_knows b reached front stream split knows =
-      knows_as (b.read ++ reached.text) ((b.read ++ front) ++ open_word reached.text) (b.n + length reached.events) (b.ts ++ transactions_in reached.spans) (b.ts ++ transactions_in (moved_spans b.n reached.spans))
+      knows_as (b.read ++ reached.text) ((b.read ++ front) ++ open_word reached.text) (b.n + length reached.events)
+      (b.ts ++ transactions_in reached.spans) (b.ts ++ transactions_in (moved_spans b.n reached.spans))
       (after_spans b.counts reached.spans) (after_spans b.counts (moved_spans b.n reached.spans)) stream
       (ap (λ (l : List ℕ). b.read ++ l) split ∙ sym (append_assoc b.read front (open_word reached.text)))
-      (ap (λ (l : List TransactionData). b.ts ++ l) (sym (transactions_moved b.n reached.spans))) (sym (counts_moved b.counts b.n reached.spans)) knows
+      (ap (λ (l : List TransactionData). b.ts ++ l) (sym (transactions_moved b.n reached.spans)))
+      (sym (counts_moved b.counts b.n reached.spans)) knows
 
-  pub met_lines : (b : Before) (reached : Reached) (front text more : List ℕ) → reached.text ≡ front ++ open_word reached.text → AreLinesOf choice profile b reached text
+  pub met_lines : (b : Before) (reached : Reached) (front text more : List ℕ)
+      → reached.text ≡ front ++ open_word reached.text → AreLinesOf choice profile b reached text
       → text ≡ object_lines choice.devices (front_objects choice profile b (longer_line (met b reached front) more))
   met_lines b reached front text more split lines =
       lines more
-      ∙ ap (λ (l : List ℕ). object_lines choice.devices (span_objects choice profile (event_place b.read b.n l) b.ts (moved_spans b.n reached.spans)))
+      ∙ ap (λ (l : List ℕ). object_lines choice.devices
+      (span_objects choice profile (event_place b.read b.n l) b.ts (moved_spans b.n reached.spans)))
       (ap (λ (l : List ℕ). l ++ more) split ∙ append_assoc front (open_word reached.text) more)
 
   pub has_met : (b : Before) (reached : Reached) (front at_hand text : List ℕ) (last : List Span) (stream : Stream)
-      → ((p : List DeviceParts) (n m : ℕ) (events : List Event) (spans : List Span) → SpansFrom p m events spans → SpansFrom p (n + m) events (moved_spans n spans))
-      → reached.profile ≡ profile → reached.text ≡ front ++ open_word reached.text → front_word (open_word reached.text) ≡ open_word reached.text
-      → ((more : List ℕ) → OpenWordIsBad reached.text (reached.text ++ (at_hand ++ more)) reached.events) → EndsWith reached last
-      → StreamKnows (with_reached b reached) stream → AreLinesOf choice profile b reached text → HasBadWord choice profile at_hand stream b reached.text text
+      → ((p : List DeviceParts) (n m : ℕ) (events : List Event) (spans : List Span) → SpansFrom p m events spans
+      → SpansFrom p (n + m) events (moved_spans n spans))
+      → reached.profile ≡ profile → reached.text ≡ front ++ open_word reached.text → front_word (open_word reached.text)
+      ≡ open_word reached.text
+      → ((more : List ℕ) → OpenWordIsBad reached.text (reached.text ++ (at_hand ++ more)) reached.events)
+      → EndsWith reached last
+      → StreamKnows (with_reached b reached) stream → AreLinesOf choice profile b reached text
+      → HasBadWord choice profile at_hand stream b reached.text text
   has_met b reached front at_hand text last stream move under split solid bad end knows lines = record {
     bad = met b reached front;
     so_far = record {
@@ -171,46 +224,76 @@ module _ (choice : ChoiceData) (profile : List DeviceParts) where
   -- ---- it goes on
 
   -- bytes more of a line
-  pub longer_so_far : (b : Before) (bad : BadLine) (word rest at_hand : List ℕ) → at_hand ≡ word ++ rest → IsBadSoFar choice profile b bad at_hand → IsBadSoFar choice profile b (longer_line bad word) rest
+  pub longer_so_far : (b : Before) (bad : BadLine) (word rest at_hand : List ℕ) → at_hand ≡ word ++ rest
+      → IsBadSoFar choice profile b bad at_hand → IsBadSoFar choice profile b (longer_line bad word) rest
   longer_so_far b bad word rest at_hand split so_far = record {
     word = λ more. subst (λ (l : List ℕ). FirstBadWord (bad.front ++ l) bad.events (length bad.front))
-        (ap (λ (l : List ℕ). bad.line ++ (l ++ more)) split ∙ (ap (λ (l : List ℕ). bad.line ++ l) (append_assoc word rest more) ∙ sym (append_assoc bad.line word (rest ++ more))))
+        (ap (λ (l : List ℕ). bad.line ++ (l ++ more)) split
+        ∙ (ap (λ (l : List ℕ). bad.line ++ l) (append_assoc word rest more)
+        ∙ sym (append_assoc bad.line word (rest ++ more))))
         (so_far.word more);
     all = so_far.all;
     reads = so_far.reads;
     reported = so_far.reported;
   }
 
-  abbrev pub word_goes_on : (b : Before) (word rest at_hand used put : List ℕ) (old new : Stream) → at_hand ≡ word ++ rest → front_word word ≡ word
-      → ((b : Before) → StreamKnows b old → StreamKnows (with_bytes b word) new) → HasBadWord choice profile at_hand old b used put → HasBadWord choice profile rest new b (used ++ word) put
+  abbrev pub word_goes_on : (b : Before) (word rest at_hand used put : List ℕ) (old new : Stream)
+      → at_hand ≡ word ++ rest → front_word word ≡ word
+      → ((b : Before) → StreamKnows b old → StreamKnows (with_bytes b word) new)
+      → HasBadWord choice profile at_hand old b used put → HasBadWord choice profile rest new b (used ++ word) put
   word_goes_on b word rest at_hand used put old new split solid takes has =
       let bad = has.bad in record {
         bad = longer_line bad word;
         so_far = longer_so_far b bad word rest at_hand split has.so_far;
         is_text = ap (λ (l : List ℕ). l ++ word) has.is_text ∙ append_assoc bad.front bad.line word;
         under_way = solid_both bad.line word has.under_way solid;
-        knows = subst (λ (l : List ℕ). StreamKnows (record { read = l; n = b.n + length bad.events; ts = b.ts ++ transactions_in bad.spans; counts = after_spans b.counts bad.spans }) new)
+        knows = subst (λ (l : List ℕ). StreamKnows
+            (record {
+              read = l;
+              n = b.n + length bad.events;
+              ts = b.ts ++ transactions_in bad.spans;
+              counts =
+                  after_spans b.counts bad.spans;
+            }) new)
             (append_assoc (b.read ++ bad.front) bad.line word) (takes (behind_bytes b bad) has.knows);
-        lines = λ more. has.lines (word ++ more) ∙ ap (λ (l : List ℕ). object_lines choice.devices (span_objects choice profile (event_place b.read b.n (bad.front ++ l)) b.ts bad.spans)) (sym (append_assoc bad.line word more));
+        lines = λ more. has.lines (word ++ more)
+            ∙ ap (λ (l : List ℕ). object_lines choice.devices
+            (span_objects choice profile (event_place b.read b.n (bad.front ++ l)) b.ts bad.spans))
+            (sym (append_assoc bad.line word more));
       }
 
   -- what is told so far
-  pub first_so_far : (b : Before) (bad : BadLine) (at_hand : List ℕ) → IsBadSoFar choice profile b bad at_hand → FirstBadWord (bad.front ++ (bad.line ++ at_hand)) bad.events (length bad.front)
-  first_so_far b bad at_hand so_far = subst (λ (l : List ℕ). FirstBadWord (bad.front ++ (bad.line ++ l)) bad.events (length bad.front)) (append-nil at_hand) (so_far.word [])
+  pub first_so_far : (b : Before) (bad : BadLine) (at_hand : List ℕ) → IsBadSoFar choice profile b bad at_hand
+      → FirstBadWord (bad.front ++ (bad.line ++ at_hand)) bad.events (length bad.front)
+  first_so_far b bad at_hand so_far = subst
+      (λ (l : List ℕ). FirstBadWord (bad.front ++ (bad.line ++ l)) bad.events (length bad.front)) (append-nil at_hand)
+      (so_far.word [])
 
   -- ---- its line goes on
 
   pub line_goes_on : (b : Before) (line at_hand used put : List ℕ) (old new : Stream) → at_hand ≡ line → HasNoLf line
-      → ((b : Before) → StreamKnows b old → StreamKnows (with_bytes b line) new) → InBadLine choice profile at_hand old b used put → InBadLine choice profile [] new b (used ++ line) put
+      → ((b : Before) → StreamKnows b old → StreamKnows (with_bytes b line) new)
+      → InBadLine choice profile at_hand old b used put → InBadLine choice profile [] new b (used ++ line) put
   line_goes_on b line at_hand used put old new all no_lf takes has =
       let bad = has.bad in record {
         bad = longer_line bad line;
         so_far = longer_so_far b bad line [] at_hand (all ∙ sym (append-nil line)) has.so_far;
         is_text = ap (λ (l : List ℕ). l ++ line) has.is_text ∙ append_assoc bad.front bad.line line;
         in_line = no_lf_append bad.line line has.in_line no_lf;
-        over = λ whole more is. has.over whole more (is ∙ (append_assoc bad.line line more ∙ ap (λ (l : List ℕ). bad.line ++ (l ++ more)) (sym all)));
-        knows = subst (λ (l : List ℕ). StreamKnows (record { read = l; n = b.n + length bad.events; ts = b.ts ++ transactions_in bad.spans; counts = (behind_object b bad).counts }) new)
+        over = λ whole more is. has.over whole more
+            (is ∙ (append_assoc bad.line line more ∙ ap (λ (l : List ℕ). bad.line ++ (l ++ more)) (sym all)));
+        knows = subst (λ (l : List ℕ). StreamKnows
+            (record {
+              read = l;
+              n = b.n + length bad.events;
+              ts = b.ts ++ transactions_in bad.spans;
+              counts =
+                  (behind_object b bad).counts;
+            }) new)
             (append_assoc (b.read ++ bad.front) bad.line line) (takes (behind_object b bad) has.knows);
-        lines = λ more later rest split behind. has.lines more (line ++ later) rest (ap (λ (l : List ℕ). l ++ more) all ∙ (ap (λ (l : List ℕ). line ++ l) split ∙ sym (append_assoc line later rest))) behind
-            ∙ ap (λ (l : List ℕ). object_lines choice.devices (bad_line_objects choice profile b (record bad { line = l }))) (sym (append_assoc bad.line line later));
+        lines = λ more later rest split behind. has.lines more (line ++ later) rest
+            (ap (λ (l : List ℕ). l ++ more) all ∙ (ap (λ (l : List ℕ). line ++ l) split
+            ∙ sym (append_assoc line later rest))) behind
+            ∙ ap (λ (l : List ℕ). object_lines choice.devices
+            (bad_line_objects choice profile b (record bad { line = l }))) (sym (append_assoc bad.line line later));
       }

@@ -6,14 +6,15 @@ use Rattle.pmb_command.specs.Parts.{DeviceParts}
 use Rattle.pmb_io.specs.Tally.{IsTallyOf}
 use Rattle.pmb_io.specs.declared.tally.Tally.{Tally}
 use Rattle.pmb_spans.specs.Spans.{Span, SpansFrom, is_whole}
-use Rattle.pmb_json.specs.declared.bad_words.BadWords.{BadWords}
-use Rattle.pmb_json.specs.declared.bad_words.BadWords.TheVariants.{End, GoOn}
-use Rattle.pmb_stream.specs.Before.{Before, at_first}
-use Rattle.pmb_stream.specs.Choice.{ChoiceData}
-use Rattle.pmb_objects.specs.Counts.{CountsData, end_objects}
-use Rattle.pmb_objects.specs.Object.{Object, object_lines}
-use Rattle.pmb_stream.specs.Spans.{after_spans, event_place, span_objects}
-use Rattle.pmb_json.specs.Text.{BadLine, GoesOn, IsBadLine, IsBehindLine, ObjectsFrom, ReadsToEnd, WritesJson, bad_line_objects, behind_line}
+use Rattle.pmb_json.specs.declared.after_bad_token.AfterBadToken.{AfterBadToken}
+use Rattle.pmb_json.specs.declared.after_bad_token.AfterBadToken.TheVariants.{End, GoOn}
+use Rattle.pmb_json_stream.specs.Before.{Before, at_first}
+use Rattle.pmb_json_stream.specs.Choice.{ChoiceData}
+use Rattle.pmb_json_objects.specs.Counts.{CountsData, end_objects}
+use Rattle.pmb_json_objects.specs.Object.{Object, object_lines}
+use Rattle.pmb_json_stream.specs.Spans.{after_spans, event_place, span_objects}
+use Rattle.pmb_json.specs.Text.{BadLine, GoesOn, IsBadLine, IsBehindLine, ObjectsFrom, ReadsToEnd, WritesJson}
+use Rattle.pmb_json.specs.Text.{bad_line_objects, behind_line}
 use Rattle.pmb_json.proofs.BadLines.{bad_word_in_text, one_line}
 use Rattle.pmb_json.proofs.Lines.{same_split}
 
@@ -32,52 +33,70 @@ line_same x y front events spans line =
     ∙ ap (λ (l : List ℕ). record y { line = l }) line
 
 module _ (choice : ChoiceData) (profile : List DeviceParts)
-    (one_list_of_spans : (n : ℕ) (events : List Event) (a b : List Span) → SpansFrom profile n events a → SpansFrom profile n events b → a ≡ b)
+    (one_list_of_spans : (n : ℕ) (events : List Event) (a b : List Span) → SpansFrom profile n events a
+    → SpansFrom profile n events b → a ≡ b)
     (one_spelling : (text : List ℕ) (a b : List Event) → Spells text a → Spells text b → a ≡ b)
-    (one_bad_word : (text : List ℕ) (a b : List Event) (i j : ℕ) → FirstBadWord text a i → FirstBadWord text b j → (a ≡ b) × (i ≡ j))
+    (one_bad_word : (text : List ℕ) (a b : List Event) (i j : ℕ) → FirstBadWord text a i → FirstBadWord text b j
+    → (a ≡ b) × (i ≡ j))
     (no_bad : (text : List ℕ) (a b : List Event) (i : ℕ) → Spells text a → FirstBadWord text b i → ⊥) where
   -- the objects of the same events, and what was counted after them
-  one_reading : (b : Before) (bytes : List ℕ) (objects others : List Object) (c d : CountsData) → ReadsToEnd choice profile b bytes objects c
+  one_reading : (b : Before) (bytes : List ℕ) (objects others : List Object) (c d : CountsData)
+      → ReadsToEnd choice profile b bytes objects c
       → ReadsToEnd choice profile b bytes others d → (objects ≡ others) × (c ≡ d)
   one_reading b bytes objects others c d x y =
       let events = one_spelling bytes x.events y.events x.spells y.spells in
-      let spans = one_list_of_spans b.n y.events x.spans y.spans (subst (λ (es : List Event). SpansFrom profile b.n es x.spans) events x.reads) y.reads in
-      (x.all ∙ ap (span_objects choice profile (event_place b.read b.n bytes) b.ts) spans ∙ sym y.all, x.behind ∙ ap (after_spans b.counts) spans ∙ sym y.behind)
+      let spans = one_list_of_spans b.n y.events x.spans y.spans
+      (subst (λ (es : List Event). SpansFrom profile b.n es x.spans) events x.reads) y.reads in (
+        x.all ∙ ap (span_objects choice profile (event_place b.read b.n bytes) b.ts) spans ∙ sym y.all,
+        x.behind
+            ∙ ap (after_spans b.counts) spans ∙ sym y.behind,
+      )
 
   -- the first bad word of bytes that begin with a bad line
-  pub bad_word_there : (b : Before) (bytes : List ℕ) (x : BadLine) (rest : List ℕ) → bytes ≡ x.front ++ x.line ++ rest → IsBehindLine rest → IsBadLine choice profile b x
+  pub bad_word_there : (b : Before) (bytes : List ℕ) (x : BadLine) (rest : List ℕ) → bytes ≡ x.front ++ x.line ++ rest
+      → IsBehindLine rest → IsBadLine choice profile b x
       → FirstBadWord bytes x.events (length x.front)
   bad_word_there b bytes x rest split behind bad =
-      subst (λ (text : List ℕ). FirstBadWord text x.events (length x.front)) (sym split) (bad_word_in_text x.front x.line rest x.events behind bad.word)
+      subst (λ (text : List ℕ). FirstBadWord text x.events (length x.front)) (sym split)
+      (bad_word_in_text x.front x.line rest x.events behind bad.word)
 
   -- bytes have one first bad line, and one rest after it
-  pub one_bad_line : (b : Before) (bytes : List ℕ) (x y : BadLine) (rest other : List ℕ) → bytes ≡ x.front ++ x.line ++ rest → bytes ≡ y.front ++ y.line ++ other
-      → IsBehindLine rest → IsBehindLine other → IsBadLine choice profile b x → IsBadLine choice profile b y → (x ≡ y) × (rest ≡ other)
+  pub one_bad_line : (b : Before) (bytes : List ℕ) (x y : BadLine) (rest other : List ℕ)
+      → bytes ≡ x.front ++ x.line ++ rest → bytes ≡ y.front ++ y.line ++ other
+      → IsBehindLine rest → IsBehindLine other → IsBadLine choice profile b x → IsBadLine choice profile b y
+      → (x ≡ y) × (rest ≡ other)
   one_bad_line b bytes x y rest other first second behind also bad too =
-      let words = one_bad_word bytes x.events y.events (length x.front) (length y.front) (bad_word_there b bytes x rest first behind bad)
+      let words = one_bad_word bytes x.events y.events (length x.front) (length y.front)
+      (bad_word_there b bytes x rest first behind bad)
       (bad_word_there b bytes y other second also too) in
-      let parts = same_split x.front y.front (x.line ++ rest) (y.line ++ other) (sym (append_assoc x.front x.line rest) ∙ sym first ∙ second ∙ append_assoc y.front y.line other) words.1 in
+      let parts = same_split x.front y.front (x.line ++ rest) (y.line ++ other)
+      (sym (append_assoc x.front x.line rest) ∙ sym first ∙ second ∙ append_assoc y.front y.line other) words.1 in
       let lines = one_line x.line y.line rest other bad.in_line too.in_line behind also parts.1 in
-      let spans = one_list_of_spans b.n y.events bad.all too.all (subst (λ (es : List Event). SpansFrom profile b.n es bad.all) words.0 bad.reads) too.reads in
+      let spans = one_list_of_spans b.n y.events bad.all too.all
+      (subst (λ (es : List Event). SpansFrom profile b.n es bad.all) words.0 bad.reads) too.reads in
       (line_same x y parts.0 words.0 (bad.reported ∙ ap (filter is_whole) spans ∙ sym too.reported) lines.0, lines.1)
 
   -- what holds after a bad line
-  abbrev Behind : BadWords → Before → List BadLine → List Object → CountsData → BadLine → List ℕ → Type 0
+  abbrev Behind : AfterBadToken → Before → List BadLine → List Object → CountsData → BadLine → List ℕ → Type 0
   Behind after b more others counts bad rest =
       GoesOn after rest (λ behind. ObjectsFrom choice profile after (behind_line b bad) behind more others counts)
       ((more ≡ []) × (others ≡ []) × (counts ≡ (behind_line b bad).counts))
 
   -- the objects after the same bad line, if so after the next LF
-  one_behind : (after : BadWords) (b : Before) (xs ys : List BadLine) (o p : List Object) (c d : CountsData) (bad : BadLine) (rest : List ℕ)
-      → ((there : Before) (bytes : List ℕ) → ObjectsFrom choice profile GoOn there bytes xs o c → ObjectsFrom choice profile GoOn there bytes ys p d → (o ≡ p) × (c ≡ d))
+  one_behind : (after : AfterBadToken) (b : Before) (xs ys : List BadLine) (o p : List Object) (c d : CountsData)
+      (bad : BadLine) (rest : List ℕ)
+      → ((there : Before) (bytes : List ℕ) → ObjectsFrom choice profile GoOn there bytes xs o c
+      → ObjectsFrom choice profile GoOn there bytes ys p d → (o ≡ p) × (c ≡ d))
       → Behind after b xs o c bad rest → Behind after b ys p d bad rest → (o ≡ p) × (c ≡ d)
   one_behind End b xs ys o p c d bad rest later x y = (x.1 ∙ sym y.1, x.2 ∙ sym y.2)
   one_behind GoOn b xs ys o p c d bad [] later x y = (x.1 ∙ sym y.1, x.2 ∙ sym y.2)
   one_behind GoOn b xs ys o p c d bad (lf ∷ bytes) later x y = later (behind_line b bad) bytes x y
 
   -- bytes have the same objects and counts, whatever their bad lines are said to be
-  pub one_list : (after : BadWords) (b : Before) (bytes : List ℕ) (xs ys : List BadLine) (objects others : List Object) (c d : CountsData)
-      → ObjectsFrom choice profile after b bytes xs objects c → ObjectsFrom choice profile after b bytes ys others d → (objects ≡ others) × (c ≡ d)
+  pub one_list : (after : AfterBadToken) (b : Before) (bytes : List ℕ) (xs ys : List BadLine)
+      (objects others : List Object) (c d : CountsData)
+      → ObjectsFrom choice profile after b bytes xs objects c → ObjectsFrom choice profile after b bytes ys others d
+      → (objects ≡ others) × (c ≡ d)
   one_list after b bytes [] [] objects others c d x y = one_reading b bytes objects others c d x y
   one_list after b bytes [] (bad ∷ ys) objects others c d x y =
       absurd (no_bad bytes x.events bad.events (length bad.front) x.spells (bad_word_there b bytes bad y.0 y.2 y.3 y.4))
@@ -85,17 +104,21 @@ module _ (choice : ChoiceData) (profile : List DeviceParts)
       absurd (no_bad bytes y.events bad.events (length bad.front) y.spells (bad_word_there b bytes bad x.0 x.2 x.3 x.4))
   one_list after b bytes (bad ∷ xs) (other ∷ ys) objects others c d x y =
       let same = one_bad_line b bytes bad other x.0 y.0 x.2 y.2 x.3 y.3 x.4 y.4 in
-      let there = subst (λ (rest : List ℕ). Behind after b ys y.1 d bad rest) (sym same.1) (subst (λ (line : BadLine). Behind after b ys y.1 d line y.0) (sym same.0) y.6) in
-      let both = one_behind after b xs ys x.1 y.1 c d bad x.0 (λ next behind p q. one_list GoOn next behind xs ys x.1 y.1 c d p q) x.6 there in (
+      let there = subst (λ (rest : List ℕ). Behind after b ys y.1 d bad rest) (sym same.1)
+      (subst (λ (line : BadLine). Behind after b ys y.1 d line y.0) (sym same.0) y.6) in
+      let both = one_behind after b xs ys x.1 y.1 c d bad x.0
+      (λ next behind p q. one_list GoOn next behind xs ys x.1 y.1 c d p q) x.6 there in (
         x.5 ∙ ap (λ (os : List Object). bad_line_objects choice profile b bad ++ os) both.0
             ∙ ap (λ (line : BadLine). bad_line_objects choice profile b line ++ y.1) same.0 ∙ sym y.5,
         both.1,
       )
 
-  pub one_text : (after : BadWords) (bytes a b : List ℕ) (s t : Tally) → WritesJson choice profile after bytes a s → WritesJson choice profile after bytes b t
+  pub one_text : (after : AfterBadToken) (bytes a b : List ℕ) (s t : Tally) → WritesJson choice profile after bytes a s
+      → WritesJson choice profile after bytes b t
       → (a ≡ b) × (s ≡ t)
   one_text after bytes a b s t x y =
-      let same = one_list after at_first bytes x.bad y.bad x.objects y.objects x.counts y.counts x.from_first y.from_first in (
+      let same = one_list after at_first bytes x.bad y.bad x.objects y.objects x.counts y.counts x.from_first
+      y.from_first in (
         x.lines ∙ ap (λ (os : List Object). object_lines choice.devices (os ++ end_objects x.counts)) same.0
             ∙ ap (λ (c : CountsData). object_lines choice.devices (y.objects ++ end_objects c)) same.1 ∙ sym y.lines,
         tally_same s t x.counts.packets (x.counts.refusals + x.counts.bad_tokens) x.tallied

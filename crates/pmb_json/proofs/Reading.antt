@@ -1,5 +1,6 @@
 -- Words that may be tokens: what a scan told the stream of them.
-use Rattle.std.proofs.Common.{◌≡◌, ℕ, ◌+◌, inl, List, [], ◌++◌, drop, filter, length, take, refl, sym, ap, subst, ◌∙◌, append_assoc, append-nil, arith, length-drop, take-append-drop}
+use Rattle.std.proofs.Common.{◌≡◌, ℕ, ◌+◌, inl, List, [], ◌++◌, drop, filter, length, take, refl, sym, ap, subst, ◌∙◌}
+use Rattle.std.proofs.Common.{append_assoc, append-nil, arith, length-drop, take-append-drop}
 use Rattle.std.proofs.lemmas.List.{map-append}
 use Rattle.pmb_bus.specs.declared.event.Event.{Event}
 use Rattle.pmb_bus.specs.declared.lexer.LexFault.{LexFault}
@@ -8,35 +9,39 @@ use Rattle.pmb_bus.specs.Text.{BeginsText, EndedWordsSpell, Spells, front_word, 
 use Rattle.pmb_command.specs.Parts.{DeviceParts}
 use Rattle.pmb_io.specs.Tally.{IsTallyOf}
 use Rattle.pmb_io.specs.declared.tally.Tally.{Tally}
-use Rattle.pmb_json.specs.declared.bad_words.BadWords.{BadWords}
+use Rattle.pmb_json.specs.declared.after_bad_token.AfterBadToken.{AfterBadToken}
 use Rattle.pmb_json.specs.declared.engine.Json.{Json}
 use Rattle.pmb_json.specs.SoFar.{ReadsSoFar}
 use Rattle.pmb_json.specs.Text.{IsBadLine, ReadsToEnd, WritesJson, front_objects}
-use Rattle.pmb_json.specs.machine.Standing.{Behind, HasBadWord, InBadWord, InWords, IsMadeAs, json_bad_words, json_choice, json_profile, longer_line}
+use Rattle.pmb_json.specs.machine.Standing.{Behind, HasBadWord, InBadWord, InWords, IsMadeAs, json_bad_words}
+use Rattle.pmb_json.specs.machine.Standing.{json_choice, json_profile, longer_line}
 use Rattle.pmb_json.proofs.MetWords.{has_met, met, met_lines, met_reads, met_whole, met_word}
 use Rattle.pmb_json.proofs.Leading.{leads_first, writes_json}
 use Rattle.pmb_json.proofs.Objects.{counts_moved, lines_append, objects_append, transactions_moved}
 use Rattle.pmb_json.proofs.Words.{no_lf_append, solid_no_lf}
-use Rattle.pmb_objects.specs.Counts.{CountsData, end_objects}
-use Rattle.pmb_objects.specs.Object.{Object, object_lines}
+use Rattle.pmb_json_objects.specs.Counts.{CountsData, end_objects}
+use Rattle.pmb_json_objects.specs.Object.{Object, object_lines}
 use Rattle.pmb_scan.specs.declared.scan.Scan.{Scan}
 use Rattle.pmb_scan.specs.Reached.{EndsWith, Reached, at_start}
 use Rattle.pmb_scan.specs.Scan.{EndsInBadWord, EndsWords, ScanStandsAt, StopsAtBadWord, TakesAll}
 use Rattle.pmb_spans.specs.Spans.{Span, SpansFrom, is_whole, moved_span, moved_spans}
-use Rattle.pmb_stream.specs.declared.stream.Stream.{Stream}
-use Rattle.pmb_stream.specs.Before.{Before, at_first}
-use Rattle.pmb_stream.specs.Choice.{ChoiceData}
-use Rattle.pmb_stream.specs.Spans.{after_spans, event_place, span_objects, transactions_in}
-use Rattle.pmb_stream.specs.Stream.{AreLinesOf, HasToldOf, IsSame, StreamAt, StreamBegins, StreamStands, stream_choice, stream_profile}
+use Rattle.pmb_json_stream.specs.declared.stream.Stream.{Stream}
+use Rattle.pmb_json_stream.specs.Before.{Before, at_first}
+use Rattle.pmb_json_stream.specs.Choice.{ChoiceData}
+use Rattle.pmb_json_stream.specs.Spans.{after_spans, event_place, span_objects, transactions_in}
+use Rattle.pmb_json_stream.specs.Stream.{AreLinesOf, HasToldOf, IsSame, StreamAt, StreamBegins, StreamStands}
+use Rattle.pmb_json_stream.specs.Stream.{stream_choice, stream_profile}
 use Rattle.pmb_transaction.specs.Transaction.{TransactionData}
 
 abbrev pub MovesSpans : Type 0
-MovesSpans = (p : List DeviceParts) (n m : ℕ) (events : List Event) (spans : List Span) → SpansFrom p m events spans → SpansFrom p (n + m) events (moved_spans n spans)
+MovesSpans = (p : List DeviceParts) (n m : ℕ) (events : List Event) (spans : List Span) → SpansFrom p m events spans
+    → SpansFrom p (n + m) events (moved_spans n spans)
 
 -- ---- they begin
 
 -- a stream that begins has told of nothing
-told_first : (b : Before) (stream : Stream) (profile : List DeviceParts) → stream_profile stream ≡ profile → StreamBegins b stream → StreamStands stream stream (at_start profile) []
+told_first : (b : Before) (stream : Stream) (profile : List DeviceParts) → stream_profile stream ≡ profile
+    → StreamBegins b stream → StreamStands stream stream (at_start profile) []
 told_first b stream profile same begins = record {
   begins = (b, begins);
   told = λ other starts. record {
@@ -46,7 +51,8 @@ told_first b stream profile same begins = record {
   };
 }
 
-pub words_begin : (choice : ChoiceData) (profile : List DeviceParts) (scan : Scan) (stream : Stream) (b : Before) → stream_choice stream ≡ choice → stream_profile stream ≡ profile
+pub words_begin : (choice : ChoiceData) (profile : List DeviceParts) (scan : Scan) (stream : Stream) (b : Before)
+    → stream_choice stream ≡ choice → stream_profile stream ≡ profile
     → StreamBegins b stream → ScanStandsAt scan (at_start profile) → InWords choice profile scan stream b [] []
 words_begin choice profile scan stream b same_choice same_profile begins scans = record {
   begun = stream;
@@ -60,7 +66,8 @@ words_begin choice profile scan stream b same_choice same_profile begins scans =
 }
 
 -- nothing came
-pub first_behind : (choice : ChoiceData) (profile : List DeviceParts) (after : BadWords) (Holds : Before → List ℕ → List ℕ → Type 0) → Holds at_first [] [] → Behind choice profile after Holds [] []
+pub first_behind : (choice : ChoiceData) (profile : List DeviceParts) (after : AfterBadToken)
+    (Holds : Before → List ℕ → List ℕ → Type 0) → Holds at_first [] [] → Behind choice profile after Holds [] []
 first_behind choice profile after Holds holds = record {
   b = at_first;
   bads = [];
@@ -78,8 +85,10 @@ first_behind choice profile after Holds holds = record {
 -- ---- they go on
 
 -- what a stream that was told keeps
-pub made_told : (start old new : Json) (begun : Stream) → IsMadeAs start old → json_profile new ≡ json_profile old → json_bad_words new ≡ json_bad_words old
-    → stream_choice begun ≡ json_choice start → stream_profile begun ≡ json_profile start → IsSame begun new.stream → IsMadeAs start new
+pub made_told : (start old new : Json) (begun : Stream) → IsMadeAs start old → json_profile new ≡ json_profile old
+    → json_bad_words new ≡ json_bad_words old
+    → stream_choice begun ≡ json_choice start → stream_profile begun ≡ json_profile start → IsSame begun new.stream
+    → IsMadeAs start new
 made_told start old new begun made profile bad_words choice reads same = record {
   choice = same.choice ∙ choice;
   profile = profile ∙ made.profile;
@@ -87,8 +96,10 @@ made_told start old new begun made profile bad_words choice reads same = record 
   bad_words = bad_words ∙ made.bad_words;
 }
 
-module _ (choice : ChoiceData) (profile : List DeviceParts) (b : Before) (scan : Scan) (stream : Stream) (used put : List ℕ) (words : InWords choice profile scan stream b used put) where
-  pub words_on : (piece more : List ℕ) (after : Scan) (new : Stream) → TakesAll (StreamStands words.begun new) words.reached piece after (put ++ more)
+module _ (choice : ChoiceData) (profile : List DeviceParts) (b : Before) (scan : Scan) (stream : Stream)
+    (used put : List ℕ) (words : InWords choice profile scan stream b used put) where
+  pub words_on : (piece more : List ℕ) (after : Scan) (new : Stream)
+      → TakesAll (StreamStands words.begun new) words.reached piece after (put ++ more)
       → InWords choice profile after new b (used ++ piece) (put ++ more)
   words_on piece more after new taken = record {
     begun = words.begun;
@@ -102,18 +113,23 @@ module _ (choice : ChoiceData) (profile : List DeviceParts) (b : Before) (scan :
   }
 
   -- what was told, by the choice and the profile
-  pub lines_by : (there : Reached) (text : List ℕ) (new : Stream) → HasToldOf b words.begun new there text → AreLinesOf choice profile b there text
+  pub lines_by : (there : Reached) (text : List ℕ) (new : Stream) → HasToldOf b words.begun new there text
+      → AreLinesOf choice profile b there text
   lines_by there text new told =
       subst (λ (p : List DeviceParts). AreLinesOf choice p b there text) words.same_profile
       (subst (λ (k : ChoiceData). AreLinesOf k (stream_profile words.begun) b there text) words.same_choice told.lines)
 
-  pub under : (there : Reached) (text : List ℕ) (new : Stream) → HasToldOf b words.begun new there text → there.profile ≡ profile
+  pub under : (there : Reached) (text : List ℕ) (new : Stream) → HasToldOf b words.begun new there text
+      → there.profile ≡ profile
   under there text new told = told.at.profile ∙ (told.same.profile ∙ words.same_profile)
 
   -- one of them is no token
-  pub words_to_bad : (piece more : List ℕ) (count : ℕ) (fault : LexFault) (after : Scan) (new : Stream) (last : List Span) → MovesSpans
-      → ((text : List ℕ) → (front : List ℕ) × (text ≡ front ++ open_word text)) → ((text : List ℕ) → front_word (open_word text) ≡ open_word text)
-      → (stops : StopsAtBadWord (StreamStands words.begun new) words.reached piece count fault after (put ++ more)) → EndsWith stops.there last
+  pub words_to_bad : (piece more : List ℕ) (count : ℕ) (fault : LexFault) (after : Scan) (new : Stream)
+      (last : List Span) → MovesSpans
+      → ((text : List ℕ) → (front : List ℕ) × (text ≡ front ++ open_word text))
+      → ((text : List ℕ) → front_word (open_word text) ≡ open_word text)
+      → (stops : StopsAtBadWord (StreamStands words.begun new) words.reached piece count fault after (put ++ more))
+      → EndsWith stops.there last
       → InBadWord choice profile (drop count piece) new b (used ++ take count piece) (put ++ more)
   words_to_bad piece more count fault after new last move begun solid stops end =
       let there = stops.there in
@@ -123,11 +139,20 @@ module _ (choice : ChoiceData) (profile : List DeviceParts) (b : Before) (scan :
       let bytes_are : (others : List ℕ) → (words.reached.text ++ piece) ++ others ≡ there.text ++ (rest ++ others) =
       λ others. ap (λ (l : List ℕ). (words.reached.text ++ l) ++ others) (sym (take-append-drop count piece))
       ∙ (ap (λ (l : List ℕ). l ++ others) (sym (append_assoc words.reached.text (take count piece) rest))
-      ∙ (append_assoc (words.reached.text ++ take count piece) rest others ∙ ap (λ (l : List ℕ). l ++ (rest ++ others)) (sym stops.used_up_to))) in
-      let has = has_met choice profile b there front.0 rest (put ++ more) last new move (under there (put ++ more) new told) front.1 (solid there.text)
-      (λ others. subst (λ (l : List ℕ). OpenWordIsBad there.text l there.events) (bytes_are others) (stops.bad others)) end told.at.knows (lines_by there (put ++ more) new told) in record {
-        word = subst (λ (l : List ℕ). HasBadWord choice profile rest new b l (put ++ more)) (stops.used_up_to ∙ ap (λ (l : List ℕ). l ++ take count piece) words.is_text) has;
-        short = λ none. absurd (omega (arith, length-drop count piece, ap (λ (l : List ℕ). length l) none, stops.within));
+      ∙ (append_assoc (words.reached.text ++ take count piece) rest others ∙ ap (λ (l : List ℕ). l ++ (rest ++ others))
+      (sym stops.used_up_to))) in
+      let has = has_met choice profile b there front.0 rest (put ++ more) last new move
+      (under there (put ++ more) new told) front.1 (solid there.text)
+      (λ others. subst (λ (l : List ℕ). OpenWordIsBad there.text l there.events) (bytes_are others) (stops.bad others))
+      end told.at.knows (lines_by there (put ++ more) new told) in record {
+        word = subst (λ (l : List ℕ). HasBadWord choice profile rest new b l (put ++ more))
+            (stops.used_up_to ∙ ap (λ (l : List ℕ). l ++ take count piece) words.is_text) has;
+        short = λ none. absurd (omega (
+          arith,
+          length-drop count piece,
+          ap (λ (l : List ℕ). length l) none,
+          stops.within,
+        ));
       }
 
   -- ---- the bytes end
@@ -136,20 +161,27 @@ module _ (choice : ChoiceData) (profile : List DeviceParts) (b : Before) (scan :
   ends_objects : (there : Reached) (last : List Span) (place_text : List ℕ)
       → span_objects choice profile (event_place b.read b.n place_text) b.ts (moved_spans b.n (there.spans ++ last))
       ≡ span_objects choice profile (event_place b.read b.n place_text) b.ts (moved_spans b.n there.spans)
-      ++ span_objects choice profile (event_place b.read b.n place_text) (b.ts ++ transactions_in there.spans) (moved_spans b.n last)
+      ++ span_objects choice profile (event_place b.read b.n place_text) (b.ts ++ transactions_in there.spans)
+      (moved_spans b.n last)
   ends_objects there last place_text =
       let place = event_place b.read b.n place_text in
       ap (span_objects choice profile place b.ts) (map-append (moved_span b.n) there.spans last)
       ∙ (objects_append choice profile place b.ts (moved_spans b.n there.spans) (moved_spans b.n last)
-      ∙ ap (λ (ts : List TransactionData). span_objects choice profile place b.ts (moved_spans b.n there.spans) ++ span_objects choice profile place (b.ts ++ ts) (moved_spans b.n last)) (transactions_moved b.n there.spans))
+      ∙ ap (λ (ts : List TransactionData). span_objects choice profile place b.ts (moved_spans b.n there.spans)
+      ++ span_objects choice profile place (b.ts ++ ts) (moved_spans b.n last)) (transactions_moved b.n there.spans))
 
   -- Bytes that spell events: after the lines that were told come those of the other spans, and of
   -- the end.
-  pub reads_on : (there : Reached) (events : List Event) (others : List Span) (own said : List ℕ) → there.text ≡ used → AreLinesOf choice profile b there own → Spells used events
+  pub reads_on : (there : Reached) (events : List Event) (others : List Span) (own said : List ℕ) → there.text ≡ used
+      → AreLinesOf choice profile b there own → Spells used events
       → SpansFrom profile b.n events (moved_spans b.n (there.spans ++ others))
-      → said ≡ object_lines choice.devices (span_objects choice profile (event_place b.read b.n there.text) (b.ts ++ transactions_in there.spans) (moved_spans b.n others) ++ end_objects (after_spans b.counts (there.spans ++ others)))
-      → (objects : List Object) × ReadsToEnd choice profile b used objects (after_spans b.counts (there.spans ++ others))
-      × (own ++ said ≡ object_lines choice.devices (objects ++ end_objects (after_spans b.counts (there.spans ++ others))))
+      → said ≡ object_lines choice.devices (span_objects choice profile (event_place b.read b.n there.text)
+      (b.ts ++ transactions_in there.spans) (moved_spans b.n others)
+      ++ end_objects (after_spans b.counts (there.spans ++ others)))
+      → (objects : List Object) × ReadsToEnd choice profile b used objects
+      (after_spans b.counts (there.spans ++ others))
+      × (own ++ said ≡ object_lines choice.devices
+      (objects ++ end_objects (after_spans b.counts (there.spans ++ others))))
   reads_on there events others own said text_is told spells reads said_are =
       let spans = moved_spans b.n (there.spans ++ others) in
       let counts = after_spans b.counts (there.spans ++ others) in
@@ -159,43 +191,65 @@ module _ (choice : ChoiceData) (profile : List DeviceParts) (b : Before) (scan :
       let later = span_objects choice profile place (b.ts ++ transactions_in there.spans) (moved_spans b.n others) in
       let lines = object_lines choice.devices in
       let own_is : own ≡ lines first =
-      told [] ∙ ap (λ (l : List ℕ). lines (span_objects choice profile (event_place b.read b.n l) b.ts (moved_spans b.n there.spans))) (append-nil there.text ∙ text_is) in
+      told [] ∙ ap (λ (l : List ℕ). lines (span_objects choice profile (event_place b.read b.n l) b.ts
+      (moved_spans b.n there.spans))) (append-nil there.text ∙ text_is) in
       let said_is : said ≡ lines (later ++ end_objects counts) =
-      said_are ∙ ap (λ (l : List ℕ). lines (span_objects choice profile (event_place b.read b.n l) (b.ts ++ transactions_in there.spans) (moved_spans b.n others) ++ end_objects counts)) text_is in (
+      said_are ∙ ap (λ (l : List ℕ). lines (span_objects choice profile (event_place b.read b.n l)
+      (b.ts ++ transactions_in there.spans) (moved_spans b.n others) ++ end_objects counts)) text_is in (
         objects,
-        record { events = events; spans = spans; spells = spells; reads = reads; all = refl; behind = sym (counts_moved b.counts b.n (there.spans ++ others)) },
+        record {
+          events = events;
+          spans = spans;
+          spells = spells;
+          reads = reads;
+          all = refl;
+          behind =
+              sym (counts_moved b.counts b.n (there.spans ++ others));
+        },
         ap (λ (l : List ℕ). l ++ said) own_is
             ∙ (ap (λ (l : List ℕ). lines first ++ l) said_is
             ∙ (sym (lines_append choice.devices first (later ++ end_objects counts))
-            ∙ ap lines (sym (append_assoc first later (end_objects counts)) ∙ ap (λ (l : List Object). l ++ end_objects counts) (sym (ends_objects there others used))))),
+            ∙ ap lines (sym (append_assoc first later (end_objects counts))
+            ∙ ap (λ (l : List Object). l ++ end_objects counts) (sym (ends_objects there others used))))),
       )
 
   -- the end is read
-  pub reads_end : (more said : List ℕ) (after : Scan) (new : Stream) (last : List Span) → MovesSpans → (ends : EndsWords (StreamStands words.begun new) words.reached after (put ++ more)) → EndsWith ends.there last
-      → said ≡ object_lines choice.devices (span_objects choice profile (event_place b.read b.n ends.there.text) (b.ts ++ transactions_in ends.there.spans) (moved_spans b.n last) ++ end_objects (after_spans b.counts (ends.there.spans ++ last)))
-      → (objects : List Object) × ReadsToEnd choice profile b used objects (after_spans b.counts (ends.there.spans ++ last))
-      × (put ++ (more ++ said) ≡ object_lines choice.devices (objects ++ end_objects (after_spans b.counts (ends.there.spans ++ last))))
+  pub reads_end : (more said : List ℕ) (after : Scan) (new : Stream) (last : List Span) → MovesSpans
+      → (ends : EndsWords (StreamStands words.begun new) words.reached after (put ++ more)) → EndsWith ends.there last
+      → said ≡ object_lines choice.devices (span_objects choice profile (event_place b.read b.n ends.there.text)
+      (b.ts ++ transactions_in ends.there.spans) (moved_spans b.n last)
+      ++ end_objects (after_spans b.counts (ends.there.spans ++ last)))
+      → (objects : List Object) × ReadsToEnd choice profile b used objects
+      (after_spans b.counts (ends.there.spans ++ last))
+      × (put ++ (more ++ said) ≡ object_lines choice.devices
+      (objects ++ end_objects (after_spans b.counts (ends.there.spans ++ last))))
   reads_end more said after new last move ends end said_are =
       let there = ends.there in
       let told = ends.visited.told b words.begins in
-      let reads = reads_on there there.events last (put ++ more) said (ends.same_text ∙ words.is_text) (lines_by there (put ++ more) new told)
+      let reads = reads_on there there.events last (put ++ more) said (ends.same_text ∙ words.is_text)
+      (lines_by there (put ++ more) new told)
       (subst (λ (l : List ℕ). Spells l there.events) words.is_text ends.spells)
       (met_reads choice profile b there last move (under there (put ++ more) new told) end) said_are in
       (reads.0, reads.1, sym (append_assoc put more said) ∙ reads.2)
 
   -- they end in a word that is no token
   pub ends_met : (more : List ℕ) (fault : LexFault) (after : Scan) (new : Stream) (last : List Span) → MovesSpans
-      → (begun : (text : List ℕ) → (front : List ℕ) × (text ≡ front ++ open_word text)) → ((text : List ℕ) → front_word (open_word text) ≡ open_word text)
-      → EndsInBadWord (StreamStands words.begun new) words.reached fault after (put ++ more) → EndsWith words.reached last
+      → (begun : (text : List ℕ) → (front : List ℕ) × (text ≡ front ++ open_word text))
+      → ((text : List ℕ) → front_word (open_word text) ≡ open_word text)
+      → EndsInBadWord (StreamStands words.begun new) words.reached fault after (put ++ more)
+      → EndsWith words.reached last
       → (IsBadLine choice profile b (longer_line (met choice profile b words.reached (begun words.reached.text).0) []))
       × (used ≡ (begun words.reached.text).0 ++ open_word words.reached.text)
-      × (put ++ more ≡ object_lines choice.devices (front_objects choice profile b (longer_line (met choice profile b words.reached (begun words.reached.text).0) [])))
+      × (put ++ more ≡ object_lines choice.devices
+      (front_objects choice profile b (longer_line (met choice profile b words.reached (begun words.reached.text).0)
+      [])))
   ends_met more fault after new last move begun solid ends end =
       let there = words.reached in
       let told = ends.visited.told b words.begins in
       let front = begun there.text in (
         record {
-          word = met_word choice profile there front.0 [] front.1 (subst (λ (l : List ℕ). OpenWordIsBad there.text l there.events) (sym (append-nil there.text)) ends.bad);
+          word = met_word choice profile there front.0 [] front.1
+              (subst (λ (l : List ℕ). OpenWordIsBad there.text l there.events) (sym (append-nil there.text)) ends.bad);
           in_line = no_lf_append (open_word there.text) [] (solid_no_lf (open_word there.text) (solid there.text)) tt;
           all = moved_spans b.n (there.spans ++ last);
           reads = met_reads choice profile b there last move (under there (put ++ more) new told) end;
@@ -207,7 +261,8 @@ module _ (choice : ChoiceData) (profile : List DeviceParts) (b : Before) (scan :
 
   -- ---- so far
 
-  pub reads_so_far : (last : List Span) → MovesSpans → EndsWith words.reached last → (objects : List Object) × ReadsSoFar choice profile b used objects × (put ≡ object_lines choice.devices objects)
+  pub reads_so_far : (last : List Span) → MovesSpans → EndsWith words.reached last
+      → (objects : List Object) × ReadsSoFar choice profile b used objects × (put ≡ object_lines choice.devices objects)
   reads_so_far last move end =
       let there = words.reached in
       let told = words.told.told b words.begins in
@@ -223,16 +278,23 @@ module _ (choice : ChoiceData) (profile : List DeviceParts) (b : Before) (scan :
           all = refl;
         },
         lines_by there put stream told []
-            ∙ (ap (λ (l : List ℕ). object_lines choice.devices (span_objects choice profile (event_place b.read b.n l) b.ts (moved_spans b.n there.spans))) (append-nil there.text ∙ words.is_text)
-            ∙ ap (λ (l : List Span). object_lines choice.devices (span_objects choice profile place b.ts l)) (met_whole choice profile b.n there last end)),
+            ∙ (ap (λ (l : List ℕ). object_lines choice.devices
+            (span_objects choice profile (event_place b.read b.n l) b.ts (moved_spans b.n there.spans)))
+            (append-nil there.text ∙ words.is_text)
+            ∙ ap (λ (l : List Span). object_lines choice.devices (span_objects choice profile place b.ts l))
+            (met_whole choice profile b.n there last end)),
       )
 
 -- all that is written where the bytes end
-pub ends_json : (choice : ChoiceData) (profile : List DeviceParts) (after : BadWords) (Holds : Before → List ℕ → List ℕ → Type 0) (bytes text said : List ℕ) (counts : CountsData) (tally : Tally)
+pub ends_json : (choice : ChoiceData) (profile : List DeviceParts) (after : AfterBadToken)
+    (Holds : Before → List ℕ → List ℕ → Type 0) (bytes text said : List ℕ) (counts : CountsData) (tally : Tally)
     → (behind : Behind choice profile after Holds bytes text)
-    → (objects : List Object) × ReadsToEnd choice profile behind.b behind.used objects counts × (behind.put ++ said ≡ object_lines choice.devices (objects ++ end_objects counts))
-    → IsTallyOf counts.packets (counts.refusals + counts.bad_tokens) tally → WritesJson choice profile after bytes (text ++ said) tally
+    → (objects : List Object) × ReadsToEnd choice profile behind.b behind.used objects counts
+    × (behind.put ++ said ≡ object_lines choice.devices (objects ++ end_objects counts))
+    → IsTallyOf counts.packets (counts.refusals + counts.bad_tokens) tally
+    → WritesJson choice profile after bytes (text ++ said) tally
 ends_json choice profile after Holds bytes text said counts tally behind reads tallied =
     subst (λ (l : List ℕ). WritesJson choice profile after l (text ++ said) tally) (append-nil bytes)
     (writes_json choice profile after Holds bytes text behind [] said [] reads.0 counts tally
-    (subst (λ (l : List ℕ). ReadsToEnd choice profile behind.b l reads.0 counts) (sym (append-nil behind.used)) reads.1) reads.2 tallied)
+    (subst (λ (l : List ℕ). ReadsToEnd choice profile behind.b l reads.0 counts) (sym (append-nil behind.used)) reads.1)
+    reads.2 tallied)

@@ -8,39 +8,52 @@ use Rattle.pmb_io.specs.declared.tally.Tally.{Tally}
 use Rattle.pmb_io.specs.Runs.{Job, Ran}
 use Rattle.pmb_io.specs.Told.{ReaderTold, WriterTold}
 use Rattle.pmb_io.proofs.RunLemmas.{failed_as, ran_as}
-use Rattle.pmb_json.specs.declared.bad_words.BadWords.{BadWords}
+use Rattle.pmb_json.specs.declared.after_bad_token.AfterBadToken.{AfterBadToken}
 use Rattle.pmb_json.specs.declared.engine.Json.{Json}
 use Rattle.pmb_json.specs.Json.{WritesJsonFront, json_job}
-use Rattle.pmb_json.specs.machine.Standing.{HasEnded, HasPutOut, HasStopped, json_bad_words, json_choice, json_profile, json_tally}
+use Rattle.pmb_json.specs.machine.Standing.{HasEnded, HasPutOut, HasStopped, json_bad_words, json_choice, json_profile}
+use Rattle.pmb_json.specs.machine.Standing.{json_tally}
 use Rattle.pmb_json.proofs.Fronts.{opens_in}
-use Rattle.pmb_stream.specs.Choice.{ChoiceData}
+use Rattle.pmb_json_stream.specs.Choice.{ChoiceData}
 
 abbrev pub own_job : Json → Json → Job (Unit {0})
 own_job = engine_job HasPutOut HasStopped HasEnded
 
 -- the same job under the names that it was made with
-named_as : (Holds : Job Tally → Type 0) (start : Json) (choice : ChoiceData) (profile : List DeviceParts) (after : BadWords) → json_choice start ≡ choice → json_profile start ≡ profile → json_bad_words start ≡ after
-    → Holds (json_job (json_choice start) (json_profile start) (json_bad_words start)) → Holds (json_job choice profile after)
+named_as : (Holds : Job Tally → Type 0) (start : Json) (choice : ChoiceData) (profile : List DeviceParts)
+    (after : AfterBadToken) → json_choice start ≡ choice → json_profile start ≡ profile → json_bad_words start ≡ after
+    → Holds (json_job (json_choice start) (json_profile start) (json_bad_words start))
+    → Holds (json_job choice profile after)
 named_as Holds start choice profile after same_choice same_profile same_after holds =
-    subst (λ (a : BadWords). Holds (json_job choice profile a)) same_after
+    subst (λ (a : AfterBadToken). Holds (json_job choice profile a)) same_after
     (subst (λ (p : List DeviceParts). Holds (json_job choice p (json_bad_words start))) same_profile
     (subst (λ (k : ChoiceData). Holds (json_job k (json_profile start) (json_bad_words start))) same_choice holds))
 
-module _ {R W : Type 0} (reader_told : R → ReaderTold) (writer_told : W → WriterTold) (start now : Json) (choice : ChoiceData) (profile : List DeviceParts) (after : BadWords)
-    (same_choice : json_choice start ≡ choice) (same_profile : json_profile start ≡ profile) (same_after : json_bad_words start ≡ after) (first : List ℕ) (old new : R × W) where
-  pub json_ran : (tally : Tally) → tally ≡ json_tally now → Ran reader_told writer_told (own_job start now) first old new (Ok tt)
+module _ {R W : Type 0} (reader_told : R → ReaderTold) (writer_told : W → WriterTold) (start now : Json)
+    (choice : ChoiceData) (profile : List DeviceParts) (after : AfterBadToken)
+    (same_choice : json_choice start ≡ choice) (same_profile : json_profile start ≡ profile)
+    (same_after : json_bad_words start ≡ after) (first : List ℕ) (old new : R × W) where
+  pub json_ran : (tally : Tally) → tally ≡ json_tally now
+      → Ran reader_told writer_told (own_job start now) first old new (Ok tt)
       → Ran reader_told writer_told (json_job choice profile after) first old new (Ok tally)
   json_ran tally counted ran =
-      named_as (λ job. Ran reader_told writer_told job first old new (Ok tally)) start choice profile after same_choice same_profile same_after
-      (subst (λ (t : Tally). Ran reader_told writer_told (json_job (json_choice start) (json_profile start) (json_bad_words start)) first old new (Ok t)) (sym counted)
-      (ran_as reader_told writer_told (own_job start now) first old new (json_job (json_choice start) (json_profile start) (json_bad_words start)) tt (json_tally now)
-      (λ bytes text ended. ended) (λ bytes text stopped. stopped) (λ bytes opened. opens_in opened.0.inside start opened.0 bytes opened.1 opened.2) ran))
+      named_as (λ job. Ran reader_told writer_told job first old new (Ok tally)) start choice profile after same_choice
+      same_profile same_after
+      (subst (λ (t : Tally). Ran reader_told writer_told
+      (json_job (json_choice start) (json_profile start) (json_bad_words start)) first old new (Ok t)) (sym counted)
+      (ran_as reader_told writer_told (own_job start now) first old new
+      (json_job (json_choice start) (json_profile start) (json_bad_words start)) tt (json_tally now)
+      (λ bytes text ended. ended) (λ bytes text stopped. stopped)
+      (λ bytes opened. opens_in opened.0.inside start opened.0 bytes opened.1 opened.2) ran))
 
   pub json_failed : (fault : RunFault) → IsBus profile
       → ((begun left : Json) (bytes text : List ℕ) → IsBus (json_profile begun) → HasPutOut begun left bytes text
       → WritesJsonFront (json_choice begun) (json_profile begun) (json_bad_words begun) bytes text)
-      → Ran reader_told writer_told (own_job start now) first old new (Err fault) → Ran reader_told writer_told (json_job choice profile after) first old new (Err fault)
+      → Ran reader_told writer_told (own_job start now) first old new (Err fault)
+      → Ran reader_told writer_told (json_job choice profile after) first old new (Err fault)
   json_failed fault bus leaves ran =
-      named_as (λ job. Ran reader_told writer_told job first old new (Err fault)) start choice profile after same_choice same_profile same_after
-      (failed_as reader_told writer_told (own_job start now) first old new (json_job (json_choice start) (json_profile start) (json_bad_words start)) fault
+      named_as (λ job. Ran reader_told writer_told job first old new (Err fault)) start choice profile after same_choice
+      same_profile same_after
+      (failed_as reader_told writer_told (own_job start now) first old new
+      (json_job (json_choice start) (json_profile start) (json_bad_words start)) fault
       (λ bytes text written. leaves start now bytes text (subst IsBus (sym same_profile) bus) written) ran)

@@ -1,47 +1,53 @@
 -- Something is written for any bytes.
-use Rattle.std.proofs.Common.{◌≡◌, ℕ, suc, zero, ◌+◌, ◌<◌, ◌≤◌, ◌⊎◌, inl, inr, List, [], ◌∷◌, ◌++◌, filter, length, refl, sym, ◌∙◌, ap, append_assoc, arith, length-append}
+use Rattle.std.proofs.Common.{◌≡◌, ℕ, suc, zero, ◌+◌, ◌<◌, ◌≤◌, ◌⊎◌, inl, inr, List, [], ◌∷◌, ◌++◌, filter, length}
+use Rattle.std.proofs.Common.{refl, sym, ◌∙◌, ap, append_assoc, arith, length-append}
 use Rattle.pmb_bus.specs.declared.event.Event.{Event}
 use Rattle.pmb_bus.specs.Text.{FirstBadWord, Spells}
 use Rattle.pmb_command.specs.Parts.{DeviceParts}
 use Rattle.pmb_io.specs.Count.{capped}
 use Rattle.pmb_io.specs.declared.tally.Tally.{Tally}
 use Rattle.pmb_spans.specs.Spans.{Span, SpansFrom, is_whole}
-use Rattle.pmb_json.specs.declared.bad_words.BadWords.{BadWords}
-use Rattle.pmb_json.specs.declared.bad_words.BadWords.TheVariants.{End, GoOn}
-use Rattle.pmb_stream.specs.Before.{Before, at_first}
-use Rattle.pmb_stream.specs.Choice.{ChoiceData}
-use Rattle.pmb_objects.specs.Counts.{CountsData, end_objects}
-use Rattle.pmb_objects.specs.Object.{Object, object_lines}
-use Rattle.pmb_stream.specs.Spans.{after_spans, event_place, span_objects}
+use Rattle.pmb_json.specs.declared.after_bad_token.AfterBadToken.{AfterBadToken}
+use Rattle.pmb_json.specs.declared.after_bad_token.AfterBadToken.TheVariants.{End, GoOn}
+use Rattle.pmb_json_stream.specs.Before.{Before, at_first}
+use Rattle.pmb_json_stream.specs.Choice.{ChoiceData}
+use Rattle.pmb_json_objects.specs.Counts.{CountsData, end_objects}
+use Rattle.pmb_json_objects.specs.Object.{Object, object_lines}
+use Rattle.pmb_json_stream.specs.Spans.{after_spans, event_place, span_objects}
 use Rattle.pmb_json.specs.Text.{BadLine, GoesOn, ObjectsFrom, WritesJson, bad_line_objects, behind_line}
 use Rattle.pmb_json.proofs.BadLines.{bad_word_of_line}
 use Rattle.pmb_json.proofs.Lines.{SplitsLine, split_line}
 
 -- a text spells events, or one of its words is the first that is no token
 abbrev pub IsRead : List ℕ → Type 0
-IsRead text = ((events : List Event) × Spells text events) ⊎ ((events : List Event) × (place : ℕ) × FirstBadWord text events place)
+IsRead text = ((events : List Event) × Spells text events)
+    ⊎ ((events : List Event) × (place : ℕ) × FirstBadWord text events place)
 
-module _ (choice : ChoiceData) (profile : List DeviceParts) (some_spans : (n : ℕ) (events : List Event) → (spans : List Span) × SpansFrom profile n events spans)
+module _ (choice : ChoiceData) (profile : List DeviceParts) (some_spans : (n : ℕ) (events : List Event)
+    → (spans : List Span) × SpansFrom profile n events spans)
     (each_text_is_read : (text : List ℕ) → IsRead text) where
   -- bytes from there on have some objects
-  abbrev HasObjects : BadWords → Before → List ℕ → Type 0
-  HasObjects after b bytes = (bad : List BadLine) × (objects : List Object) × (counts : CountsData) × ObjectsFrom choice profile after b bytes bad objects counts
+  abbrev HasObjects : AfterBadToken → Before → List ℕ → Type 0
+  HasObjects after b bytes = (bad : List BadLine) × (objects : List Object) × (counts : CountsData)
+      × ObjectsFrom choice profile after b bytes bad objects counts
 
   -- .. and so has what stands after a bad line
-  abbrev HasObjectsBehind : BadWords → Before → BadLine → List ℕ → Type 0
+  abbrev HasObjectsBehind : AfterBadToken → Before → BadLine → List ℕ → Type 0
   HasObjectsBehind after b bad rest =
       (more : List BadLine) × (others : List Object) × (counts : CountsData)
       × GoesOn after rest (λ behind. ObjectsFrom choice profile after (behind_line b bad) behind more others counts)
       ((more ≡ []) × (others ≡ []) × (counts ≡ (behind_line b bad).counts))
 
-  objects_behind : (after : BadWords) (b : Before) (bad : BadLine) (rest : List ℕ)
-      → ((bytes : List ℕ) → length bytes < length rest → HasObjects GoOn (behind_line b bad) bytes) → HasObjectsBehind after b bad rest
+  objects_behind : (after : AfterBadToken) (b : Before) (bad : BadLine) (rest : List ℕ)
+      → ((bytes : List ℕ) → length bytes < length rest → HasObjects GoOn (behind_line b bad) bytes)
+      → HasObjectsBehind after b bad rest
   objects_behind End b bad rest later = ([], [], (behind_line b bad).counts, (refl, refl, refl))
   objects_behind GoOn b bad [] later = ([], [], (behind_line b bad).counts, (refl, refl, refl))
   objects_behind GoOn b bad (lf ∷ bytes) later = later bytes (omega arith)
 
   -- bytes that spell events
-  all_read : (after : BadWords) (b : Before) (bytes : List ℕ) (events : List Event) → Spells bytes events → HasObjects after b bytes
+  all_read : (after : AfterBadToken) (b : Before) (bytes : List ℕ) (events : List Event) → Spells bytes events
+      → HasObjects after b bytes
   all_read after b bytes events spells =
       let read = some_spans b.n events in (
         [],
@@ -51,17 +57,27 @@ module _ (choice : ChoiceData) (profile : List DeviceParts) (some_spans : (n : �
       )
 
   -- bytes with a bad word
-  up_to_bad_word : (after : BadWords) (b : Before) (bytes : List ℕ) (events : List Event) (place : ℕ) → FirstBadWord bytes events place
-      → ((there : Before) (behind : List ℕ) → length behind < length bytes → HasObjects GoOn there behind) → HasObjects after b bytes
+  up_to_bad_word : (after : AfterBadToken) (b : Before) (bytes : List ℕ) (events : List Event) (place : ℕ)
+      → FirstBadWord bytes events place
+      → ((there : Before) (behind : List ℕ) → length behind < length bytes → HasObjects GoOn there behind)
+      → HasObjects after b bytes
   up_to_bad_word after b bytes events place word later =
       let here : SplitsLine word.rest = split_line word.rest in
       let read = some_spans b.n events in
-      let bad : BadLine = record { front = word.front; events = events; spans = filter is_whole read.0; line = here.line } in
+      let bad : BadLine = record {
+        front = word.front;
+        events = events;
+        spans = filter is_whole read.0;
+        line =
+            here.line;
+      } in
       let split : bytes ≡ word.front ++ here.line ++ here.rest =
-      word.split ∙ ap (λ (l : List ℕ). word.front ++ l) here.split ∙ sym (append_assoc word.front here.line here.rest) in
+      word.split ∙ ap (λ (l : List ℕ). word.front ++ l) here.split
+      ∙ sym (append_assoc word.front here.line here.rest) in
       let long : length here.rest ≤ length bytes =
       omega (arith, ap length split, length-append (word.front ++ here.line) here.rest) in
-      let behind = objects_behind after b bad here.rest (λ rest short. later (behind_line b bad) rest (omega (arith, short, long))) in (
+      let behind = objects_behind after b bad here.rest
+      (λ rest short. later (behind_line b bad) rest (omega (arith, short, long))) in (
         bad ∷ behind.0,
         bad_line_objects choice profile b bad ++ behind.1,
         behind.2,
@@ -82,18 +98,25 @@ module _ (choice : ChoiceData) (profile : List DeviceParts) (some_spans : (n : �
         ),
       )
 
-  some_objects : (most : ℕ) (after : BadWords) (b : Before) (bytes : List ℕ) → length bytes < most → HasObjects after b bytes
+  some_objects : (most : ℕ) (after : AfterBadToken) (b : Before) (bytes : List ℕ) → length bytes < most
+      → HasObjects after b bytes
   some_objects zero after b bytes short = absurd (omega arith)
   some_objects (suc most) after b bytes short =
       elim (each_text_is_read bytes) [
         | inl all ↦ all_read after b bytes all.0 all.1
-        | inr bad ↦ up_to_bad_word after b bytes bad.0 bad.1 bad.2 (λ there behind less. some_objects most GoOn there behind (omega (arith, less, short)))
+        | inr bad ↦ up_to_bad_word after b bytes bad.0 bad.1 bad.2
+            (λ there behind less. some_objects most GoOn there behind (omega (arith, less, short)))
       ]
 
-  pub some_text : (after : BadWords) (bytes : List ℕ) → (text : List ℕ) × (tally : Tally) × WritesJson choice profile after bytes text tally
+  pub some_text : (after : AfterBadToken) (bytes : List ℕ) → (text : List ℕ) × (tally : Tally)
+      × WritesJson choice profile after bytes text tally
   some_text after bytes =
       let all = some_objects (length bytes + 1) after at_first bytes (omega arith) in
-      let tally : Tally = record { packets = capped all.2.packets; refusals = capped (all.2.refusals + all.2.bad_tokens) } in (
+      let tally : Tally = record {
+        packets = capped all.2.packets;
+        refusals =
+            capped (all.2.refusals + all.2.bad_tokens);
+      } in (
         object_lines choice.devices (all.1 ++ end_objects all.2),
         tally,
         record {

@@ -1,39 +1,46 @@
 -- A `Json` after bytes more.
-use Rattle.std.proofs.Common.{◌≡◌, ◌≢◌, ◌⊎◌, ℕ, ◌+◌, ◌<◌, ◌≤◌, true, inl, inr, List, [], ◌∷◌, ◌++◌, drop, length, take, refl, sym, ap, subst, ◌∙◌, append_assoc, append-nil, arith, length-append, length-take, take-append-drop}
+use Rattle.std.proofs.Common.{◌≡◌, ◌≢◌, ◌⊎◌, ℕ, ◌+◌, ◌<◌, ◌≤◌, true, inl, inr, List, [], ◌∷◌, ◌++◌, drop, length, take}
+use Rattle.std.proofs.Common.{refl, sym, ap, subst, ◌∙◌, append_assoc, append-nil, arith, length-append, length-take}
+use Rattle.std.proofs.Common.{take-append-drop}
 use Rattle.pmb_bus.specs.Text.{EndsBetween, front_word, is_word, open_word}
 use Rattle.pmb_command.specs.Parts.{DeviceParts}
 use Rattle.pmb_io.specs.Count.{capped}
 use Rattle.pmb_io.specs.Tally.{IsTallyOf}
 use Rattle.pmb_io.specs.declared.tally.Tally.{Tally}
-use Rattle.pmb_json.specs.declared.bad_words.BadWords.{BadWords}
-use Rattle.pmb_json.specs.declared.bad_words.BadWords.TheVariants.{End, GoOn}
+use Rattle.pmb_json.specs.declared.after_bad_token.AfterBadToken.{AfterBadToken}
+use Rattle.pmb_json.specs.declared.after_bad_token.AfterBadToken.TheVariants.{End, GoOn}
 use Rattle.pmb_json.specs.declared.engine.Json.{Json}
 use Rattle.pmb_json.specs.Json.{StopsJson}
-use Rattle.pmb_json.specs.Text.{BadLine, IsBadLine, IsBehindLine, WritesJson, bad_line_objects, behind_line, front_objects}
+use Rattle.pmb_json.specs.Text.{BadLine, IsBadLine, IsBehindLine, WritesJson, bad_line_objects, behind_line}
+use Rattle.pmb_json.specs.Text.{front_objects}
 use Rattle.pmb_json.specs.machine.Ends.{EndsLine}
-use Rattle.pmb_json.specs.machine.Standing.{Behind, BehindBadWord, HasBadWord, InBadLine, InBadWord, InWords, IsBadSoFar, IsMadeAs, behind_bytes, behind_object, json_bad_words, json_profile, last_word_objects, longer_line}
-use Rattle.pmb_json.proofs.MetWords.{StandsThere, word_goes_on, first_so_far, knows_as, lines_with_counts, lines_with_last, lines_with_word, stands_there, word_is}
+use Rattle.pmb_json.specs.machine.Standing.{Behind, BehindBadWord, HasBadWord, InBadLine, InBadWord, InWords}
+use Rattle.pmb_json.specs.machine.Standing.{IsBadSoFar, IsMadeAs, behind_bytes, behind_object, json_bad_words}
+use Rattle.pmb_json.specs.machine.Standing.{json_profile, last_word_objects, longer_line}
+use Rattle.pmb_json.proofs.MetWords.{StandsThere, word_goes_on, first_so_far, knows_as, lines_with_counts}
+use Rattle.pmb_json.proofs.MetWords.{lines_with_last, lines_with_word, stands_there, word_is}
 use Rattle.pmb_json.proofs.Leading.{bad_line_is, leads_line, writes_bad_line}
 use Rattle.pmb_json.proofs.Lines.{behind_front, front_cut, never_under_way, same_split, split_line, told_for_good}
 use Rattle.pmb_json.proofs.Objects.{lines_append}
 use Rattle.pmb_json.proofs.Reading.{words_begin}
 use Rattle.pmb_json.proofs.Words.{solid_no_lf, solid_then}
-use Rattle.pmb_objects.specs.BadToken.{bad_token_object}
-use Rattle.pmb_objects.specs.Counts.{end_objects}
-use Rattle.pmb_objects.specs.Object.{object_lines}
+use Rattle.pmb_json_objects.specs.BadToken.{bad_token_object}
+use Rattle.pmb_json_objects.specs.Counts.{end_objects}
+use Rattle.pmb_json_objects.specs.Object.{object_lines}
 use Rattle.pmb_places.specs.Places.{place_behind, place_of_last_word}
-use Rattle.pmb_stream.specs.declared.stream.Stream.{Stream}
+use Rattle.pmb_json_stream.specs.declared.stream.Stream.{Stream}
 use Rattle.pmb_scan.specs.declared.scan.Scan.{Scan}
 use Rattle.pmb_scan.specs.Reached.{at_start}
 use Rattle.pmb_scan.specs.Scan.{ScanStandsAt}
-use Rattle.pmb_stream.specs.Before.{Before, with_bytes}
-use Rattle.pmb_stream.specs.Choice.{ChoiceData}
-use Rattle.pmb_stream.specs.Stream.{IsSame, StreamBegins, StreamKnows, stream_choice, stream_profile}
+use Rattle.pmb_json_stream.specs.Before.{Before, with_bytes}
+use Rattle.pmb_json_stream.specs.Choice.{ChoiceData}
+use Rattle.pmb_json_stream.specs.Stream.{IsSame, StreamBegins, StreamKnows, stream_choice, stream_profile}
 
 -- ---- bytes and text more
 
 -- it was made as before
-pub made_on : (start old new : Json) → IsMadeAs start old → json_profile new ≡ json_profile old → json_bad_words new ≡ json_bad_words old → IsSame old.stream new.stream → IsMadeAs start new
+pub made_on : (start old new : Json) → IsMadeAs start old → json_profile new ≡ json_profile old
+    → json_bad_words new ≡ json_bad_words old → IsSame old.stream new.stream → IsMadeAs start new
 made_on start old new made profile bad_words same = record {
   choice = same.choice ∙ made.choice;
   profile = profile ∙ made.profile;
@@ -41,9 +48,11 @@ made_on start old new made profile bad_words same = record {
   bad_words = bad_words ∙ made.bad_words;
 }
 
-module _ (choice : ChoiceData) (profile : List DeviceParts) (after : BadWords) where
-  pub behind_more : (Holds Next : Before → List ℕ → List ℕ → Type 0) (bytes text piece said : List ℕ) → (behind : Behind choice profile after Holds bytes text)
-      → Next behind.b (behind.used ++ piece) (behind.put ++ said) → Behind choice profile after Next (bytes ++ piece) (text ++ said)
+module _ (choice : ChoiceData) (profile : List DeviceParts) (after : AfterBadToken) where
+  pub behind_more : (Holds Next : Before → List ℕ → List ℕ → Type 0) (bytes text piece said : List ℕ)
+      → (behind : Behind choice profile after Holds bytes text)
+      → Next behind.b (behind.used ++ piece) (behind.put ++ said)
+      → Behind choice profile after Next (bytes ++ piece) (text ++ said)
   behind_more Holds Next bytes text piece said behind holds = record {
     b = behind.b;
     bads = behind.bads;
@@ -54,17 +63,21 @@ module _ (choice : ChoiceData) (profile : List DeviceParts) (after : BadWords) w
     used = behind.used ++ piece;
     put = behind.put ++ said;
     bytes_are = ap (λ (l : List ℕ). l ++ piece) behind.bytes_are ∙ append_assoc behind.b.read behind.used piece;
-    text_is = ap (λ (l : List ℕ). l ++ said) behind.text_is ∙ append_assoc (object_lines choice.devices behind.objects) behind.put said;
+    text_is = ap (λ (l : List ℕ). l ++ said) behind.text_is
+        ∙ append_assoc (object_lines choice.devices behind.objects) behind.put said;
     holds = holds;
   }
 
-  pub behind_taken : (Holds Next : Before → List ℕ → List ℕ → Type 0) (bytes text piece : List ℕ) → (behind : Behind choice profile after Holds bytes text)
+  pub behind_taken : (Holds Next : Before → List ℕ → List ℕ → Type 0) (bytes text piece : List ℕ)
+      → (behind : Behind choice profile after Holds bytes text)
       → Next behind.b (behind.used ++ piece) behind.put → Behind choice profile after Next (bytes ++ piece) text
   behind_taken Holds Next bytes text piece behind holds =
       subst (λ (l : List ℕ). Behind choice profile after Next (bytes ++ piece) l) (append-nil text)
-      (behind_more Holds Next bytes text piece [] behind (subst (λ (l : List ℕ). Next behind.b (behind.used ++ piece) l) (sym (append-nil behind.put)) holds))
+      (behind_more Holds Next bytes text piece [] behind
+      (subst (λ (l : List ℕ). Next behind.b (behind.used ++ piece) l) (sym (append-nil behind.put)) holds))
 
-  abbrev pub behind_put : (Holds Next : Before → List ℕ → List ℕ → Type 0) (bytes text said : List ℕ) → (behind : Behind choice profile after Holds bytes text)
+  abbrev pub behind_put : (Holds Next : Before → List ℕ → List ℕ → Type 0) (bytes text said : List ℕ)
+      → (behind : Behind choice profile after Holds bytes text)
       → Next behind.b behind.used (behind.put ++ said) → Behind choice profile after Next bytes (text ++ said)
   behind_put Holds Next bytes text said behind holds = record {
     b = behind.b;
@@ -76,12 +89,14 @@ module _ (choice : ChoiceData) (profile : List DeviceParts) (after : BadWords) w
     used = behind.used;
     put = behind.put ++ said;
     bytes_are = behind.bytes_are;
-    text_is = ap (λ (l : List ℕ). l ++ said) behind.text_is ∙ append_assoc (object_lines choice.devices behind.objects) behind.put said;
+    text_is = ap (λ (l : List ℕ). l ++ said) behind.text_is
+        ∙ append_assoc (object_lines choice.devices behind.objects) behind.put said;
     holds = holds;
   }
 
   -- what holds there, said otherwise
-  abbrev pub behind_as : (Holds Next : Before → List ℕ → List ℕ → Type 0) (bytes text : List ℕ) → (behind : Behind choice profile after Holds bytes text)
+  abbrev pub behind_as : (Holds Next : Before → List ℕ → List ℕ → Type 0) (bytes text : List ℕ)
+      → (behind : Behind choice profile after Holds bytes text)
       → Next behind.b behind.used behind.put → Behind choice profile after Next bytes text
   behind_as Holds Next bytes text behind holds = record {
     b = behind.b;
@@ -100,16 +115,22 @@ module _ (choice : ChoiceData) (profile : List DeviceParts) (after : BadWords) w
 -- ---- a word of which no more is told
 
 abbrev pub OpensWord : Type 0
-OpensWord = (read front word : List ℕ) → EndsBetween read → EndsBetween front → front_word word ≡ word → open_word ((read ++ front) ++ word) ≡ word
+OpensWord = (read front word : List ℕ) → EndsBetween read → EndsBetween front → front_word word ≡ word
+    → open_word ((read ++ front) ++ word) ≡ word
 
 abbrev pub PlacesWord : Type 0
-PlacesWord = (read front word : List ℕ) → EndsBetween read → EndsBetween front → front_word word ≡ word → is_word word ≡ true → place_of_last_word ((read ++ front) ++ word) ≡ place_behind (read ++ front)
+PlacesWord = (read front word : List ℕ) → EndsBetween read → EndsBetween front → front_word word ≡ word
+    → is_word word ≡ true → place_of_last_word ((read ++ front) ++ word) ≡ place_behind (read ++ front)
 
 -- as many bytes as are under way
-pub under_way_is : (choice : ChoiceData) (profile : List DeviceParts) (b : Before) (at_hand used put : List ℕ) (stream : Stream) → OpensWord → EndsBetween b.read
-    → (has : HasBadWord choice profile at_hand stream b used put) → open_word ((b.read ++ has.bad.front) ++ has.bad.line) ≡ has.bad.line
+pub under_way_is : (choice : ChoiceData) (profile : List DeviceParts) (b : Before) (at_hand used put : List ℕ)
+    (stream : Stream) → OpensWord → EndsBetween b.read
+    → (has : HasBadWord choice profile at_hand stream b used put)
+    → open_word ((b.read ++ has.bad.front) ++ has.bad.line) ≡ has.bad.line
 under_way_is choice profile b at_hand used put stream opened between has =
-    opened b.read has.bad.front has.bad.line between (behind_front has.bad.front (has.bad.line ++ at_hand) has.bad.events (first_so_far choice profile b has.bad at_hand has.so_far)).between has.under_way
+    opened b.read has.bad.front has.bad.line between
+    (behind_front has.bad.front (has.bad.line ++ at_hand) has.bad.events
+    (first_so_far choice profile b has.bad at_hand has.so_far)).between has.under_way
 
 -- so many bytes of the 32 that are told
 pub told_few : (word : List ℕ) → length (take 32 word) < 32 → length word < 32
@@ -119,11 +140,19 @@ pub told_full : (word : List ℕ) → 32 ≤ length (take 32 word) → 32 ≤ le
 told_full word full = omega (arith, length-take 32 word)
 
 -- with bytes at hand
-pub word_at_hand : (choice : ChoiceData) (profile : List DeviceParts) (at_hand : List ℕ) (b : Before) (used put : List ℕ) (stream : Stream) → InBadWord choice profile [] stream b used put → InBadWord choice profile at_hand stream b used put
+pub word_at_hand : (choice : ChoiceData) (profile : List DeviceParts) (at_hand : List ℕ) (b : Before)
+    (used put : List ℕ) (stream : Stream) → InBadWord choice profile [] stream b used put
+    → InBadWord choice profile at_hand stream b used put
 word_at_hand choice profile at_hand b used put stream word = record {
   word = record {
     bad = word.word.bad;
-    so_far = record { word = λ more. word.word.so_far.word (at_hand ++ more); all = word.word.so_far.all; reads = word.word.so_far.reads; reported = word.word.so_far.reported };
+    so_far = record {
+      word = λ more. word.word.so_far.word (at_hand ++ more);
+      all = word.word.so_far.all;
+      reads =
+          word.word.so_far.reads;
+      reported = word.word.so_far.reported;
+    };
     is_text = word.word.is_text;
     under_way = word.word.under_way;
     knows = word.word.knows;
@@ -132,10 +161,18 @@ word_at_hand choice profile at_hand b used put stream word = record {
   short = λ none. word.short refl;
 }
 
-pub line_at_hand : (choice : ChoiceData) (profile : List DeviceParts) (at_hand : List ℕ) (b : Before) (used put : List ℕ) (stream : Stream) → InBadLine choice profile [] stream b used put → InBadLine choice profile at_hand stream b used put
+pub line_at_hand : (choice : ChoiceData) (profile : List DeviceParts) (at_hand : List ℕ) (b : Before)
+    (used put : List ℕ) (stream : Stream) → InBadLine choice profile [] stream b used put
+    → InBadLine choice profile at_hand stream b used put
 line_at_hand choice profile at_hand b used put stream line = record {
   bad = line.bad;
-  so_far = record { word = λ more. line.so_far.word (at_hand ++ more); all = line.so_far.all; reads = line.so_far.reads; reported = line.so_far.reported };
+  so_far = record {
+    word = λ more. line.so_far.word (at_hand ++ more);
+    all = line.so_far.all;
+    reads =
+        line.so_far.reads;
+    reported = line.so_far.reported;
+  };
   is_text = line.is_text;
   in_line = line.in_line;
   over = λ whole more is. line.over whole (at_hand ++ more) is;
@@ -143,23 +180,28 @@ line_at_hand choice profile at_hand b used put stream line = record {
   lines = λ more later rest split behind. line.lines (at_hand ++ more) later rest split behind;
 }
 
-module _ (choice : ChoiceData) (profile : List DeviceParts) (opened : OpensWord) (b : Before) (between : EndsBetween b.read) (at_hand word rest used put : List ℕ) (old new : Stream)
-    (split : at_hand ≡ word ++ rest) (solid : front_word word ≡ word) (takes : (b : Before) → StreamKnows b old → StreamKnows (with_bytes b word) new)
+module _ (choice : ChoiceData) (profile : List DeviceParts) (opened : OpensWord) (b : Before)
+    (between : EndsBetween b.read) (at_hand word rest used put : List ℕ) (old new : Stream)
+    (split : at_hand ≡ word ++ rest) (solid : front_word word ≡ word) (takes : (b : Before) → StreamKnows b old
+    → StreamKnows (with_bytes b word) new)
     (has : HasBadWord choice profile at_hand old b used put) where
   -- the word goes on
   abbrev pub goes_on : HasBadWord choice profile rest new b (used ++ word) put
   goes_on = word_goes_on choice profile b word rest at_hand used put old new split solid takes has
 
   -- more of it may come
-  pub waits : rest ≡ [] → (length (take 32 (open_word (behind_bytes b (goes_on).bad).read)) < 32) → InBadWord choice profile [] new b (used ++ at_hand) put
+  pub waits : rest ≡ [] → (length (take 32 (open_word (behind_bytes b (goes_on).bad).read)) < 32)
+      → InBadWord choice profile [] new b (used ++ at_hand) put
   waits none few =
       let all : word ≡ at_hand = sym (split ∙ (ap (λ (l : List ℕ). word ++ l) none ∙ append-nil word)) in
       let line = (goes_on).bad.line in
       let short : length line < 32 =
-      told_few line (subst (λ (l : List ℕ). length (take 32 l) < 32) (under_way_is choice profile b rest (used ++ word) put new opened between goes_on) few) in
+      told_few line (subst (λ (l : List ℕ). length (take 32 l) < 32)
+      (under_way_is choice profile b rest (used ++ word) put new opened between goes_on) few) in
       subst (λ (w : List ℕ). InBadWord choice profile [] new b (used ++ w) put) all (waits_so (goes_on) none short)
     where
-      waits_so : (now : HasBadWord choice profile rest new b (used ++ word) put) → rest ≡ [] → length now.bad.line < 32 → InBadWord choice profile [] new b (used ++ word) put
+      waits_so : (now : HasBadWord choice profile rest new b (used ++ word) put) → rest ≡ [] → length now.bad.line < 32
+          → InBadWord choice profile [] new b (used ++ word) put
       waits_so now none short = record {
         word = record {
           bad = now.bad;
@@ -173,43 +215,58 @@ module _ (choice : ChoiceData) (profile : List DeviceParts) (opened : OpensWord)
       }
 
   -- or no more of it is told
-  pub is_behind : (front_word rest ≡ []) ⊎ (32 ≤ length (take 32 (open_word (behind_bytes b has.bad).read)) + length word)
-      → (rest ≢ []) ⊎ (32 ≤ length (take 32 (open_word (behind_bytes b (goes_on).bad).read))) → BehindBadWord choice profile rest new b (used ++ word) put
+  pub is_behind : (front_word rest ≡ []) ⊎
+      (32 ≤ length (take 32 (open_word (behind_bytes b has.bad).read)) + length word)
+      → (rest ≢ []) ⊎ (32 ≤ length (take 32 (open_word (behind_bytes b (goes_on).bad).read)))
+      → BehindBadWord choice profile rest new b (used ++ word) put
   is_behind stops (inr full) = record {
     word = goes_on;
-    over = inr (told_full (goes_on).bad.line (subst (λ (l : List ℕ). 32 ≤ length (take 32 l)) (under_way_is choice profile b rest (used ++ word) put new opened between goes_on) full));
+    over = inr (told_full (goes_on).bad.line
+        (subst (λ (l : List ℕ). 32 ≤ length (take 32 l))
+        (under_way_is choice profile b rest (used ++ word) put new opened between goes_on) full));
   }
   is_behind (inl none) (inl some) = record { word = goes_on; over = inl (some, none) }
   is_behind (inr full) (inl some) = record {
     word = goes_on;
-    over = inr (many has.bad.line word (subst (λ (l : List ℕ). 32 ≤ length (take 32 l) + length word) (under_way_is choice profile b at_hand used put old opened between has) full));
+    over = inr (many has.bad.line word (subst (λ (l : List ℕ). 32 ≤ length (take 32 l) + length word)
+        (under_way_is choice profile b at_hand used put old opened between has) full));
   }
     where
       many : (line word : List ℕ) → 32 ≤ length (take 32 line) + length word → 32 ≤ length (line ++ word)
       many line word full = omega (arith, length-take 32 line, length-append line word)
 
-module _ (choice : ChoiceData) (profile : List DeviceParts) (after : BadWords) (bytes text : List ℕ) where
-  module _ (opened : OpensWord) (placed : PlacesWord) (rest : List ℕ) (old : Stream) (behind : Behind choice profile after (BehindBadWord choice profile rest old) bytes text) where
+module _ (choice : ChoiceData) (profile : List DeviceParts) (after : AfterBadToken) (bytes text : List ℕ) where
+  module _ (opened : OpensWord) (placed : PlacesWord) (rest : List ℕ) (old : Stream)
+      (behind : Behind choice profile after (BehindBadWord choice profile rest old) bytes text) where
     -- however its line goes on
-    told : (more : List ℕ) → take 32 (front_word (behind.holds.word.bad.line ++ (rest ++ more))) ≡ take 32 behind.holds.word.bad.line
+    told : (more : List ℕ) → take 32 (front_word (behind.holds.word.bad.line ++ (rest ++ more)))
+        ≡ take 32 behind.holds.word.bad.line
     told more = told_for_good behind.holds.word.bad.line rest more behind.holds.word.under_way behind.holds.over
 
     there : StandsThere behind.b behind.holds.word.bad
     there =
         let has = behind.holds.word in
-        stands_there opened placed behind.b has.bad rest behind.between (first_so_far choice profile behind.b has.bad rest has.so_far) has.under_way
-        (subst (λ (l : List ℕ). take 32 (front_word (has.bad.line ++ l)) ≡ take 32 has.bad.line) (append-nil rest) (told []))
+        stands_there opened placed behind.b has.bad rest behind.between
+        (first_so_far choice profile behind.b has.bad rest has.so_far) has.under_way
+        (subst (λ (l : List ℕ). take 32 (front_word (has.bad.line ++ l)) ≡ take 32 has.bad.line) (append-nil rest)
+        (told []))
 
-    told_up_to : (more line after_line : List ℕ) → rest ++ more ≡ line ++ after_line → IsBehindLine after_line → take 32 (front_word (behind.holds.word.bad.line ++ line)) ≡ take 32 behind.holds.word.bad.line
+    told_up_to : (more line after_line : List ℕ) → rest ++ more ≡ line ++ after_line → IsBehindLine after_line
+        → take 32 (front_word (behind.holds.word.bad.line ++ line)) ≡ take 32 behind.holds.word.bad.line
     told_up_to more line after_line split is_behind =
         let bad = behind.holds.word.bad in
-        let whole : bad.line ++ (rest ++ more) ≡ (bad.line ++ line) ++ after_line = ap (λ (l : List ℕ). bad.line ++ l) split ∙ sym (append_assoc bad.line line after_line) in
-        ap (take 32) (sym (front_cut (bad.line ++ line) after_line is_behind) ∙ ap (λ (l : List ℕ). front_word l) (sym whole)) ∙ told more
+        let whole : bad.line ++ (rest ++ more) ≡ (bad.line ++ line) ++ after_line =
+        ap (λ (l : List ℕ). bad.line ++ l) split ∙ sym (append_assoc bad.line line after_line) in
+        ap (take 32) (sym (front_cut (bad.line ++ line) after_line is_behind)
+        ∙ ap (λ (l : List ℕ). front_word l) (sym whole)) ∙ told more
 
     -- its object is out, and its line is dropped
     pub drops_line : (said : List ℕ) (new : Stream)
-        → said ≡ object_lines choice.devices (bad_token_object (capped (behind_bytes behind.b behind.holds.word.bad).n) (place_of_last_word (behind_bytes behind.b behind.holds.word.bad).read) (open_word (behind_bytes behind.b behind.holds.word.bad).read) ∷ [])
-        → StreamKnows (behind_object behind.b behind.holds.word.bad) new → Behind choice profile after (InBadLine choice profile rest new) bytes (text ++ said)
+        → said ≡ object_lines choice.devices (bad_token_object (capped (behind_bytes behind.b behind.holds.word.bad).n)
+        (place_of_last_word (behind_bytes behind.b behind.holds.word.bad).read)
+        (open_word (behind_bytes behind.b behind.holds.word.bad).read) ∷ [])
+        → StreamKnows (behind_object behind.b behind.holds.word.bad) new
+        → Behind choice profile after (InBadLine choice profile rest new) bytes (text ++ said)
     drops_line said new said_are knows =
         let has = behind.holds.word in
         behind_put choice profile after _ (InBadLine choice profile rest new) bytes text said behind
@@ -220,32 +277,46 @@ module _ (choice : ChoiceData) (profile : List DeviceParts) (after : BadWords) (
           in_line = solid_no_lf has.bad.line has.under_way;
           over = λ whole more is. never_under_way has.bad.line rest more whole has.under_way behind.holds.over is;
           knows = knows;
-          lines = λ more line after_line split is_behind. lines_with_word choice profile behind.b has.bad line behind.put said _ (has.lines line) said_are
+          lines = λ more line after_line split is_behind. lines_with_word choice profile behind.b has.bad line
+              behind.put said _ (has.lines line) said_are
               (word_is choice profile behind.b has.bad line there (told_up_to more line after_line split is_behind));
         })
 
     -- or reading ends there, whatever follows
-    pub stops_at : (tail said : List ℕ) (tally : Tally) → after ≡ End → said ≡ object_lines choice.devices (last_word_objects (behind_bytes behind.b behind.holds.word.bad))
-        → IsTallyOf (behind_object behind.b behind.holds.word.bad).counts.packets ((behind_object behind.b behind.holds.word.bad).counts.refusals + (behind_object behind.b behind.holds.word.bad).counts.bad_tokens) tally
+    pub stops_at : (tail said : List ℕ) (tally : Tally) → after ≡ End
+        → said ≡ object_lines choice.devices (last_word_objects (behind_bytes behind.b behind.holds.word.bad))
+        → IsTallyOf (behind_object behind.b behind.holds.word.bad).counts.packets
+        ((behind_object behind.b behind.holds.word.bad).counts.refusals +
+        (behind_object behind.b behind.holds.word.bad).counts.bad_tokens) tally
         → WritesJson choice profile after ((bytes ++ rest) ++ tail) (text ++ said) tally
     stops_at tail said tally ends said_are tallied =
         let has = behind.holds.word in
         let bad = has.bad in
         let s = split_line (rest ++ tail) in
-        let whole : bad.line ++ (rest ++ tail) ≡ (bad.line ++ s.line) ++ s.rest = ap (λ (l : List ℕ). bad.line ++ l) s.split ∙ sym (append_assoc bad.line s.line s.rest) in
+        let whole : bad.line ++ (rest ++ tail) ≡ (bad.line ++ s.line) ++ s.rest =
+        ap (λ (l : List ℕ). bad.line ++ l) s.split ∙ sym (append_assoc bad.line s.line s.rest) in
         let bytes_are : behind.used ++ (rest ++ tail) ≡ bad.front ++ ((bad.line ++ s.line) ++ s.rest) =
-        ap (λ (l : List ℕ). l ++ (rest ++ tail)) has.is_text ∙ (append_assoc bad.front bad.line (rest ++ tail) ∙ ap (λ (l : List ℕ). bad.front ++ l) whole) in
-        subst (λ (l : List ℕ). WritesJson choice profile after l (text ++ said) tally) (sym (append_assoc bytes rest tail))
-        (writes_bad_line choice profile after _ bytes text behind (rest ++ tail) said (longer_line bad s.line) s.rest tally bytes_are
-        (bad_line_is choice profile behind.b bad rest tail s.line s.rest has.so_far s.split (solid_no_lf bad.line has.under_way) s.in_line s.behind) s.behind (inl ends)
-        (lines_with_last choice profile behind.b bad s.line behind.put said there (told_up_to tail s.line s.rest s.split s.behind) (has.lines s.line) said_are) tallied)
+        ap (λ (l : List ℕ). l ++ (rest ++ tail)) has.is_text
+        ∙ (append_assoc bad.front bad.line (rest ++ tail) ∙ ap (λ (l : List ℕ). bad.front ++ l) whole) in
+        subst (λ (l : List ℕ). WritesJson choice profile after l (text ++ said) tally)
+        (sym (append_assoc bytes rest tail))
+        (writes_bad_line choice profile after _ bytes text behind (rest ++ tail) said
+        (longer_line bad s.line) s.rest tally bytes_are
+        (bad_line_is choice profile behind.b bad rest tail s.line s.rest has.so_far s.split
+        (solid_no_lf bad.line has.under_way) s.in_line s.behind) s.behind (inl ends)
+        (lines_with_last choice profile behind.b bad s.line behind.put said there
+        (told_up_to tail s.line s.rest s.split s.behind) (has.lines s.line) said_are) tallied)
 
-    pub stops_json : (said : List ℕ) (tally : Tally) → after ≡ End → said ≡ object_lines choice.devices (last_word_objects (behind_bytes behind.b behind.holds.word.bad))
-        → IsTallyOf (behind_object behind.b behind.holds.word.bad).counts.packets ((behind_object behind.b behind.holds.word.bad).counts.refusals + (behind_object behind.b behind.holds.word.bad).counts.bad_tokens) tally
+    pub stops_json : (said : List ℕ) (tally : Tally) → after ≡ End
+        → said ≡ object_lines choice.devices (last_word_objects (behind_bytes behind.b behind.holds.word.bad))
+        → IsTallyOf (behind_object behind.b behind.holds.word.bad).counts.packets
+        ((behind_object behind.b behind.holds.word.bad).counts.refusals +
+        (behind_object behind.b behind.holds.word.bad).counts.bad_tokens) tally
         → StopsJson choice profile after (bytes ++ rest) (text ++ said) tally
     stops_json said tally ends said_are tallied = record {
       ends = ends;
-      writes = subst (λ (l : List ℕ). WritesJson choice profile after l (text ++ said) tally) (append-nil (bytes ++ rest)) (stops_at [] said tally ends said_are tallied);
+      writes = subst (λ (l : List ℕ). WritesJson choice profile after l (text ++ said) tally)
+          (append-nil (bytes ++ rest)) (stops_at [] said tally ends said_are tallied);
       whatever_follows = λ more. stops_at more said tally ends said_are tallied;
     }
 
@@ -253,28 +324,40 @@ module _ (choice : ChoiceData) (profile : List DeviceParts) (after : BadWords) (
 
   module _ (Holds : Before → List ℕ → List ℕ → Type 0) (behind : Behind choice profile after Holds bytes text) where
     -- in a word that is no token
-    pub ends_in_word : (opened : OpensWord) (placed : PlacesWord) (bad : BadLine) (said : List ℕ) (tally : Tally) → behind.used ≡ bad.front ++ bad.line
-        → IsBadLine choice profile behind.b (longer_line bad []) → front_word bad.line ≡ bad.line → behind.put ≡ object_lines choice.devices (front_objects choice profile behind.b (longer_line bad []))
+    pub ends_in_word : (opened : OpensWord) (placed : PlacesWord) (bad : BadLine) (said : List ℕ) (tally : Tally)
+        → behind.used ≡ bad.front ++ bad.line
+        → IsBadLine choice profile behind.b (longer_line bad []) → front_word bad.line ≡ bad.line
+        → behind.put ≡ object_lines choice.devices (front_objects choice profile behind.b (longer_line bad []))
         → said ≡ object_lines choice.devices (last_word_objects (behind_bytes behind.b bad))
-        → IsTallyOf (behind_object behind.b bad).counts.packets ((behind_object behind.b bad).counts.refusals + (behind_object behind.b bad).counts.bad_tokens) tally
+        → IsTallyOf (behind_object behind.b bad).counts.packets
+        ((behind_object behind.b bad).counts.refusals + (behind_object behind.b bad).counts.bad_tokens) tally
         → WritesJson choice profile after bytes (text ++ said) tally
     ends_in_word opened placed bad said tally used_are is_bad solid put_are said_are tallied =
-        let told_line : take 32 (front_word (bad.line ++ [])) ≡ take 32 bad.line = ap (take 32) (solid_then bad.line [] solid ∙ append-nil bad.line) in
+        let told_line : take 32 (front_word (bad.line ++ [])) ≡ take 32 bad.line =
+        ap (take 32) (solid_then bad.line [] solid ∙ append-nil bad.line) in
         let stands = stands_there opened placed behind.b bad [] behind.between is_bad.word solid told_line in
         subst (λ (l : List ℕ). WritesJson choice profile after l (text ++ said) tally) (append-nil bytes)
-        (writes_bad_line choice profile after Holds bytes text behind [] said (longer_line bad []) [] tally (append-nil behind.used ∙ (used_are ∙ ap (λ (l : List ℕ). bad.front ++ l) (sym (append-nil bad.line) ∙ sym (append-nil (bad.line ++ [])))))
-        is_bad tt (inr refl) (lines_with_last choice profile behind.b bad [] behind.put said stands told_line put_are said_are) tallied)
+        (writes_bad_line choice profile after Holds bytes text behind [] said (longer_line bad []) [] tally
+        (append-nil behind.used ∙ (used_are ∙ ap (λ (l : List ℕ). bad.front ++ l)
+        (sym (append-nil bad.line) ∙ sym (append-nil (bad.line ++ [])))))
+        is_bad tt (inr refl) (lines_with_last choice profile behind.b bad [] behind.put said stands told_line put_are
+        said_are) tallied)
 
     -- in the rest of its line
-    pub ends_in_line : (bad : BadLine) (said : List ℕ) (tally : Tally) → behind.used ≡ bad.front ++ bad.line → IsBadLine choice profile behind.b (longer_line bad [])
+    pub ends_in_line : (bad : BadLine) (said : List ℕ) (tally : Tally) → behind.used ≡ bad.front ++ bad.line
+        → IsBadLine choice profile behind.b (longer_line bad [])
         → behind.put ≡ object_lines choice.devices (bad_line_objects choice profile behind.b (longer_line bad []))
         → said ≡ object_lines choice.devices (end_objects (behind_object behind.b bad).counts)
-        → IsTallyOf (behind_object behind.b bad).counts.packets ((behind_object behind.b bad).counts.refusals + (behind_object behind.b bad).counts.bad_tokens) tally
+        → IsTallyOf (behind_object behind.b bad).counts.packets
+        ((behind_object behind.b bad).counts.refusals + (behind_object behind.b bad).counts.bad_tokens) tally
         → WritesJson choice profile after bytes (text ++ said) tally
     ends_in_line bad said tally used_are is_bad put_are said_are tallied =
         subst (λ (l : List ℕ). WritesJson choice profile after l (text ++ said) tally) (append-nil bytes)
-        (writes_bad_line choice profile after Holds bytes text behind [] said (longer_line bad []) [] tally (append-nil behind.used ∙ (used_are ∙ ap (λ (l : List ℕ). bad.front ++ l) (sym (append-nil bad.line) ∙ sym (append-nil (bad.line ++ [])))))
-        is_bad tt (inr refl) (lines_with_counts choice profile behind.b bad [] behind.put said (behind_object behind.b bad).counts put_are said_are) tallied)
+        (writes_bad_line choice profile after Holds bytes text behind [] said (longer_line bad []) [] tally
+        (append-nil behind.used ∙ (used_are ∙ ap (λ (l : List ℕ). bad.front ++ l)
+        (sym (append-nil bad.line) ∙ sym (append-nil (bad.line ++ [])))))
+        is_bad tt (inr refl) (lines_with_counts choice profile behind.b bad [] behind.put said
+        (behind_object behind.b bad).counts put_are said_are) tallied)
 
 -- ---- a line ends
 
@@ -283,17 +366,30 @@ pub with_lf : (bytes : List ℕ) (count : ℕ) → EndsLine bytes count → take
 with_lf bytes count ends =
     let tail = drop (count + 1) bytes in
     let whole : take (count + 1) bytes ++ tail ≡ (take count bytes ++ 10 ∷ []) ++ tail =
-    take-append-drop (count + 1) bytes ∙ (sym (take-append-drop count bytes) ∙ (ap (λ (l : List ℕ). take count bytes ++ l) ends.lf ∙ sym (append_assoc (take count bytes) (10 ∷ []) tail))) in
+    take-append-drop (count + 1) bytes ∙ (sym (take-append-drop count bytes)
+    ∙ (ap (λ (l : List ℕ). take count bytes ++ l) ends.lf
+    ∙ sym (append_assoc (take count bytes) (10 ∷ []) tail))) in
     let lengths : length (take (count + 1) bytes) ≡ length (take count bytes ++ 10 ∷ []) =
-    omega (arith, ap (λ (l : List ℕ). length l) whole, length-append (take (count + 1) bytes) tail, length-append (take count bytes ++ 10 ∷ []) tail) in
+    omega (
+      arith,
+      ap (λ (l : List ℕ). length l) whole,
+      length-append (take (count + 1) bytes) tail,
+      length-append (take count bytes ++ 10 ∷ []) tail,
+    ) in
     (same_split (take (count + 1) bytes) (take count bytes ++ 10 ∷ []) tail tail whole lengths).0
 
 -- reading begins anew after it
-pub begins_anew : (choice : ChoiceData) (profile : List DeviceParts) (after : BadWords) (given text at_hand : List ℕ) (count : ℕ) (old mid new : Stream) (scan : Scan) → after ≡ GoOn → EndsLine at_hand count
-    → ((text : List ℕ) → EndsBetween (text ++ 10 ∷ [])) → stream_choice new ≡ choice → stream_profile new ≡ profile → ScanStandsAt scan (at_start profile)
-    → ((b : Before) → StreamKnows b old → StreamKnows (with_bytes b (take (count + 1) at_hand)) mid) → ((b : Before) → StreamKnows b mid → EndsBetween b.read → StreamBegins b new)
-    → Behind choice profile after (InBadLine choice profile at_hand old) given text → Behind choice profile after (InWords choice profile scan new) (given ++ take (count + 1) at_hand) text
-begins_anew choice profile after given text at_hand count old mid new scan goes ends lines same_choice same_profile scans takes begin behind =
+pub begins_anew : (choice : ChoiceData) (profile : List DeviceParts) (after : AfterBadToken)
+    (given text at_hand : List ℕ) (count : ℕ) (old mid new : Stream) (scan : Scan) → after ≡ GoOn
+    → EndsLine at_hand count
+    → ((text : List ℕ) → EndsBetween (text ++ 10 ∷ [])) → stream_choice new ≡ choice → stream_profile new ≡ profile
+    → ScanStandsAt scan (at_start profile)
+    → ((b : Before) → StreamKnows b old → StreamKnows (with_bytes b (take (count + 1) at_hand)) mid)
+    → ((b : Before) → StreamKnows b mid → EndsBetween b.read → StreamBegins b new)
+    → Behind choice profile after (InBadLine choice profile at_hand old) given text
+    → Behind choice profile after (InWords choice profile scan new) (given ++ take (count + 1) at_hand) text
+begins_anew choice profile after given text at_hand count old mid new scan goes ends lines same_choice same_profile
+    scans takes begin behind =
     let b = behind.b in
     let has = behind.holds in
     let bad = has.bad in
@@ -301,14 +397,19 @@ begins_anew choice profile after given text at_hand count old mid new scan goes 
     let tail = drop (count + 1) at_hand in
     let longer = longer_line bad line in
     let front_is = with_lf at_hand count ends in
-    let split : at_hand ++ [] ≡ line ++ (10 ∷ tail) = append-nil at_hand ∙ (sym (take-append-drop count at_hand) ∙ ap (λ (l : List ℕ). line ++ l) ends.lf) in
-    let is_bad = bad_line_is choice profile b bad at_hand [] line (10 ∷ tail) has.so_far split has.in_line ends.in_line refl in
+    let split : at_hand ++ [] ≡ line ++ (10 ∷ tail) = append-nil at_hand
+    ∙ (sym (take-append-drop count at_hand) ∙ ap (λ (l : List ℕ). line ++ l) ends.lf) in
+    let is_bad = bad_line_is choice profile b bad at_hand [] line (10 ∷ tail) has.so_far split has.in_line ends.in_line
+    refl in
     let rest_is : take (count + 1) at_hand ≡ line ++ 10 ∷ [] = front_is in
     let read_is : ((b.read ++ bad.front) ++ bad.line) ++ take (count + 1) at_hand ≡ (behind_line b longer).read =
     ap (λ (l : List ℕ). ((b.read ++ bad.front) ++ bad.line) ++ l) rest_is
-    ∙ (sym (append_assoc ((b.read ++ bad.front) ++ bad.line) line (10 ∷ [])) ∙ ap (λ (l : List ℕ). l ++ 10 ∷ []) (append_assoc (b.read ++ bad.front) bad.line line)) in
+    ∙ (sym (append_assoc ((b.read ++ bad.front) ++ bad.line) line (10 ∷ []))
+    ∙ ap (λ (l : List ℕ). l ++ 10 ∷ []) (append_assoc (b.read ++ bad.front) bad.line line)) in
     let between : EndsBetween (behind_line b longer).read = lines ((b.read ++ bad.front) ++ (bad.line ++ line)) in
-    let knows : StreamKnows (behind_line b longer) mid = knows_as _ (behind_line b longer).read _ _ _ _ _ mid read_is refl refl (takes (behind_object b bad) has.knows) in record {
+    let knows : StreamKnows (behind_line b longer) mid =
+    knows_as _ (behind_line b longer).read _ _ _ _ _ mid read_is refl refl
+    (takes (behind_object b bad) has.knows) in record {
       b = behind_line b longer;
       bads = behind.bads ++ longer ∷ [];
       objects = behind.objects ++ bad_line_objects choice profile b longer;
@@ -317,10 +418,16 @@ begins_anew choice profile after given text at_hand count old mid new scan goes 
       first = inr goes;
       used = [];
       put = [];
-      bytes_are = ap (λ (l : List ℕ). l ++ take (count + 1) at_hand) (behind.bytes_are ∙ ap (λ (l : List ℕ). b.read ++ l) has.is_text)
-          ∙ (ap (λ (l : List ℕ). l ++ take (count + 1) at_hand) (sym (append_assoc b.read bad.front bad.line)) ∙ (read_is ∙ sym (append-nil (behind_line b longer).read)));
+      bytes_are = ap (λ (l : List ℕ). l ++ take (count + 1) at_hand)
+          (behind.bytes_are ∙ ap (λ (l : List ℕ). b.read ++ l) has.is_text)
+          ∙ (ap (λ (l : List ℕ). l ++ take (count + 1) at_hand) (sym (append_assoc b.read bad.front bad.line))
+          ∙ (read_is ∙ sym (append-nil (behind_line b longer).read)));
       text_is = behind.text_is
-          ∙ (ap (λ (l : List ℕ). object_lines choice.devices behind.objects ++ l) (has.lines [] line (10 ∷ tail) split refl)
-          ∙ (sym (lines_append choice.devices behind.objects (bad_line_objects choice profile b longer)) ∙ sym (append-nil (object_lines choice.devices (behind.objects ++ bad_line_objects choice profile b longer)))));
-      holds = words_begin choice profile scan new (behind_line b longer) same_choice same_profile (begin (behind_line b longer) knows between) scans;
+          ∙ (ap (λ (l : List ℕ). object_lines choice.devices behind.objects ++ l)
+          (has.lines [] line (10 ∷ tail) split refl)
+          ∙ (sym (lines_append choice.devices behind.objects (bad_line_objects choice profile b longer))
+          ∙ sym (append-nil (object_lines choice.devices
+          (behind.objects ++ bad_line_objects choice profile b longer)))));
+      holds = words_begin choice profile scan new (behind_line b longer) same_choice same_profile
+          (begin (behind_line b longer) knows between) scans;
     }

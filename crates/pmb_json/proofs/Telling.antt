@@ -4,11 +4,12 @@ use Rattle.std.specs.Prelude.{IfSome, option_and_then}
 use Rattle.std.specs.List.{AllByRecursion}
 use Rattle.pmb_bus.specs.declared.event.Event.{Event}
 use Rattle.pmb_command.specs.Parts.{DeviceParts, device_with}
-use Rattle.pmb_late.specs.declared.start.Start.{Start}
-use Rattle.pmb_late.specs.declared.start.Start.TheVariants.{AllKnown, Late, LateFixedMode}
-use Rattle.pmb_late.specs.Known.{KnownPaging, first_known, first_page, known, learn_bytes, learn_mode, learn_told, learn_transaction, learn_value, page}
+use Rattle.pmb_unknown_start.specs.declared.start.Start.{Start}
+use Rattle.pmb_unknown_start.specs.declared.start.Start.TheVariants.{AllKnown, Late, LateFixedMode}
+use Rattle.pmb_unknown_start.specs.Known.{KnownPaging, first_known, first_page, known, learn_bytes, learn_mode}
+use Rattle.pmb_unknown_start.specs.Known.{learn_told, learn_transaction, learn_value, page}
 use Rattle.pmb_note.specs.Paging.{RegisterTold, page_code, told, told_by_part, vout_mode_code}
-use Rattle.pmb_object.specs.Spelling.{AreBytes}
+use Rattle.pmb_json_text.specs.Spelling.{AreBytes}
 use Rattle.pmb_transaction.specs.Packet.{Packet, PartsEvents}
 use Rattle.pmb_transaction.specs.Transaction.{PartData, TransactionData, Write, Read, Call, Refused, Alert, NoAlert}
 use Rattle.pmb_json.proofs.EachOf.{of_either}
@@ -33,7 +34,8 @@ told_by_each [] have = tt
 told_by_each (part ∷ parts) have = (have.0, told_by_each parts have.1)
 
 module _ (profile : List DeviceParts) where
-  pub parts_have_bytes : (parts : List PartData) (events : List Event) → PartsEvents profile parts events → HaveBytes parts
+  pub parts_have_bytes : (parts : List PartData) (events : List Event) → PartsEvents profile parts events
+      → HaveBytes parts
   parts_have_bytes [] events each = tt
   parts_have_bytes (part ∷ parts) events each = (each.3.allowed.fits.small, parts_have_bytes parts each.1 each.4)
 
@@ -54,36 +56,47 @@ abbrev pub HasBytePage : KnownPaging → Type 0
 HasBytePage k = IsByteIfKnown k.page
 
 module _ (device : DeviceParts) where
-  behind_value : (code value : ℕ) (k : KnownPaging) → value < 256 → HasBytePage k → HasBytePage (learn_value device code value k)
+  behind_value : (code value : ℕ) (k : KnownPaging) → value < 256 → HasBytePage k
+      → HasBytePage (learn_value device code value k)
   behind_value code value k small is =
-      of_either HasBytePage (nat_eq code page_code) (record { page = Some value; modes = k.modes }) (if nat_eq code vout_mode_code then learn_mode device value k else k) small
+      of_either HasBytePage (nat_eq code page_code) (record { page = Some value; modes = k.modes })
+      (if nat_eq code vout_mode_code then learn_mode device value k else k) small
       (of_either HasBytePage (nat_eq code vout_mode_code) (learn_mode device value k) k is is)
 
-  behind_bytes : (code : ℕ) (bytes : List ℕ) (k : KnownPaging) → AreBytes bytes → HasBytePage k → HasBytePage (learn_bytes device code bytes k)
+  behind_bytes : (code : ℕ) (bytes : List ℕ) (k : KnownPaging) → AreBytes bytes → HasBytePage k
+      → HasBytePage (learn_bytes device code bytes k)
   behind_bytes code [] k small is = is
   behind_bytes code (value ∷ []) k small is = behind_value code value k small.0 is
   behind_bytes code (a ∷ b ∷ bytes) k small is = is
 
-  behind_one : (t : RegisterTold) (k : KnownPaging) → AreBytes t.bytes → HasBytePage k → HasBytePage (learn_told device k t)
-  behind_one t k small is = of_either HasBytePage (nat_eq t.addr device.address) (learn_bytes device t.code t.bytes k) k (behind_bytes t.code t.bytes k small is) is
+  behind_one : (t : RegisterTold) (k : KnownPaging) → AreBytes t.bytes → HasBytePage k
+      → HasBytePage (learn_told device k t)
+  behind_one t k small is = of_either HasBytePage (nat_eq t.addr device.address) (learn_bytes device t.code t.bytes k) k
+      (behind_bytes t.code t.bytes k small is) is
 
-  behind_each : (all : List RegisterTold) (k : KnownPaging) → AreTold all → HasBytePage k → HasBytePage (fold (learn_told device) k all)
+  behind_each : (all : List RegisterTold) (k : KnownPaging) → AreTold all → HasBytePage k
+      → HasBytePage (fold (learn_told device) k all)
   behind_each [] k small is = is
   behind_each (t ∷ all) k small is = behind_each all (learn_told device k t) small.1 (behind_one t k small.0 is)
 
-  behind_transactions : (ts : List TransactionData) (k : KnownPaging) → AllTellBytes ts → HasBytePage k → HasBytePage (fold (learn_transaction device) k ts)
+  behind_transactions : (ts : List TransactionData) (k : KnownPaging) → AllTellBytes ts → HasBytePage k
+      → HasBytePage (fold (learn_transaction device) k ts)
   behind_transactions [] k tell is = is
-  behind_transactions (t ∷ ts) k tell is = behind_transactions ts (learn_transaction device k t) tell.1 (behind_each (told t) k tell.0 is)
+  behind_transactions (t ∷ ts) k tell is = behind_transactions ts (learn_transaction device k t) tell.1
+      (behind_each (told t) k tell.0 is)
 
 at_first_known : (start : Start) → IsByteIfKnown (first_page start)
 at_first_known AllKnown = omega arith
 at_first_known Late = tt
 at_first_known LateFixedMode = tt
 
-page_of : (start : Start) (ts : List TransactionData) (found : Option DeviceParts) → AllTellBytes ts → IsByteIfKnown (option_and_then (λ device. (known start device ts).page) found)
+page_of : (start : Start) (ts : List TransactionData) (found : Option DeviceParts) → AllTellBytes ts
+    → IsByteIfKnown (option_and_then (λ device. (known start device ts).page) found)
 page_of start ts None tell = tt
-page_of start ts (Some device) tell = behind_transactions device ts (first_known start device) tell (at_first_known start)
+page_of start ts (Some device) tell = behind_transactions device ts (first_known start device) tell
+    (at_first_known start)
 
 -- PAGE is a byte after transactions that tell bytes
-pub page_is_byte : (start : Start) (profile : List DeviceParts) (ts : List TransactionData) (addr : ℕ) → AllTellBytes ts → IfSome (page start profile ts addr) (λ page. page < 256)
+pub page_is_byte : (start : Start) (profile : List DeviceParts) (ts : List TransactionData) (addr : ℕ) → AllTellBytes ts
+    → IfSome (page start profile ts addr) (λ page. page < 256)
 page_is_byte start profile ts addr tell = page_of start ts (device_with addr profile) tell

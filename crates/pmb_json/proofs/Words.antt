@@ -1,5 +1,6 @@
 -- The word at the front of a text, byte by byte, and lines.
-use Rattle.std.proofs.Common.{◌≡◌, ◌≢◌, ℕ, ◌||◌, ◌==◌, Bool, true, false, cond, inl, inr, List, [], ◌∷◌, ◌++◌, refl, sym, ap, ◌∙◌}
+use Rattle.std.proofs.Common.{◌≡◌, ◌≢◌, ℕ, ◌||◌, ◌==◌, Bool, true, false, cond, inl, inr, List, [], ◌∷◌, ◌++◌, refl}
+use Rattle.std.proofs.Common.{sym, ap, ◌∙◌}
 use Rattle.std.specs.List.{slice_split, onto_first}
 use Rattle.std.proofs.lemmas.Bool.{cases_Bool, cases_eq, ne_eqb, false≢true}
 use Rattle.std.proofs.lemmas.List.Splits.{slice_split-cons_yes, slice_split-cons_no}
@@ -11,22 +12,30 @@ use Rattle.pmb_json.specs.machine.Ends.{ends_word}
 
 -- a byte other than `#` begins no comment
 outside : (b : ℕ) → (b ≡ 35 → ⊥) → in_comment false b ≡ false
-outside b other = elim (cases_eq b 10) [ inl line ↦ rw line refl | inr more ↦ rw (ne_eqb b 10 more, ne_eqb b 35 other) refl ]
+outside b other = elim (cases_eq b 10) [
+  | inl line ↦ rw line refl
+  | inr more ↦ rw (ne_eqb b 10 more, ne_eqb b 35 other)
+      refl
+]
 
 first_onto : (b : ℕ) (runs : List (List ℕ)) → first_run (onto_first b runs) ≡ b ∷ first_run runs
 first_onto b [] = refl
 first_onto b (run ∷ runs) = refl
 
 -- the front word of a byte outside comments and what follows it
-front_outside : (b : ℕ) (rest : List ℕ) → in_comment false b ≡ false → front_word (b ∷ rest) ≡ first_run (slice_split is_separator (b ∷ blanked_from false rest))
+front_outside : (b : ℕ) (rest : List ℕ) → in_comment false b ≡ false
+    → front_word (b ∷ rest) ≡ first_run (slice_split is_separator (b ∷ blanked_from false rest))
 front_outside b rest is = ap (λ (v : Bool). first_run (slice_split is_separator (cond v 32 b ∷ blanked_from v rest))) is
 
 front_separated : (b : ℕ) (rest : List ℕ) → (b ≡ 35 → ⊥) → is_separator b ≡ true → front_word (b ∷ rest) ≡ []
-front_separated b rest other cuts = front_outside b rest (outside b other) ∙ ap first_run (slice_split-cons_yes is_separator b (blanked_from false rest) cuts)
+front_separated b rest other cuts = front_outside b rest (outside b other)
+    ∙ ap first_run (slice_split-cons_yes is_separator b (blanked_from false rest) cuts)
 
-front_kept : (b : ℕ) (rest : List ℕ) → (b ≡ 35 → ⊥) → is_separator b ≡ false → front_word (b ∷ rest) ≡ b ∷ front_word rest
+front_kept : (b : ℕ) (rest : List ℕ) → (b ≡ 35 → ⊥) → is_separator b ≡ false
+    → front_word (b ∷ rest) ≡ b ∷ front_word rest
 front_kept b rest other keeps =
-    front_outside b rest (outside b other) ∙ ap first_run (slice_split-cons_no is_separator b (blanked_from false rest) keeps)
+    front_outside b rest (outside b other) ∙ ap first_run
+    (slice_split-cons_no is_separator b (blanked_from false rest) keeps)
     ∙ first_onto b (slice_split is_separator (blanked_from false rest))
 
 no_hash : (b : ℕ) → ends_word b ≡ false → b ≡ 35 → ⊥
@@ -36,7 +45,8 @@ no_separator : (b : ℕ) (separates : Bool) → is_separator b ≡ separates →
 no_separator b false is keeps = is
 no_separator b true is keeps = absurd (false≢true (sym keeps ∙ ap (λ (v : Bool). v || b == 35) is))
 
-separates_else : (b : ℕ) → (b ≡ 35 → ⊥) → ends_word b ≡ true → (separates : Bool) → is_separator b ≡ separates → is_separator b ≡ true
+separates_else : (b : ℕ) → (b ≡ 35 → ⊥) → ends_word b ≡ true → (separates : Bool) → is_separator b ≡ separates
+    → is_separator b ≡ true
 separates_else b other ends true is = is
 separates_else b other ends false is =
     absurd (false≢true (sym (ne_eqb b 35 other) ∙ (sym (ap (λ (v : Bool). v || b == 35) is) ∙ ends)))

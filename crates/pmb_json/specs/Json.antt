@@ -5,11 +5,11 @@ use Rattle.pmb_bus.specs.Text.{BeginsText, FirstBadWord, front_word}
 use Rattle.pmb_command.specs.Parts.{DeviceParts}
 use Rattle.pmb_io.specs.Runs.{Job}
 use Rattle.pmb_io.specs.declared.tally.Tally.{Tally}
-use Rattle.pmb_json.specs.declared.bad_words.BadWords.{BadWords}
-use Rattle.pmb_json.specs.declared.bad_words.BadWords.TheVariants.{End, GoOn}
+use Rattle.pmb_json.specs.declared.after_bad_token.AfterBadToken.{AfterBadToken}
+use Rattle.pmb_json.specs.declared.after_bad_token.AfterBadToken.TheVariants.{End, GoOn}
 use Rattle.pmb_json.specs.SoFar.{HasWrittenJson}
 use Rattle.pmb_json.specs.Text.{WritesJson}
-use Rattle.pmb_stream.specs.Choice.{ChoiceData}
+use Rattle.pmb_json_stream.specs.Choice.{ChoiceData}
 
 -- The word under way at the end of the bytes is their first that is no token, and has fewer than 32
 -- bytes.
@@ -24,11 +24,11 @@ pub record EndsInShortBadWord (bytes : List ℕ) : Type 0 where
 
 -- More is wanted of bytes that begin some text that spells events, and of those that end in such a
 -- word; and always where reading goes on after bad words.
-abbrev pub IsOpenJson : BadWords → List ℕ → Type 0
+abbrev pub IsOpenJson : AfterBadToken → List ℕ → Type 0
 IsOpenJson End bytes = BeginsText bytes ⊎ EndsInShortBadWord bytes
 IsOpenJson GoOn bytes = Unit {0}
 
-module _ (choice : ChoiceData) (profile : List DeviceParts) (after : BadWords) where
+module _ (choice : ChoiceData) (profile : List DeviceParts) (after : AfterBadToken) where
   -- No more is wanted: this is all that is written, whatever follows.
   pub record StopsJson (bytes : List ℕ) (text : List ℕ) (tally : Tally) : Type 0 where
     pub ends : after ≡ End

@@ -2,9 +2,9 @@
 use Rattle.std.specs.Prelude.{◌≡◌, ℕ, IfSome, List, ◌++◌, codes}
 use Rattle.std.specs.List.{AllByRecursion, flat_map}
 use Rattle.pmb_command.specs.Parts.{DeviceParts}
-use Rattle.pmb_object.specs.Json.{HasDistinctKeys, IsJsonText, IsObject, Json}
-use Rattle.pmb_object.specs.Spelling.{FitsInLine}
-use Rattle.pmb_objects.specs.Laws.{AreOfWords, IsOfWords}
+use Rattle.pmb_json_text.specs.Json.{HasDistinctKeys, IsJsonText, IsObject, Json}
+use Rattle.pmb_json_text.specs.Spelling.{FitsInLine}
+use Rattle.pmb_json_objects.specs.Laws.{AreOfWords, IsOfWords}
 
 -- ---- a line
 

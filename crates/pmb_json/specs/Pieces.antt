@@ -4,14 +4,14 @@ use Rattle.std.specs.List.{Contains}
 use Rattle.pmb_bus.specs.declared.event.Event.{Event}
 use Rattle.pmb_bus.specs.Text.{EndsBetween, Spells}
 use Rattle.pmb_command.specs.Parts.{DeviceParts, device_with}
-use Rattle.pmb_late.specs.Certain.{CanBeCutAfter}
-use Rattle.pmb_late.specs.declared.start.Start.{Start}
-use Rattle.pmb_object.specs.Json.{null, string}
-use Rattle.pmb_object.specs.Member.{Member, named}
+use Rattle.pmb_unknown_start.specs.Certain.{CanBeCutAfter}
+use Rattle.pmb_unknown_start.specs.declared.start.Start.{Start}
+use Rattle.pmb_json_text.specs.Json.{null, string}
+use Rattle.pmb_json_text.specs.Member.{Member, named}
 use Rattle.pmb_spans.specs.Spans.{Span, Spans}
 use Rattle.pmb_transaction.specs.Cut.{EndsWithStop}
-use Rattle.pmb_objects.specs.Object.{Object}
-use Rattle.pmb_stream.specs.Spans.{transactions_in}
+use Rattle.pmb_json_objects.specs.Object.{Object}
+use Rattle.pmb_json_stream.specs.Spans.{transactions_in}
 
 -- where an object begins, which moves with the piece
 abbrev pub IsWhere : Member → Type 0
@@ -52,4 +52,5 @@ pub record CanBeCutBehind (profile : List DeviceParts) (start : Start) (front : 
   pub stop : EndsWithStop events
   pub between : EndsBetween front
   pub reads : Spans profile events spans
-  pub told : (addr : ℕ) (device : DeviceParts) → device_with addr profile ≡ Some device → CanBeCutAfter start device (transactions_in spans)
+  pub told : (addr : ℕ) (device : DeviceParts) → device_with addr profile ≡ Some device
+      → CanBeCutAfter start device (transactions_in spans)

@@ -4,12 +4,12 @@ use Rattle.std.specs.Prelude.{◌≡◌, ◌⊎◌, ◌<◌, ℕ, List, [], ◌�
 use Rattle.pmb_bus.specs.declared.event.Event.{Event}
 use Rattle.pmb_bus.specs.Text.{BeginsText, EndedWordsSpell, FirstBadWord, front_word}
 use Rattle.pmb_command.specs.Parts.{DeviceParts}
-use Rattle.pmb_json.specs.declared.bad_words.BadWords.{BadWords}
-use Rattle.pmb_objects.specs.Object.{Object, object_lines}
+use Rattle.pmb_json.specs.declared.after_bad_token.AfterBadToken.{AfterBadToken}
+use Rattle.pmb_json_objects.specs.Object.{Object, object_lines}
 use Rattle.pmb_spans.specs.Spans.{Span, SpansFrom, is_whole}
-use Rattle.pmb_stream.specs.Before.{Before, at_first}
-use Rattle.pmb_stream.specs.Choice.{ChoiceData}
-use Rattle.pmb_stream.specs.Spans.{event_place, span_objects}
+use Rattle.pmb_json_stream.specs.Before.{Before, at_first}
+use Rattle.pmb_json_stream.specs.Choice.{ChoiceData}
+use Rattle.pmb_json_stream.specs.Spans.{event_place, span_objects}
 use Rattle.pmb_json.specs.Text.{BadLine, GoesOn, IsBadLine, IsBehindLine, bad_line_objects, behind_line, front_objects}
 
 -- The word of a bad line goes on where the bytes end, and fewer than 32 of its bytes have come.
@@ -18,7 +18,8 @@ IsUnderWay line rest = (rest ≡ []) × (front_word line ≡ line) × (length li
 
 -- No bytes that may follow where the bytes end make a token of it.
 abbrev pub StaysBad : BadLine → List ℕ → Type 0
-StaysBad bad rest = rest ≡ [] → (others : List ℕ) → FirstBadWord (bad.front ++ (bad.line ++ others)) bad.events (length bad.front)
+StaysBad bad rest = rest ≡ [] → (others : List ℕ)
+    → FirstBadWord (bad.front ++ (bad.line ++ others)) bad.events (length bad.front)
 
 module _ (choice : ChoiceData) (profile : List DeviceParts) where
   -- Bytes that begin some text that spells events: the objects of the packets and refusals of the
@@ -40,16 +41,18 @@ module _ (choice : ChoiceData) (profile : List DeviceParts) where
 
   -- The objects so far of bytes from there on, with these bad lines. Reading goes on after bad
   -- lines, as it is wanted.
-  abbrev pub SoFarFrom : BadWords → Before → List ℕ → List BadLine → List Object → Type 0
+  abbrev pub SoFarFrom : AfterBadToken → Before → List ℕ → List BadLine → List Object → Type 0
   SoFarFrom after b bytes [] objects = ReadsSoFar b bytes objects
   SoFarFrom after b bytes (bad ∷ more) objects =
-      (rest : List ℕ) × (bytes ≡ bad.front ++ bad.line ++ rest) × IsBehindLine rest × IsBadLine choice profile b bad × StaysBad bad rest
+      (rest : List ℕ) × (bytes ≡ bad.front ++ bad.line ++ rest) × IsBehindLine rest × IsBadLine choice profile b bad
+      × StaysBad bad rest
       × GoesOn after rest
-      (λ behind. (others : List Object) × (objects ≡ bad_line_objects choice profile b bad ++ others) × SoFarFrom after (behind_line b bad) behind more others)
+      (λ behind. (others : List Object) × (objects ≡ bad_line_objects choice profile b bad ++ others)
+      × SoFarFrom after (behind_line b bad) behind more others)
       ((more ≡ []) × IsOutOf b bad rest objects)
 
   -- the text so far
-  pub record HasWrittenJson (after : BadWords) (bytes : List ℕ) (text : List ℕ) : Type 0 where
+  pub record HasWrittenJson (after : AfterBadToken) (bytes : List ℕ) (text : List ℕ) : Type 0 where
     pub bad : List BadLine
     pub objects : List Object
     pub from_first : SoFarFrom after at_first bytes bad objects

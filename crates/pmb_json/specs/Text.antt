@@ -8,16 +8,16 @@ use Rattle.pmb_io.specs.Count.{capped}
 use Rattle.pmb_io.specs.Lines.{HasNoLf}
 use Rattle.pmb_io.specs.Tally.{IsTallyOf}
 use Rattle.pmb_io.specs.declared.tally.Tally.{Tally}
-use Rattle.pmb_json.specs.declared.bad_words.BadWords.{BadWords}
-use Rattle.pmb_json.specs.declared.bad_words.BadWords.TheVariants.{End, GoOn}
-use Rattle.pmb_objects.specs.BadToken.{bad_token_object}
-use Rattle.pmb_objects.specs.Counts.{CountsData, after_bad_token, end_objects}
-use Rattle.pmb_objects.specs.Object.{Object, object_lines}
+use Rattle.pmb_json.specs.declared.after_bad_token.AfterBadToken.{AfterBadToken}
+use Rattle.pmb_json.specs.declared.after_bad_token.AfterBadToken.TheVariants.{End, GoOn}
+use Rattle.pmb_json_objects.specs.BadToken.{bad_token_object}
+use Rattle.pmb_json_objects.specs.Counts.{CountsData, after_bad_token, end_objects}
+use Rattle.pmb_json_objects.specs.Object.{Object, object_lines}
 use Rattle.pmb_places.specs.Text.{place_behind}
 use Rattle.pmb_spans.specs.Spans.{Span, SpansFrom, is_whole}
-use Rattle.pmb_stream.specs.Before.{Before, at_first}
-use Rattle.pmb_stream.specs.Choice.{ChoiceData}
-use Rattle.pmb_stream.specs.Spans.{after_spans, event_place, span_objects, transactions_in}
+use Rattle.pmb_json_stream.specs.Before.{Before, at_first}
+use Rattle.pmb_json_stream.specs.Choice.{ChoiceData}
+use Rattle.pmb_json_stream.specs.Spans.{after_spans, event_place, span_objects, transactions_in}
 
 -- ---- where reading begins anew
 
@@ -54,7 +54,7 @@ IsBehindLine (byte ∷ bytes) = byte ≡ character "\n"
 
 -- What holds where reading begins anew after a LF, if it is to go on there and there is one; and
 -- else.
-abbrev pub GoesOn : BadWords → List ℕ → (List ℕ → Type 0) → Type 0 → Type 0
+abbrev pub GoesOn : AfterBadToken → List ℕ → (List ℕ → Type 0) → Type 0 → Type 0
 GoesOn End rest Holds Else = Else
 GoesOn GoOn [] Holds Else = Else
 GoesOn GoOn (lf ∷ bytes) Holds Else = Holds bytes
@@ -85,24 +85,26 @@ module _ (choice : ChoiceData) (profile : List DeviceParts) where
   front_objects b bad = span_objects choice profile (event_place b.read b.n (bad.front ++ bad.line)) b.ts bad.spans
 
   abbrev pub word_object : Before → BadLine → Object
-  word_object b bad = bad_token_object (capped (b.n + length bad.events)) (place_behind (b.read ++ bad.front)) (front_word bad.line)
+  word_object b bad = bad_token_object (capped (b.n + length bad.events)) (place_behind (b.read ++ bad.front))
+      (front_word bad.line)
 
   abbrev pub bad_line_objects : Before → BadLine → List Object
   bad_line_objects b bad = front_objects b bad ++ word_object b bad ∷ []
 
   -- The objects of bytes from there on, with these bad lines, and what was counted after all.
   -- Reading ends at the first bad line, or, where it is to go on, begins anew after each.
-  abbrev pub ObjectsFrom : BadWords → Before → List ℕ → List BadLine → List Object → CountsData → Type 0
+  abbrev pub ObjectsFrom : AfterBadToken → Before → List ℕ → List BadLine → List Object → CountsData → Type 0
   ObjectsFrom after b bytes [] objects counts = ReadsToEnd b bytes objects counts
   ObjectsFrom after b bytes (bad ∷ more) objects counts =
-      (rest : List ℕ) × (others : List Object) × (bytes ≡ bad.front ++ bad.line ++ rest) × IsBehindLine rest × IsBadLine b bad
+      (rest : List ℕ) × (others : List Object) × (bytes ≡ bad.front ++ bad.line ++ rest) × IsBehindLine rest
+      × IsBadLine b bad
       × (objects ≡ bad_line_objects b bad ++ others)
       × GoesOn after rest (λ behind. ObjectsFrom after (behind_line b bad) behind more others counts)
       ((more ≡ []) × (others ≡ []) × (counts ≡ (behind_line b bad).counts))
 
   -- The text that is written for the bytes of a whole capture, and the tally, in which a bad token
   -- counts as a refusal.
-  pub record WritesJson (after : BadWords) (bytes : List ℕ) (text : List ℕ) (tally : Tally) : Type 0 where
+  pub record WritesJson (after : AfterBadToken) (bytes : List ℕ) (text : List ℕ) (tally : Tally) : Type 0 where
     pub bad : List BadLine
     pub objects : List Object
     pub counts : CountsData

@@ -11,28 +11,28 @@ ghost use Rattle.pmb_io.specs.Calls.{WriterTells};
 ghost use Rattle.pmb_io.specs.Engines.{PutsOut};
 ghost use Rattle.pmb_io.specs.Outgoing.{PutsText};
 ghost use Rattle.pmb_json.specs.Json.{WritesJsonFront};
-ghost use Rattle.pmb_json.specs.declared.engine.Inside.TheVariants as inside;
+ghost use Rattle.pmb_json.specs.declared.engine.EngineState.TheVariants as inside;
 ghost use Rattle.pmb_json.specs.machine.Standing.{HasEnded, HasPutOut, HasStopped, IsLess, StandsBehindBadWord, StandsInBadLine, StandsInBadWord, StandsInWords, TakesLine, json_bad_words, json_choice, json_profile, json_tally, last_word_objects, stops_for_good};
-ghost use Rattle.pmb_objects.specs.Counts.{after_bad_token};
-ghost use Rattle.pmb_objects.specs.Object.{object_lines};
-ghost use Rattle.pmb_stream.specs.Before.{Before};
-ghost use Rattle.pmb_stream.specs.Choice.{choice_data};
-ghost use Rattle.pmb_stream.specs.Stream.{StreamKnows, stream_choice};
+ghost use Rattle.pmb_json_objects.specs.Counts.{after_bad_token};
+ghost use Rattle.pmb_json_objects.specs.Object.{object_lines};
+ghost use Rattle.pmb_json_stream.specs.Before.{Before};
+ghost use Rattle.pmb_json_stream.specs.Choice.{choice_data};
+ghost use Rattle.pmb_json_stream.specs.Stream.{StreamKnows, stream_choice};
 
-use crate::bad_words::BadWords;
+use crate::after_bad_token::AfterBadToken;
 use crate::word_end::{behind, is_over, line_bytes, word_bytes};
 use crate::word_laws::bad_words_stand_there;
 use pmb_bus::laws::{ended_words_lead_on, spelled_has_no_bad_word, texts_may_be_cut_between_words};
 use pmb_io::{Engine, Flow, RunFault, Sink, Tally, Waiting};
+use pmb_json_stream::{Choice, Stream};
 use pmb_scan::laws::scans_lead_on;
-use pmb_scan::{Scan, Taken};
+use pmb_scan::{PieceEnd, Scan};
 use pmb_spans::laws::spans_move;
-use pmb_stream::{Choice, Stream};
 use pmb_table::Profile;
 
 /// What the next byte belongs to.
 #[derive(Clone, Copy)]
-enum Inside {
+enum EngineState {
     /// Words that may be tokens.
     Words,
     /// A word that is no token, whose object is not out.
@@ -42,7 +42,7 @@ enum Inside {
 }
 
 /// What is left of a piece after a bad line.
-enum Left<'b> {
+enum PieceRest<'b> {
     /// All of it is used.
     Nothing,
     /// No more is wanted.
@@ -55,15 +55,19 @@ enum Left<'b> {
 #[derive(Drop)]
 pub(crate) struct Json<'p> {
     profile: &'p Profile,
-    bad_words: BadWords,
+    bad_words: AfterBadToken,
     scan: Scan<'p>,
     stream: Stream<'p>,
-    inside: Inside,
+    inside: EngineState,
 }
 
 impl<'p> Json<'p> {
     /// Nothing was given yet.
-    pub(crate) fn new(profile: &'p Profile, choice: Choice<'p>, bad_words: BadWords) -> Json<'p>
+    pub(crate) fn new(
+        profile: &'p Profile,
+        choice: Choice<'p>,
+        bad_words: AfterBadToken,
+    ) -> Json<'p>
         ensures profile { json_profile result ≡ profile.now }
         ensures choice { json_choice result ≡ choice_data choice.entry }
         ensures bad_words { json_bad_words result ≡ bad_words }
@@ -86,7 +90,7 @@ impl<'p> Json<'p> {
                     devices,
                 },
             ),
-            inside: Inside::Words,
+            inside: EngineState::Words,
         }
     }
 
@@ -103,7 +107,7 @@ impl<'p> Json<'p> {
         bytes: &'b [u8],
         waiting: &mut Waiting,
         writer: &mut W,
-    ) -> Result<Left<'b>, RunFault>
+    ) -> Result<PieceRest<'b>, RunFault>
         ensures takes { (start : Json) (given text : List ℕ) → HasPutOut start self.old given text
             → IfOk result (λ left. PutsOut (λ more. TakesLine start self.new given bytes.now left (text ++ more))
             (W.told writer.old).held waiting.old.items (W.told writer.new).held waiting.new.items) }
@@ -111,9 +115,9 @@ impl<'p> Json<'p> {
         ensures failed { WriterTells (W.told writer.old) (W.told writer.new) result }
     {
         match self.inside {
-            Inside::Words => self.take_words(bytes, waiting, writer),
-            Inside::BadWord => self.take_bad_word(bytes, waiting, writer),
-            Inside::BadLine => Ok(self.drop_line(bytes)),
+            EngineState::Words => self.take_words(bytes, waiting, writer),
+            EngineState::BadWord => self.take_bad_word(bytes, waiting, writer),
+            EngineState::BadLine => Ok(self.drop_line(bytes)),
         }
     }
 
@@ -123,7 +127,7 @@ impl<'p> Json<'p> {
         bytes: &'b [u8],
         waiting: &mut Waiting,
         writer: &mut W,
-    ) -> Result<Left<'b>, RunFault>
+    ) -> Result<PieceRest<'b>, RunFault>
         ensures takes { (start : Json) (given text : List ℕ) → self.old.inside ≡ inside.Words → StandsInWords start self.old given text
             → IfOk result (λ left. PutsOut (λ more. TakesLine start self.new given bytes.now left (text ++ more))
             (W.told writer.old).held waiting.old.items (W.told writer.new).held waiting.new.items) }
@@ -134,13 +138,13 @@ impl<'p> Json<'p> {
             .scan
             .take_words(bytes, &mut self.stream, waiting, writer)?
         {
-            Taken::All => Ok(Left::Nothing),
-            Taken::Fault { used, .. } => {
+            PieceEnd::All => Ok(PieceRest::Nothing),
+            PieceEnd::Fault { used, .. } => {
                 spans_move();
                 bad_words_stand_there();
                 // That the events may end here says which packets and refusals came before.
                 let _ = self.scan.truncation();
-                self.inside = Inside::BadWord;
+                self.inside = EngineState::BadWord;
                 self.take_bad_word(behind(bytes, used), waiting, writer)
             }
         }
@@ -152,7 +156,7 @@ impl<'p> Json<'p> {
         bytes: &'b [u8],
         waiting: &mut Waiting,
         writer: &mut W,
-    ) -> Result<Left<'b>, RunFault>
+    ) -> Result<PieceRest<'b>, RunFault>
         ensures takes { (start : Json) (given text : List ℕ) → self.old.inside ≡ inside.BadWord → StandsInBadWord bytes.now start self.old given text
             → IfOk result (λ left. PutsOut (λ more. TakesLine start self.new given bytes.now left (text ++ more))
             (W.told writer.old).held waiting.old.items (W.told writer.new).held waiting.new.items) }
@@ -164,7 +168,7 @@ impl<'p> Json<'p> {
         self.stream.take_text(&bytes[..count]);
         let rest = behind(bytes, count);
         if !is_over(rest, self.stream.word_length()) {
-            return Ok(Left::Nothing);
+            return Ok(PieceRest::Nothing);
         }
         self.end_bad_word(rest, waiting, writer)
     }
@@ -176,7 +180,7 @@ impl<'p> Json<'p> {
         rest: &'b [u8],
         waiting: &mut Waiting,
         writer: &mut W,
-    ) -> Result<Left<'b>, RunFault>
+    ) -> Result<PieceRest<'b>, RunFault>
         ensures takes { (start : Json) (given text : List ℕ) → StandsBehindBadWord rest.now start self.old given text
             → IfOk result (λ left. PutsOut (λ more. TakesLine start self.new given rest.now left (text ++ more))
             (W.told writer.old).held waiting.old.items (W.told writer.new).held waiting.new.items) }
@@ -185,20 +189,20 @@ impl<'p> Json<'p> {
     {
         bad_words_stand_there();
         match self.bad_words {
-            BadWords::End => {
+            AfterBadToken::End => {
                 self.put_last_word(waiting, writer)?;
-                Ok(Left::Stop)
+                Ok(PieceRest::Stop)
             }
-            BadWords::GoOn => {
+            AfterBadToken::GoOn => {
                 self.stream.put_bad_word(waiting, writer)?;
-                self.inside = Inside::BadLine;
+                self.inside = EngineState::BadLine;
                 Ok(self.drop_line(rest))
             }
         }
     }
 
     /// Drops what is left of a bad line. After its LF reading begins anew.
-    fn drop_line<'b>(&mut self, bytes: &'b [u8]) -> Left<'b>
+    fn drop_line<'b>(&mut self, bytes: &'b [u8]) -> PieceRest<'b>
         ensures takes { (start : Json) (given text : List ℕ) → self.old.inside ≡ inside.BadLine → StandsInBadLine bytes.now start self.old given text
             → TakesLine start self.new given bytes.now result text }
         ensures less { IsLess result (length bytes.now) }
@@ -206,15 +210,15 @@ impl<'p> Json<'p> {
         match line_bytes(bytes) {
             None => {
                 self.stream.take_text(bytes);
-                Left::Nothing
+                PieceRest::Nothing
             }
             Some(count) => {
                 texts_may_be_cut_between_words();
                 self.stream.take_text(&bytes[..count + 1]);
                 self.stream.begin_anew();
                 self.scan = Scan::new(self.profile);
-                self.inside = Inside::Words;
-                Left::Bytes(behind(bytes, count + 1))
+                self.inside = EngineState::Words;
+                PieceRest::Bytes(behind(bytes, count + 1))
             }
         }
     }
@@ -270,9 +274,9 @@ impl<'p> Engine for Json<'p> {
         let mut rest = piece;
         'lines: loop {
             match self.take_line(rest, waiting, writer)? {
-                Left::Nothing => return Ok(Flow::More),
-                Left::Stop => return Ok(Flow::Stop),
-                Left::Bytes(bytes) => rest = bytes,
+                PieceRest::Nothing => return Ok(Flow::More),
+                PieceRest::Stop => return Ok(Flow::Stop),
+                PieceRest::Bytes(bytes) => rest = bytes,
             }
         }
     }
@@ -280,9 +284,9 @@ impl<'p> Engine for Json<'p> {
     fn end<W: Sink>(&mut self, waiting: &mut Waiting, writer: &mut W) -> Result<(), RunFault> {
         bad_words_stand_there();
         match self.inside {
-            Inside::Words => self.end_words(waiting, writer),
-            Inside::BadWord => self.put_last_word(waiting, writer),
-            Inside::BadLine => self.stream.put_counts(waiting, writer),
+            EngineState::Words => self.end_words(waiting, writer),
+            EngineState::BadWord => self.put_last_word(waiting, writer),
+            EngineState::BadLine => self.stream.put_counts(waiting, writer),
         }
     }
 

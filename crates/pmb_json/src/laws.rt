@@ -5,34 +5,34 @@ ghost use Rattle.std.specs.Prelude.{◌≡◌, ◌≢◌, ℕ, Some, List, [], �
 ghost use Rattle.pmb_command.specs.Bus.{IsBus};
 ghost use Rattle.pmb_command.specs.Parts.{DeviceParts, device_with};
 ghost use Rattle.pmb_io.specs.declared.tally.Tally.{Tally};
-ghost use Rattle.pmb_late.specs.Certain.{CanBeCutAfter};
-ghost use Rattle.pmb_late.specs.declared.start.Start.TheVariants.{AllKnown};
-ghost use Rattle.pmb_late.specs.declared.start.Start.{Start};
-ghost use Rattle.pmb_object.specs.Member.{Member};
-ghost use Rattle.pmb_object.specs.Spelling.{AreBytes};
+ghost use Rattle.pmb_unknown_start.specs.Certain.{CanBeCutAfter};
+ghost use Rattle.pmb_unknown_start.specs.declared.start.Start.TheVariants.{AllKnown};
+ghost use Rattle.pmb_unknown_start.specs.declared.start.Start.{Start};
+ghost use Rattle.pmb_json_text.specs.Member.{Member};
+ghost use Rattle.pmb_json_text.specs.Spelling.{AreBytes};
 ghost use Rattle.pmb_places.specs.declared.places.Place.{Place};
 ghost use Rattle.pmb_spans.specs.Spans.{Span, moved_spans};
 ghost use Rattle.pmb_transaction.specs.Transaction.{TransactionData};
-ghost use Rattle.pmb_stream.specs.Before.{at_first};
-ghost use Rattle.pmb_stream.specs.Choice.{ChoiceData};
-ghost use Rattle.pmb_objects.specs.Counts.{CountsData};
-ghost use Rattle.pmb_objects.specs.Object.{Object};
+ghost use Rattle.pmb_json_stream.specs.Before.{at_first};
+ghost use Rattle.pmb_json_stream.specs.Choice.{ChoiceData};
+ghost use Rattle.pmb_json_objects.specs.Counts.{CountsData};
+ghost use Rattle.pmb_json_objects.specs.Object.{Object};
 ghost use Rattle.pmb_json.specs.Lines.{AllMakeFormats, AreJsonLines};
 ghost use Rattle.pmb_json.specs.Pieces.{CanBeCutBehind, EachSaysNoMore, IsNumber, SaysNoMore};
 ghost use Rattle.pmb_json.specs.SoFar.{HasWrittenJson};
-ghost use Rattle.pmb_stream.specs.Spans.{after_spans, span_objects, transactions_in};
+ghost use Rattle.pmb_json_stream.specs.Spans.{after_spans, span_objects, transactions_in};
 ghost use Rattle.pmb_json.specs.Text.{BadLine, ObjectsFrom, WritesJson};
-ghost use Rattle.pmb_json.specs.declared.bad_words.BadWords.{BadWords};
+ghost use Rattle.pmb_json.specs.declared.after_bad_token.AfterBadToken.{AfterBadToken};
 
 use pmb_bus::laws::{
     each_text_is_read, one_bad_word, one_spelling, spelled_has_no_bad_word,
     texts_may_be_cut_between_words,
 };
-use pmb_late::laws::{all_that_is_known_is_the_context, pieces_say_what_the_whole_says};
-use pmb_object::laws::{spelling_fits_in_line, spelling_is_json};
-use pmb_objects::laws::{all_objects_are_json, objects_are_json};
+use pmb_json_objects::laws::{all_objects_are_json, objects_are_json};
+use pmb_json_text::laws::{spelling_fits_in_line, spelling_is_json};
 use pmb_places::laws::places_are_in_range;
 use pmb_spans::laws::{each_list_has_spans, one_list_of_spans, spans_may_be_cut, spans_move};
+use pmb_unknown_start::laws::{all_that_is_known_is_the_context, pieces_say_what_the_whole_says};
 
 /// Spans that are moved have the same transactions, and count the same.
 pub fn moved_spans_count_the_same()
@@ -43,7 +43,7 @@ pub fn moved_spans_count_the_same()
 /// What is written for bytes, and its tally, is a function of the bytes, whatever was chosen, under a
 /// profile that is accepted.
 pub fn one_json()
-    ensures { (choice : ChoiceData) (profile : List DeviceParts) (after : BadWords) (bytes a b : List ℕ) (s t : Tally) → IsBus profile
+    ensures { (choice : ChoiceData) (profile : List DeviceParts) (after : AfterBadToken) (bytes a b : List ℕ) (s t : Tally) → IsBus profile
         → WritesJson choice profile after bytes a s → WritesJson choice profile after bytes b t → (a ≡ b) × (s ≡ t) }
 {
     one_spelling();
@@ -54,7 +54,7 @@ pub fn one_json()
 
 /// And so is what is written so far, for bytes that more may follow.
 pub fn one_json_so_far()
-    ensures { (choice : ChoiceData) (profile : List DeviceParts) (after : BadWords) (bytes a b : List ℕ) → IsBus profile
+    ensures { (choice : ChoiceData) (profile : List DeviceParts) (after : AfterBadToken) (bytes a b : List ℕ) → IsBus profile
         → HasWrittenJson choice profile after bytes a → HasWrittenJson choice profile after bytes b → a ≡ b }
 {
     one_spelling();
@@ -65,7 +65,7 @@ pub fn one_json_so_far()
 
 /// Something is written for any bytes, with a tally, under a profile that is accepted.
 pub fn some_json()
-    ensures { (choice : ChoiceData) (profile : List DeviceParts) (after : BadWords) (bytes : List ℕ) → IsBus profile
+    ensures { (choice : ChoiceData) (profile : List DeviceParts) (after : AfterBadToken) (bytes : List ℕ) → IsBus profile
         → (text : List ℕ) × (tally : Tally) × WritesJson choice profile after bytes text tally }
 {
     each_text_is_read();
@@ -77,9 +77,9 @@ pub fn some_json()
 /// chosen and whatever bytes were read, under a profile that is accepted and whose coefficients have 16
 /// bits.
 pub fn each_line_is_json()
-    ensures whole { (choice : ChoiceData) (profile : List DeviceParts) (after : BadWords) (bytes text : List ℕ) (tally : Tally)
+    ensures whole { (choice : ChoiceData) (profile : List DeviceParts) (after : AfterBadToken) (bytes text : List ℕ) (tally : Tally)
         → IsBus profile → AllMakeFormats profile → AreBytes bytes → WritesJson choice profile after bytes text tally → AreJsonLines text }
-    ensures so_far { (choice : ChoiceData) (profile : List DeviceParts) (after : BadWords) (bytes text : List ℕ)
+    ensures so_far { (choice : ChoiceData) (profile : List DeviceParts) (after : AfterBadToken) (bytes text : List ℕ)
         → IsBus profile → AllMakeFormats profile → AreBytes bytes → HasWrittenJson choice profile after bytes text → AreJsonLines text }
 {
     spelling_is_json();
@@ -114,7 +114,7 @@ pub fn pieces_say_no_more()
 /// one for each of the rest's, which says no more than it: so each `value` that the rest gives is that
 /// of the whole. So it is under a profile that is accepted.
 pub fn texts_of_pieces_say_no_more()
-    ensures { (profile : List DeviceParts) (digits : ℕ) (start : Start) (devices : List ℕ) (after : BadWords) (front back : List ℕ)
+    ensures { (profile : List DeviceParts) (digits : ℕ) (start : Start) (devices : List ℕ) (after : AfterBadToken) (front back : List ℕ)
         (bad lines : List BadLine) (objects whole : List Object) (c d : CountsData) → IsBus profile → start ≢ AllKnown → CanBeCutBehind profile start front
         → ObjectsFrom (record { digits = digits; start = start; devices = devices }) profile after at_first back bad objects c
         → ObjectsFrom (record { digits = digits; start = AllKnown; devices = devices }) profile after at_first (front ++ back) lines whole d

@@ -2,24 +2,24 @@
 //!
 //! [`json`] writes an object for each packet, each refusal and each word that is no token, as soon
 //! as it has ended, and at the end how often each device came. After a word that is no token
-//! reading ends, or goes on with the next line ([`BadWords`]).
+//! reading ends, or goes on with the next line ([`AfterBadToken`]).
 //!
 //! ```rust
 //! let choice = Choice { digits: Digits::default(), start: Start::AllKnown, devices: &[] };
 //! let mut reader = Io::new(b" 18 A f8 A P".as_slice());
 //! let mut writer = Io::new(Vec::new(rt.alloc()));
 //! let first = b"S b0 A 21 A 00 A";
-//! let tally = json(&profile, choice, BadWords::End, first, &mut reader, &mut writer)?;
+//! let tally = json(&profile, choice, AfterBadToken::End, first, &mut reader, &mut writer)?;
 //! assert_eq!(rt; tally, Tally { packets: 1, refusals: 0 });
 //! ```
 #![tactic(auto)]
 
-mod bad_words;
+mod after_bad_token;
 mod engine;
 pub mod laws;
 mod run;
 mod word_end;
 mod word_laws;
 
-pub use bad_words::BadWords;
+pub use after_bad_token::AfterBadToken;
 pub use run::json;

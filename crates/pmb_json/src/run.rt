@@ -1,13 +1,13 @@
 //! One run over a capture.
 
 ghost use Rattle.pmb_io.specs.Runs.{AsTool, Ran};
-ghost use Rattle.pmb_stream.specs.Choice.{choice_data};
+ghost use Rattle.pmb_json_stream.specs.Choice.{choice_data};
 ghost use Rattle.pmb_json.specs.Json.{json_job};
 
-use crate::bad_words::BadWords;
+use crate::after_bad_token::AfterBadToken;
 use crate::engine::{Json, fronts_are_written};
 use pmb_io::{Sink, Source, Tally, ToolFault, each_piece};
-use pmb_stream::Choice;
+use pmb_json_stream::Choice;
 use pmb_table::Profile;
 use pmb_table::laws::accepted_bus;
 
@@ -24,7 +24,7 @@ use pmb_table::laws::accepted_bus;
 pub fn json<'p, R: Source, W: Sink>(
     profile: &'p Profile,
     choice: Choice<'p>,
-    bad_words: BadWords,
+    bad_words: AfterBadToken,
     first: &[u8],
     reader: &mut R,
     writer: &mut W,

@@ -1,5 +1,6 @@
 -- The faults of `initial`.
-use Rattle.std.proofs.Common.{◌≡◌, ◌≢◌, ℕ, List, Bool, true, false, Option, Some, None, Result, Ok, Err, refl, not, nat_eq, ◌||◌, is_some, length}
+use Rattle.std.proofs.Common.{◌≡◌, ◌≢◌, ℕ, List, Bool, true, false, Option, Some, None, Result, Ok, Err, refl, not}
+use Rattle.std.proofs.Common.{nat_eq, ◌||◌, is_some, length}
 use Rattle.std.specs.Prelude.{IfErr}
 use Rattle.pmb_command.specs.Entry.{EntryParts}
 use Rattle.pmb_command.specs.Fitting.{register_form, is_length}
@@ -28,10 +29,13 @@ pub initial_bytes-faults : (e : EntryParts) (text : List ℕ) → IfErr (initial
 initial_bytes-faults e text =
     let P : FaultKind → Type 0 = λ what. what ≡ BadInitial in
     bind-faults P (unless BadInitial (not (nat_eq e.code 0x00 || nat_eq e.code 0x20)))
-    (λ _. bind (unless BadInitial (is_some (register_form e.shape))) (λ _. bind (or_fault BadInitial (hex_bytes text)) (λ bytes. bind (unless BadInitial (is_length (register_form e.shape) (length bytes))) (λ _. Ok bytes))))
+    (λ _. bind (unless BadInitial (is_some (register_form e.shape)))
+    (λ _. bind (or_fault BadInitial (hex_bytes text))
+    (λ bytes. bind (unless BadInitial (is_length (register_form e.shape) (length bytes))) (λ _. Ok bytes))))
     (unless-faults BadInitial (not (nat_eq e.code 0x00 || nat_eq e.code 0x20)))
     (λ _. bind-faults P (unless BadInitial (is_some (register_form e.shape)))
-    (λ _. bind (or_fault BadInitial (hex_bytes text)) (λ bytes. bind (unless BadInitial (is_length (register_form e.shape) (length bytes))) (λ _. Ok bytes)))
+    (λ _. bind (or_fault BadInitial (hex_bytes text))
+    (λ bytes. bind (unless BadInitial (is_length (register_form e.shape) (length bytes))) (λ _. Ok bytes)))
     (unless-faults BadInitial (is_some (register_form e.shape)))
     (λ _. bind-faults P (or_fault BadInitial (hex_bytes text))
     (λ bytes. bind (unless BadInitial (is_length (register_form e.shape) (length bytes))) (λ _. Ok bytes))
@@ -39,13 +43,16 @@ initial_bytes-faults e text =
     (λ bytes. bind-faults P (unless BadInitial (is_length (register_form e.shape) (length bytes))) (λ _. Ok bytes)
     (unless-faults BadInitial (is_length (register_form e.shape) (length bytes))) (λ _. tt))))
 
-pub initial_of-faults : (e : EntryParts) (text : Option (List ℕ)) → IfErr (initial_of e text) (λ what. what ≡ BadInitial)
+pub initial_of-faults : (e : EntryParts) (text : Option (List ℕ))
+    → IfErr (initial_of e text) (λ what. what ≡ BadInitial)
 initial_of-faults e None = tt
 initial_of-faults e (Some text) =
-    bind-faults (λ what. what ≡ BadInitial) (initial_bytes e text) (λ bytes. Ok (Some bytes)) (initial_bytes-faults e text) (λ _. tt)
+    bind-faults (λ what. what ≡ BadInitial) (initial_bytes e text) (λ bytes. Ok (Some bytes))
+    (initial_bytes-faults e text) (λ _. tt)
 
 -- so what is claimed of other faults holds of those of `initial`
-pub no_other_fault : {Y : Type 0} (Q : FaultKind → Type 0) (e : EntryParts) (text : Option (List ℕ)) (next : Option (List ℕ) → Y)
+pub no_other_fault : {Y : Type 0} (Q : FaultKind → Type 0) (e : EntryParts) (text : Option (List ℕ))
+    (next : Option (List ℕ) → Y)
     → IfErr (bind (initial_of e text) (λ bytes. Ok (next bytes))) (λ what. what ≢ BadInitial → Q what)
 no_other_fault Q e text next = by (initial_of e text) (initial_of-faults e text)
   where

@@ -1,5 +1,6 @@
 -- What a table of a profile says of one command.
-use Rattle.std.specs.Prelude.{ℕ, ℤ, pos, negsuc, Bool, true, false, not, ◌&&◌, ◌||◌, is_some, Option, Some, None, Result, Ok, Err, List, [], ◌∷◌, codes, length, nat_eq, int_le}
+use Rattle.std.specs.Prelude.{ℕ, ℤ, pos, negsuc, Bool, true, false, not, ◌&&◌, ◌||◌, is_some, Option, Some, None}
+use Rattle.std.specs.Prelude.{Result, Ok, Err, List, [], ◌∷◌, codes, length, nat_eq, int_le}
 use Rattle.std.specs.List.{list_any}
 use Rattle.std.specs.Option.{option_and_then}
 use Rattle.std.specs.Ordering.{int_eq}
@@ -13,29 +14,34 @@ use Rattle.pmb_command.specs.declared.form.Form.{Form}
 use Rattle.pmb_command.specs.declared.form.Form.TheVariants.{Zero, One, Two, Four, Eight, Block}
 use Rattle.pmb_command.specs.declared.form.Shape.{Shape}
 use Rattle.pmb_command.specs.declared.entry.Kind.{Kind}
-use Rattle.pmb_command.specs.declared.entry.Kind.TheVariants.{Raw, Linear11, Linear11Fixed, Vout, VoutSigned, Direct, Status}
+use Rattle.pmb_command.specs.declared.entry.Kind.TheVariants.{Raw, Linear11, Linear11Fixed, Vout, VoutSigned, Direct}
+use Rattle.pmb_command.specs.declared.entry.Kind.TheVariants.{Status}
 use Rattle.pmb_command.specs.Entry.{EntryParts}
 use Rattle.pmb_command.specs.Commands.{standard_entry, code_of_name}
 use Rattle.pmb_command.specs.Parts.{CommandParts}
 use Rattle.pmb_command.specs.Names.{code_name, is_name}
 use Rattle.pmb_command.specs.Fitting.{register_form, is_exponent, is_length, is_fitting}
-use Rattle.pmb_keys.specs.Rules.{bind, or_fault, unless, named, natural_within, only, typed, required, optional, defaulted}
+use Rattle.pmb_keys.specs.Rules.{bind, or_fault, unless, named, natural_within, only, typed, required, optional}
+use Rattle.pmb_keys.specs.Rules.{defaulted}
 
 -- the keys of a command's table
 abbrev pub command_key_names : List (List ℕ)
 command_key_names =
-    codes "code" ∷ codes "name" ∷ codes "write" ∷ codes "read" ∷ codes "call" ∷ codes "kind" ∷ codes "m" ∷ codes "b" ∷ codes "r"
+    codes "code" ∷ codes "name" ∷ codes "write" ∷ codes "read" ∷ codes "call" ∷ codes "kind" ∷ codes "m" ∷ codes "b"
+    ∷ codes "r"
     ∷ codes "exponent" ∷ codes "paged" ∷ codes "initial" ∷ []
 
 -- the words for the forms in which a command is written, read and called
 abbrev pub write_forms : List (List ℕ × Option Form)
 write_forms =
-    (codes "none", None) ∷ (codes "zero", Some Zero) ∷ (codes "one", Some One) ∷ (codes "two", Some Two) ∷ (codes "four", Some Four)
+    (codes "none", None) ∷ (codes "zero", Some Zero) ∷ (codes "one", Some One) ∷ (codes "two", Some Two)
+    ∷ (codes "four", Some Four)
     ∷ (codes "eight", Some Eight) ∷ (codes "block", Some Block) ∷ []
 
 abbrev pub read_forms : List (List ℕ × Option Form)
 read_forms =
-    (codes "none", None) ∷ (codes "one", Some One) ∷ (codes "two", Some Two) ∷ (codes "four", Some Four) ∷ (codes "eight", Some Eight)
+    (codes "none", None) ∷ (codes "one", Some One) ∷ (codes "two", Some Two) ∷ (codes "four", Some Four)
+    ∷ (codes "eight", Some Eight)
     ∷ (codes "block", Some Block) ∷ []
 
 abbrev pub call_forms : List (List ℕ × Option Form)
@@ -51,13 +57,21 @@ word_rule fault words d = bind (typed as_str d) (λ text. or_fault fault (named 
 
 -- a command that only its code tells: no forms, raw, not paged
 abbrev pub bare_entry : ℕ → List ℕ → EntryParts
-bare_entry code name = record { code = code; name = name; shape = record { write = None; read = None; call = None }; kind = Raw; paged = false }
+bare_entry code name = record {
+  code = code;
+  name = name;
+  shape =
+      record { write = None; read = None; call = None };
+  kind = Raw;
+  paged = false;
+}
 
 -- What the other keys change: without a code the standard command of the name; else a bare one,
 -- with the name or one made of the code.
 abbrev pub base_of : Option ℕ → Option Data → Result EntryParts FaultKind
 base_of None None = Err faults.MissingKey
-base_of None (Some d) = bind (typed as_str d) (λ name. or_fault faults.UnknownName (option_and_then standard_entry (code_of_name name)))
+base_of None (Some d) = bind (typed as_str d)
+    (λ name. or_fault faults.UnknownName (option_and_then standard_entry (code_of_name name)))
 base_of (Some code) None = Ok (bare_entry code (code_name code))
 base_of (Some code) (Some d) =
     bind (typed as_str d) (λ name. bind (unless faults.BadName (is_name name)) (λ _. Ok (bare_entry code name)))
@@ -74,7 +88,8 @@ is_scale z = int_le (negsuc 8) z && int_le z (pos 9)
 
 -- a coefficient that has to be there
 abbrev pub coefficient : (ℤ → Bool) → List ℕ → Members → Result ℤ FaultKind
-coefficient fits key ms = required (λ d. bind (typed as_integer d) (λ z. bind (unless faults.BadCoefficients (fits z)) (λ _. Ok z))) key ms
+coefficient fits key ms = required (λ d. bind (typed as_integer d)
+    (λ z. bind (unless faults.BadCoefficients (fits z)) (λ _. Ok z))) key ms
 
 -- m, b and r, which have to be there
 abbrev pub coefficients : Members → Result Coefficients FaultKind
@@ -122,11 +137,13 @@ direct_kind ms = bind (coefficients ms) (λ d. Ok (Direct d))
 abbrev pub kind_words : List (List ℕ × KindRule)
 kind_words =
     (codes "raw", plain_kind Raw) ∷ (codes "linear11", plain_kind Linear11) ∷ (codes "vout", plain_kind Vout)
-    ∷ (codes "vout_signed", plain_kind VoutSigned) ∷ (codes "direct", direct_kind) ∷ (codes "status", plain_kind Status) ∷ []
+    ∷ (codes "vout_signed", plain_kind VoutSigned) ∷ (codes "direct", direct_kind) ∷ (codes "status", plain_kind Status)
+    ∷ []
 
 -- the kind, where that of the base stays without a key, and then its coefficients
 abbrev pub kind_rule : Kind → Members → Result Kind FaultKind
-kind_rule base ms = bind (defaulted (word_rule faults.BadValue kind_words) (plain_kind base) (codes "kind") ms) (λ rule. rule ms)
+kind_rule base ms = bind (defaulted (word_rule faults.BadValue kind_words) (plain_kind base) (codes "kind") ms)
+    (λ rule. rule ms)
 
 -- the data are numbers in LINEAR11
 abbrev pub is_linear11 : Kind → Bool

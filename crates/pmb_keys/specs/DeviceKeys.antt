@@ -13,7 +13,8 @@ use Rattle.pmb_keys.specs.Rules.{bind, or_fault, unless, natural_within, only, t
 -- the keys of a device's table
 abbrev pub device_key_names : List (List ℕ)
 device_key_names =
-    codes "address" ∷ codes "pec" ∷ codes "pages" ∷ codes "vout_mode" ∷ codes "standard" ∷ codes "vout_direct" ∷ codes "command" ∷ []
+    codes "address" ∷ codes "pec" ∷ codes "pages" ∷ codes "vout_mode" ∷ codes "standard" ∷ codes "vout_direct"
+    ∷ codes "command" ∷ []
 
 -- 08h to 77h without 0ch (SMBus 3.0 appendix C: the others are reserved, and 0ch is the Alert
 -- Response Address), and no earlier device's

@@ -1,5 +1,6 @@
 -- Results and faults are written without a LF.
-use Rattle.std.proofs.Common.{◌≡◌, ℕ, zero, suc, ◌+◌, ◌*◌, ◌/◌, ◌%◌, ◌^◌, ◌<◌, Bool, true, false, not, ◌==◌, nat_lt, Option, Some, None, ℤ, pos, negsuc, unsigned_abs, List, [], ◌∷◌, ◌++◌, refl, arith}
+use Rattle.std.proofs.Common.{◌≡◌, ℕ, zero, suc, ◌+◌, ◌*◌, ◌/◌, ◌%◌, ◌^◌, ◌<◌, Bool, true, false, not, ◌==◌, nat_lt}
+use Rattle.std.proofs.Common.{Option, Some, None, ℤ, pos, negsuc, unsigned_abs, List, [], ◌∷◌, ◌++◌, refl, arith}
 use Rattle.std.specs.Prelude.{codes, decimal, flat_map}
 use Rattle.std.specs.Fmt.{digit_glyph, digits, digits_onto}
 use Rattle.std.proofs.lemmas.Bool.{and_from, cond_both}
@@ -27,8 +28,10 @@ use Rattle.pmb_host.specs.declared.step.HostStep.TheVariants.{Send, Done, Failed
 use Rattle.pmb_value.specs.declared.vout.ModeFault.{ModeFault}
 use Rattle.pmb_value.specs.declared.vout.ModeFault.TheVariants.{Relative, Vid, Ieee, NoCoefficients}
 use Rattle.pmb_writer.specs.declared.invalid.Invalid.{Invalid}
-use Rattle.pmb_writer.specs.declared.invalid.Invalid.TheVariants.{NoParts, UnknownDevice, AddressTwice, UnknownCommand, NotAllowed, WrongLength, PecMode}
-use Rattle.pmb_run.specs.Answer.{bytes_text, end_text, host_fault_text, mode_fault_name, place_text, range_fault_name, reply_text}
+use Rattle.pmb_writer.specs.declared.invalid.Invalid.TheVariants.{NoParts, UnknownDevice, AddressTwice, UnknownCommand}
+use Rattle.pmb_writer.specs.declared.invalid.Invalid.TheVariants.{NotAllowed, WrongLength, PecMode}
+use Rattle.pmb_run.specs.Answer.{bytes_text, end_text, host_fault_text, mode_fault_name, place_text, range_fault_name}
+use Rattle.pmb_run.specs.Answer.{reply_text}
 
 -- ---- digits
 
@@ -36,13 +39,17 @@ above_lf : (b : ℕ) → 10 < b → not (b == 10) ≡ true
 above_lf b more = grind (arith, nat_tests, more)
 
 glyph_no_lf : (d : ℕ) → not (digit_glyph false d == 10) ≡ true
-glyph_no_lf d = cond_both (nat_lt d 10) (48 + d) (87 + d) (λ g. not (g == 10) ≡ true) (λ small. above_lf (48 + d) (omega arith)) (λ large. above_lf (87 + d) (omega arith))
+glyph_no_lf d = cond_both (nat_lt d 10) (48 + d) (87 + d) (λ g. not (g == 10) ≡ true)
+    (λ small. above_lf (48 + d) (omega arith)) (λ large. above_lf (87 + d) (omega arith))
 
-digits_no_lf : (count n : ℕ) (behind : List ℕ) → no_lf behind ≡ true → no_lf (digits_onto count 10 false n behind) ≡ true
+digits_no_lf : (count n : ℕ) (behind : List ℕ) → no_lf behind ≡ true → no_lf (digits_onto count 10 false n behind)
+    ≡ true
 digits_no_lf zero n behind one = one
 digits_no_lf (suc count) n behind one =
-    let more : no_lf (digit_glyph false (n % 10) ∷ behind) ≡ true = and_from (not (digit_glyph false (n % 10) == 10)) (no_lf behind) (glyph_no_lf (n % 10)) one in
-    cond_both (n / 10 == 0) (digit_glyph false (n % 10) ∷ behind) (digits_onto count 10 false (n / 10) (digit_glyph false (n % 10) ∷ behind)) (λ text. no_lf text ≡ true)
+    let more : no_lf (digit_glyph false (n % 10) ∷ behind) ≡ true = and_from (not (digit_glyph false (n % 10) == 10))
+    (no_lf behind) (glyph_no_lf (n % 10)) one in
+    cond_both (n / 10 == 0) (digit_glyph false (n % 10) ∷ behind)
+    (digits_onto count 10 false (n / 10) (digit_glyph false (n % 10) ∷ behind)) (λ text. no_lf text ≡ true)
     (λ last. more) (λ others. digits_no_lf count (n / 10) (digit_glyph false (n % 10) ∷ behind) more)
 
 pub decimal_no_lf : (n : ℕ) → no_lf (decimal n) ≡ true
@@ -51,7 +58,8 @@ decimal_no_lf n = digits_no_lf 64 n [] refl
 
 hex_no_lf : (b : ℕ) → no_lf (encode_lower (b ∷ [])) ≡ true
 unfolding encode_with
-hex_no_lf b = and_from _ _ (no_lf-at lower_digits (b / 16) refl) (and_from _ true (no_lf-at lower_digits (b % 16) refl) refl)
+hex_no_lf b = and_from _ _ (no_lf-at lower_digits (b / 16) refl)
+    (and_from _ true (no_lf-at lower_digits (b % 16) refl) refl)
 
 -- ---- quantities
 
@@ -62,7 +70,8 @@ minus_no_lf (negsuc n) = refl
 padded_no_lf : (places n : ℕ) → no_lf (padded places n) ≡ true
 padded_no_lf zero n = refl
 padded_no_lf (suc places) n =
-    no_lf-append (padded places (n / 10)) ((48 + n % 10) ∷ []) (padded_no_lf places (n / 10)) (and_from (not (48 + n % 10 == 10)) true (above_lf (48 + n % 10) (omega arith)) refl)
+    no_lf-append (padded places (n / 10)) ((48 + n % 10) ∷ []) (padded_no_lf places (n / 10))
+    (and_from (not (48 + n % 10 == 10)) true (above_lf (48 + n % 10) (omega arith)) refl)
 
 after_point_no_lf : (places n : ℕ) → no_lf (after_point places n) ≡ true
 after_point_no_lf zero n = refl
@@ -70,13 +79,16 @@ after_point_no_lf (suc places) n = no_lf-append (codes ".") (padded (suc places)
 
 magnitude_no_lf : (n d : ℕ) (places : Option ℕ) → no_lf (magnitude_text n d places) ≡ true
 magnitude_no_lf n d (Some places) =
-    no_lf-append (decimal (n / d)) (after_point places (n % d * (10 ^ places / d))) (decimal_no_lf (n / d)) (after_point_no_lf places (n % d * (10 ^ places / d)))
-magnitude_no_lf n d None = no_lf-append (decimal n) (codes "/" ++ decimal d) (decimal_no_lf n) (no_lf-append (codes "/") (decimal d) refl (decimal_no_lf d))
+    no_lf-append (decimal (n / d)) (after_point places (n % d * (10 ^ places / d))) (decimal_no_lf (n / d))
+    (after_point_no_lf places (n % d * (10 ^ places / d)))
+magnitude_no_lf n d None = no_lf-append (decimal n) (codes "/" ++ decimal d) (decimal_no_lf n)
+    (no_lf-append (codes "/") (decimal d) refl (decimal_no_lf d))
 
 spelling_no_lf : (q : Fraction) → no_lf (spelling q) ≡ true
 unfolding spelling
 spelling_no_lf q =
-    no_lf-append (minus q.numerator) (magnitude_text (unsigned_abs q.numerator) q.denominator (places_of q.denominator)) (minus_no_lf q.numerator)
+    no_lf-append (minus q.numerator) (magnitude_text (unsigned_abs q.numerator) q.denominator (places_of q.denominator))
+    (minus_no_lf q.numerator)
     (magnitude_no_lf (unsigned_abs q.numerator) q.denominator (places_of q.denominator))
 
 -- ---- replies
@@ -84,13 +96,15 @@ spelling_no_lf q =
 more_bytes_no_lf : (bytes : List ℕ) → no_lf (flat_map (λ c. codes " " ++ encode_lower (c ∷ [])) bytes) ≡ true
 more_bytes_no_lf [] = refl
 more_bytes_no_lf (b ∷ bytes) =
-    no_lf-append (codes " " ++ encode_lower (b ∷ [])) (flat_map (λ c. codes " " ++ encode_lower (c ∷ [])) bytes) (no_lf-append (codes " ") (encode_lower (b ∷ [])) refl (hex_no_lf b))
+    no_lf-append (codes " " ++ encode_lower (b ∷ [])) (flat_map (λ c. codes " " ++ encode_lower (c ∷ [])) bytes)
+    (no_lf-append (codes " ") (encode_lower (b ∷ [])) refl (hex_no_lf b))
     (more_bytes_no_lf bytes)
 
 bytes_no_lf : (bytes : List ℕ) → no_lf (bytes_text bytes) ≡ true
 bytes_no_lf [] = refl
 bytes_no_lf (b ∷ bytes) =
-    no_lf-append (encode_lower (b ∷ [])) (flat_map (λ c. codes " " ++ encode_lower (c ∷ [])) bytes) (hex_no_lf b) (more_bytes_no_lf bytes)
+    no_lf-append (encode_lower (b ∷ [])) (flat_map (λ c. codes " " ++ encode_lower (c ∷ [])) bytes) (hex_no_lf b)
+    (more_bytes_no_lf bytes)
 
 reply_no_lf : (reply : ReplyData) → no_lf (reply_text reply) ≡ true
 reply_no_lf AllWritten = refl
@@ -122,7 +136,8 @@ place_no_lf : (leg byte : ℕ) (at_read : Bool) → no_lf (place_text leg byte a
 place_no_lf leg byte true = refl
 place_no_lf leg byte false =
     no_lf-append (codes "refused: leg ") (decimal leg ++ (codes " byte " ++ decimal byte)) refl
-    (no_lf-append (decimal leg) (codes " byte " ++ decimal byte) (decimal_no_lf leg) (no_lf-append (codes " byte ") (decimal byte) refl (decimal_no_lf byte)))
+    (no_lf-append (decimal leg) (codes " byte " ++ decimal byte) (decimal_no_lf leg)
+    (no_lf-append (codes " byte ") (decimal byte) refl (decimal_no_lf byte)))
 
 pub host_fault_no_lf : (why : HostFault) → no_lf (host_fault_text why) ≡ true
 host_fault_no_lf (fault.Invalid invalid) = invalid_no_lf invalid

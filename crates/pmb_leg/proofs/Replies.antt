@@ -1,5 +1,6 @@
 -- Answers, by what the code keeps of them.
-use Rattle.std.proofs.Common.{◌≡◌, ℕ, ◌<◌, ◌↔◌, Bool, true, false, IsTrue, List, [], ◌∷◌, ◌++◌, length, refl, sym, ap, subst, ◌∙◌, append_assoc, arith}
+use Rattle.std.proofs.Common.{◌≡◌, ℕ, ◌<◌, ◌↔◌, Bool, true, false, IsTrue, List, [], ◌∷◌, ◌++◌, length, refl, sym, ap}
+use Rattle.std.proofs.Common.{subst, ◌∙◌, append_assoc, arith}
 use Rattle.pmb_bus.specs.Pec.{pec}
 use Rattle.pmb_bus.specs.Address.{read_address, alert_address}
 use Rattle.pmb_command.specs.declared.form.Form.{Form}
@@ -12,8 +13,10 @@ use Rattle.pmb_transaction.specs.Following.{BeginsAnswer, IsAlertAnswer, IsInsid
 use Rattle.pmb_leg.specs.Reply.{Expected, IsReply, SaysAlert, SaysReply}
 use Rattle.pmb_leg.specs.declared.answer.Answer.TheInside.{Inside}
 use Rattle.pmb_leg.specs.machine.Answers.{CountsAlone, IsAnswered}
-use Rattle.pmb_leg.specs.machine.Left.{after, goes_on, has_code, is_whole, takes, BeginsData, IsInside, Leaves, SpellsSomeData, SpellsData}
-use Rattle.pmb_leg.proofs.Lefts.{begins_takes, goes_on_inside, inside, moved_on, room, spells_whole, takes_begins, takes_goes_on, whole_spells}
+use Rattle.pmb_leg.specs.machine.DataLeft.{after, goes_on, has_code, is_whole, takes, BeginsData, IsInside, Leaves}
+use Rattle.pmb_leg.specs.machine.DataLeft.{SpellsSomeData, SpellsData}
+use Rattle.pmb_leg.proofs.Lefts.{begins_takes, goes_on_inside, inside, moved_on, room, spells_whole, takes_begins}
+use Rattle.pmb_leg.proofs.Lefts.{takes_goes_on, whole_spells}
 
 -- the code over bytes with one code, whichever they are
 same_code : (before others : List ℕ) → CountsAlone before → pec others ≡ pec before → (with_pec : Bool) (bytes : List ℕ)
@@ -21,18 +24,29 @@ same_code : (before others : List ℕ) → CountsAlone before → pec others ≡
 same_code before others alike same false bytes = refl
 same_code before others alike same true bytes = ap (λ (b : ℕ). bytes ++ b ∷ []) (alike others bytes same)
 
-module _ (form : Form) (mode : PecMode) (code : ℕ) (before : List ℕ) (alike : CountsAlone before) (is : pec before ≡ code) where
+module _ (form : Form) (mode : PecMode) (code : ℕ) (before : List ℕ) (alike : CountsAlone before)
+    (is : pec before ≡ code) where
   abbrev expected : Expected
   expected = record { form = form; mode = mode; code = code }
 
-  pub says : (reply : List ℕ) (with_pec : Bool) (bytes : List ℕ) → SpellsData form mode before reply with_pec bytes → SaysReply expected reply with_pec bytes
-  says reply with_pec bytes spells = record { fits = spells.fits; mode = spells.allowed; before = before; code = is; spelled = spells.spelled }
+  pub says : (reply : List ℕ) (with_pec : Bool) (bytes : List ℕ) → SpellsData form mode before reply with_pec bytes
+      → SaysReply expected reply with_pec bytes
+  says reply with_pec bytes spells = record {
+    fits = spells.fits;
+    mode = spells.allowed;
+    before = before;
+    code =
+        is;
+    spelled = spells.spelled;
+  }
 
-  pub said : (reply : List ℕ) (with_pec : Bool) (bytes : List ℕ) → SaysReply expected reply with_pec bytes → SpellsData form mode before reply with_pec bytes
+  pub said : (reply : List ℕ) (with_pec : Bool) (bytes : List ℕ) → SaysReply expected reply with_pec bytes
+      → SpellsData form mode before reply with_pec bytes
   said reply with_pec bytes reply_is = record {
     fits = reply_is.fits;
     allowed = reply_is.mode;
-    spelled = reply_is.spelled ∙ same_code before reply_is.before alike (reply_is.code ∙ sym is) with_pec (wire form reply);
+    spelled = reply_is.spelled ∙ same_code before reply_is.before alike (reply_is.code ∙ sym is) with_pec
+        (wire form reply);
   }
 
   pub replies : (bytes : List ℕ) → SpellsSomeData form mode before bytes → IsReply expected bytes
@@ -61,11 +75,14 @@ module _ (a : Inside) (is : IsAnswered a) where
 
   pub tells_goes_on : IsTrue (goes_on a.left) ↔ IsInsideAnswer (IsReply expects) a.bytes.items
   tells_goes_on = (
-    λ on. answer_goes_on a.form a.mode a.code is.before is.alike is.code a.bytes.items (inside is.before a.form a.mode a.bytes.items a.left is.left on),
-    λ within. goes_on_inside is.before a.form a.mode a.bytes.items a.left is.left (gone_on a.form a.mode a.code is.before is.alike is.code a.bytes.items within),
+    λ on. answer_goes_on a.form a.mode a.code is.before is.alike is.code a.bytes.items
+        (inside is.before a.form a.mode a.bytes.items a.left is.left on),
+    λ within. goes_on_inside is.before a.form a.mode a.bytes.items a.left is.left
+        (gone_on a.form a.mode a.code is.before is.alike is.code a.bytes.items within),
   )
 
-  pub tells_begins : (byte : ℕ) → IsByte byte → IsTrue (takes a.left a.crc byte) ↔ BeginsAnswer (IsReply expects) (a.bytes.items ++ byte ∷ [])
+  pub tells_begins : (byte : ℕ) → IsByte byte → IsTrue (takes a.left a.crc byte)
+      ↔ BeginsAnswer (IsReply expects) (a.bytes.items ++ byte ∷ [])
   tells_begins byte small = (
     λ taken. answer_begins a.form a.mode a.code is.before is.alike is.code (a.bytes.items ++ byte ∷ [])
         (takes_begins is.before a.form a.mode a.bytes.items a.left is.left a.crc byte (sym is.crc) small taken),
@@ -77,11 +94,13 @@ module _ (a : Inside) (is : IsAnswered a) where
   tells_whole = (
     λ done. let w = whole_spells is.before a.form a.mode a.bytes.items a.left is.left done in
         replies a.form a.mode a.code is.before is.alike is.code a.bytes.items (w.0, has_code a.left a.mode, w.1),
-    λ reply. spells_whole is.before a.form a.mode a.bytes.items a.left is.left (replied a.form a.mode a.code is.before is.alike is.code a.bytes.items reply),
+    λ reply. spells_whole is.before a.form a.mode a.bytes.items a.left is.left
+        (replied a.form a.mode a.code is.before is.alike is.code a.bytes.items reply),
   )
 
   -- what is kept after one byte more
-  pub code_on : (byte next : ℕ) (bytes : List ℕ) → bytes ≡ a.bytes.items ++ byte ∷ [] → ((covered : List ℕ) → pec covered ≡ a.crc → next ≡ pec (covered ++ byte ∷ []))
+  pub code_on : (byte next : ℕ) (bytes : List ℕ) → bytes ≡ a.bytes.items ++ byte ∷ []
+      → ((covered : List ℕ) → pec covered ≡ a.crc → next ≡ pec (covered ++ byte ∷ []))
       → pec (is.before ++ bytes) ≡ next
   code_on byte next bytes taken goes_on =
       ap (λ (bs : List ℕ). pec (is.before ++ bs)) taken
@@ -95,41 +114,59 @@ module _ (a : Inside) (is : IsAnswered a) where
       subst P (sym taken) (moved_on is.before a.form a.mode a.bytes.items a.left is.left a.crc byte (sym is.crc) small)
 
   -- the data of an answer
-  pub data_of : IsTrue (is_whole a.left a.mode) → (reply : List ℕ) × SpellsData a.form a.mode is.before reply (has_code a.left a.mode) a.bytes.items
+  pub data_of : IsTrue (is_whole a.left a.mode)
+      → (reply : List ℕ) × SpellsData a.form a.mode is.before reply (has_code a.left a.mode) a.bytes.items
   data_of done = whole_spells is.before a.form a.mode a.bytes.items a.left is.left done
 
   pub says_data : (reply : List ℕ) → SpellsData a.form a.mode is.before reply (has_code a.left a.mode) a.bytes.items
       → SaysReply expects reply (has_code a.left a.mode) a.bytes.items
-  says_data reply spells = says a.form a.mode a.code is.before is.alike is.code reply (has_code a.left a.mode) a.bytes.items spells
+  says_data reply spells = says a.form a.mode a.code is.before is.alike is.code reply
+      (has_code a.left a.mode) a.bytes.items spells
 
-  pub has_room : (byte : ℕ) → IsByte byte → BeginsAnswer (IsReply expects) (a.bytes.items ++ byte ∷ []) → length a.bytes.items < 257
+  pub has_room : (byte : ℕ) → IsByte byte → BeginsAnswer (IsReply expects) (a.bytes.items ++ byte ∷ [])
+      → length a.bytes.items < 257
   has_room byte small begins =
-      room is.before a.form a.mode a.bytes.items a.left is.left (takes_goes_on is.before a.left a.crc byte ((tells_begins byte small).1 begins))
+      room is.before a.form a.mode a.bytes.items a.left is.left
+      (takes_goes_on is.before a.left a.crc byte ((tells_begins byte small).1 begins))
 
 -- ---- the Alert Response Address
 
 -- the code over the byte that is sent to read there
-pub alert_code : (byte code : ℕ) → byte ≡ read_address alert_address → code ≡ pec (byte ∷ []) → pec (read_address alert_address ∷ []) ≡ code
+pub alert_code : (byte code : ℕ) → byte ≡ read_address alert_address → code ≡ pec (byte ∷ [])
+    → pec (read_address alert_address ∷ []) ≡ code
 alert_code byte code is over = ap (λ (b : ℕ). pec (b ∷ [])) (sym is) ∙ sym over
 
-module _ (code : ℕ) (alike : CountsAlone (read_address alert_address ∷ [])) (is : pec (read_address alert_address ∷ []) ≡ code) where
+module _ (code : ℕ) (alike : CountsAlone (read_address alert_address ∷ []))
+    (is : pec (read_address alert_address ∷ []) ≡ code) where
   abbrev alert_expects : Expected
   alert_expects = record { form = One; mode = Optional; code = code }
 
-  alert_said : (reply : List ℕ) (with_pec : Bool) (all : List ℕ) → SpellsData One Optional (read_address alert_address ∷ []) reply with_pec all → SaysAlert reply with_pec all
+  alert_said : (reply : List ℕ) (with_pec : Bool) (all : List ℕ)
+      → SpellsData One Optional (read_address alert_address ∷ []) reply with_pec all → SaysAlert reply with_pec all
   alert_said [] with_pec all spells = absurd (omega (arith, spells.fits.taken))
-  alert_said (byte ∷ []) with_pec all spells = record { byte = byte; small = spells.fits.small.0; only = refl; spelled = spells.spelled }
+  alert_said (byte ∷ []) with_pec all spells =
+      record { byte = byte; small = spells.fits.small.0; only = refl; spelled = spells.spelled }
   alert_said (byte ∷ next ∷ reply) with_pec all spells = absurd (omega (arith, spells.fits.taken))
 
-  alert_spells : (reply : List ℕ) (with_pec : Bool) (all : List ℕ) → SaysAlert reply with_pec all → SpellsData One Optional (read_address alert_address ∷ []) reply with_pec all
+  alert_spells : (reply : List ℕ) (with_pec : Bool) (all : List ℕ) → SaysAlert reply with_pec all
+      → SpellsData One Optional (read_address alert_address ∷ []) reply with_pec all
   alert_spells reply with_pec all alert =
-      let P : List ℕ → Type 0 = λ (bs : List ℕ). SpellsData One Optional (read_address alert_address ∷ []) bs with_pec all in
-      subst P (sym alert.only) (record { fits = record { small = (alert.small, tt); taken = refl }; allowed = tt; spelled = alert.spelled })
+      let P : List ℕ → Type 0 = λ (bs : List ℕ). SpellsData One Optional (read_address alert_address ∷ []) bs with_pec
+      all in
+      subst P (sym alert.only) (record {
+        fits = record { small = (alert.small, tt); taken = refl };
+        allowed =
+            tt;
+        spelled = alert.spelled;
+      })
 
-  pub alert_says : (reply : List ℕ) (with_pec : Bool) (all : List ℕ) → SaysReply alert_expects reply with_pec all ↔ SaysAlert reply with_pec all
+  pub alert_says : (reply : List ℕ) (with_pec : Bool) (all : List ℕ) → SaysReply alert_expects reply with_pec all
+      ↔ SaysAlert reply with_pec all
   alert_says reply with_pec all = (
-    λ reply_is. alert_said reply with_pec all (said One Optional code (read_address alert_address ∷ []) alike is reply with_pec all reply_is),
-    λ alert. says One Optional code (read_address alert_address ∷ []) alike is reply with_pec all (alert_spells reply with_pec all alert),
+    λ reply_is. alert_said reply with_pec all
+        (said One Optional code (read_address alert_address ∷ []) alike is reply with_pec all reply_is),
+    λ alert. says One Optional code (read_address alert_address ∷ []) alike is reply with_pec all
+        (alert_spells reply with_pec all alert),
   )
 
   alert_answers : (all : List ℕ) → IsReply alert_expects all → IsAlertAnswer all
@@ -138,8 +175,12 @@ module _ (code : ℕ) (alike : CountsAlone (read_address alert_address ∷ [])) 
       record { byte = alert.byte; small = alert.small; with_pec = with_pec; spelled = alert.spelled }
 
   alert_replies : (all : List ℕ) → IsAlertAnswer all → IsReply alert_expects all
-  alert_replies all answer =
-      (answer.byte ∷ [], answer.with_pec, (alert_says (answer.byte ∷ []) answer.with_pec all).1 (record { byte = answer.byte; small = answer.small; only = refl; spelled = answer.spelled }))
+  alert_replies all answer = (
+    answer.byte ∷ [],
+    answer.with_pec,
+    (alert_says (answer.byte ∷ []) answer.with_pec all).1
+        (record { byte = answer.byte; small = answer.small; only = refl; spelled = answer.spelled }),
+  )
 
   pub alert_is_answered : (all : List ℕ) → IsReply alert_expects all ↔ IsAlertAnswer all
   alert_is_answered all = (alert_answers all, alert_replies all)

@@ -1,12 +1,13 @@
 -- The wire of a form before other bytes: where it ends.
-use Rattle.std.proofs.Common.{◌≡◌, ℕ, ◌+◌, ◌<◌, zero, suc, Bool, true, false, List, [], ◌∷◌, ◌++◌, length, replicate, refl, sym, ap, ◌∙◌, arith, length-append}
+use Rattle.std.proofs.Common.{◌≡◌, ℕ, ◌+◌, ◌<◌, zero, suc, Bool, true, false, List, [], ◌∷◌, ◌++◌, length, replicate}
+use Rattle.std.proofs.Common.{refl, sym, ap, ◌∙◌, arith, length-append}
 use Rattle.std.proofs.lemmas.List.{append-nil, length-replicate}
 use Rattle.pmb_bus.specs.Pec.{pec}
 use Rattle.pmb_command.specs.declared.form.Form.{Form}
 use Rattle.pmb_command.specs.declared.form.Form.TheVariants.{Zero, One, Two, Four, Eight, Block}
 use Rattle.pmb_command.specs.Wire.{AreByteValues, Fits, Takes, wire}
 use Rattle.pmb_transaction.specs.Body.{checked}
-use Rattle.pmb_leg.specs.machine.Left.{wire_front}
+use Rattle.pmb_leg.specs.machine.DataLeft.{wire_front}
 
 -- two lists end to end, the first ones of which are as long
 same_fronts : (a b x y : List ℕ) → length a ≡ length b → a ++ x ≡ b ++ y → (a ≡ b) × (x ≡ y)
@@ -21,7 +22,8 @@ same_fronts (e ∷ a) (f ∷ b) x y long same =
     (cc (first, same_front), rest.1)
 
 -- a wire tells where it ends
-pub one_wire : (form : Form) (a b x y : List ℕ) → Fits form a → Fits form b → wire form a ++ x ≡ wire form b ++ y → (a ≡ b) × (x ≡ y)
+pub one_wire : (form : Form) (a b x y : List ℕ) → Fits form a → Fits form b → wire form a ++ x ≡ wire form b ++ y
+    → (a ≡ b) × (x ≡ y)
 one_wire Zero a b x y fits others same = same_fronts a b x y (fits.taken ∙ sym others.taken) same
 one_wire One a b x y fits others same = same_fronts a b x y (fits.taken ∙ sym others.taken) same
 one_wire Two a b x y fits others same = same_fronts a b x y (fits.taken ∙ sym others.taken) same
@@ -33,7 +35,8 @@ one_wire Block a b x y fits others same =
     same_fronts a b x y counts behind
 
 -- where data are missing no wire has ended
-pub not_ended : (form : Form) (front : List ℕ) (n : ℕ) (a x : List ℕ) → 0 < n → Takes form (length front + n) → Fits form a
+pub not_ended : (form : Form) (front : List ℕ) (n : ℕ) (a x : List ℕ) → 0 < n → Takes form (length front + n)
+    → Fits form a
     → wire_front form (length front + n) front ≡ wire form a ++ x → ⊥
 not_ended Zero front n a x some taken fits same = omega (arith, fits.taken, length-append a x, ap length same)
 not_ended One front n a x some taken fits same = omega (arith, fits.taken, length-append a x, ap length same)
@@ -46,7 +49,8 @@ not_ended Block front n a x some taken fits same =
     omega (arith, length-append a x, ap length behind)
 
 -- data, by their first bytes and the rest
-pub wire_of_front : (form : Form) (front rest : List ℕ) (n : ℕ) → length (front ++ rest) ≡ n → wire form (front ++ rest) ≡ wire_front form n front ++ rest
+pub wire_of_front : (form : Form) (front rest : List ℕ) (n : ℕ) → length (front ++ rest) ≡ n
+    → wire form (front ++ rest) ≡ wire_front form n front ++ rest
 wire_of_front Zero front rest n long = refl
 wire_of_front One front rest n long = refl
 wire_of_front Two front rest n long = refl
@@ -54,7 +58,8 @@ wire_of_front Four front rest n long = refl
 wire_of_front Eight front rest n long = refl
 wire_of_front Block front rest n long = ap (λ (m : ℕ). m ∷ front ++ rest) long
 
-pub front_push : (form : Form) (n : ℕ) (front : List ℕ) (byte : ℕ) → wire_front form n front ++ byte ∷ [] ≡ wire_front form n (front ++ byte ∷ [])
+pub front_push : (form : Form) (n : ℕ) (front : List ℕ) (byte : ℕ) → wire_front form n front ++ byte ∷ []
+    ≡ wire_front form n (front ++ byte ∷ [])
 front_push Zero n front byte = refl
 front_push One n front byte = refl
 front_push Two n front byte = refl
@@ -63,7 +68,8 @@ front_push Eight n front byte = refl
 front_push Block n front byte = refl
 
 -- as many bytes as a form takes are its data
-pub data_fit : (form : Form) (bytes : List ℕ) (n : ℕ) → AreByteValues bytes → length bytes ≡ n → Takes form n → Fits form bytes
+pub data_fit : (form : Form) (bytes : List ℕ) (n : ℕ) → AreByteValues bytes → length bytes ≡ n → Takes form n
+    → Fits form bytes
 data_fit Zero bytes n small long taken = record { small = small; taken = long ∙ taken }
 data_fit One bytes n small long taken = record { small = small; taken = long ∙ taken }
 data_fit Two bytes n small long taken = record { small = small; taken = long ∙ taken }
@@ -94,6 +100,7 @@ abbrev pub code_behind : Bool → List ℕ → List ℕ → List ℕ
 code_behind false before bytes = []
 code_behind true before bytes = pec (before ++ bytes) ∷ []
 
-pub checked_is : (with_pec : Bool) (before bytes : List ℕ) → checked with_pec before bytes ≡ bytes ++ code_behind with_pec before bytes
+pub checked_is : (with_pec : Bool) (before bytes : List ℕ) → checked with_pec before bytes ≡ bytes
+    ++ code_behind with_pec before bytes
 checked_is false before bytes = sym (append-nil bytes)
 checked_is true before bytes = refl

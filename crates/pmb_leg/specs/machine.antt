@@ -1,4 +1,4 @@
 -- What the code counts with.
-pub mod Left
+pub mod DataLeft
 pub mod Answers
 pub mod Legs

@@ -8,8 +8,8 @@ ghost use Rattle.pmb_bus.specs.Pec.{pec};
 ghost use Rattle.pmb_transaction.specs.Following.{BeginsAnswer, IsInsideAnswer, IsAlertAnswer};
 ghost use Rattle.pmb_leg.specs.Reply.{IsReply, SaysAlert, SaysReply};
 
-use crate::content::Reply;
-use crate::left::{Left, data_within};
+use crate::content::ReplyContent;
+use crate::left::{DataLeft, data_within};
 use arrayvec::ArrayVec;
 use pmb_bus::laws::{pec_is_all_that_counts, worked_pecs};
 use pmb_bus::{ALERT_ADDRESS, pec_next, read_address};
@@ -27,7 +27,7 @@ pub struct Answer {
     /// The packet error code of the bytes before the answer.
     code: u8,
     /// What is left of the answer.
-    left: Left,
+    left: DataLeft,
     /// The packet error code of all bytes so far.
     crc: u8,
     /// The bytes of the answer so far: the count of a block, the data, a packet error code.
@@ -61,7 +61,7 @@ impl Answer {
             form: Form::One,
             mode: PecMode::Optional,
             code,
-            left: Left::start(Some(Form::One), PecMode::Optional),
+            left: DataLeft::start(Some(Form::One), PecMode::Optional),
             crc: code,
             bytes: ArrayVec::new(),
         }
@@ -91,7 +91,7 @@ impl Answer {
         self.form = form;
         self.mode = mode;
         self.code = code;
-        self.left = Left::start(Some(form), mode);
+        self.left = DataLeft::start(Some(form), mode);
         self.crc = code;
         self.bytes.clear();
     }
@@ -133,14 +133,14 @@ impl Answer {
     }
 
     /// What the bytes so far say, where they are an answer.
-    pub fn reply(&self) -> Option<Reply<'_>>
+    pub fn reply(&self) -> Option<ReplyContent<'_>>
         ensures some { IsSome result ↔ IsReply self.now.expected self.now.bytes }
         ensures says { IfSome result (λ reply. SaysReply self.now.expected reply.bytes.now reply.pec self.now.bytes) }
     {
         if self.is_whole() {
             let pec = self.left.has_code(self.mode);
             let bytes = data_within(self.form, pec, self.bytes.as_slice());
-            Some(Reply { bytes, pec })
+            Some(ReplyContent { bytes, pec })
         } else {
             None
         }

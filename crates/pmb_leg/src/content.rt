@@ -2,7 +2,7 @@
 
 /// What a write body says, after the address.
 #[derive(Clone, Copy, Debug)]
-pub struct Said<'a> {
+pub struct WriteContent<'a> {
     /// The command code.
     pub code: u8,
     /// The data after the code, without the count of a block and without a packet error code.
@@ -22,7 +22,7 @@ pub enum Asked<'a> {
 
 /// What a device answered.
 #[derive(Clone, Copy, Debug)]
-pub struct Reply<'a> {
+pub struct ReplyContent<'a> {
     /// The data, without the count of a block and without a packet error code.
     pub bytes: &'a [u8],
     /// Whether a packet error code follows them.

@@ -7,13 +7,13 @@
 ghost use Rattle.std.specs.Prelude.{◌≡◌, ◌||◌, ℕ, List};
 ghost use Rattle.pmb_command.specs.Wire.{wire};
 ghost use Rattle.pmb_transaction.specs.Body.{checked};
-ghost use Rattle.pmb_leg.specs.machine.Left.{after, ends_data, goes_on, has_code, is_whole, start, takes};
+ghost use Rattle.pmb_leg.specs.machine.DataLeft.{after, ends_data, goes_on, has_code, is_whole, start, takes};
 
 use pmb_command::{Form, PecMode};
 
 /// What is left, where some bytes of data in a form were taken.
 #[derive(Clone, Copy, Debug, PartialEq, Eq)]
-pub(crate) enum Left {
+pub(crate) enum DataLeft {
     /// The count of a block, and the block.
     Count,
     /// So many bytes of data, at least one.
@@ -27,28 +27,28 @@ pub(crate) enum Left {
 }
 
 /// What is left after the last byte of data.
-fn behind_data(mode: PecMode) -> Left
+fn behind_data(mode: PecMode) -> DataLeft
     ensures { result ≡ ends_data mode }
 {
     if mode.may_carry() {
-        Left::Code
+        DataLeft::Code
     } else {
-        Left::Nothing
+        DataLeft::Nothing
     }
 }
 
-impl Left {
+impl DataLeft {
     /// What is left of data in the form, of which nothing was taken.
-    pub fn start(form: Option<Form>, mode: PecMode) -> Left
+    pub fn start(form: Option<Form>, mode: PecMode) -> DataLeft
         ensures { result ≡ start form mode }
     {
         let Some(form) = form else {
-            return Left::Closed;
+            return DataLeft::Closed;
         };
         match form.length() {
-            None => Left::Count,
+            None => DataLeft::Count,
             Some(0) => behind_data(mode),
-            Some(length) => Left::Data(length as u8),
+            Some(length) => DataLeft::Data(length as u8),
         }
     }
 
@@ -58,40 +58,40 @@ impl Left {
         ensures { result ≡ takes self crc byte }
     {
         match self {
-            Left::Count | Left::Data(_) => true,
-            Left::Code => byte == crc,
-            Left::Nothing | Left::Closed => false,
+            DataLeft::Count | DataLeft::Data(_) => true,
+            DataLeft::Code => byte == crc,
+            DataLeft::Nothing | DataLeft::Closed => false,
         }
     }
 
     /// What is left after one byte more.
     #[inline(always)]
-    pub fn after(self, mode: PecMode, crc: u8, byte: u8) -> Left
+    pub fn after(self, mode: PecMode, crc: u8, byte: u8) -> DataLeft
         ensures { result ≡ after self mode crc byte }
     {
         match self {
-            Left::Count => {
+            DataLeft::Count => {
                 if byte == 0 {
                     behind_data(mode)
                 } else {
-                    Left::Data(byte)
+                    DataLeft::Data(byte)
                 }
             }
-            Left::Data(count) => {
+            DataLeft::Data(count) => {
                 if count > 1 {
-                    Left::Data(count - 1)
+                    DataLeft::Data(count - 1)
                 } else {
                     behind_data(mode)
                 }
             }
-            Left::Code => {
+            DataLeft::Code => {
                 if byte == crc {
-                    Left::Nothing
+                    DataLeft::Nothing
                 } else {
-                    Left::Closed
+                    DataLeft::Closed
                 }
             }
-            Left::Nothing | Left::Closed => Left::Closed,
+            DataLeft::Nothing | DataLeft::Closed => DataLeft::Closed,
         }
     }
 
@@ -101,8 +101,8 @@ impl Left {
         ensures { result ≡ goes_on self }
     {
         match self {
-            Left::Count | Left::Data(_) | Left::Code => true,
-            Left::Nothing | Left::Closed => false,
+            DataLeft::Count | DataLeft::Data(_) | DataLeft::Code => true,
+            DataLeft::Nothing | DataLeft::Closed => false,
         }
     }
 
@@ -112,12 +112,12 @@ impl Left {
         ensures { result ≡ is_whole self mode }
     {
         match self {
-            Left::Count | Left::Data(_) | Left::Closed => false,
-            Left::Code => match mode {
+            DataLeft::Count | DataLeft::Data(_) | DataLeft::Closed => false,
+            DataLeft::Code => match mode {
                 PecMode::Off | PecMode::On => false,
                 PecMode::Optional => true,
             },
-            Left::Nothing => true,
+            DataLeft::Nothing => true,
         }
     }
 
@@ -126,15 +126,15 @@ impl Left {
         ensures { result ≡ has_code self mode }
     {
         match self {
-            Left::Count | Left::Data(_) | Left::Code | Left::Closed => false,
-            Left::Nothing => mode.may_carry(),
+            DataLeft::Count | DataLeft::Data(_) | DataLeft::Code | DataLeft::Closed => false,
+            DataLeft::Nothing => mode.may_carry(),
         }
     }
 }
 
 /// Whether some byte may come next in one of two.
 #[inline(always)]
-pub(crate) fn one_goes_on(write: Left, call: Left) -> bool
+pub(crate) fn one_goes_on(write: DataLeft, call: DataLeft) -> bool
     ensures { result ≡ goes_on write || goes_on call }
 {
     write.goes_on() || call.goes_on()
@@ -142,7 +142,7 @@ pub(crate) fn one_goes_on(write: Left, call: Left) -> bool
 
 /// Whether the byte may come next in one of two, where `crc` is the packet error code so far.
 #[inline(always)]
-pub(crate) fn one_takes(write: Left, call: Left, crc: u8, byte: u8) -> bool
+pub(crate) fn one_takes(write: DataLeft, call: DataLeft, crc: u8, byte: u8) -> bool
     ensures { result ≡ takes write crc byte || takes call crc byte }
 {
     write.takes(crc, byte) || call.takes(crc, byte)

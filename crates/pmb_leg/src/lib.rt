@@ -22,6 +22,6 @@ mod place;
 mod written_leg;
 
 pub use answer::Answer;
-pub use content::{Asked, Reply, Said};
+pub use content::{Asked, ReplyContent, WriteContent};
 pub use place::LegPlace;
 pub use written_leg::WrittenLeg;

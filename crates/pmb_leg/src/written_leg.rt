@@ -14,8 +14,8 @@ ghost use Rattle.pmb_leg.specs.Leg.{IsAsked, begins_with, call_form, is_read, pl
 ghost use Rattle.pmb_leg.specs.Reply.{IsReply, SaysReply};
 
 use crate::answer::Answer;
-use crate::content::{Asked, Said};
-use crate::left::{Left, data_within, one_goes_on, one_takes};
+use crate::content::{Asked, WriteContent};
+use crate::left::{DataLeft, data_within, one_goes_on, one_takes};
 use crate::place::LegPlace;
 use arrayvec::ArrayVec;
 use pmb_bus::laws::{pec_is_all_that_counts, worked_pecs};
@@ -88,8 +88,8 @@ pub struct WrittenLeg<'p> {
     /// The forms of the command whose code was taken.
     forms: Shape,
     /// What is left of the body of a write, and of a call.
-    write: Left,
-    call: Left,
+    write: DataLeft,
+    call: DataLeft,
     /// The packet error code of the address byte and the bytes that were taken.
     crc: u8,
     /// The bytes that were taken after the address: a code, the count of a block, data, and a
@@ -118,8 +118,8 @@ impl<'p> WrittenLeg<'p> {
             device,
             place,
             forms: NO_FORMS,
-            write: Left::Closed,
-            call: Left::Closed,
+            write: DataLeft::Closed,
+            call: DataLeft::Closed,
             crc: 0,
             bytes: ArrayVec::new(),
         }
@@ -208,8 +208,8 @@ impl<'p> WrittenLeg<'p> {
         }
         worked_pecs();
         self.forms = forms;
-        self.write = Left::start(forms.write, self.device.pec());
-        self.call = Left::start(call_form(forms, self.place), PecMode::Off);
+        self.write = DataLeft::start(forms.write, self.device.pec());
+        self.call = DataLeft::start(call_form(forms, self.place), PecMode::Off);
         self.crc = pec_next(pec_next(0, write_address(self.device.address())), code);
         self.bytes.push(code);
         true
@@ -236,7 +236,7 @@ impl<'p> WrittenLeg<'p> {
     }
 
     /// What the bytes say as the body of a write, where they are one.
-    pub fn says(&self) -> Option<Said<'_>>
+    pub fn says(&self) -> Option<WriteContent<'_>>
         ensures some { IsSome result ↔ IsWriteBody self.now.device self.now.bytes }
         ensures says { IfSome result (λ said. WriteBody self.now.device said.code said.bytes.now said.pec self.now.bytes) }
     {
@@ -252,7 +252,7 @@ impl<'p> WrittenLeg<'p> {
         }
         let pec = self.write.has_code(mode);
         let bytes = data_within(form, pec, behind);
-        Some(Said {
+        Some(WriteContent {
             code: *code,
             bytes,
             pec,

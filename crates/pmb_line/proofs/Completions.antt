@@ -1,15 +1,21 @@
 -- How a line goes on, wherever a reader stands.
-use Rattle.std.proofs.Common.{◌≡◌, ◌≢◌, ℕ, true, false, Some, List, [], ◌∷◌, ◌++◌, map, refl, sym, ap, ◌∙◌, append_assoc, arith, length-append}
+use Rattle.std.proofs.Common.{◌≡◌, ◌≢◌, ℕ, true, false, Some, List, [], ◌∷◌, ◌++◌, map, refl, sym, ap, ◌∙◌}
+use Rattle.std.proofs.Common.{append_assoc, arith, length-append}
 use Rattle.std.specs.Prelude.{codes}
 use Rattle.std.specs.List.{AllByRecursion}
 use Rattle.pmb_transaction.specs.Transaction.{PartData, TransactionData}
 use Rattle.pmb_transaction.specs.Transaction as says
 use Rattle.pmb_line.specs.declared.token.Token.{Token}
-use Rattle.pmb_line.specs.declared.token.Token.TheVariants.{Byte, Write, Read, Call, Refused, Alert, Nobody, Pec, Plus, Colon}
+use Rattle.pmb_line.specs.declared.token.Token.TheVariants.{Byte, Write, Read, Call, Refused, Alert, Nobody, Pec, Plus}
+use Rattle.pmb_line.specs.declared.token.Token.TheVariants.{Colon}
 use Rattle.pmb_line.specs.Token.{token_of}
 use Rattle.pmb_line.specs.Spelling.{HasLine, bytes, mark, part, tokens}
 use Rattle.pmb_line.specs.Fault.{ArePartsWithin, IsPartWithin, IsWithin}
-use Rattle.pmb_line.specs.machine.Reading.{Partial, nothing, write_next, write_code, write_data, write_pec, read_next, read_code, read_colon, read_reply, read_pec, call_next, call_code, call_data, call_reply, call_pec, refused_next, refused_sent, refused_pec, refused_read, alert_next, alert_byte, alert_pec, alert_none, part_with, finish, Room, HasRoomForPart}
+use Rattle.pmb_line.specs.machine.Reading.{Partial, nothing, write_next, write_code, write_data, write_pec, read_next}
+use Rattle.pmb_line.specs.machine.Reading.{read_code, read_colon, read_reply, read_pec, call_next, call_code, call_data}
+use Rattle.pmb_line.specs.machine.Reading.{call_reply, call_pec, refused_next, refused_sent, refused_pec, refused_read}
+use Rattle.pmb_line.specs.machine.Reading.{alert_next, alert_byte, alert_pec, alert_none, part_with, finish, Room}
+use Rattle.pmb_line.specs.machine.Reading.{HasRoomForPart}
 use Rattle.pmb_line.proofs.Partials.{spelled, append-nil, parts_before, parts-push}
 use Rattle.pmb_line.proofs.Steps.{ends_part}
 
@@ -34,11 +40,13 @@ pub not_nil : (ps : List PartData) (p : PartData) → ps ++ p ∷ [] ≢ []
 not_nil [] p same = cc same
 not_nil (q ∷ ps) p same = cc same
 
-pub each_push : (ps : List PartData) (p : PartData) → AllByRecursion IsPartWithin ps → IsPartWithin p → AllByRecursion IsPartWithin (ps ++ p ∷ [])
+pub each_push : (ps : List PartData) (p : PartData) → AllByRecursion IsPartWithin ps → IsPartWithin p
+    → AllByRecursion IsPartWithin (ps ++ p ∷ [])
 each_push [] p each within = (within, tt)
 each_push (q ∷ ps) p each within = (each.0, each_push ps p each.1 within)
 
-pub parts_push : (most : ℕ) (ps : List PartData) (p : PartData) → HasRoomForPart most ps p.bytes → ArePartsWithin most (ps ++ p ∷ [])
+pub parts_push : (most : ℕ) (ps : List PartData) (p : PartData) → HasRoomForPart most ps p.bytes
+    → ArePartsWithin most (ps ++ p ∷ [])
 parts_push most ps p room = record {
   few = omega (arith, length-append ps (p ∷ []), room.few);
   each = each_push ps p room.each room.few_bytes;
@@ -49,7 +57,17 @@ pub no_pec : (xs : List Token) → xs ++ mark Pec false ≡ xs
 no_pec xs = append-nil xs
 
 pub completes : (s : Partial) → Completes s
-completes nothing = record { more = codes "alert" ∷ codes "none" ∷ []; said = Alert ∷ Nobody ∷ []; t = says.NoAlert; says = refl; spells = refl; has_line = tt; finishes = λ u is. cc is; within = λ room. tt }
+completes nothing = record {
+  more = codes "alert" ∷ codes "none" ∷ [];
+  said = Alert ∷ Nobody ∷ [];
+  t =
+      says.NoAlert;
+  says = refl;
+  spells = refl;
+  has_line = tt;
+  finishes = λ u is. cc is;
+  within = λ room. tt;
+}
 completes (write_next ps) =
     let p = part_with 0 0 [] false in
     record {
@@ -60,7 +78,12 @@ completes (write_next ps) =
       spells = ap (λ xs. Write ∷ xs) (sym (parts-push ps p));
       has_line = not_nil ps p;
       finishes = λ u is. cc is;
-      within = λ room. parts_push 16 ps p (record { few = omega (arith, room.few); each = room.each; few_bytes = omega arith });
+      within = λ room. parts_push 16 ps p (record {
+        few = omega (arith, room.few);
+        each = room.each;
+        few_bytes =
+            omega arith;
+      });
     }
 completes (write_code ps a) =
     let p = part_with a 0 [] false in
@@ -69,7 +92,8 @@ completes (write_code ps a) =
       said = Byte 0 ∷ [];
       t = says.Write (ps ++ p ∷ []);
       says = refl;
-      spells = append_assoc (Write ∷ parts_before ps) (Byte a ∷ []) (Byte 0 ∷ []) ∙ ap (λ xs. Write ∷ xs) (sym (parts-push ps p));
+      spells = append_assoc (Write ∷ parts_before ps) (Byte a ∷ []) (Byte 0 ∷ [])
+          ∙ ap (λ xs. Write ∷ xs) (sym (parts-push ps p));
       has_line = not_nil ps p;
       finishes = λ u is. cc is;
       within = λ room. parts_push 16 ps p room;
@@ -82,7 +106,8 @@ completes (write_data ps a c bs) =
       t = says.Write (ps ++ p ∷ []);
       says = refl;
       spells = append-nil (Write ∷ parts_before ps ++ Byte a ∷ Byte c ∷ bytes bs)
-          ∙ ap (λ xs. Write ∷ parts_before ps ++ xs) (sym (no_pec (Byte a ∷ Byte c ∷ bytes bs))) ∙ ap (λ xs. Write ∷ xs) (sym (parts-push ps p));
+          ∙ ap (λ xs. Write ∷ parts_before ps ++ xs) (sym (no_pec (Byte a ∷ Byte c ∷ bytes bs)))
+          ∙ ap (λ xs. Write ∷ xs) (sym (parts-push ps p));
       has_line = not_nil ps p;
       finishes = λ u is. (refl, cc is);
       within = λ room. parts_push 16 ps p room;
@@ -227,7 +252,8 @@ completes (refused_pec ps a c bs) =
       t = says.Refused (record { parts = ps ++ p ∷ []; addr = 0; sent = []; at_read = false });
       says = refl;
       spells = sym (append-nil (Refused ∷ parts_before (ps ++ p ∷ []) ++ Byte 0 ∷ [])
-          ∙ ap (λ xs. xs ++ Byte 0 ∷ []) (ends_part Refused ps p) ∙ append_assoc (Refused ∷ parts_before ps ++ part p) (Plus ∷ []) (Byte 0 ∷ []));
+          ∙ ap (λ xs. xs ++ Byte 0 ∷ []) (ends_part Refused ps p) ∙ append_assoc (Refused ∷ parts_before ps ++ part p)
+          (Plus ∷ []) (Byte 0 ∷ []));
       has_line = tt;
       finishes = λ u is. cc is;
       within = λ room. record { few_parts = parts_push 15 ps p room; few_sent = omega arith };
@@ -272,4 +298,14 @@ completes (alert_pec b) = record {
   finishes = λ u is. (refl, cc is);
   within = λ room. tt;
 }
-completes alert_none = record { more = []; said = []; t = says.NoAlert; says = refl; spells = refl; has_line = tt; finishes = λ u is. (refl, cc is); within = λ room. tt }
+completes alert_none = record {
+  more = [];
+  said = [];
+  t = says.NoAlert;
+  says = refl;
+  spells = refl;
+  has_line =
+      tt;
+  finishes = λ u is. (refl, cc is);
+  within = λ room. tt;
+}

@@ -18,7 +18,8 @@ use Rattle.pmb_line.proofs.Standing.{next_of}
 pub begin : (all : List Located) → LineStandsAt all nothing all
 begin all = record { before = []; split = refl; ran = refl; room = tt }
 
-pub no_keyword : (token : Token) → (token ≡ Write → ⊥) → (token ≡ Read → ⊥) → (token ≡ Call → ⊥) → (token ≡ Refused → ⊥) → (token ≡ Alert → ⊥) → on_keyword (Some token) ≡ None
+pub no_keyword : (token : Token) → (token ≡ Write → ⊥) → (token ≡ Read → ⊥) → (token ≡ Call → ⊥) → (token ≡ Refused → ⊥)
+    → (token ≡ Alert → ⊥) → on_keyword (Some token) ≡ None
 no_keyword Write w r c f a = absurd (w refl)
 no_keyword Read w r c f a = absurd (r refl)
 no_keyword Call w r c f a = absurd (c refl)
@@ -27,8 +28,10 @@ no_keyword Alert w r c f a = absurd (a refl)
 no_keyword _ w r c f a = refl
 
 -- the first word is a keyword, and the rest is read from there
-pub reads_after : (all left : List Located) (end end_now : ℕ) (word : Located) (token : Token) (s : Partial) (t : TransactionData) (result : Result Unit WordFault) → all ≡ word ∷ left
-    → word.token ≡ Some token → on_keyword (Some token) ≡ Some s → Room s → end_now ≡ end → ((words : List Located) → LineStandsAt words s left → ReadsLine words end_now t result)
+pub reads_after : (all left : List Located) (end end_now : ℕ) (word : Located) (token : Token) (s : Partial)
+    (t : TransactionData) (result : Result Unit WordFault) → all ≡ word ∷ left
+    → word.token ≡ Some token → on_keyword (Some token) ≡ Some s → Room s → end_now ≡ end
+    → ((words : List Located) → LineStandsAt words s left → ReadsLine words end_now t result)
     → ReadsLine all end t result
 reads_after all left end end_now word token s t result same is begins room ends reads =
     let there = next_of all nothing s word all left (begin all) same (ap on_keyword is ∙ begins) room in
@@ -36,21 +39,27 @@ reads_after all left end end_now word token s t result same is begins room ends 
 
 -- what is answered to a line
 -- of whose words and end something is answered
-pub reads_line : (line : List ℕ) (ws : List Word) (end : ℕ) (t : TransactionData) (result : Result Unit WordFault) → ws ≡ line_words line → end ≡ length (without_cr line)
-    → ReadsLine (map located ws) end t result → ReadsLine (map located (line_words line)) (length (without_cr line)) t result
+pub reads_line : (line : List ℕ) (ws : List Word) (end : ℕ) (t : TransactionData) (result : Result Unit WordFault)
+    → ws ≡ line_words line → end ≡ length (without_cr line)
+    → ReadsLine (map located ws) end t result
+    → ReadsLine (map located (line_words line)) (length (without_cr line)) t result
 reads_line line ws end t result words ends reads =
-    subst (λ n. ReadsLine (map located (line_words line)) n t result) ends (subst (λ (xs : List Word). ReadsLine (map located xs) end t result) words reads)
+    subst (λ n. ReadsLine (map located (line_words line)) n t result) ends
+    (subst (λ (xs : List Word). ReadsLine (map located xs) end t result) words reads)
 
-pub reads_ok : (line : List ℕ) (t : TransactionData) (result : Result Unit WordFault) → ReadsLine (map located (line_words line)) (length (without_cr line)) t result
+pub reads_ok : (line : List ℕ) (t : TransactionData) (result : Result Unit WordFault)
+    → ReadsLine (map located (line_words line)) (length (without_cr line)) t result
     → OnOk result (SpellsTransaction (texts (line_words line)) t)
 reads_ok line t (Ok done) says_so = spelling line t says_so
 reads_ok line t (Err fault) says_so = tt
 
-pub reads_within : (line : List ℕ) (t : TransactionData) (result : Result Unit WordFault) → ReadsLine (map located (line_words line)) (length (without_cr line)) t result → OnOk result (IsWithin t)
+pub reads_within : (line : List ℕ) (t : TransactionData) (result : Result Unit WordFault)
+    → ReadsLine (map located (line_words line)) (length (without_cr line)) t result → OnOk result (IsWithin t)
 reads_within line t (Ok done) says_so = within (map located (line_words line)) t says_so
 reads_within line t (Err fault) says_so = tt
 
-pub reads_err : (line : List ℕ) (t : TransactionData) (result : Result Unit WordFault) → ReadsLine (map located (line_words line)) (length (without_cr line)) t result
+pub reads_err : (line : List ℕ) (t : TransactionData) (result : Result Unit WordFault)
+    → ReadsLine (map located (line_words line)) (length (without_cr line)) t result
     → IfErr result (λ fault. IsFault line fault)
 reads_err line t (Ok done) says_so = tt
 reads_err line t (Err fault) is = fault_of line fault is

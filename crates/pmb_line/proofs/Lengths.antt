@@ -1,5 +1,6 @@
 -- A line has no LF, and that of a transaction which is not too large is short.
-use Rattle.std.proofs.Common.{◌≡◌, ◌≢◌, ℕ, zero, suc, ◌+◌, ◌*◌, ◌/◌, ◌%◌, ◌≤◌, Bool, true, false, not, ◌==◌, ◌&&◌, get_or, List, [], ◌∷◌, ◌++◌, map, length, length-append, refl, ap, ◌∙◌, arith}
+use Rattle.std.proofs.Common.{◌≡◌, ◌≢◌, ℕ, zero, suc, ◌+◌, ◌*◌, ◌/◌, ◌%◌, ◌≤◌, Bool, true, false, not, ◌==◌, ◌&&◌}
+use Rattle.std.proofs.Common.{get_or, List, [], ◌∷◌, ◌++◌, map, length, length-append, refl, ap, ◌∙◌, arith}
 use Rattle.std.specs.List.{All, AllByRecursion, flat_map}
 use Rattle.std.proofs.lemmas.Bool.{and_from, and_parts, both_ways, eq-eqb, not-true}
 use Rattle.std.proofs.lemmas.List.Elements.{All-cons, All-nil}
@@ -36,7 +37,8 @@ no_lf-all : (text : List ℕ) → no_lf text ≡ true → All (λ b. b ≢ 10) t
 no_lf-all [] none = All-nil (λ (b : ℕ). b ≢ 10)
 no_lf-all (b ∷ text) none =
     let here = and_parts (not (b == 10)) (no_lf text) none in
-    All-cons (λ (x : ℕ). x ≢ 10) b text (λ same. both_ways (b == 10) (not-true (b == 10) here.0) (eq-eqb b 10 same)) (no_lf-all text here.1)
+    All-cons (λ (x : ℕ). x ≢ 10) b text (λ same. both_ways (b == 10) (not-true (b == 10) here.0) (eq-eqb b 10 same))
+    (no_lf-all text here.1)
 
 digits_no_lf : no_lf lower_digits ≡ true
 digits_no_lf = refl
@@ -44,7 +46,8 @@ digits_no_lf = refl
 token_no_lf : (t : Token) → no_lf (token_text t) ≡ true
 unfolding encode_with
 token_no_lf (Byte b) =
-    and_from _ _ (no_lf-at lower_digits (b / 16) digits_no_lf) (and_from _ true (no_lf-at lower_digits (b % 16) digits_no_lf) refl)
+    and_from _ _ (no_lf-at lower_digits (b / 16) digits_no_lf)
+    (and_from _ true (no_lf-at lower_digits (b % 16) digits_no_lf) refl)
 token_no_lf _ = refl
 
 behind_no_lf : (ts : List Token) → no_lf (behind ts) ≡ true
@@ -90,26 +93,53 @@ size-mark token false = omega arith
 
 size-part : (p : PartData) → IsPartWithin p → size (part p) ≤ 775
 size-part p within =
-    omega (arith, within, size-byte p.addr (Byte p.code ∷ bytes p.bytes ++ mark Pec p.pec), size-byte p.code (bytes p.bytes ++ mark Pec p.pec), size-append (bytes p.bytes) (mark Pec p.pec), size-bytes p.bytes, size-mark Pec p.pec)
+    omega (
+      arith,
+      within,
+      size-byte p.addr (Byte p.code ∷ bytes p.bytes ++ mark Pec p.pec),
+      size-byte p.code (bytes p.bytes ++ mark Pec p.pec),
+      size-append (bytes p.bytes) (mark Pec p.pec),
+      size-bytes p.bytes,
+      size-mark Pec p.pec,
+    )
 
 size-parts : (ps : List PartData) → AllByRecursion IsPartWithin ps → size (parts ps) ≤ 777 * length ps
 size-parts [] within = omega arith
 size-parts (p ∷ []) within = omega (arith, size-part p within.0)
 size-parts (p ∷ q ∷ ps) within =
-    omega (arith, size-part p within.0, size-append (part p) (Plus ∷ parts (q ∷ ps)), size-cons Plus (parts (q ∷ ps)), size-parts (q ∷ ps) within.1)
+    omega (
+      arith,
+      size-part p within.0,
+      size-append (part p) (Plus ∷ parts (q ∷ ps)),
+      size-cons Plus (parts (q ∷ ps)),
+      size-parts (q ∷ ps) within.1,
+    )
 
 size-before : (ps : List PartData) → AllByRecursion IsPartWithin ps → size (flat_map part_before ps) ≤ 777 * length ps
 size-before [] within = omega arith
 size-before (p ∷ ps) within =
-    omega (arith, size-part p within.0, size-append (part_before p) (flat_map part_before ps), size-append (part p) (Plus ∷ []), size-cons Plus [], size-before ps within.1)
+    omega (
+      arith,
+      size-part p within.0,
+      size-append (part_before p) (flat_map part_before ps),
+      size-append (part p) (Plus ∷ []),
+      size-cons Plus [],
+      size-before ps within.1,
+    )
 
 -- the first word, and the others after it
-line_length : (first : Token) (others : List Token) → length (spaced (map token_text (first ∷ others))) ≡ length (token_text first) + size others
+line_length : (first : Token) (others : List Token) → length (spaced (map token_text (first ∷ others)))
+    ≡ length (token_text first) + size others
 line_length first others = length-append (token_text first) (behind others)
 
 -- the line of a transaction that is not too large
 pub line_is_short : (t : TransactionData) → IsWithin t → length (line t) ≤ 12544
-line_is_short (says.Write ps) within = omega (arith, line_length Write (parts ps), size-parts ps within.each, within.few)
+line_is_short (says.Write ps) within = omega (
+  arith,
+  line_length Write (parts ps),
+  size-parts ps within.each,
+  within.few,
+)
 line_is_short (says.Read t) within =
     omega (
       arith,
@@ -153,5 +183,10 @@ line_is_short (says.Refused t) within =
       size-bytes t.sent,
       size-mark Read t.at_read,
     )
-line_is_short (says.Alert t) within = omega (arith, line_length Alert (Byte t.byte ∷ mark Pec t.pec), size-byte t.byte (mark Pec t.pec), size-mark Pec t.pec)
+line_is_short (says.Alert t) within = omega (
+  arith,
+  line_length Alert (Byte t.byte ∷ mark Pec t.pec),
+  size-byte t.byte (mark Pec t.pec),
+  size-mark Pec t.pec,
+)
 line_is_short says.NoAlert within = omega arith

@@ -1,5 +1,7 @@
 -- The line that is written for a transaction spells it.
-use Rattle.std.proofs.Common.{◌≡◌, ℕ, ◌<◌, ◌+◌, ◌*◌, ◌/◌, ◌%◌, Bool, true, false, not, ◌==◌, ◌&&◌, Option, Some, None, List, [], ◌∷◌, ◌++◌, map, length, slice_index, refl, sym, ap, subst, ◌∙◌, arith, append-nil, append_assoc}
+use Rattle.std.proofs.Common.{◌≡◌, ℕ, ◌<◌, ◌+◌, ◌*◌, ◌/◌, ◌%◌, Bool, true, false, not, ◌==◌, ◌&&◌, Option, Some, None}
+use Rattle.std.proofs.Common.{List, [], ◌∷◌, ◌++◌, map, length, slice_index, refl, sym, ap, subst, ◌∙◌, arith}
+use Rattle.std.proofs.Common.{append-nil, append_assoc}
 use Rattle.std.specs.Prelude.{codes, if◌then◌else◌, unwrap_or}
 use Rattle.std.specs.List.{flat_map, AllByRecursion}
 use Rattle.std.proofs.lemmas.Bool.{agree_below, agree_below_at, and_parts, eqb-true}
@@ -8,10 +10,12 @@ use Rattle.pmb_command.specs.Wire.{AreByteValues}
 use Rattle.pmb_transaction.specs.Transaction.{PartData, TransactionData}
 use Rattle.pmb_transaction.specs.Transaction as says
 use Rattle.pmb_line.specs.declared.token.Token.{Token}
-use Rattle.pmb_line.specs.declared.token.Token.TheVariants.{Byte, Write, Read, Call, Refused, Alert, Nobody, Pec, Plus, Colon}
+use Rattle.pmb_line.specs.declared.token.Token.TheVariants.{Byte, Write, Read, Call, Refused, Alert, Nobody, Pec, Plus}
+use Rattle.pmb_line.specs.declared.token.Token.TheVariants.{Colon}
 use Rattle.pmb_line.specs.Words.{texts, line_words, words_from, without_cr}
 use Rattle.pmb_line.specs.Token.{token_of, token_text, byte_of_digits, or_keyword}
-use Rattle.pmb_line.specs.Spelling.{ArePartBytes, HasBytes, HasLine, SpellsTransaction, bytes, mark, part, parts, part_before, tokens, line, spaced}
+use Rattle.pmb_line.specs.Spelling.{ArePartBytes, HasBytes, HasLine, SpellsTransaction, bytes, mark, part, parts}
+use Rattle.pmb_line.specs.Spelling.{part_before, tokens, line, spaced}
 use Rattle.pmb_line.specs.machine.Reading.{ends_line_word}
 use Rattle.pmb_line.specs.machine.LineText.{behind}
 use Rattle.pmb_line.specs.machine.Front.{EndsWord}
@@ -42,12 +46,15 @@ digit_value : (d : ℕ) → d < 16 → hex_digit_value (slice_index lower_digits
 digit_value d small =
     has_value (hex_digit_value (slice_index lower_digits d)) d
     (eqb-true (unwrap_or (hex_digit_value (slice_index lower_digits d)) 99) d
-    (agree_below_at (λ d. unwrap_or (hex_digit_value (slice_index lower_digits d)) 99 == d) (λ d. true) 16 d digits_read small)) small
+    (agree_below_at (λ d. unwrap_or (hex_digit_value (slice_index lower_digits d)) 99 == d)
+    (λ d. true) 16 d digits_read small)) small
 
-two_digits : (high low hv lv : ℕ) (keyword : Option Token) → hex_digit_value high ≡ Some hv → hex_digit_value low ≡ Some lv
+two_digits : (high low hv lv : ℕ) (keyword : Option Token) → hex_digit_value high ≡ Some hv
+    → hex_digit_value low ≡ Some lv
     → or_keyword (byte_of_digits (hex_digit_value high) (hex_digit_value low)) keyword ≡ Some (Byte (hv * 16 + lv))
 two_digits high low hv lv keyword first second =
-    ap (λ (o : Option ℕ). or_keyword (byte_of_digits o (hex_digit_value low)) keyword) first ∙ ap (λ (o : Option ℕ). or_keyword (byte_of_digits (Some hv) o) keyword) second
+    ap (λ (o : Option ℕ). or_keyword (byte_of_digits o (hex_digit_value low)) keyword) first
+    ∙ ap (λ (o : Option ℕ). or_keyword (byte_of_digits (Some hv) o) keyword) second
 
 byte_says : (b : ℕ) → b < 256 → token_of (encode_lower (b ∷ [])) ≡ Some (Byte b)
 unfolding encode_with
@@ -55,7 +62,8 @@ byte_says b small =
     let high : b / 16 < 16 = omega arith in
     let low : b % 16 < 16 = omega arith in
     let whole : (b / 16) * 16 + b % 16 ≡ b = omega arith in
-    two_digits (slice_index lower_digits (b / 16)) (slice_index lower_digits (b % 16)) (b / 16) (b % 16) _ (digit_value (b / 16) high) (digit_value (b % 16) low)
+    two_digits (slice_index lower_digits (b / 16)) (slice_index lower_digits (b % 16)) (b / 16) (b % 16) _
+    (digit_value (b / 16) high) (digit_value (b % 16) low)
     ∙ ap (λ n. Some (Byte n)) whole
 
 digit_plain : (d : ℕ) → d < 16 → is_plain (slice_index lower_digits d) ≡ true
@@ -69,7 +77,8 @@ unfolding encode_with
 byte_plain b small =
     let high : b / 16 < 16 = omega arith in
     let low : b % 16 < 16 = omega arith in
-    both_plain (slice_index lower_digits (b / 16)) (slice_index lower_digits (b % 16)) (digit_plain (b / 16) high) (digit_plain (b % 16) low)
+    both_plain (slice_index lower_digits (b / 16)) (slice_index lower_digits (b % 16)) (digit_plain (b / 16) high)
+    (digit_plain (b % 16) low)
 
 -- ---- tokens
 
@@ -93,7 +102,12 @@ record Shape (text : List ℕ) : Type 0 where
 
 token_shape : (t : Token) → Shape (token_text t)
 unfolding encode_with
-token_shape (Byte b) = record { b = slice_index lower_digits (b / 16); w = slice_index lower_digits (b % 16) ∷ []; is = refl }
+token_shape (Byte b) = record {
+  b = slice_index lower_digits (b / 16);
+  w = slice_index lower_digits (b % 16) ∷ [];
+  is =
+      refl;
+}
 token_shape Write = record { b = 119; w = codes "rite"; is = refl }
 token_shape Read = record { b = 114; w = codes "ead"; is = refl }
 token_shape Call = record { b = 99; w = codes "all"; is = refl }
@@ -117,9 +131,11 @@ all_go (b ∷ rest) plain =
 
 -- ---- words
 
-one_word : (at : ℕ) (text rest : List ℕ) → Shape text → AllGo text → EndsWord rest → words_from at (text ++ rest) ≡ record { at = at; text = text } ∷ words_from (at + length text) rest
+one_word : (at : ℕ) (text rest : List ℕ) → Shape text → AllGo text → EndsWord rest
+    → words_from at (text ++ rest) ≡ record { at = at; text = text } ∷ words_from (at + length text) rest
 one_word at text rest shape go ends =
-    subst (λ xs. words_from at (xs ++ rest) ≡ record { at = at; text = xs } ∷ words_from (at + length xs) rest) (sym shape.is)
+    subst (λ xs. words_from at (xs ++ rest) ≡ record { at = at; text = xs } ∷ words_from (at + length xs) rest)
+    (sym shape.is)
     (word_then at shape.b shape.w rest (subst AllGo shape.is go) ends)
 
 -- a text at whose front a word ends, and that has no word of its own
@@ -134,18 +150,22 @@ tail_ends : (ts : List Token) (tail : List ℕ) → EndsWord tail → EndsWord (
 tail_ends [] tail ends = ends
 tail_ends (t ∷ ts) tail ends = λ some. refl
 
-words_behind : (at : ℕ) (ts : List Token) (tail : List ℕ) → AllByRecursion IsSmall ts → IsWordless tail → texts (words_from at (behind ts ++ tail)) ≡ map token_text ts
+words_behind : (at : ℕ) (ts : List Token) (tail : List ℕ) → AllByRecursion IsSmall ts → IsWordless tail
+    → texts (words_from at (behind ts ++ tail)) ≡ map token_text ts
 words_behind at [] tail small wordless = ap texts (wordless.none at)
 words_behind at (t ∷ ts) tail small wordless =
     ap (λ xs. texts (words_from at (32 ∷ xs))) (append_assoc (token_text t) (behind ts) tail)
-    ∙ ap texts (one_word (at + 1) (token_text t) (behind ts ++ tail) (token_shape t) (all_go (token_text t) (token_plain t small.0)) (tail_ends ts tail wordless.ends))
+    ∙ ap texts (one_word (at + 1) (token_text t) (behind ts ++ tail) (token_shape t)
+    (all_go (token_text t) (token_plain t small.0)) (tail_ends ts tail wordless.ends))
     ∙ ap (λ xs. token_text t ∷ xs) (words_behind (at + 1 + length (token_text t)) ts tail small.1 wordless)
 
-words_spaced : (ts : List Token) (tail : List ℕ) → AllByRecursion IsSmall ts → IsWordless tail → texts (words_from 0 (spaced (map token_text ts) ++ tail)) ≡ map token_text ts
+words_spaced : (ts : List Token) (tail : List ℕ) → AllByRecursion IsSmall ts → IsWordless tail
+    → texts (words_from 0 (spaced (map token_text ts) ++ tail)) ≡ map token_text ts
 words_spaced [] tail small wordless = ap texts (wordless.none 0)
 words_spaced (t ∷ ts) tail small wordless =
     ap (λ xs. texts (words_from 0 xs)) (append_assoc (token_text t) (behind ts) tail)
-    ∙ ap texts (one_word 0 (token_text t) (behind ts ++ tail) (token_shape t) (all_go (token_text t) (token_plain t small.0)) (tail_ends ts tail wordless.ends))
+    ∙ ap texts (one_word 0 (token_text t) (behind ts ++ tail) (token_shape t)
+    (all_go (token_text t) (token_plain t small.0)) (tail_ends ts tail wordless.ends))
     ∙ ap (λ xs. token_text t ∷ xs) (words_behind (0 + length (token_text t)) ts tail small.1 wordless)
 
 -- ---- no CR
@@ -169,11 +189,13 @@ plain_no_cr (b ∷ rest) plain =
 
 behind_no_cr : (ts : List Token) → AllByRecursion IsSmall ts → no_cr (behind ts) ≡ true
 behind_no_cr [] small = refl
-behind_no_cr (t ∷ ts) small = no_cr-append (token_text t) (behind ts) (plain_no_cr (token_text t) (token_plain t small.0)) (behind_no_cr ts small.1)
+behind_no_cr (t ∷ ts) small = no_cr-append (token_text t) (behind ts)
+    (plain_no_cr (token_text t) (token_plain t small.0)) (behind_no_cr ts small.1)
 
 spaced_no_cr : (ts : List Token) → AllByRecursion IsSmall ts → no_cr (spaced (map token_text ts)) ≡ true
 spaced_no_cr [] small = refl
-spaced_no_cr (t ∷ ts) small = no_cr-append (token_text t) (behind ts) (plain_no_cr (token_text t) (token_plain t small.0)) (behind_no_cr ts small.1)
+spaced_no_cr (t ∷ ts) small = no_cr-append (token_text t) (behind ts)
+    (plain_no_cr (token_text t) (token_plain t small.0)) (behind_no_cr ts small.1)
 
 whole_line : (text : List ℕ) → no_cr text ≡ true → without_cr text ≡ text
 whole_line [] none = refl
@@ -186,11 +208,13 @@ whole_line (b ∷ c ∷ rest) none =
 
 all_say : (ts : List Token) → AllByRecursion IsSmall ts → map token_of (map token_text ts) ≡ map Some ts
 all_say [] small = refl
-all_say (t ∷ ts) small = ap (λ x. x ∷ map token_of (map token_text ts)) (token_says t small.0) ∙ ap (λ xs. Some t ∷ xs) (all_say ts small.1)
+all_say (t ∷ ts) small = ap (λ x. x ∷ map token_of (map token_text ts)) (token_says t small.0)
+    ∙ ap (λ xs. Some t ∷ xs) (all_say ts small.1)
 
 -- ---- transactions
 
-small-append : (xs ys : List Token) → AllByRecursion IsSmall xs → AllByRecursion IsSmall ys → AllByRecursion IsSmall (xs ++ ys)
+small-append : (xs ys : List Token) → AllByRecursion IsSmall xs → AllByRecursion IsSmall ys
+    → AllByRecursion IsSmall (xs ++ ys)
 small-append [] ys first second = second
 small-append (x ∷ xs) ys first second = (first.0, small-append xs ys first.1 second)
 
@@ -207,20 +231,35 @@ small_read true = (tt, tt)
 small_read false = tt
 
 small_part : (p : PartData) → ArePartBytes p → AllByRecursion IsSmall (part p)
-small_part p small = (small.0, (small.1, small-append (bytes p.bytes) (mark Pec p.pec) (small_bytes p.bytes small.2) (small_pec p.pec)))
+small_part p small = (
+  small.0,
+  (
+    small.1,
+    small-append (bytes p.bytes) (mark Pec p.pec) (small_bytes p.bytes small.2)
+        (small_pec p.pec),
+  ),
+)
 
 small_parts : (ps : List PartData) → AllByRecursion ArePartBytes ps → AllByRecursion IsSmall (parts ps)
 small_parts [] small = tt
 small_parts (p ∷ []) small = small_part p small.0
-small_parts (p ∷ q ∷ ps) small = small-append (part p) (Plus ∷ parts (q ∷ ps)) (small_part p small.0) (tt, small_parts (q ∷ ps) small.1)
+small_parts (p ∷ q ∷ ps) small = small-append (part p) (Plus ∷ parts (q ∷ ps)) (small_part p small.0)
+    (tt, small_parts (q ∷ ps) small.1)
 
 small_before : (ps : List PartData) → AllByRecursion ArePartBytes ps → AllByRecursion IsSmall (flat_map part_before ps)
 small_before [] small = tt
-small_before (p ∷ ps) small = small-append (part_before p) (flat_map part_before ps) (small-append (part p) (Plus ∷ []) (small_part p small.0) (tt, tt)) (small_before ps small.1)
+small_before (p ∷ ps) small = small-append (part_before p) (flat_map part_before ps)
+    (small-append (part p) (Plus ∷ []) (small_part p small.0) (tt, tt)) (small_before ps small.1)
 
 small_tokens : (t : TransactionData) → HasBytes t → AllByRecursion IsSmall (tokens t)
 small_tokens (says.Write ps) small = (tt, small_parts ps small)
-small_tokens (says.Read t) small = (tt, (small.0, (small.1, (tt, small-append (bytes t.reply) (mark Pec t.pec) (small_bytes t.reply small.2) (small_pec t.pec)))))
+small_tokens (says.Read t) small = (
+  tt,
+  (
+    small.0,
+    (small.1, (tt, small-append (bytes t.reply) (mark Pec t.pec) (small_bytes t.reply small.2) (small_pec t.pec))),
+  ),
+)
 small_tokens (says.Call t) small = (
   tt,
   (
@@ -228,14 +267,16 @@ small_tokens (says.Call t) small = (
     (
       small.1,
       small-append (bytes t.bytes ++ Colon ∷ bytes t.reply) (mark Pec t.pec)
-          (small-append (bytes t.bytes) (Colon ∷ bytes t.reply) (small_bytes t.bytes small.2) (tt, small_bytes t.reply small.3)) (small_pec t.pec),
+          (small-append (bytes t.bytes) (Colon ∷ bytes t.reply) (small_bytes t.bytes small.2)
+          (tt, small_bytes t.reply small.3)) (small_pec t.pec),
     ),
   ),
 )
 small_tokens (says.Refused t) small = (
   tt,
   small-append (flat_map part_before t.parts ++ Byte t.addr ∷ bytes t.sent) (mark Read t.at_read)
-      (small-append (flat_map part_before t.parts) (Byte t.addr ∷ bytes t.sent) (small_before t.parts small.0) (small.1, small_bytes t.sent small.2)) (small_read t.at_read),
+      (small-append (flat_map part_before t.parts) (Byte t.addr ∷ bytes t.sent) (small_before t.parts small.0)
+      (small.1, small_bytes t.sent small.2)) (small_read t.at_read),
 )
 small_tokens (says.Alert t) small = (tt, (small, small_pec t.pec))
 small_tokens says.NoAlert small = (tt, (tt, tt))
@@ -246,7 +287,8 @@ line_spells t has_line has_bytes =
     let small = small_tokens t has_bytes in
     record {
       has_line = has_line;
-      says = ap (λ xs. map token_of (texts (words_from 0 xs))) (whole_line (line t) (spaced_no_cr (tokens t) small) ∙ sym (append-nil (line t)))
+      says = ap (λ xs. map token_of (texts (words_from 0 xs)))
+          (whole_line (line t) (spaced_no_cr (tokens t) small) ∙ sym (append-nil (line t)))
           ∙ ap (map token_of) (words_spaced (tokens t) [] small no_tail) ∙ all_say (tokens t) small;
     }
 
@@ -263,12 +305,14 @@ comment_wordless : (comment : List ℕ) → IsWordless (codes " #" ++ comment)
 comment_wordless comment = record { ends = λ some. refl; none = λ at. refl }
 
 -- with a comment after it, the line spells the transaction too
-pub noted_line_spells : (t : TransactionData) (comment : List ℕ) → HasLine t → HasBytes t → SpellsTransaction (texts (line_words (line t ++ (codes " # " ++ comment)))) t
+pub noted_line_spells : (t : TransactionData) (comment : List ℕ) → HasLine t → HasBytes t
+    → SpellsTransaction (texts (line_words (line t ++ (codes " # " ++ comment)))) t
 noted_line_spells t comment has_line has_bytes =
     let small = small_tokens t has_bytes in
     let rest = without_cr (32 ∷ comment) in
     record {
       has_line = has_line;
       says = ap (λ xs. map token_of (texts (words_from 0 xs))) (cr_behind (line t) 32 (35 ∷ 32 ∷ comment))
-          ∙ ap (map token_of) (words_spaced (tokens t) (codes " #" ++ rest) small (comment_wordless rest)) ∙ all_say (tokens t) small;
+          ∙ ap (map token_of) (words_spaced (tokens t) (codes " #" ++ rest) small (comment_wordless rest))
+          ∙ all_say (tokens t) small;
     }

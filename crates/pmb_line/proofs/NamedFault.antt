@@ -6,7 +6,8 @@ use Rattle.pmb_line.specs.declared.word_fault.WordFault.TheVariants.{Blank, BadW
 use Rattle.pmb_line.specs.Fault.{IsFault}
 use Rattle.pmb_line.specs.LineFault.{IsLineFault, word_fault}
 
-pub told : (profile : List DeviceParts) (line : List ℕ) (fault : WordFault) → IsFault line fault → IsLineFault profile line (word_fault fault)
+pub told : (profile : List DeviceParts) (line : List ℕ) (fault : WordFault) → IsFault line fault
+    → IsLineFault profile line (word_fault fault)
 told profile line Blank is = is
 told profile line (BadWord at) is = is
 told profile line (TooLong at) is = is

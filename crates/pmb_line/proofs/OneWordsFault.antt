@@ -14,12 +14,14 @@ data Places {A : Type 0} (xs : List A) (x : A) (ys : List A) (y : A) : Type 0 wh
   first : (zs : List A) → ys ≡ (xs ++ x ∷ []) ++ zs → Places xs x ys y
   second : (zs : List A) → xs ≡ (ys ++ y ∷ []) ++ zs → Places xs x ys y
 
-behind_one : {A : Type 0} (z : A) (xs : List A) (x : A) (ys : List A) (y : A) → Places xs x ys y → Places (z ∷ xs) x (z ∷ ys) y
+behind_one : {A : Type 0} (z : A) (xs : List A) (x : A) (ys : List A) (y : A) → Places xs x ys y
+    → Places (z ∷ xs) x (z ∷ ys) y
 behind_one z xs x ys y (same fronts here) = same (ap (λ ws. z ∷ ws) fronts) here
 behind_one z xs x ys y (first zs is) = first zs (ap (λ ws. z ∷ ws) is)
 behind_one z xs x ys y (second zs is) = second zs (ap (λ ws. z ∷ ws) is)
 
-places : {A : Type 0} (xs : List A) (x : A) (back : List A) (ys : List A) (y : A) (rest : List A) → xs ++ x ∷ back ≡ ys ++ y ∷ rest → Places xs x ys y
+places : {A : Type 0} (xs : List A) (x : A) (back : List A) (ys : List A) (y : A) (rest : List A)
+    → xs ++ x ∷ back ≡ ys ++ y ∷ rest → Places xs x ys y
 places [] x back [] y rest is = same refl (cc is)
 places [] x back (b ∷ ys) y rest is = let head : b ≡ x = cc is in first ys (ap (λ w. w ∷ ys) head)
 places (a ∷ xs) x back [] y rest is = let head : a ≡ y = cc is in second xs (ap (λ w. w ∷ xs) head)
@@ -32,8 +34,10 @@ pub not_empty : {A : Type 0} (xs : List A) (x : A) (back : List A) → xs ++ x �
 not_empty [] x back is = cc is
 not_empty (y ∷ xs) x back is = cc is
 
-same_at : (before rest : List Word) (word here : Word) → before ≡ rest → word ≡ here → texts (before ++ word ∷ []) ≡ texts (rest ++ here ∷ [])
-same_at before rest word here fronts words_are = ap (λ ws. texts (ws ++ word ∷ [])) fronts ∙ ap (λ (w : Word). texts (rest ++ w ∷ [])) words_are
+same_at : (before rest : List Word) (word here : Word) → before ≡ rest → word ≡ here
+    → texts (before ++ word ∷ []) ≡ texts (rest ++ here ∷ [])
+same_at before rest word here fronts words_are = ap (λ ws. texts (ws ++ word ∷ [])) fronts
+    ∙ ap (λ (w : Word). texts (rest ++ w ∷ [])) words_are
 
 -- ---- where a line stops
 
@@ -50,33 +54,44 @@ record Stops (HasRoom : List (List ℕ) → Type 0) (line : List ℕ) : Type 0 w
   full : HasRoom (texts (before ++ word ∷ [])) → ⊥
 
 -- A fault of a word.
-pub data StopFault {F : Type 0} (Begins HasRoom : List (List ℕ) → Type 0) (named : WordFault → F) (line : List ℕ) (f : F) : Type 0 where
+pub data StopFault {F : Type 0} (Begins HasRoom : List (List ℕ) → Type 0) (named : WordFault → F) (line : List ℕ)
+    (f : F) : Type 0 where
   bad : (at : ℕ) → f ≡ named (BadWord at) → IsBadWord Begins HasRoom line at → StopFault Begins HasRoom named line f
   long : (at : ℕ) → f ≡ named (TooLong at) → IsTooLong Begins HasRoom line at → StopFault Begins HasRoom named line f
 
 module _ (Begins HasRoom : List (List ℕ) → Type 0) (is_room : IsRoom Begins HasRoom) (line : List ℕ) where
   room_of_front : (all front back : List Word) → all ≡ front ++ back → HasRoom (texts all) → HasRoom (texts front)
   room_of_front all front back split room =
-      is_room.room_before (texts front) (texts back) (subst HasRoom (ap texts split ∙ map-append (λ (w : Word). w.text) front back) room)
+      is_room.room_before (texts front) (texts back)
+      (subst HasRoom (ap texts split ∙ map-append (λ (w : Word). w.text) front back) room)
 
   abbrev at_bad : (at : ℕ) → IsBadWord Begins HasRoom line at → Stops HasRoom line
-  at_bad at is = record { before = is.before; word = is.word; stands = is.stands; full = λ room. is.unfit (is_room.begun (texts (is.before ++ is.word ∷ [])) room) }
+  at_bad at is = record {
+    before = is.before;
+    word = is.word;
+    stands = is.stands;
+    full =
+        λ room. is.unfit (is_room.begun (texts (is.before ++ is.word ∷ [])) room);
+  }
 
   abbrev at_long : (at : ℕ) → IsTooLong Begins HasRoom line at → Stops HasRoom line
   at_long at is = record { before = is.before; word = is.word; stands = is.stands; full = is.full }
 
-  one_place : (a b : Stops HasRoom line) → Places a.before a.word b.before b.word → (a.before ≡ b.before) × (a.word ≡ b.word)
+  one_place : (a b : Stops HasRoom line) → Places a.before a.word b.before b.word
+      → (a.before ≡ b.before) × (a.word ≡ b.word)
   one_place a b (same fronts here) = (fronts, here)
   one_place a b (first zs is) = absurd (a.full (room_of_front b.before (a.before ++ a.word ∷ []) zs is b.stands.room))
   one_place a b (second zs is) = absurd (b.full (room_of_front a.before (b.before ++ b.word ∷ []) zs is a.stands.room))
 
   one_stop : (a b : Stops HasRoom line) → (a.before ≡ b.before) × (a.word ≡ b.word)
-  one_stop a b = one_place a b (places a.before a.word a.stands.behind b.before b.word b.stands.behind (sym a.stands.split ∙ b.stands.split))
+  one_stop a b = one_place a b (places a.before a.word a.stands.behind b.before b.word b.stands.behind
+      (sym a.stands.split ∙ b.stands.split))
 
   -- not where there is room for all words
   no_stop : Stops HasRoom line → HasRoom (texts (line_words line)) → ⊥
   no_stop s room =
-      s.full (room_of_front (line_words line) (s.before ++ s.word ∷ []) s.stands.behind (s.stands.split ∙ sym (append_assoc s.before (s.word ∷ []) s.stands.behind)) room)
+      s.full (room_of_front (line_words line) (s.before ++ s.word ∷ []) s.stands.behind
+      (s.stands.split ∙ sym (append_assoc s.before (s.word ∷ []) s.stands.behind)) room)
 
   stop_has_words : Stops HasRoom line → line_words line ≢ []
   stop_has_words s none = not_empty s.before s.word s.stands.behind (sym s.stands.split ∙ none)
@@ -110,7 +125,8 @@ module _ (Begins HasRoom : List (List ℕ) → Type 0) (is_room : IsRoom Begins 
 -- ---- the faults, in three kinds
 
 -- A fault of no word, of one, or of the line as a whole.
-pub data Kind {F : Type 0} (Begins HasRoom : List (List ℕ) → Type 0) (named : WordFault → F) (Whole : F → Type 0) (line : List ℕ) (f : F) : Type 0 where
+pub data Kind {F : Type 0} (Begins HasRoom : List (List ℕ) → Type 0) (named : WordFault → F) (Whole : F → Type 0)
+    (line : List ℕ) (f : F) : Type 0 where
   blank : f ≡ named Blank → line_words line ≡ [] → Kind Begins HasRoom named Whole line f
   stop : StopFault Begins HasRoom named line f → Kind Begins HasRoom named Whole line f
   whole : Whole f → Kind Begins HasRoom named Whole line f
@@ -121,14 +137,19 @@ pub record IsOfWhole {F : Type 0} (HasRoom : List (List ℕ) → Type 0) (Whole 
   pub has_room : (f : F) → Whole f → HasRoom (texts (line_words line))
   pub one : (a b : F) → Whole a → Whole b → a ≡ b
 
-pub one_fault : {F : Type 0} (Begins HasRoom : List (List ℕ) → Type 0) (is_room : IsRoom Begins HasRoom) (named : WordFault → F) (Whole : F → Type 0) (line : List ℕ) (of_whole : IsOfWhole HasRoom Whole line)
+pub one_fault : {F : Type 0} (Begins HasRoom : List (List ℕ) → Type 0) (is_room : IsRoom Begins HasRoom)
+    (named : WordFault → F) (Whole : F → Type 0) (line : List ℕ) (of_whole : IsOfWhole HasRoom Whole line)
     (a b : F) → Kind Begins HasRoom named Whole line a → Kind Begins HasRoom named Whole line b → a ≡ b
 one_fault B R r named W line w a b (blank is none) (blank fault_is other) = is ∙ sym fault_is
-one_fault B R r named W line w a b (blank is none) (stop other) = absurd (stop_has_words B R r line (stops B R r line named b other) none)
+one_fault B R r named W line w a b (blank is none) (stop other) =
+    absurd (stop_has_words B R r line (stops B R r line named b other) none)
 one_fault B R r named W line w a b (blank is none) (whole other) = absurd (w.has_words b other none)
-one_fault B R r named W line w a b (stop one) (blank fault_is none) = absurd (stop_has_words B R r line (stops B R r line named a one) none)
+one_fault B R r named W line w a b (stop one) (blank fault_is none) =
+    absurd (stop_has_words B R r line (stops B R r line named a one) none)
 one_fault B R r named W line w a b (stop one) (stop other) = one_stop_fault B R r line named a b one other
-one_fault B R r named W line w a b (stop one) (whole other) = absurd (no_stop_fault B R r line named a one (w.has_room b other))
+one_fault B R r named W line w a b (stop one) (whole other) =
+    absurd (no_stop_fault B R r line named a one (w.has_room b other))
 one_fault B R r named W line w a b (whole one) (blank fault_is none) = absurd (w.has_words a one none)
-one_fault B R r named W line w a b (whole one) (stop other) = absurd (no_stop_fault B R r line named b other (w.has_room a one))
+one_fault B R r named W line w a b (whole one) (stop other) =
+    absurd (no_stop_fault B R r line named b other (w.has_room a one))
 one_fault B R r named W line w a b (whole one) (whole other) = w.one a b one other

@@ -1,5 +1,6 @@
 -- A transaction that has a packet has a line.
-use Rattle.std.proofs.Common.{◌≡◌, ◌≢◌, ℕ, ◌<◌, ◌≤◌, Bool, true, false, Some, List, [], ◌∷◌, length, refl, sym, subst, inl, inr, arith}
+use Rattle.std.proofs.Common.{◌≡◌, ◌≢◌, ℕ, ◌<◌, ◌≤◌, Bool, true, false, Some, List, [], ◌∷◌, length, refl, sym, subst}
+use Rattle.std.proofs.Common.{inl, inr, arith}
 use Rattle.std.specs.List.{AllByRecursion}
 use Rattle.pmb_bus.specs.declared.event.Event.{Event}
 use Rattle.pmb_command.specs.declared.form.Form.{Form}
@@ -21,12 +22,14 @@ module _ (profile : List DeviceParts) (bus : IsBus profile) where
       let is = device_is profile addr device bus known in
       omega (arith, is.0.address.greatest, is.1)
 
-  parts_small : (ps : List PartData) (events : List Event) → PartsEvents profile ps events → AllByRecursion ArePartBytes ps
+  parts_small : (ps : List PartData) (events : List Event) → PartsEvents profile ps events
+      → AllByRecursion ArePartBytes ps
   parts_small [] events each = tt
   parts_small (p ∷ ps) events each =
       let here = each.3 in
       let is = device_is profile p.addr here.device bus here.known in
-      let code_small = code_is_byte (λ (s : Shape). s.write) here.device p.code here.allowed.form refl is.0 here.allowed.written in
+      let code_small = code_is_byte (λ (s : Shape). s.write) here.device p.code here.allowed.form refl is.0
+      here.allowed.written in
       ((addr_small p.addr here.device here.known, code_small, here.allowed.fits.small), parts_small ps each.1 each.4)
 
   wire_small : (form : Form) (bs : List ℕ) → Fits form bs → AreByteValues (wire form bs)
@@ -37,18 +40,25 @@ module _ (profile : List DeviceParts) (bus : IsBus profile) where
   wire_small Eight bs fits = fits.small
   wire_small Block bs fits = (omega (arith, fits.taken), fits.small)
 
-  sent_small : (addr : ℕ) (device : DeviceParts) (sent : List ℕ) → device_with addr profile ≡ Some device → IsRequest device sent → AreByteValues sent
+  sent_small : (addr : ℕ) (device : DeviceParts) (sent : List ℕ) → device_with addr profile ≡ Some device
+      → IsRequest device sent → AreByteValues sent
   sent_small addr device sent known (inl read) =
       let is = device_is profile addr device bus known in
-      subst AreByteValues (sym read.2.spelled) (code_is_byte (λ (s : Shape). s.read) device read.0 read.1 refl is.0 read.2.read, tt)
+      subst AreByteValues (sym read.2.spelled)
+      (code_is_byte (λ (s : Shape). s.read) device read.0 read.1 refl is.0 read.2.read, tt)
   sent_small addr device sent known (inr call) =
       let is = device_is profile addr device bus known in
-      subst AreByteValues (sym call.3.spelled) (code_is_byte (λ (s : Shape). s.call) device call.0 call.1 refl is.0 call.3.called, wire_small call.1 call.2 call.3.fits)
+      subst AreByteValues (sym call.3.spelled) (
+        code_is_byte (λ (s : Shape). s.call) device call.0 call.1 refl is.0 call.3.called,
+        wire_small call.1 call.2 call.3.fits,
+      )
 
-  leg_small : (ps : List PartData) (addr : ℕ) (sent : List ℕ) (at_read : Bool) (events : List Event) → RefusedLeg profile ps addr sent at_read events → (addr < 256) × AreByteValues sent
+  leg_small : (ps : List PartData) (addr : ℕ) (sent : List ℕ) (at_read : Bool) (events : List Event)
+      → RefusedLeg profile ps addr sent at_read events → (addr < 256) × AreByteValues sent
   leg_small ps addr [] false events leg = (omega (arith, leg.seven), tt)
   leg_small ps addr (b ∷ bs) false events leg = (addr_small addr leg.device leg.known, leg.bytes)
-  leg_small ps addr sent true events leg = (addr_small addr leg.device leg.known, sent_small addr leg.device sent leg.known leg.body)
+  leg_small ps addr sent true events leg =
+      (addr_small addr leg.device leg.known, sent_small addr leg.device sent leg.known leg.body)
 
   some_part : (ps : List PartData) → 1 ≤ length ps → ps ≢ []
   some_part [] some none = omega (arith, some)
@@ -65,11 +75,18 @@ module _ (profile : List DeviceParts) (bus : IsBus profile) where
   pub has_bytes : (t : TransactionData) (events : List Event) → Packet profile t events → HasBytes t
   has_bytes (says.Write ps) events packet = parts_small ps packet.legs packet.each
   has_bytes (says.Read t) events packet =
-      let is = device_is profile t.addr packet.device bus packet.known in
-      (addr_small t.addr packet.device packet.known, code_is_byte (λ (s : Shape). s.read) packet.device t.code packet.form refl is.0 packet.read, packet.fits.small)
+      let is = device_is profile t.addr packet.device bus packet.known in (
+        addr_small t.addr packet.device packet.known,
+        code_is_byte (λ (s : Shape). s.read) packet.device t.code packet.form refl is.0 packet.read,
+        packet.fits.small,
+      )
   has_bytes (says.Call t) events packet =
-      let is = device_is profile t.addr packet.device bus packet.known in
-      (addr_small t.addr packet.device packet.known, code_is_byte (λ (s : Shape). s.call) packet.device t.code packet.form refl is.0 packet.called, packet.sent.small, packet.replied.small)
+      let is = device_is profile t.addr packet.device bus packet.known in (
+        addr_small t.addr packet.device packet.known,
+        code_is_byte (λ (s : Shape). s.call) packet.device t.code packet.form refl is.0 packet.called,
+        packet.sent.small,
+        packet.replied.small,
+      )
   has_bytes (says.Refused t) events packet =
       let leg = leg_small t.parts t.addr t.sent t.at_read packet.last packet.refused in
       (parts_small t.parts packet.legs packet.each, leg.0, leg.1)

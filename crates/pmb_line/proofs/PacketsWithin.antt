@@ -14,7 +14,8 @@ use Rattle.pmb_line.specs.Fault.{IsPartWithin, IsWithin}
 
 -- what the law `bodies_are_short` says of whole bodies
 abbrev pub BodiesAreShort : Type 0
-BodiesAreShort = (device : DeviceParts) (parts : List PartData) (body : List ℕ) → Allowed device parts body → length body ≤ 258
+BodiesAreShort = (device : DeviceParts) (parts : List PartData) (body : List ℕ) → Allowed device parts body
+    → length body ≤ 258
 
 data_within : (form : Form) (bs : List ℕ) → Fits form bs → length bs ≤ 255
 data_within Zero bs fits = omega (arith, fits.taken)
@@ -25,23 +26,34 @@ data_within Eight bs fits = omega (arith, fits.taken)
 data_within Block bs fits = fits.taken
 
 module _ (short : BodiesAreShort) (profile : List DeviceParts) where
-  parts_within : (ps : List PartData) (events : List Event) → PartsEvents profile ps events → AllByRecursion IsPartWithin ps
+  parts_within : (ps : List PartData) (events : List Event) → PartsEvents profile ps events
+      → AllByRecursion IsPartWithin ps
   parts_within [] events each = tt
-  parts_within (p ∷ ps) events each = let here = each.3 in (data_within here.allowed.form p.bytes here.allowed.fits, parts_within ps each.1 each.4)
+  parts_within (p ∷ ps) events each = let here = each.3 in
+      (data_within here.allowed.form p.bytes here.allowed.fits, parts_within ps each.1 each.4)
 
-  leg_within : (ps : List PartData) (addr : ℕ) (sent : List ℕ) (at_read : Bool) (events : List Event) → RefusedLeg profile ps addr sent at_read events → length sent ≤ 258
+  leg_within : (ps : List PartData) (addr : ℕ) (sent : List ℕ) (at_read : Bool) (events : List Event)
+      → RefusedLeg profile ps addr sent at_read events → length sent ≤ 258
   leg_within ps addr [] false events leg = omega arith
   leg_within ps addr (b ∷ bs) false events leg =
       let all = ap length leg.split in
       let last = length-append leg.front (leg.last ∷ []) in
       elim leg.begins [
         | inl alone ↦ omega (arith, all, last, ap length alone)
-        | inr on ↦ omega (arith, all, last, ap length on.2.split, length-append leg.front (on.2.next ∷ on.2.rest), short leg.device ps on.0 on.1)
+        | inr on ↦ omega (
+          arith,
+          all,
+          last,
+          ap length on.2.split,
+          length-append leg.front (on.2.next ∷ on.2.rest),
+          short leg.device ps on.0 on.1,
+        )
       ]
   leg_within ps addr sent true events leg = short leg.device [] sent (inr leg.body)
 
   pub packet_within : (t : TransactionData) (events : List Event) → Packet profile t events → IsWithin t
-  packet_within (says.Write ps) events packet = record { few = packet.few; each = parts_within ps packet.legs packet.each }
+  packet_within (says.Write ps) events packet =
+      record { few = packet.few; each = parts_within ps packet.legs packet.each }
   packet_within (says.Read t) events packet = data_within packet.form t.reply packet.fits
   packet_within (says.Call t) events packet = record {
     few_sent = data_within packet.form t.bytes packet.sent;

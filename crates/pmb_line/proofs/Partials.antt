@@ -4,9 +4,13 @@ use Rattle.std.specs.List.{flat_map}
 use Rattle.std.proofs.lemmas.List.{map-append}
 use Rattle.pmb_transaction.specs.Transaction.{PartData}
 use Rattle.pmb_line.specs.declared.token.Token.{Token}
-use Rattle.pmb_line.specs.declared.token.Token.TheVariants.{Byte, Write, Read, Call, Refused, Alert, Nobody, Pec, Plus, Colon}
+use Rattle.pmb_line.specs.declared.token.Token.TheVariants.{Byte, Write, Read, Call, Refused, Alert, Nobody, Pec, Plus}
+use Rattle.pmb_line.specs.declared.token.Token.TheVariants.{Colon}
 use Rattle.pmb_line.specs.Spelling.{bytes, part, parts, part_before}
-use Rattle.pmb_line.specs.machine.Reading.{Partial, nothing, write_next, write_code, write_data, write_pec, read_next, read_code, read_colon, read_reply, read_pec, call_next, call_code, call_data, call_reply, call_pec, refused_next, refused_sent, refused_pec, refused_read, alert_next, alert_byte, alert_pec, alert_none, part_with}
+use Rattle.pmb_line.specs.machine.Reading.{Partial, nothing, write_next, write_code, write_data, write_pec, read_next}
+use Rattle.pmb_line.specs.machine.Reading.{read_code, read_colon, read_reply, read_pec, call_next, call_code, call_data}
+use Rattle.pmb_line.specs.machine.Reading.{call_reply, call_pec, refused_next, refused_sent, refused_pec, refused_read}
+use Rattle.pmb_line.specs.machine.Reading.{alert_next, alert_byte, alert_pec, alert_none, part_with}
 
 -- parts, each with a `+` after it
 abbrev pub parts_before : List PartData → List Token
@@ -53,7 +57,8 @@ parts_before-append (p ∷ ps) qs =
     let rest : parts_before (ps ++ qs) ≡ parts_before ps ++ parts_before qs = parts_before-append ps qs in
     ap (λ xs. part_before p ++ xs) rest ∙ sym (append_assoc (part_before p) (parts_before ps) (parts_before qs))
 
-pub parts_before-push : (ps : List PartData) (p : PartData) → parts_before (ps ++ p ∷ []) ≡ parts_before ps ++ part p ++ Plus ∷ []
+pub parts_before-push : (ps : List PartData) (p : PartData) → parts_before (ps ++ p ∷ []) ≡ parts_before ps ++ part p
+    ++ Plus ∷ []
 parts_before-push ps p =
     parts_before-append ps (p ∷ []) ∙ ap (λ xs. parts_before ps ++ xs) (append-nil (part_before p))
     ∙ sym (append_assoc (parts_before ps) (part p) (Plus ∷ []))
@@ -64,7 +69,8 @@ regroup front mid back x = simp append_assoc
 -- the parts of a write, the last one told apart
 pub parts-push : (ps : List PartData) (p : PartData) → parts (ps ++ p ∷ []) ≡ parts_before ps ++ part p
 parts-push [] p = refl
-parts-push (q ∷ []) p = sym (ap (λ xs. xs ++ part p) (append-nil (part_before q)) ∙ append_assoc (part q) (Plus ∷ []) (part p))
+parts-push (q ∷ []) p = sym (ap (λ xs. xs ++ part p) (append-nil (part_before q))
+    ∙ append_assoc (part q) (Plus ∷ []) (part p))
 parts-push (q ∷ r ∷ ps) p =
     let rest : parts (r ∷ ps ++ p ∷ []) ≡ parts_before (r ∷ ps) ++ part p = parts-push (r ∷ ps) p in
     ap (λ xs. part q ++ Plus ∷ xs) rest ∙ regroup (part q) (parts_before (r ∷ ps)) (part p) Plus

@@ -5,7 +5,8 @@ use Rattle.pmb_line.specs.Spelling.{SpellsTransaction}
 use Rattle.pmb_line.specs.machine.Reading.{nothing, run, finish}
 use Rattle.pmb_line.proofs.Completeness.{reached}
 
-pub one_transaction : (ws : List (List ℕ)) (t u : TransactionData) → SpellsTransaction ws t → SpellsTransaction ws u → t ≡ u
+pub one_transaction : (ws : List (List ℕ)) (t u : TransactionData) → SpellsTransaction ws t → SpellsTransaction ws u
+    → t ≡ u
 one_transaction ws t u first second =
     let a = reached t first.has_line in
     let b = reached u second.has_line in

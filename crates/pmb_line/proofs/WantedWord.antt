@@ -4,6 +4,11 @@ use Rattle.pmb_line.specs.declared.token.Token.{Token}
 use Rattle.pmb_line.specs.declared.words.Located.{Located}
 
 -- a word that says what is wanted
-pub took : (before after : List Located) (word : Located) (token : Token) → before ≡ word ∷ after → word.token ≡ Some token
+pub took : (before after : List Located) (word : Located) (token : Token) → before ≡ word ∷ after
+    → word.token ≡ Some token
     → (at : ℕ) × (before ≡ record { at = at; token = Some token } ∷ after)
-took before after word token same is = (word.at, same ∙ ap (λ (t : Option Token). record { at = word.at; token = t } ∷ after) is)
+took before after word token same is = (
+  word.at,
+  same
+      ∙ ap (λ (t : Option Token). record { at = word.at; token = t } ∷ after) is,
+)

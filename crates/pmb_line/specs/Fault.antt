@@ -50,8 +50,10 @@ pub record BeginsLine (front : List (List ℕ)) : Type 0 where
 -- There is room for what the words say so far: a transaction that is not too large goes on with
 -- them. The `+` after the 16th part of a write needs no room yet; the address after it does.
 pub data HasRoom (front : List (List ℕ)) : Type 0 where
-  goes_on : (more : List (List ℕ)) (t : TransactionData) → SpellsTransaction (front ++ more) t → IsWithin t → HasRoom front
-  plus : (before : List (List ℕ)) (word : List ℕ) (ps : List PartData) → front ≡ before ++ word ∷ [] → token_of word ≡ Some Plus
+  goes_on : (more : List (List ℕ)) (t : TransactionData) → SpellsTransaction (front ++ more) t → IsWithin t
+      → HasRoom front
+  plus : (before : List (List ℕ)) (word : List ℕ) (ps : List PartData) → front ≡ before ++ word ∷ []
+      → token_of word ≡ Some Plus
       → SpellsTransaction before (says.Write ps) → IsWithin (says.Write ps) → HasRoom front
 
 -- ---- the faults

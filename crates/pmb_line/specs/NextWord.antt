@@ -1,7 +1,8 @@
 -- What each word leads to, where a reader of words stands.
 use Rattle.std.specs.Prelude.{ℕ, Option, Some, None}
 use Rattle.pmb_line.specs.declared.token.Token.{Token}
-use Rattle.pmb_line.specs.declared.token.Token.TheVariants.{Byte, Write, Read, Call, Refused, Alert, Nobody, Pec, Plus, Colon}
+use Rattle.pmb_line.specs.declared.token.Token.TheVariants.{Byte, Write, Read, Call, Refused, Alert, Nobody, Pec, Plus}
+use Rattle.pmb_line.specs.declared.token.Token.TheVariants.{Colon}
 
 -- The place after each word; `other` is after a word that says no token.
 pub record NextWord (S : Type 0) : Type 0 where
@@ -33,7 +34,20 @@ after_word next None = next.other
 
 -- each word leads to the same place
 abbrev pub any_word : {S : Type 0} → Option S → NextWord S
-any_word to = record { byte = λ b. to; write = to; read = to; call = to; refused = to; alert = to; nobody = to; pec = to; plus = to; colon = to; other = to }
+any_word to = record {
+  byte = λ b. to;
+  write = to;
+  read = to;
+  call = to;
+  refused = to;
+  alert = to;
+  nobody = to;
+  pec =
+      to;
+  plus = to;
+  colon = to;
+  other = to;
+}
 
 -- no word fits
 abbrev pub no_word : {S : Type 0} → NextWord S

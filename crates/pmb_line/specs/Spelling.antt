@@ -12,7 +12,8 @@ use Rattle.pmb_command.specs.Wire.{AreByteValues}
 use Rattle.pmb_transaction.specs.Transaction.{PartData, ReadData, CallData, RefusedData, AlertData, TransactionData}
 use Rattle.pmb_transaction.specs.Transaction as says
 use Rattle.pmb_line.specs.declared.token.Token.{Token}
-use Rattle.pmb_line.specs.declared.token.Token.TheVariants.{Byte, Write, Read, Call, Refused, Alert, Nobody, Pec, Plus, Colon}
+use Rattle.pmb_line.specs.declared.token.Token.TheVariants.{Byte, Write, Read, Call, Refused, Alert, Nobody, Pec, Plus}
+use Rattle.pmb_line.specs.declared.token.Token.TheVariants.{Colon}
 use Rattle.pmb_line.specs.Token.{token_of, token_text}
 
 -- bytes, in order

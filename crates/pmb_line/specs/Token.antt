@@ -3,7 +3,8 @@ use Rattle.std.specs.Prelude.{ℕ, ◌+◌, ◌*◌, Option, Some, None, List, [
 use Rattle.std.specs.Str.{bytes_eq}
 use Rattle.hex.specs.Hex.{hex_digit_value, encode_lower}
 use Rattle.pmb_line.specs.declared.token.Token.{Token}
-use Rattle.pmb_line.specs.declared.token.Token.TheVariants.{Byte, Write, Read, Call, Refused, Alert, Nobody, Pec, Plus, Colon}
+use Rattle.pmb_line.specs.declared.token.Token.TheVariants.{Byte, Write, Read, Call, Refused, Alert, Nobody, Pec, Plus}
+use Rattle.pmb_line.specs.declared.token.Token.TheVariants.{Colon}
 
 -- the byte of two digits
 abbrev pub byte_of_digits : Option ℕ → Option ℕ → Option Token

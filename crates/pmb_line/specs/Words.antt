@@ -1,5 +1,6 @@
 -- The words of a line, and where they stand.
-use Rattle.std.specs.Prelude.{ℕ, ◌+◌, ◌==◌, ◌||◌, Bool, Option, Some, None, if◌then◌else◌, nat_lt, List, [], ◌∷◌, length, map}
+use Rattle.std.specs.Prelude.{ℕ, ◌+◌, ◌==◌, ◌||◌, Bool, Option, Some, None, if◌then◌else◌, nat_lt, List, [], ◌∷◌}
+use Rattle.std.specs.Prelude.{length, map}
 use Rattle.pmb_bus.specs.Event.{character}
 
 -- A line without the CR at its end; of two, the other one stays.
@@ -26,7 +27,8 @@ pub record Word : Type 0 where
 abbrev pub lengthened : ℕ → ℕ → List Word → List Word
 lengthened at b [] = record { at = at; text = b ∷ [] } ∷ []
 lengthened at b (word ∷ words) =
-    if word.at == at + 1 then record { at = at; text = b ∷ word.text } ∷ words else record { at = at; text = b ∷ [] } ∷ word ∷ words
+    if word.at == at + 1 then record { at = at; text = b ∷ word.text } ∷ words else record { at = at; text = b ∷ [] }
+    ∷ word ∷ words
 
 -- the words of a text whose first byte has the offset `at`
 abbrev pub words_from : ℕ → List ℕ → List Word

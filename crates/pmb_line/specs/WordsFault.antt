@@ -22,7 +22,8 @@ pub record IsBadWord (Begins HasRoom : List (List ℕ) → Type 0) (line : List 
 
 -- Words are missing at the end. The place is the line's length, in which a comment counts and a CR
 -- that was dropped does not.
-pub record IsCutShort {T : Type 0} (HasRoom : List (List ℕ) → Type 0) (Spells : List (List ℕ) → T → Type 0) (line : List ℕ) (at : ℕ) : Type 0 where
+pub record IsCutShort {T : Type 0} (HasRoom : List (List ℕ) → Type 0) (Spells : List (List ℕ) → T → Type 0)
+    (line : List ℕ) (at : ℕ) : Type 0 where
   pub some : line_words line ≢ []
   pub room : HasRoom (texts (line_words line))
   pub unfinished : (t : T) → Spells (texts (line_words line)) t → ⊥
@@ -38,7 +39,9 @@ pub record IsTooLong (Begins HasRoom : List (List ℕ) → Type 0) (line : List 
   pub full : HasRoom (texts (before ++ word ∷ [])) → ⊥
 
 -- the first fault of a line's words
-abbrev pub IsWordsFault : {T : Type 0} → (List (List ℕ) → Type 0) → (List (List ℕ) → Type 0) → (List (List ℕ) → T → Type 0) → List ℕ → WordFault → Type 0
+abbrev pub IsWordsFault : {T : Type 0} → (List (List ℕ) → Type 0) → (List (List ℕ) → Type 0)
+    → (List (List ℕ) → T → Type 0) → List ℕ → WordFault → Type 0
 IsWordsFault Begins HasRoom Spells line Blank = line_words line ≡ []
-IsWordsFault Begins HasRoom Spells line (BadWord at) = IsBadWord Begins HasRoom line at ⊎ IsCutShort HasRoom Spells line at
+IsWordsFault Begins HasRoom Spells line (BadWord at) = IsBadWord Begins HasRoom line at
+    ⊎ IsCutShort HasRoom Spells line at
 IsWordsFault Begins HasRoom Spells line (TooLong at) = IsTooLong Begins HasRoom line at

@@ -7,9 +7,9 @@ ghost use Rattle.pmb_line.specs.LineFault.{IsLineFault, Parses};
 use crate::line_fault::LineFault;
 use crate::whole_line::read_line;
 use crate::words::blanks;
-use pmb_kept::Kind;
 use pmb_table::Profile;
 use pmb_transaction::Transaction;
+use pmb_transaction_slot::TransactionKind;
 
 /// Reads lines of all kinds into transactions that it keeps, one of each kind: a line copies and
 /// clears no more than it holds, whatever the kind of the line before.
@@ -46,12 +46,12 @@ impl LineReader {
         ensures err { IfErr result (IsLineFault profile.now line.now) }
     {
         let slot = match likely_kind(line) {
-            Kind::Write => &mut self.write,
-            Kind::Read => &mut self.read,
-            Kind::Call => &mut self.call,
-            Kind::Refused => &mut self.refused,
-            Kind::Alert => &mut self.alert,
-            Kind::NoAlert => &mut self.no_alert,
+            TransactionKind::Write => &mut self.write,
+            TransactionKind::Read => &mut self.read,
+            TransactionKind::Call => &mut self.call,
+            TransactionKind::Refused => &mut self.refused,
+            TransactionKind::Alert => &mut self.alert,
+            TransactionKind::NoAlert => &mut self.no_alert,
         };
         match read_line(profile, line, slot) {
             Ok(()) => Ok(slot),
@@ -64,14 +64,14 @@ impl LineReader {
 /// tell. Any would do, since a line is read into each alike. One that begins with no keyword is read
 /// into none.
 #[inline]
-fn likely_kind(line: &[u8]) -> Kind {
+fn likely_kind(line: &[u8]) -> TransactionKind {
     match &line[blanks(line)..] {
-        [b'w', ..] => Kind::Write,
-        [b'r', b'e', b'a', ..] => Kind::Read,
-        [b'r', b'e', b'f', ..] => Kind::Refused,
-        [b'c', ..] => Kind::Call,
-        [b'a', b'l', b'e', b'r', b't', b' ', b'n', ..] => Kind::NoAlert,
-        [b'a', ..] => Kind::Alert,
-        _ => Kind::NoAlert,
+        [b'w', ..] => TransactionKind::Write,
+        [b'r', b'e', b'a', ..] => TransactionKind::Read,
+        [b'r', b'e', b'f', ..] => TransactionKind::Refused,
+        [b'c', ..] => TransactionKind::Call,
+        [b'a', b'l', b'e', b'r', b't', b' ', b'n', ..] => TransactionKind::NoAlert,
+        [b'a', ..] => TransactionKind::Alert,
+        _ => TransactionKind::NoAlert,
     }
 }

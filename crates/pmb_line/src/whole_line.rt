@@ -19,9 +19,11 @@ use crate::reply::{read_call, read_read};
 use crate::token::Token;
 use crate::word_fault::WordFault;
 use crate::words::Words;
-use pmb_kept::{make_alert, make_call, make_no_alert, make_read, make_refused, make_write};
 use pmb_table::Profile;
 use pmb_transaction::Transaction;
+use pmb_transaction_slot::{
+    make_alert, make_call, make_no_alert, make_read, make_refused, make_write,
+};
 use pmb_writer::check;
 
 /// Reads what a line spells into a transaction that the caller keeps. Where that is of the same

@@ -1,5 +1,6 @@
 -- LINEAR11 with one exponent has evenly spaced values.
-use Rattle.std.proofs.Common.{◌≡◌, ℕ, ◌+◌, ◌-◌, ◌/◌, ◌%◌, ◌^◌, ◌≤◌, inl, inr, ℤ, pos, negsuc, ◌+ℤ◌, unsigned_abs, ◌∙◌, arith}
+use Rattle.std.proofs.Common.{◌≡◌, ℕ, ◌+◌, ◌-◌, ◌/◌, ◌%◌, ◌^◌, ◌≤◌, inl, inr, ℤ, pos, negsuc, ◌+ℤ◌, unsigned_abs, ◌∙◌}
+use Rattle.std.proofs.Common.{arith}
 use Rattle.std.proofs.lemmas.Int.{ints}
 use Rattle.std.proofs.lemmas.Bool.{cases_lt}
 use Rattle.std.proofs.lemmas.Nat.{pow_pos}
@@ -25,7 +26,8 @@ module _ (e : ℤ) (fits : IsExponent e) where
   power_fits : unsigned_abs (e +ℤ pos 16) ≤ 31
   power_fits = omega (arith, ints, fits)
 
-  holds : (i : ℕ) → i ≤ 2 ^ 11 - 1 → Holds (word_at (unsigned_abs (e +ℤ pos 16)) i) (negsuc 1023 +ℤ pos i) (unsigned_abs (e +ℤ pos 16))
+  holds : (i : ℕ) → i ≤ 2 ^ 11 - 1 → Holds (word_at (unsigned_abs (e +ℤ pos 16)) i) (negsuc 1023 +ℤ pos i)
+      (unsigned_abs (e +ℤ pos 16))
   holds i inside = holds_word i (unsigned_abs (e +ℤ pos 16)) (omega arith) power_fits
 
   pub rises-linear11_fixed : Rises (linear11_fixed e) (linear11_row e)

@@ -14,7 +14,20 @@ zero_at index b is =
     zero_value ∙ sym (ap (λ z. z *ℤ pos (2 ^ b)) none ∙ zero-*ℤ (pos (2 ^ b)))
 
 -- any other that no smaller power holds
-pub word_is_written : (k index b : ℕ) → Holds k (negsuc 1023 +ℤ pos index) b → index ≢ 1024 → (b ≡ 0) ⊎ ((index < 512) ⊎ (1536 ≤ index)) → IsWritten linear11 k
-word_is_written k index b holds some (inl least) = (holds.is_code, least_is_canonical k (negsuc 1023 +ℤ pos index) b holds (λ none. some (omega (arith, ints, none))) (inl least))
-word_is_written k index b holds some (inr (inl low)) = (holds.is_code, least_is_canonical k (negsuc 1023 +ℤ pos index) b holds (λ none. some (omega (arith, ints, none))) (inr (inl (omega (arith, ints, low)))))
-word_is_written k index b holds some (inr (inr high)) = (holds.is_code, least_is_canonical k (negsuc 1023 +ℤ pos index) b holds (λ none. some (omega (arith, ints, none))) (inr (inr (omega (arith, ints, high)))))
+pub word_is_written : (k index b : ℕ) → Holds k (negsuc 1023 +ℤ pos index) b → index ≢ 1024
+    → (b ≡ 0) ⊎ ((index < 512) ⊎ (1536 ≤ index)) → IsWritten linear11 k
+word_is_written k index b holds some (inl least) = (
+  holds.is_code,
+  least_is_canonical k (negsuc 1023 +ℤ pos index) b holds (λ none. some (omega (arith, ints, none)))
+      (inl least),
+)
+word_is_written k index b holds some (inr (inl low)) = (
+  holds.is_code,
+  least_is_canonical k (negsuc 1023 +ℤ pos index) b holds (λ none. some (omega (arith, ints, none)))
+      (inr (inl (omega (arith, ints, low)))),
+)
+word_is_written k index b holds some (inr (inr high)) = (
+  holds.is_code,
+  least_is_canonical k (negsuc 1023 +ℤ pos index) b holds (λ none. some (omega (arith, ints, none)))
+      (inr (inr (omega (arith, ints, high)))),
+)

@@ -1,5 +1,6 @@
 -- No value of LINEAR11 lies between two neighbours.
-use Rattle.std.proofs.Common.{◌≡◌, ℕ, ◌+◌, ◌-◌, ◌^◌, ◌<◌, ◌≤◌, ◌⊎◌, inl, inr, ℤ, pos, negsuc, ◌+ℤ◌, ◌*ℤ◌, ◌≤ℤ◌, sym, ap, ◌∙◌, arith}
+use Rattle.std.proofs.Common.{◌≡◌, ℕ, ◌+◌, ◌-◌, ◌^◌, ◌<◌, ◌≤◌, ◌⊎◌, inl, inr, ℤ, pos, negsuc, ◌+ℤ◌, ◌*ℤ◌, ◌≤ℤ◌, sym, ap}
+use Rattle.std.proofs.Common.{◌∙◌, arith}
 use Rattle.std.proofs.lemmas.Int.{ints, by_lt_z}
 use Rattle.std.proofs.lemmas.Bool.{cases_lt}
 use Rattle.std.proofs.lemmas.Nat.{pow_pos}
@@ -23,11 +24,18 @@ scale_le m n d positive order =
     omega (arith, ints))
 
 -- a mantissa above two neighbours' power, or at it: a multiple of the power
-coarse : (z lo : ℤ) (b e : ℕ) → b ≤ e → ((z *ℤ pos (2 ^ e)) ≤ℤ (lo *ℤ pos (2 ^ b))) ⊎ (((lo +ℤ pos 1) *ℤ pos (2 ^ b)) ≤ℤ (z *ℤ pos (2 ^ e)))
+coarse : (z lo : ℤ) (b e : ℕ) → b ≤ e → ((z *ℤ pos (2 ^ e)) ≤ℤ (lo *ℤ pos (2 ^ b)))
+    ⊎ (((lo +ℤ pos 1) *ℤ pos (2 ^ b)) ≤ℤ (z *ℤ pos (2 ^ e)))
 coarse z lo b e order =
     let split = power_splits z b e order in
     by_lt_z lo (z *ℤ pos (2 ^ (e - b)))
-    (λ less. inr (omega (arith, ints, split, scale_le (lo +ℤ pos 1) (z *ℤ pos (2 ^ (e - b))) (2 ^ b) (pow_pos b) (omega (arith, ints, less)))))
+    (λ less. inr (omega (
+      arith,
+      ints,
+      split,
+      scale_le (lo +ℤ pos 1) (z *ℤ pos (2 ^ (e - b))) (2 ^ b) (pow_pos b)
+          (omega (arith, ints, less)),
+    )))
     (λ at_most. inl (omega (arith, ints, split, scale_le (z *ℤ pos (2 ^ (e - b))) lo (2 ^ b) (pow_pos b) at_most)))
 
 -- at a smaller power the mantissas end before both, upwards and downwards
@@ -35,17 +43,31 @@ fine_up : (z lo : ℤ) (b e : ℕ) → e < b → IsMantissa z → pos 512 ≤ℤ
 fine_up z lo b e order fits large =
     let split = power_splits lo e b (omega arith) in
     let grown = grows_up 512 lo (2 ^ (b - e)) (two_or_more (b - e) (omega arith)) large in
-    omega (arith, ints, split, scale_le z (lo *ℤ pos (2 ^ (b - e))) (2 ^ e) (pow_pos e) (omega (arith, ints, fits, grown)))
+    omega (
+      arith,
+      ints,
+      split,
+      scale_le z (lo *ℤ pos (2 ^ (b - e))) (2 ^ e) (pow_pos e)
+          (omega (arith, ints, fits, grown)),
+    )
 
-fine_down : (z high : ℤ) (b e : ℕ) → e < b → IsMantissa z → high ≤ℤ negsuc 511 → (high *ℤ pos (2 ^ b)) ≤ℤ (z *ℤ pos (2 ^ e))
+fine_down : (z high : ℤ) (b e : ℕ) → e < b → IsMantissa z → high ≤ℤ negsuc 511
+    → (high *ℤ pos (2 ^ b)) ≤ℤ (z *ℤ pos (2 ^ e))
 fine_down z high b e order fits small =
     let split = power_splits high e b (omega arith) in
     let grown = grows_down 511 high (2 ^ (b - e)) (two_or_more (b - e) (omega arith)) small in
-    omega (arith, ints, split, scale_le (high *ℤ pos (2 ^ (b - e))) z (2 ^ e) (pow_pos e) (omega (arith, ints, fits, grown)))
+    omega (
+      arith,
+      ints,
+      split,
+      scale_le (high *ℤ pos (2 ^ (b - e))) z (2 ^ e) (pow_pos e)
+          (omega (arith, ints, fits, grown)),
+    )
 
 -- So no code is between two neighbours at a power, where that is the least or both are large: the
 -- next of 1023 is 512 at the next power, and the one before -512 is -1024 at the power before.
-pub mantissa_gap : (lo : ℤ) (b : ℕ) → (b ≡ 0) ⊎ ((pos 512 ≤ℤ lo) ⊎ ((lo +ℤ pos 1) ≤ℤ negsuc 511)) → IsGap linear11 (lo *ℤ pos (2 ^ b)) ((lo +ℤ pos 1) *ℤ pos (2 ^ b))
+pub mantissa_gap : (lo : ℤ) (b : ℕ) → (b ≡ 0) ⊎ ((pos 512 ≤ℤ lo) ⊎ ((lo +ℤ pos 1) ≤ℤ negsuc 511))
+    → IsGap linear11 (lo *ℤ pos (2 ^ b)) ((lo +ℤ pos 1) *ℤ pos (2 ^ b))
 mantissa_gap lo b place k code =
     let holds = holds_itself k code in
     elim (cases_lt (steps k) b) [
@@ -65,16 +87,19 @@ mantissa_gap lo b place k code =
 pub at_mantissa : (b j : ℕ) → at (negsuc 1023 *ℤ pos (2 ^ b)) (2 ^ b) j ≡ (negsuc 1023 +ℤ pos j) *ℤ pos (2 ^ b)
 at_mantissa b j = sym (sum-product (negsuc 1023) j (2 ^ b))
 
-mantissa_place : (b j : ℕ) → (b ≡ 0) ⊎ ((1536 ≤ j) ⊎ (j < 512)) → (b ≡ 0) ⊎ ((pos 512 ≤ℤ (negsuc 1023 +ℤ pos j)) ⊎ ((negsuc 1023 +ℤ pos j +ℤ pos 1) ≤ℤ negsuc 511))
+mantissa_place : (b j : ℕ) → (b ≡ 0) ⊎ ((1536 ≤ j) ⊎ (j < 512))
+    → (b ≡ 0) ⊎ ((pos 512 ≤ℤ (negsuc 1023 +ℤ pos j)) ⊎ ((negsuc 1023 +ℤ pos j +ℤ pos 1) ≤ℤ negsuc 511))
 mantissa_place b j (inl least) = inl least
 mantissa_place b j (inr (inl up)) = inr (inl (omega (arith, ints)))
 mantissa_place b j (inr (inr down)) = inr (inr (omega (arith, ints)))
 
-pub index_gap : (b j : ℕ) → (b ≡ 0) ⊎ ((1536 ≤ j) ⊎ (j < 512)) → IsGap linear11 (at (negsuc 1023 *ℤ pos (2 ^ b)) (2 ^ b) j) (at (negsuc 1023 *ℤ pos (2 ^ b)) (2 ^ b) (j + 1))
+pub index_gap : (b j : ℕ) → (b ≡ 0) ⊎ ((1536 ≤ j) ⊎ (j < 512))
+    → IsGap linear11 (at (negsuc 1023 *ℤ pos (2 ^ b)) (2 ^ b) j) (at (negsuc 1023 *ℤ pos (2 ^ b)) (2 ^ b) (j + 1))
 index_gap b j place k code =
     let lo : ℤ = negsuc 1023 +ℤ pos j in
     let next : lo +ℤ pos 1 ≡ negsuc 1023 +ℤ pos (j + 1) = omega (arith, ints) in
-    let high_is : (lo +ℤ pos 1) *ℤ pos (2 ^ b) ≡ at (negsuc 1023 *ℤ pos (2 ^ b)) (2 ^ b) (j + 1) = ap (λ z. z *ℤ pos (2 ^ b)) next ∙ sym (at_mantissa b (j + 1)) in
+    let high_is : (lo +ℤ pos 1) *ℤ pos (2 ^ b) ≡ at (negsuc 1023 *ℤ pos (2 ^ b)) (2 ^ b) (j + 1) =
+    ap (λ z. z *ℤ pos (2 ^ b)) next ∙ sym (at_mantissa b (j + 1)) in
     elim (mantissa_gap lo b (mantissa_place b j place) k code) [
       | inl below ↦ inl (omega (arith, ints, below, at_mantissa b j))
       | inr above ↦ inr (omega (arith, ints, above, high_is))

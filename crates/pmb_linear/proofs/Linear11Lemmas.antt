@@ -1,5 +1,6 @@
 -- The codes of LINEAR11: canonical ones, and what lies between two of one parity.
-use Rattle.std.proofs.Common.{◌≡◌, ◌≢◌, ℕ, zero, suc, ◌+◌, ◌-◌, ◌*◌, ◌/◌, ◌%◌, ◌^◌, ◌<◌, ◌≤◌, ◌⊎◌, inl, inr, ℤ, pos, negsuc, ◌+ℤ◌, ◌-ℤ◌, ◌*ℤ◌, ◌<ℤ◌, ◌≤ℤ◌, unsigned_abs, refl, sym, ap, ◌∙◌, subst, arith}
+use Rattle.std.proofs.Common.{◌≡◌, ◌≢◌, ℕ, zero, suc, ◌+◌, ◌-◌, ◌*◌, ◌/◌, ◌%◌, ◌^◌, ◌<◌, ◌≤◌, ◌⊎◌, inl, inr, ℤ, pos}
+use Rattle.std.proofs.Common.{negsuc, ◌+ℤ◌, ◌-ℤ◌, ◌*ℤ◌, ◌<ℤ◌, ◌≤ℤ◌, unsigned_abs, refl, sym, ap, ◌∙◌, subst, arith}
 use Rattle.std.proofs.lemmas.Int.{ints, by_lt_z}
 use Rattle.std.proofs.lemmas.Bool.{cases_lt, cases_eq}
 use Rattle.std.proofs.lemmas.Nat.{pow_pos, div-mul-add, mod-mul-add}
@@ -75,12 +76,15 @@ exponent_at b fits =
     ]
 
 -- the code of two fields
-pub holds_fields : (y : ℤ) (b high low : ℕ) → low < 2048 → high < 32 → twos_complement 11 low ≡ y → twos_complement 5 high ≡ pos b -ℤ pos 16 → Holds (high * 2048 + low) y b
+pub holds_fields : (y : ℤ) (b high low : ℕ) → low < 2048 → high < 32 → twos_complement 11 low ≡ y
+    → twos_complement 5 high ≡ pos b -ℤ pos 16 → Holds (high * 2048 + low) y b
 holds_fields y b high low low_fits high_fits low_is high_is =
     let code = high * 2048 + low in
     let mantissa_is : mantissa code ≡ y = ap (twos_complement 11) (mod-mul-add high 2048 low low_fits) ∙ low_is in
-    let exponent_is : exponent code ≡ pos b -ℤ pos 16 = ap (twos_complement 5) (div-mul-add high 2048 low low_fits) ∙ high_is in
-    let power_is : power (exponent code) ≡ 2 ^ b = ap power exponent_is ∙ ap (λ z. 2 ^ unsigned_abs z) (-ℤ-+ℤ_cancel (pos b) (pos 16)) in
+    let exponent_is : exponent code ≡ pos b -ℤ pos 16 = ap (twos_complement 5) (div-mul-add high 2048 low low_fits)
+    ∙ high_is in
+    let power_is : power (exponent code) ≡ 2 ^ b = ap power exponent_is
+    ∙ ap (λ z. 2 ^ unsigned_abs z) (-ℤ-+ℤ_cancel (pos b) (pos 16)) in
     record {
       is_code = omega (arith, low_fits, high_fits);
       mantissa_is = mantissa_is;
@@ -96,9 +100,11 @@ code_of y b y_fits b_fits =
     (high.0 * 2048 + low.0, holds_fields y b high.0 low.0 low.1 high.1 low.2 high.2)
 
 -- .. and of the mantissa index - 1024
-pub holds_word : (index b : ℕ) → index < 2048 → b ≤ 31 → Holds ((b + 16) % 32 * 2048 + (index + 1024) % 2048) (negsuc 1023 +ℤ pos index) b
+pub holds_word : (index b : ℕ) → index < 2048 → b ≤ 31
+    → Holds ((b + 16) % 32 * 2048 + (index + 1024) % 2048) (negsuc 1023 +ℤ pos index) b
 holds_word index b index_fits b_fits =
-    holds_fields (negsuc 1023 +ℤ pos index) b ((b + 16) % 32) ((index + 1024) % 2048) (omega arith) (omega arith) (mantissa_at index index_fits) (exponent_at b b_fits)
+    holds_fields (negsuc 1023 +ℤ pos index) b ((b + 16) % 32) ((index + 1024) % 2048) (omega arith) (omega arith)
+    (mantissa_at index index_fits) (exponent_at b b_fits)
 
 -- the value is 0 only where the mantissa is
 zero_mantissa : (y : ℤ) (b : ℕ) → y *ℤ pos (2 ^ b) ≡ pos 0 → y ≡ pos 0
@@ -125,32 +131,39 @@ least_or_not y b least more =
     ]
 
 pub zero_value : linear11_numerator 0 ≡ pos 0
-zero_value = ap (λ z. z *ℤ pos (power (exponent 0))) (complement_low 11 0 (omega arith)) ∙ zero-*ℤ (pos (power (exponent 0)))
+zero_value = ap (λ z. z *ℤ pos (power (exponent 0))) (complement_low 11 0 (omega arith))
+    ∙ zero-*ℤ (pos (power (exponent 0)))
 
 pub zero_is_canonical : IsCanonicalLinear11 0
 zero_is_canonical = record { zero = λ _. refl; least_exponent = λ other. absurd (other zero_value) }
 
 -- a canonical code but 0 has the least exponent
-pub canonical_is_least : (k : ℕ) (y : ℤ) (b : ℕ) → Holds k y b → b ≤ 31 → IsCanonicalLinear11 k → k ≢ 0 → (y ≢ pos 0) × IsLeast y b
+pub canonical_is_least : (k : ℕ) (y : ℤ) (b : ℕ) → Holds k y b → b ≤ 31 → IsCanonicalLinear11 k → k ≢ 0
+    → (y ≢ pos 0) × IsLeast y b
 canonical_is_least k y b holds b_fits canonical some =
     let value_some : linear11_numerator k ≢ pos 0 = λ none. some (canonical.zero none) in
-    let y_some : y ≢ pos 0 = λ none. value_some (holds.value_is ∙ ap (λ z. z *ℤ pos (2 ^ b)) none ∙ zero-*ℤ (pos (2 ^ b))) in (
+    let y_some : y ≢ pos 0 = λ none. value_some
+    (holds.value_is ∙ ap (λ z. z *ℤ pos (2 ^ b)) none ∙ zero-*ℤ (pos (2 ^ b))) in (
       y_some,
       least_or_not y b (λ h. h) (λ positive low high.
           let other = code_of (y *ℤ pos 2) (b - 1) (omega (arith, ints), omega (arith, ints)) (omega arith) in
-          let least = canonical.least_exponent value_some other.0 other.1.is_code (other.1.value_is ∙ sym (half_power y b positive) ∙ sym holds.value_is) in
+          let least = canonical.least_exponent value_some other.0 other.1.is_code
+          (other.1.value_is ∙ sym (half_power y b positive) ∙ sym holds.value_is) in
           absurd (omega (arith, ints, least, other.1.exponent_is, holds.exponent_is))),
     )
 
 -- a doubled mantissa is out of range
 out_of_range : (y z : ℤ) (s : ℕ) → 2 ≤ s → IsMantissa z → z ≡ y *ℤ pos s → (y <ℤ negsuc 511) ⊎ (pos 511 <ℤ y) → ⊥
-out_of_range y z s twice fits same (inl low) = let grown = grows_down 512 y s twice (omega (arith, ints)) in omega (arith, ints, fits)
-out_of_range y z s twice fits same (inr high) = let grown = grows_up 512 y s twice (omega (arith, ints)) in omega (arith, ints, fits)
+out_of_range y z s twice fits same (inl low) = let grown = grows_down 512 y s twice (omega (arith, ints)) in
+    omega (arith, ints, fits)
+out_of_range y z s twice fits same (inr high) = let grown = grows_up 512 y s twice (omega (arith, ints)) in
+    omega (arith, ints, fits)
 
 not_smaller : (y z : ℤ) (b d : ℕ) → d < b → IsMantissa z → z *ℤ pos (2 ^ d) ≡ y *ℤ pos (2 ^ b) → IsLeast y b → ⊥
 not_smaller y z b d less fits same (inl none) = omega arith
 not_smaller y z b d less fits same (inr large) =
-    let taken : z ≡ y *ℤ pos (2 ^ (b - d)) = unscale_eq z (y *ℤ pos (2 ^ (b - d))) (2 ^ d) (pow_pos d) (same ∙ power_splits y d b (omega arith)) in
+    let taken : z ≡ y *ℤ pos (2 ^ (b - d)) = unscale_eq z (y *ℤ pos (2 ^ (b - d))) (2 ^ d) (pow_pos d)
+    (same ∙ power_splits y d b (omega arith)) in
     out_of_range y z (2 ^ (b - d)) (two_or_more (b - d) (omega arith)) fits taken large
 
 -- and a code with the least exponent is canonical
@@ -160,7 +173,8 @@ least_is_canonical k y b holds some least = record {
   least_exponent = λ _ j j_code same.
       let other = holds_itself j j_code in
       elim (cases_lt (steps j) b) [
-        | inl less ↦ absurd (not_smaller y (mantissa j) b (steps j) less (mantissa_fits j) (same ∙ holds.value_is) least)
+        | inl less ↦ absurd (not_smaller y (mantissa j) b (steps j) less (mantissa_fits j)
+            (same ∙ holds.value_is) least)
         | inr more ↦ omega (arith, ints, other.exponent_is, holds.exponent_is)
       ];
 }
@@ -180,19 +194,29 @@ unfolding HasCanonical
 normal_code zero y b_fits y_fits some = by_code y 0 b_fits y_fits some (inl refl)
 normal_code (suc b) y b_fits y_fits some =
     least_or_not y (suc b) (by_code y (suc b) b_fits y_fits some) (λ positive low high.
-    let smaller = normal_code b (y *ℤ pos 2) (omega arith) (omega (arith, ints), omega (arith, ints)) (λ none. some (omega (arith, ints))) in
-    let halved : y *ℤ pos (2 ^ suc b) ≡ (y *ℤ pos 2) *ℤ pos (2 ^ b) = half_power y (suc b) positive ∙ ap (λ k. (y *ℤ pos 2) *ℤ pos (2 ^ k)) (omega arith) in
+    let smaller = normal_code b (y *ℤ pos 2) (omega arith) (omega (arith, ints), omega (arith, ints))
+    (λ none. some (omega (arith, ints))) in
+    let halved : y *ℤ pos (2 ^ suc b) ≡ (y *ℤ pos 2) *ℤ pos (2 ^ b) = half_power y (suc b) positive
+    ∙ ap (λ k. (y *ℤ pos 2) *ℤ pos (2 ^ k)) (omega arith) in
     (smaller.0, smaller.1, smaller.2, smaller.3 ∙ sym halved))
 
-pub canonical_code : (k : ℕ) → IsWord k → (c : ℕ) × IsWord c × IsCanonicalLinear11 c × (linear11_numerator c ≡ linear11_numerator k)
+pub canonical_code : (k : ℕ) → IsWord k → (c : ℕ) × IsWord c × IsCanonicalLinear11 c
+    × (linear11_numerator c ≡ linear11_numerator k)
 unfolding HasCanonical
 canonical_code k code =
     let itself = holds_itself k code in
-    let given : mantissa k ≢ pos 0 → (c : ℕ) × IsWord c × IsCanonicalLinear11 c × (linear11_numerator c ≡ linear11_numerator k) = normal_code (steps k) (mantissa k) (steps_fit k code) (mantissa_fits k) in
+    let given : mantissa k ≢ pos 0 → (c : ℕ) × IsWord c × IsCanonicalLinear11 c
+    × (linear11_numerator c ≡ linear11_numerator k) = normal_code (steps k) (mantissa k) (steps_fit k code)
+    (mantissa_fits k) in
     by_lt_z (mantissa k) (pos 0) (λ less. given (λ none. absurd (omega (arith, ints)))) (λ at_least.
     by_lt_z (pos 0) (mantissa k) (λ more. given (λ none. absurd (omega (arith, ints)))) (λ at_most.
-    let none : mantissa k ≡ pos 0 = omega (arith, ints) in
-    (0, omega arith, zero_is_canonical, zero_value ∙ sym (itself.value_is ∙ ap (λ z. z *ℤ pos (2 ^ steps k)) none ∙ zero-*ℤ (pos (2 ^ steps k))))))
+    let none : mantissa k ≡ pos 0 = omega (arith, ints) in (
+      0,
+      omega arith,
+      zero_is_canonical,
+      zero_value
+          ∙ sym (itself.value_is ∙ ap (λ z. z *ℤ pos (2 ^ steps k)) none ∙ zero-*ℤ (pos (2 ^ steps k))),
+    )))
 
 -- the mantissa of a code has its parity
 mantissa_parity : (c : ℕ) → (g : ℕ) × (mantissa c +ℤ pos 2048 ≡ pos g) × (g % 2 ≡ c % 2)
@@ -220,10 +244,17 @@ zero_form v none = record {
 }
 
 -- the form of a canonical code has its parity
-form_of : (c : ℕ) → IsWord c → IsCanonicalLinear11 c → (y : ℤ) × (b : ℕ) × (g : ℕ) × IsForm (linear11_numerator c) y b g × (g % 2 ≡ c % 2)
+form_of : (c : ℕ) → IsWord c → IsCanonicalLinear11 c → (y : ℤ) × (b : ℕ) × (g : ℕ) × IsForm (linear11_numerator c) y b g
+    × (g % 2 ≡ c % 2)
 form_of c code canonical =
     elim (cases_eq c 0) [
-      | inl none ↦ (pos 0, 0, 2048, zero_form (linear11_numerator c) (ap linear11_numerator none ∙ zero_value), omega arith)
+      | inl none ↦ (
+        pos 0,
+        0,
+        2048,
+        zero_form (linear11_numerator c) (ap linear11_numerator none ∙ zero_value),
+        omega arith,
+      )
       | inr some ↦
           let itself = holds_itself c code in
           let least = canonical_is_least c (mantissa c) (steps c) itself (steps_fit c code) canonical some in
@@ -231,7 +262,14 @@ form_of c code canonical =
             mantissa c,
             steps c,
             parity.0,
-            record { fits = mantissa_fits c; steps_fit = steps_fit c code; offset = parity.1; least = least.1; value_is = itself.value_is },
+            record {
+              fits = mantissa_fits c;
+              steps_fit = steps_fit c code;
+              offset = parity.1;
+              least =
+                  least.1;
+              value_is = itself.value_is;
+            },
             parity.2,
           )
     ]
@@ -241,7 +279,8 @@ abbrev pub HasMiddle : ℤ → ℤ → Type 0
 HasMiddle v w = (j : ℕ) × IsWord j × (v <ℤ linear11_numerator j) × (linear11_numerator j <ℤ w)
 
 -- one code, where its mantissa is between both at its own exponent
-middle_code : (v w m : ℤ) (e : ℕ) → IsMantissa m → e ≤ 31 → v <ℤ (m *ℤ pos (2 ^ e)) → (m *ℤ pos (2 ^ e)) <ℤ w → HasMiddle v w
+middle_code : (v w m : ℤ) (e : ℕ) → IsMantissa m → e ≤ 31 → v <ℤ (m *ℤ pos (2 ^ e)) → (m *ℤ pos (2 ^ e)) <ℤ w
+    → HasMiddle v w
 middle_code v w m e m_fits e_fits low high =
     let code = code_of m e m_fits e_fits in
     (code.0, code.1.is_code, omega (arith, ints, code.1.value_is, low), omega (arith, ints, code.1.value_is, high))
@@ -252,7 +291,8 @@ middle_same v w y z b g h low high parity less =
     let below : y <ℤ z = unscale_lt y z (2 ^ b) (pow_pos b) (omega (arith, ints, low.value_is, high.value_is)) in
     let after = scale_lt y (y +ℤ pos 1) (2 ^ b) (pow_pos b) (omega (arith, ints)) in
     let before = scale_lt (y +ℤ pos 1) z (2 ^ b) (pow_pos b) (omega (arith, ints, low.offset, high.offset)) in
-    middle_code v w (y +ℤ pos 1) b (omega (arith, ints, low.fits), omega (arith, ints, high.fits)) low.steps_fit (omega (arith, ints, low.value_is)) (omega (arith, ints, high.value_is))
+    middle_code v w (y +ℤ pos 1) b (omega (arith, ints, low.fits), omega (arith, ints, high.fits)) low.steps_fit
+    (omega (arith, ints, low.value_is)) (omega (arith, ints, high.value_is))
 
 -- the mantissa of a greater exponent is large
 large_mantissa : (y : ℤ) (b d : ℕ) → d < b → IsLeast y b → (y <ℤ negsuc 511) ⊎ (pos 511 <ℤ y)
@@ -268,7 +308,8 @@ module _ (v w y z : ℤ) (b d g h : ℕ) (low : IsForm v y b g) (high : IsForm w
       let grown = grows_up 512 (z -ℤ pos 1) (2 ^ (d - b)) (two_or_more (d - b) (omega arith)) (omega (arith, ints)) in
       let after = scale_lt y ((z -ℤ pos 1) *ℤ pos (2 ^ (d - b))) (2 ^ b) (pow_pos b) (omega (arith, ints, low.fits)) in
       let before = scale_lt (z -ℤ pos 1) z (2 ^ d) (pow_pos d) (omega (arith, ints)) in
-      middle_code v w (z -ℤ pos 1) d (omega (arith, ints), omega (arith, ints, high.fits)) high.steps_fit (omega (arith, ints, low.value_is)) (omega (arith, ints, high.value_is))
+      middle_code v w (z -ℤ pos 1) d (omega (arith, ints), omega (arith, ints, high.fits)) high.steps_fit
+      (omega (arith, ints, low.value_is)) (omega (arith, ints, high.value_is))
 
   -- .. or 1023 at the smaller one
   middle_above : b < d → pos 511 <ℤ z → HasMiddle v w
@@ -279,7 +320,8 @@ module _ (v w y z : ℤ) (b d g h : ℕ) (low : IsForm v y b g) (high : IsForm w
       (λ less.
       let after = scale_lt y (pos 1023) (2 ^ b) (pow_pos b) less in
       let before = scale_lt (pos 1023) (z *ℤ pos (2 ^ (d - b))) (2 ^ b) (pow_pos b) (omega (arith, ints)) in
-      middle_code v w (pos 1023) b (omega (arith, ints), omega (arith, ints)) low.steps_fit (omega (arith, ints, low.value_is)) (omega (arith, ints, high.value_is)))
+      middle_code v w (pos 1023) b (omega (arith, ints), omega (arith, ints)) low.steps_fit
+      (omega (arith, ints, low.value_is)) (omega (arith, ints, high.value_is)))
       (λ at_least. middle_previous order (omega (arith, ints, low.fits, low.offset, high.offset, at_least)))
 
   -- above a greater exponent, its mantissa after a large negative one is between, if that is still large
@@ -288,8 +330,10 @@ module _ (v w y z : ℤ) (b d g h : ℕ) (low : IsForm v y b g) (high : IsForm w
       let split = power_splits (y +ℤ pos 1) d b (omega arith) in
       let grown = grows_down 512 (y +ℤ pos 1) (2 ^ (b - d)) (two_or_more (b - d) (omega arith)) (omega (arith, ints)) in
       let after = scale_lt y (y +ℤ pos 1) (2 ^ b) (pow_pos b) (omega (arith, ints)) in
-      let before = scale_lt ((y +ℤ pos 1) *ℤ pos (2 ^ (b - d))) z (2 ^ d) (pow_pos d) (omega (arith, ints, high.fits)) in
-      middle_code v w (y +ℤ pos 1) b (omega (arith, ints, low.fits), omega (arith, ints)) low.steps_fit (omega (arith, ints, low.value_is)) (omega (arith, ints, high.value_is))
+      let before = scale_lt ((y +ℤ pos 1) *ℤ pos (2 ^ (b - d))) z (2 ^ d) (pow_pos d)
+      (omega (arith, ints, high.fits)) in
+      middle_code v w (y +ℤ pos 1) b (omega (arith, ints, low.fits), omega (arith, ints)) low.steps_fit
+      (omega (arith, ints, low.value_is)) (omega (arith, ints, high.value_is))
 
   -- .. or -1024 at the smaller one
   middle_below : d < b → y <ℤ negsuc 511 → HasMiddle v w
@@ -300,14 +344,16 @@ module _ (v w y z : ℤ) (b d g h : ℕ) (low : IsForm v y b g) (high : IsForm w
       (λ less.
       let after = scale_lt (y *ℤ pos (2 ^ (b - d))) (negsuc 1023) (2 ^ d) (pow_pos d) (omega (arith, ints)) in
       let before = scale_lt (negsuc 1023) z (2 ^ d) (pow_pos d) less in
-      middle_code v w (negsuc 1023) d (omega (arith, ints), omega (arith, ints)) high.steps_fit (omega (arith, ints, low.value_is)) (omega (arith, ints, high.value_is)))
+      middle_code v w (negsuc 1023) d (omega (arith, ints), omega (arith, ints)) high.steps_fit
+      (omega (arith, ints, low.value_is)) (omega (arith, ints, high.value_is)))
       (λ at_most. middle_next order (omega (arith, ints, high.fits, low.offset, high.offset, at_most)))
 
   -- no value is below a large negative one of a greater exponent
   not_above : b < d → v <ℤ w → z <ℤ negsuc 511 → ⊥
   not_above order less large =
       let split = power_splits z b d (omega arith) in
-      let at_b : y <ℤ (z *ℤ pos (2 ^ (d - b))) = unscale_lt y (z *ℤ pos (2 ^ (d - b))) (2 ^ b) (pow_pos b) (omega (arith, ints, low.value_is, high.value_is)) in
+      let at_b : y <ℤ (z *ℤ pos (2 ^ (d - b))) = unscale_lt y (z *ℤ pos (2 ^ (d - b))) (2 ^ b) (pow_pos b)
+      (omega (arith, ints, low.value_is, high.value_is)) in
       let grown = grows_down 512 z (2 ^ (d - b)) (two_or_more (d - b) (omega arith)) (omega (arith, ints)) in
       omega (arith, ints, low.fits)
 
@@ -315,7 +361,8 @@ module _ (v w y z : ℤ) (b d g h : ℕ) (low : IsForm v y b g) (high : IsForm w
   not_below : d < b → v <ℤ w → pos 511 <ℤ y → ⊥
   not_below order less large =
       let split = power_splits y d b (omega arith) in
-      let at_d : (y *ℤ pos (2 ^ (b - d))) <ℤ z = unscale_lt (y *ℤ pos (2 ^ (b - d))) z (2 ^ d) (pow_pos d) (omega (arith, ints, low.value_is, high.value_is)) in
+      let at_d : (y *ℤ pos (2 ^ (b - d))) <ℤ z = unscale_lt (y *ℤ pos (2 ^ (b - d))) z (2 ^ d) (pow_pos d)
+      (omega (arith, ints, low.value_is, high.value_is)) in
       let grown = grows_up 512 y (2 ^ (b - d)) (two_or_more (b - d) (omega arith)) (omega (arith, ints)) in
       omega (arith, ints, high.fits)
 
@@ -343,8 +390,10 @@ module _ (v w y z : ℤ) (b d g h : ℕ) (low : IsForm v y b g) (high : IsForm w
       ]
 
 -- between two canonical codes of one parity lies another
-pub between : (c k : ℕ) → IsWord c → IsWord k → IsCanonicalLinear11 c → IsCanonicalLinear11 k → c % 2 ≡ k % 2 → linear11_numerator c <ℤ linear11_numerator k → HasMiddle (linear11_numerator c) (linear11_numerator k)
+pub between : (c k : ℕ) → IsWord c → IsWord k → IsCanonicalLinear11 c → IsCanonicalLinear11 k → c % 2 ≡ k % 2
+    → linear11_numerator c <ℤ linear11_numerator k → HasMiddle (linear11_numerator c) (linear11_numerator k)
 between c k c_code k_code c_canonical k_canonical parity less =
     let low = form_of c c_code c_canonical in
     let high = form_of k k_code k_canonical in
-    middle_of_forms (linear11_numerator c) (linear11_numerator k) low.0 high.0 low.1 high.1 low.2 high.2 low.3 high.3 (low.4 ∙ parity ∙ sym high.4) less
+    middle_of_forms (linear11_numerator c) (linear11_numerator k) low.0 high.0 low.1 high.1 low.2 high.2 low.3 high.3
+    (low.4 ∙ parity ∙ sym high.4) less

@@ -1,5 +1,6 @@
 -- LINEAR11's encoder rounds at the least power that reaches a quantity.
-use Rattle.std.proofs.Common.{◌≡◌, ℕ, ◌*◌, ◌-◌, ◌/◌, ◌%◌, ◌^◌, ◌<◌, ◌≤◌, ◌⊎◌, inl, inr, ℤ, pos, negsuc, ◌+ℤ◌, ◌*ℤ◌, ◌≤ℤ◌, sym, ap, ◌∙◌, arith}
+use Rattle.std.proofs.Common.{◌≡◌, ℕ, ◌*◌, ◌-◌, ◌/◌, ◌%◌, ◌^◌, ◌<◌, ◌≤◌, ◌⊎◌, inl, inr, ℤ, pos, negsuc, ◌+ℤ◌, ◌*ℤ◌}
+use Rattle.std.proofs.Common.{◌≤ℤ◌, sym, ap, ◌∙◌, arith}
 use Rattle.std.proofs.lemmas.Int.{ints}
 use Rattle.std.proofs.lemmas.Bool.{cases_lt, cases_eq}
 use Rattle.std.proofs.lemmas.Nat.{pow_pos, pow-add, le-div, div_below}
@@ -22,20 +23,39 @@ spacings : (D : ℕ) (y : ℤ) (p : ℕ) → pos D *ℤ (y *ℤ pos p) ≡ y *�
 spacings D y p = *ℤ_comm (pos D) (y *ℤ pos p) ∙ scale-scale y p D ∙ ap (λ k. y *ℤ pos k) (mul_comm p D)
 
 -- a quantity in range lies between the ends
-from_least_end : (q : Fraction) → 0 < q.denominator → IsInRange linear11 q → (negsuc 1023 *ℤ pos (q.denominator * 2 ^ 31)) ≤ℤ scaled linear11 q
+from_least_end : (q : Fraction) → 0 < q.denominator → IsInRange linear11 q
+    → (negsuc 1023 *ℤ pos (q.denominator * 2 ^ 31)) ≤ℤ scaled linear11 q
 from_least_end q positive range =
     let least = range.from_least in
-    let end : (negsuc 1023 *ℤ pos (2 ^ 31)) ≤ℤ linear11_numerator least.0 = omega (arith, ints, least_value, IsLeast-linear11.least least.0 least.1) in
-    omega (arith, ints, product_le q.denominator (negsuc 1023 *ℤ pos (2 ^ 31)) (linear11_numerator least.0) positive end, least.2, spacings q.denominator (negsuc 1023) (2 ^ 31))
+    let end : (negsuc 1023 *ℤ pos (2 ^ 31)) ≤ℤ linear11_numerator least.0 =
+    omega (arith, ints, least_value, IsLeast-linear11.least least.0 least.1) in
+    omega (
+      arith,
+      ints,
+      product_le q.denominator (negsuc 1023 *ℤ pos (2 ^ 31)) (linear11_numerator least.0) positive
+          end,
+      least.2,
+      spacings q.denominator (negsuc 1023) (2 ^ 31),
+    )
 
-to_greatest_end : (q : Fraction) → 0 < q.denominator → IsInRange linear11 q → scaled linear11 q ≤ℤ (pos 1023 *ℤ pos (q.denominator * 2 ^ 31))
+to_greatest_end : (q : Fraction) → 0 < q.denominator → IsInRange linear11 q
+    → scaled linear11 q ≤ℤ (pos 1023 *ℤ pos (q.denominator * 2 ^ 31))
 to_greatest_end q positive range =
     let greatest = range.to_greatest in
-    let end : linear11_numerator greatest.0 ≤ℤ (pos 1023 *ℤ pos (2 ^ 31)) = omega (arith, ints, greatest_value, IsGreatest-linear11.greatest greatest.0 greatest.1) in
-    omega (arith, ints, product_le q.denominator (linear11_numerator greatest.0) (pos 1023 *ℤ pos (2 ^ 31)) positive end, greatest.2, spacings q.denominator (pos 1023) (2 ^ 31))
+    let end : linear11_numerator greatest.0 ≤ℤ (pos 1023 *ℤ pos (2 ^ 31)) =
+    omega (arith, ints, greatest_value, IsGreatest-linear11.greatest greatest.0 greatest.1) in
+    omega (
+      arith,
+      ints,
+      product_le q.denominator (linear11_numerator greatest.0)
+          (pos 1023 *ℤ pos (2 ^ 31)) positive end,
+      greatest.2,
+      spacings q.denominator (pos 1023) (2 ^ 31),
+    )
 
 -- so the greatest power reaches it
-pub greatest_reaches : (q : Fraction) (t : ℤ) (D : ℕ) → 0 < q.denominator → IsInRange linear11 q → t ≡ scaled linear11 q → D ≡ q.denominator → Reaches t (D * 2 ^ 31)
+pub greatest_reaches : (q : Fraction) (t : ℤ) (D : ℕ) → 0 < q.denominator → IsInRange linear11 q → t ≡ scaled linear11 q
+    → D ≡ q.denominator → Reaches t (D * 2 ^ 31)
 greatest_reaches q t D positive range t_is D_is =
     let divisor : D * 2 ^ 31 ≡ q.denominator * 2 ^ 31 = ap (λ k. k * 2 ^ 31) D_is in
     let some : 0 < q.denominator * 2 ^ 31 = mul-lt-mul_of_pos_right {m = 0} {n = q.denominator} positive (pow_pos 31) in
@@ -92,8 +112,16 @@ module _ (q : Fraction) (t : ℤ) (D b d n i : ℕ) (is : IsPlaced q t D b d n i
         | inl less ↦ less
         | inr greatest ↦
             let top : b ≡ 31 = omega (arith, is.power_fits) in
-            let spacing : d ≡ q.denominator * 2 ^ 31 = is.spacing_is ∙ ap (λ k. k * 2 ^ b) is.denominator_is ∙ ap (λ k. q.denominator * 2 ^ k) top in
-            let few : n ≤ 2047 * d = omega (arith, ints, to_greatest_end q is.positive is.range, is.target_is, is.from_least, spacing) in
+            let spacing : d ≡ q.denominator * 2 ^ 31 = is.spacing_is ∙ ap (λ k. k * 2 ^ b) is.denominator_is
+            ∙ ap (λ k. q.denominator * 2 ^ k) top in
+            let few : n ≤ 2047 * d = omega (
+              arith,
+              ints,
+              to_greatest_end q is.positive is.range,
+              is.target_is,
+              is.from_least,
+              spacing,
+            ) in
             absurd (omega (arith, last, rounds_at_most n d i 2047 spacing_positive is.rounds few))
       ]
 
@@ -108,13 +136,21 @@ module _ (q : Fraction) (t : ℤ) (D b d n i : ℕ) (is : IsPlaced q t D b d n i
             ]
       ]
 
-  pub placed_nearest : (c : ℕ) → IsWritten linear11 c → linear11_numerator c ≡ (negsuc 1023 +ℤ pos i) *ℤ pos (2 ^ b) → c % 2 ≡ i % 2 → IsNearest linear11 q c
+  pub placed_nearest : (c : ℕ) → IsWritten linear11 c → linear11_numerator c ≡ (negsuc 1023 +ℤ pos i) *ℤ pos (2 ^ b)
+      → c % 2 ≡ i % 2 → IsNearest linear11 q c
   placed_nearest c written value parity =
       let spacing : d ≡ q.denominator * 2 ^ b = is.spacing_is ∙ ap (λ k. k * 2 ^ b) is.denominator_is in
       nearest_by_rounding linear11 q (negsuc 1023 *ℤ pos (2 ^ b)) (2 ^ b) n d i c (record {
         positive = is.positive;
         spaced = pow_pos b;
-        from_first = omega (arith, ints, is.from_least, is.target_is, spacings q.denominator (negsuc 1023) (2 ^ b), spacing);
+        from_first = omega (
+          arith,
+          ints,
+          is.from_least,
+          is.target_is,
+          spacings q.denominator (negsuc 1023) (2 ^ b),
+          spacing,
+        );
         divisor = spacing;
         gap = index_gap b (n / d) place;
         rounds = is.rounds;

@@ -12,7 +12,8 @@ use Rattle.pmb_linear.specs.machine.Row.{linear16_row}
 
 -- ---- ULINEAR16 and SLINEAR16
 
-pub rises-linear16 : (w : ℕ → ℤ) (at : ℕ → ℕ) (least e : ℤ) → CountsUp w at least → Rises (linear16 w e) (linear16_row at least e)
+pub rises-linear16 : (w : ℕ → ℤ) (at : ℕ → ℕ) (least e : ℤ) → CountsUp w at least
+    → Rises (linear16 w e) (linear16_row at least e)
 rises-linear16 w at least e counts = record {
   positive = omega arith;
   spaced = pow_pos _;
@@ -25,7 +26,8 @@ rises-linear16 w at least e counts = record {
 -- ---- the laws of each
 
 pub IsSeparated-linear16 : (w : ℕ → ℤ) (at : ℕ → ℕ) (least e : ℤ) → CountsUp w at least → IsSeparated (linear16 w e)
-IsSeparated-linear16 w at least e counts = row_separated (linear16 w e) (linear16_row at least e) (inl (rises-linear16 w at least e counts))
+IsSeparated-linear16 w at least e counts = row_separated (linear16 w e) (linear16_row at least e)
+    (inl (rises-linear16 w at least e counts))
 
 pub IsSeparated-ulinear16 : (e : ℤ) → IsSeparated (ulinear16 e)
 IsSeparated-ulinear16 e = IsSeparated-linear16 (λ code. pos code) (λ index. index) (pos 0) e counts_unsigned

@@ -23,10 +23,17 @@ linear11_numerator code = mantissa code *ℤ pos (power (exponent code))
 -- Zero is written as 0000h. No code of the same value has a smaller exponent than a canonical one.
 pub record IsCanonicalLinear11 (code : ℕ) : Type 0 where
   pub zero : linear11_numerator code ≡ pos 0 → code ≡ 0
-  pub least_exponent : linear11_numerator code ≢ pos 0 → (k : ℕ) → IsWord k → linear11_numerator k ≡ linear11_numerator code → exponent code ≤ℤ exponent k
+  pub least_exponent : linear11_numerator code ≢ pos 0 → (k : ℕ) → IsWord k
+      → linear11_numerator k ≡ linear11_numerator code → exponent code ≤ℤ exponent k
 
 abbrev pub linear11 : Coding
-linear11 = record { IsCode = IsWord; numerator = linear11_numerator; denominator = 2 ^ 16; IsCanonical = IsCanonicalLinear11 }
+linear11 = record {
+  IsCode = IsWord;
+  numerator = linear11_numerator;
+  denominator = 2 ^ 16;
+  IsCanonical =
+      IsCanonicalLinear11;
+}
 
 -- LINEAR11 with one exponent: the words with that exponent. Each is canonical, zero's too. Any other
 -- word has LINEAR11's value, and is no code.

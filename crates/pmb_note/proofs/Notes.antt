@@ -1,5 +1,6 @@
 -- A note by what a context keeps is the note after the transactions that it was given.
-use Rattle.std.proofs.Common.{◌≡◌, ℕ, Result, Ok, Err, Option, Some, None, List, [], ◌∷◌, ◌++◌, codes, map, slice_get, refl, ap, ◌∙◌}
+use Rattle.std.proofs.Common.{◌≡◌, ℕ, Result, Ok, Err, Option, Some, None, List, [], ◌∷◌, ◌++◌, codes, map, slice_get}
+use Rattle.std.proofs.Common.{refl, ap, ◌∙◌}
 use Rattle.std.specs.List.{flat_map}
 use Rattle.std.specs.Option.{option_and_then}
 use Rattle.std.specs.Prelude.{IsOk, MatchResult}
@@ -8,7 +9,8 @@ use Rattle.pmb_command.specs.Entry.{EntryParts}
 use Rattle.pmb_command.specs.Parts.{DeviceParts, command_with, device_with}
 use Rattle.pmb_transaction.specs.Transaction.{PartData, TransactionData, Write, Read, Call, Refused, Alert, NoAlert}
 use Rattle.pmb_note.specs.Paging.{mode, paging, selected_mode}
-use Rattle.pmb_note.specs.Note.{command_text, joined, note, of_command, of_device, part_text_before, part_text, refused_text, text_under, value_text}
+use Rattle.pmb_note.specs.Note.{command_text, joined, note, of_command, of_device, part_text_before, part_text}
+use Rattle.pmb_note.specs.Note.{refused_text, text_under, value_text}
 use Rattle.pmb_note.specs.declared.context.Context.{Context}
 use Rattle.pmb_note.specs.machine.Standing.{HasSeen, mode_in}
 
@@ -20,21 +22,26 @@ same_map f g same (x ∷ xs) =
     let later : map f xs ≡ map g xs = same_map f g same xs in
     cc (here, later)
 
-same_flat_map : {A B : Type 0} (f g : A → List B) → ((x : A) → f x ≡ g x) → (xs : List A) → flat_map f xs ≡ flat_map g xs
+same_flat_map : {A B : Type 0} (f g : A → List B) → ((x : A) → f x ≡ g x) → (xs : List A)
+    → flat_map f xs ≡ flat_map g xs
 same_flat_map f g same [] = refl
 same_flat_map f g same (x ∷ xs) =
     let here : f x ≡ g x = same x in
     let later : flat_map f xs ≡ flat_map g xs = same_flat_map f g same xs in
     cc (here, later)
 
-module _ (profile : List DeviceParts) (f g : ℕ → Option ℕ) (same : (addr : ℕ) (device : DeviceParts) → device_with addr profile ≡ Some device → f addr ≡ g addr) where
+module _ (profile : List DeviceParts) (f g : ℕ → Option ℕ) (same : (addr : ℕ) (device : DeviceParts)
+    → device_with addr profile ≡ Some device → f addr ≡ g addr) where
   command_at : (addr code : ℕ) (bytes : List ℕ) (known : Option DeviceParts) → device_with addr profile ≡ known
-      → of_device (λ device entry. value_text (f addr) device entry bytes) code known ≡ of_device (λ device entry. value_text (g addr) device entry bytes) code known
+      → of_device (λ device entry. value_text (f addr) device entry bytes) code known
+      ≡ of_device (λ device entry. value_text (g addr) device entry bytes) code known
   command_at addr code bytes None is = refl
   command_at addr code bytes (Some device) is =
-      ap (λ (m : Option ℕ). of_command (λ (entry : EntryParts). value_text m device entry bytes) (command_with code device.commands)) (same addr device is)
+      ap (λ (m : Option ℕ). of_command (λ (entry : EntryParts). value_text m device entry bytes)
+      (command_with code device.commands)) (same addr device is)
 
-  same_command : (addr code : ℕ) (bytes : List ℕ) → command_text profile f addr code bytes ≡ command_text profile g addr code bytes
+  same_command : (addr code : ℕ) (bytes : List ℕ) → command_text profile f addr code bytes
+      ≡ command_text profile g addr code bytes
   same_command addr code bytes = command_at addr code bytes (device_with addr profile) refl
 
   same_part : (part : PartData) → part_text profile f part ≡ part_text profile g part
@@ -47,16 +54,20 @@ module _ (profile : List DeviceParts) (f g : ℕ → Option ℕ) (same : (addr :
   same_text (Write parts) = ap joined (same_map (part_text profile f) (part_text profile g) same_part parts)
   same_text (Read t) = same_command t.addr t.code t.reply
   same_text (Call t) = refl
-  same_text (Refused t) = ap (λ (text : List ℕ). text ++ refused_text t.sent t.at_read) (same_flat_map (part_text_before profile f) (part_text_before profile g) same_before t.parts)
+  same_text (Refused t) = ap (λ (text : List ℕ). text ++ refused_text t.sent t.at_read)
+      (same_flat_map (part_text_before profile f) (part_text_before profile g) same_before t.parts)
   same_text (Alert t) = refl
   same_text NoAlert = refl
 
-module _ (context : Context) (profile : List DeviceParts) (ts : List TransactionData) (seen : HasSeen context profile ts) where
-  kept_mode_is : (addr : ℕ) (device : DeviceParts) → device_with addr profile ≡ Some device → mode_in context addr ≡ mode profile ts addr
+module _ (context : Context) (profile : List DeviceParts) (ts : List TransactionData)
+    (seen : HasSeen context profile ts) where
+  kept_mode_is : (addr : ℕ) (device : DeviceParts) → device_with addr profile ≡ Some device
+      → mode_in context addr ≡ mode profile ts addr
   kept_mode_is addr device known =
       let kept : slice_get context.pagings.items addr ≡ Some (paging device ts) = seen.kept.each addr device known in
       let left : mode_in context addr ≡ selected_mode (paging device ts) = ap (option_and_then selected_mode) kept in
-      let right : mode profile ts addr ≡ selected_mode (paging device ts) = ap (option_and_then (λ (d : DeviceParts). selected_mode (paging d ts))) known in
+      let right : mode profile ts addr ≡ selected_mode (paging device ts) =
+      ap (option_and_then (λ (d : DeviceParts). selected_mode (paging d ts))) known in
       cc (left, right)
 
   pub note_is : (t : TransactionData) → text_under context.profile.now (mode_in context) t ≡ note profile ts t
@@ -65,6 +76,7 @@ module _ (context : Context) (profile : List DeviceParts) (ts : List Transaction
       ∙ same_text profile (mode_in context) (mode profile ts) kept_mode_is t
 
 -- what `from_utf8` takes
-pub ok_from_text : {T E : Type 0} (result : Result T E) (bytes : List ℕ) (P : T → Type 0) (Q : E → Type 0) → MatchResult result P (λ e. ¬ (IsUtf8 bytes) × Q e) → IsUtf8 bytes → IsOk result
+pub ok_from_text : {T E : Type 0} (result : Result T E) (bytes : List ℕ) (P : T → Type 0) (Q : E → Type 0)
+    → MatchResult result P (λ e. ¬ (IsUtf8 bytes) × Q e) → IsUtf8 bytes → IsOk result
 ok_from_text (Ok x) bytes P Q cases text = refl
 ok_from_text (Err e) bytes P Q cases text = absurd (cases.0 text)

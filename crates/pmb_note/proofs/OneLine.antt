@@ -24,4 +24,5 @@ pub no_lf-all : (text : List ℕ) → no_lf text ≡ true → All (λ b. b ≢ 1
 no_lf-all [] none = All-nil (λ (b : ℕ). b ≢ 10)
 no_lf-all (b ∷ text) none =
     let here = and_parts (not (b == 10)) (no_lf text) none in
-    All-cons (λ (x : ℕ). x ≢ 10) b text (λ same. both_ways (b == 10) (not-true (b == 10) here.0) (eq-eqb b 10 same)) (no_lf-all text here.1)
+    All-cons (λ (x : ℕ). x ≢ 10) b text (λ same. both_ways (b == 10) (not-true (b == 10) here.0) (eq-eqb b 10 same))
+    (no_lf-all text here.1)

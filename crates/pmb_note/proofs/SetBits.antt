@@ -1,5 +1,6 @@
 -- The set bits of a register: those above the highest are passed over, and those below it stay.
-use Rattle.std.proofs.Common.{◌≡◌, ◌∙◌, ℕ, ◌+◌, ◌*◌, ◌/◌, ◌%◌, ◌^◌, ◌-◌, ◌<◌, ◌≤◌, ◌==◌, Bool, true, false, cond, List, [], ◌++◌, codes, refl, sym, ap, subst, inl, inr, arith}
+use Rattle.std.proofs.Common.{◌≡◌, ◌∙◌, ℕ, ◌+◌, ◌*◌, ◌/◌, ◌%◌, ◌^◌, ◌-◌, ◌<◌, ◌≤◌, ◌==◌, Bool, true, false, cond, List}
+use Rattle.std.proofs.Common.{[], ◌++◌, codes, refl, sym, ap, subst, inl, inr, arith}
 use Rattle.std.specs.Prelude.{zero, suc}
 use Rattle.std.proofs.lemmas.Bool.{cases_lt}
 use Rattle.std.specs.Int.Count.{count_leading_zeros}
@@ -23,7 +24,8 @@ one_over value w least most =
 
 same_over : (value rest w m : ℕ) → 0 < w → value ≡ rest + w * (2 * m) → value / w % 2 ≡ rest / w % 2
 same_over value rest w m some is =
-    ap (λ (n : ℕ). n / w % 2) is ∙ ap (λ (n : ℕ). n % 2) (add-mul-div_left rest (2 * m) some) ∙ add-mul-mod_self_left (rest / w) 2 m
+    ap (λ (n : ℕ). n / w % 2) is ∙ ap (λ (n : ℕ). n % 2) (add-mul-div_left rest (2 * m) some)
+    ∙ add-mul-mod_self_left (rest / w) 2 m
 
 doubled : (k : ℕ) → 2 ^ suc k ≡ 2 * 2 ^ k
 doubled k =
@@ -45,8 +47,10 @@ same_below : (value rest top bit : ℕ) → value ≡ rest + 2 ^ top → bit < t
 same_below value rest top bit is below =
     let parts : top ≡ bit + (1 + (top - (bit + 1))) = omega (arith, below) in
     let power : 2 ^ top ≡ 2 ^ bit * (2 * 2 ^ (top - (bit + 1))) =
-    ap (λ (n : ℕ). 2 ^ n) parts ∙ pow-add 2 bit (1 + (top - (bit + 1))) ∙ ap (λ (n : ℕ). 2 ^ bit * n) (pow-add 2 1 (top - (bit + 1))) in
-    ap (λ (n : ℕ). n == 1) (sym (same_over value rest (2 ^ bit) (2 ^ (top - (bit + 1))) (pow_pos bit) (is ∙ ap (λ (n : ℕ). rest + n) power)))
+    ap (λ (n : ℕ). 2 ^ n) parts ∙ pow-add 2 bit (1 + (top - (bit + 1)))
+    ∙ ap (λ (n : ℕ). 2 ^ bit * n) (pow-add 2 1 (top - (bit + 1))) in
+    ap (λ (n : ℕ). n == 1) (sym (same_over value rest (2 ^ bit) (2 ^ (top - (bit + 1))) (pow_pos bit)
+    (is ∙ ap (λ (n : ℕ). rest + n) power)))
 
 -- ---- texts
 
@@ -55,7 +59,8 @@ module _ (code : ℕ) where
   bit_of bit b = cond b (codes " " ++ named_bit (bit_text code bit) bit) []
 
   -- no bit above those that are set is told
-  above : (value top n bits : ℕ) → bits ≡ n + top → value < 2 ^ top → set_bits_text code value bits ≡ set_bits_text code value top
+  above : (value top n bits : ℕ) → bits ≡ n + top → value < 2 ^ top
+      → set_bits_text code value bits ≡ set_bits_text code value top
   above value top zero bits is few =
       let same : bits ≡ top = omega (arith, is) in
       ap (λ (m : ℕ). set_bits_text code value m) same
@@ -63,14 +68,17 @@ module _ (code : ℕ) where
   above value top (suc n) (suc bit) is few =
       let over : top ≤ bit = omega (arith, is) in
       let powers : 2 ^ top ≤ 2 ^ bit = pow_mono over in
-      let unset : set_bit_text code value bit ≡ [] = ap (bit_of bit) (unset_above value bit (omega (arith, few, powers))) in
+      let unset : set_bit_text code value bit ≡ [] =
+      ap (bit_of bit) (unset_above value bit (omega (arith, few, powers))) in
       ap (λ (text : List ℕ). text ++ set_bits_text code value bit) unset ∙ above value top n bit (omega (arith, is)) few
 
   -- the bits below the highest are told as before
-  others : (value rest top n : ℕ) → value ≡ rest + 2 ^ top → n ≤ top → set_bits_text code rest n ≡ set_bits_text code value n
+  others : (value rest top n : ℕ) → value ≡ rest + 2 ^ top → n ≤ top
+      → set_bits_text code rest n ≡ set_bits_text code value n
   others value rest top zero is few = refl
   others value rest top (suc bit) is few =
-      let here : set_bit_text code rest bit ≡ set_bit_text code value bit = ap (bit_of bit) (same_below value rest top bit is (omega (arith, few))) in
+      let here : set_bit_text code rest bit ≡ set_bit_text code value bit =
+      ap (bit_of bit) (same_below value rest top bit is (omega (arith, few))) in
       ap (λ (text : List ℕ). text ++ set_bits_text code rest bit) here
       ∙ ap (λ (text : List ℕ). set_bit_text code value bit ++ text) (others value rest top bit is (omega (arith, few)))
 
@@ -79,7 +87,8 @@ module _ (code : ℕ) where
   no_bits bits = sym (above 0 0 bits bits (omega arith) (pow_pos 0))
 
   -- the highest bit, and the others
-  pub highest_first : (value rest top bits : ℕ) → 2 ^ top ≤ value → value < 2 * 2 ^ top → value ≡ rest + 2 ^ top → top < bits
+  pub highest_first : (value rest top bits : ℕ) → 2 ^ top ≤ value → value < 2 * 2 ^ top → value ≡ rest + 2 ^ top
+      → top < bits
       → (codes " " ++ named_bit (bit_text code top) top) ++ set_bits_text code rest top ≡ set_bits_text code value bits
   highest_first value rest top bits least most is within =
       let set : bit_of top true ≡ set_bit_text code value top = ap (bit_of top) (sym (set_at value top least most)) in
@@ -99,7 +108,8 @@ set_within value top bits least few =
 -- ---- words
 
 -- the highest bit of a word that is not 0, by the zeros before it
-pub highest_at : (value : ℕ) → 0 < value → value < 65536 → (2 ^ (15 - count_leading_zeros 16 value) ≤ value) × (value < 2 * 2 ^ (15 - count_leading_zeros 16 value))
+pub highest_at : (value : ℕ) → 0 < value → value < 65536 → (2 ^ (15 - count_leading_zeros 16 value) ≤ value)
+    × (value < 2 * 2 ^ (15 - count_leading_zeros 16 value))
 highest_at value some few =
     let top = leading_top 16 value some few in
     let place : 15 - count_leading_zeros 16 value ≡ top.0 = omega (arith, top.1) in

@@ -1,5 +1,6 @@
 -- The names of status bits are short and have no LF.
-use Rattle.std.proofs.Common.{◌≡◌, ◌≢◌, Bor, option_map, ℕ, ◌≤◌, sym, subst, Bool, true, false, ◌&&◌, cond, Option, Some, None, List, [], ◌∷◌, length, reverse, nat_eq, slice_get, refl}
+use Rattle.std.proofs.Common.{◌≡◌, ◌≢◌, Bor, option_map, ℕ, ◌≤◌, sym, subst, Bool, true, false, ◌&&◌, cond, Option}
+use Rattle.std.proofs.Common.{Some, None, List, [], ◌∷◌, length, reverse, nat_eq, slice_get, refl}
 use Rattle.std.specs.Option.{option_flatten, IfSome}
 use Rattle.std.specs.List.{list_all}
 use Rattle.std.specs.Prelude.{nat_le, zero, suc}
@@ -23,7 +24,8 @@ short_at (Some name) is =
     let parts = and_parts (nat_le (length name) 17) (no_lf name) is in
     record { few = leb-true (length name) 17 parts.0; one = parts.1 }
 
-all_short : (names : BitNames) → list_all is_short names ≡ true → (bit : ℕ) → IfSome (option_flatten (slice_get names bit)) IsShortName
+all_short : (names : BitNames) → list_all is_short names ≡ true → (bit : ℕ)
+    → IfSome (option_flatten (slice_get names bit)) IsShortName
 all_short [] are bit = tt
 all_short (name ∷ names) are zero = short_at name (and_parts (is_short name) (list_all is_short names) are).0
 all_short (name ∷ names) are (suc bit) = all_short names (and_parts (is_short name) (list_all is_short names) are).1 bit
@@ -38,15 +40,19 @@ chosen false these those = those
 status_bits_are_short : (code : ℕ) → AreShort (status_bits code)
 unfolding status_bits
 status_bits_are_short code =
-    chosen (nat_eq code 0x78) (record { each = refl }) (chosen (nat_eq code 0x79) (record { each = refl }) (chosen (nat_eq code 0x7a) (record { each = refl })
-    (chosen (nat_eq code 0x7b) (record { each = refl }) (chosen (nat_eq code 0x7c) (record { each = refl }) (chosen (nat_eq code 0x7d) (record { each = refl })
-    (chosen (nat_eq code 0x7e) (record { each = refl }) (chosen (nat_eq code 0x81) (record { each = refl }) (record { each = refl }))))))))
+    chosen (nat_eq code 0x78) (record { each = refl })
+    (chosen (nat_eq code 0x79) (record { each = refl }) (chosen (nat_eq code 0x7a) (record { each = refl })
+    (chosen (nat_eq code 0x7b) (record { each = refl })
+    (chosen (nat_eq code 0x7c) (record { each = refl }) (chosen (nat_eq code 0x7d) (record { each = refl })
+    (chosen (nat_eq code 0x7e) (record { each = refl })
+    (chosen (nat_eq code 0x81) (record { each = refl }) (record { each = refl }))))))))
 
 are_short_names : (code bit : ℕ) → IfSome (bit_text code bit) IsShortName
 unfolding bit_text
 are_short_names code bit = all_short (reverse (status_bits code)) (status_bits_are_short code).each bit
 
-weaker : {P Q : List ℕ → Type 0} (name : Option (List ℕ)) → ((text : List ℕ) → P text → Q text) → IfSome name P → IfSome name Q
+weaker : {P Q : List ℕ → Type 0} (name : Option (List ℕ)) → ((text : List ℕ) → P text → Q text) → IfSome name P
+    → IfSome name Q
 weaker None less is = tt
 weaker (Some text) less is = less text is
 
@@ -59,9 +65,11 @@ pub names_have_no_lf : (code bit : ℕ) → IfSome (bit_text code bit) (λ text.
 names_have_no_lf code bit = weaker (bit_text code bit) (λ text is. is.one) (are_short_names code bit)
 
 -- .. nor is a text that is one
-pub short_name : (found : Option (Bor (List ℕ))) (code bit : ℕ) → option_map (λ (text : Bor (List ℕ)). text.now) found ≡ bit_text code bit → IfSome found (λ text. length text.now ≤ 17)
+pub short_name : (found : Option (Bor (List ℕ))) (code bit : ℕ) → option_map (λ (text : Bor (List ℕ)). text.now) found
+    ≡ bit_text code bit → IfSome found (λ text. length text.now ≤ 17)
 short_name None code bit is = tt
-short_name (Some text) code bit is = subst (λ (name : Option (List ℕ)). IfSome name (λ t. length t ≤ 17)) (sym is) (names_are_short code bit)
+short_name (Some text) code bit is = subst (λ (name : Option (List ℕ)). IfSome name (λ t. length t ≤ 17)) (sym is)
+    (names_are_short code bit)
 
 -- ---- texts of registers
 

@@ -1,5 +1,6 @@
 -- Texts that are appended one after the other.
-use Rattle.std.proofs.Common.{◌≡◌, ℕ, ◌+◌, ◌*◌, ◌<◌, ◌≤◌, ◌-◌, codes, get_or, map, take, drop, Bool, true, ◌&&◌, ltb, List, [], ◌∷◌, ◌++◌, length, refl, sym, ap, ◌∙◌, subst, append_assoc, arith}
+use Rattle.std.proofs.Common.{◌≡◌, ℕ, ◌+◌, ◌*◌, ◌<◌, ◌≤◌, ◌-◌, codes, get_or, map, take, drop, Bool, true, ◌&&◌, ltb}
+use Rattle.std.proofs.Common.{List, [], ◌∷◌, ◌++◌, length, refl, sym, ap, ◌∙◌, subst, append_assoc, arith}
 use Rattle.std.specs.Str.{IsAscii}
 use Rattle.std.proofs.lemmas.Bool.{and_parts, ltb-true}
 use Rattle.std.proofs.lemmas.Str.Ascii.{IsAscii-nil, IsAscii-cons}
@@ -56,21 +57,31 @@ abbrev pub part_behind : (PartData → List ℕ) → PartData → List ℕ
 part_behind text part = codes " + " ++ text part
 
 -- the text of one part more
-pub more_parts : (text : PartData → List ℕ) (parts : List Part) (i : ℕ) (part : Part) → i < length parts → part ≡ get_or parts i part
-    → flat_map text (map part_data (take i parts)) ++ text (part_data part) ≡ flat_map text (map part_data (take (i + 1) parts))
+pub more_parts : (text : PartData → List ℕ) (parts : List Part) (i : ℕ) (part : Part) → i < length parts
+    → part ≡ get_or parts i part
+    → flat_map text (map part_data (take i parts)) ++ text (part_data part)
+    ≡ flat_map text (map part_data (take (i + 1) parts))
 more_parts text parts i part within is =
-    let more : take (i + 1) parts ≡ take i parts ++ part ∷ [] = take_more parts i part within ∙ ap (λ (p : Part). take i parts ++ p ∷ []) (sym is) in
-    let datas : map part_data (take (i + 1) parts) ≡ map part_data (take i parts) ++ part_data part ∷ [] = ap (λ (ps : List Part). map part_data ps) more ∙ map-append part_data (take i parts) (part ∷ []) in
-    let texts : flat_map text (map part_data (take i parts) ++ part_data part ∷ []) ≡ flat_map text (map part_data (take i parts)) ++ (text (part_data part) ++ []) = flat_map-append text (map part_data (take i parts)) (part_data part ∷ []) in
-    ap (λ (last : List ℕ). flat_map text (map part_data (take i parts)) ++ last) (sym (append-nil (text (part_data part)))) ∙ sym texts ∙ ap (flat_map text) (sym datas)
+    let more : take (i + 1) parts ≡ take i parts ++ part ∷ [] = take_more parts i part within
+    ∙ ap (λ (p : Part). take i parts ++ p ∷ []) (sym is) in
+    let datas : map part_data (take (i + 1) parts) ≡ map part_data (take i parts) ++ part_data part ∷ [] =
+    ap (λ (ps : List Part). map part_data ps) more ∙ map-append part_data (take i parts) (part ∷ []) in
+    let texts : flat_map text (map part_data (take i parts) ++ part_data part ∷ [])
+    ≡ flat_map text (map part_data (take i parts)) ++ (text (part_data part) ++ []) =
+    flat_map-append text (map part_data (take i parts)) (part_data part ∷ []) in
+    ap (λ (last : List ℕ). flat_map text (map part_data (take i parts)) ++ last)
+    (sym (append-nil (text (part_data part)))) ∙ sym texts ∙ ap (flat_map text) (sym datas)
 
 -- parts, the first apart
-pub first_part : (text : PartData → List ℕ) (part : PartData) (parts : List PartData) → joined (map text (part ∷ parts)) ≡ text part ++ flat_map (part_behind text) parts
+pub first_part : (text : PartData → List ℕ) (part : PartData) (parts : List PartData)
+    → joined (map text (part ∷ parts)) ≡ text part ++ flat_map (part_behind text) parts
 first_part text part [] = sym (append-nil (text part))
-first_part text part (other ∷ parts) = ap (λ (rest : List ℕ). text part ++ (codes " + " ++ rest)) (first_part text other parts)
+first_part text part (other ∷ parts) = ap (λ (rest : List ℕ). text part ++ (codes " + " ++ rest))
+    (first_part text other parts)
 
 -- a list, its first element apart
-pub first_and_rest : {A : Type 0} (xs : List A) (x : A) → 1 ≤ length xs → x ≡ get_or xs 0 x → xs ≡ x ∷ take (length xs - 1) (drop 1 xs)
+pub first_and_rest : {A : Type 0} (xs : List A) (x : A) → 1 ≤ length xs → x ≡ get_or xs 0 x
+    → xs ≡ x ∷ take (length xs - 1) (drop 1 xs)
 first_and_rest [] x some is = absurd (omega (arith, some))
 first_and_rest (y ∷ xs) x some is =
     let whole : take (length xs) xs ≡ xs = take-length xs in
@@ -78,12 +89,15 @@ first_and_rest (y ∷ xs) x some is =
     ap (λ z. z ∷ xs) (sym is) ∙ ap (λ zs. x ∷ zs) (sym (ap (λ (n : ℕ). take n xs) long ∙ whole))
 
 -- the first part and the others
-pub parts_text : (text : PartData → List ℕ) (all : List Part) (part : Part) (rest : List Part) (n most : ℕ) (a b c : List ℕ) → all ≡ part ∷ rest → length rest ≤ n
-    → Appends (text (part_data part)) 320 a b → Appends (flat_map (part_behind text) (map part_data (take n rest))) (323 * n) b c → 320 + 323 * n ≤ most
+pub parts_text : (text : PartData → List ℕ) (all : List Part) (part : Part) (rest : List Part) (n most : ℕ)
+    (a b c : List ℕ) → all ≡ part ∷ rest → length rest ≤ n
+    → Appends (text (part_data part)) 320 a b
+    → Appends (flat_map (part_behind text) (map part_data (take n rest))) (323 * n) b c → 320 + 323 * n ≤ most
     → Appends (joined (map text (map part_data all))) most a c
 parts_text text all part rest n most a b c split whole first others few =
     let taken : take n rest ≡ rest = take_all n rest whole in
-    let same : text (part_data part) ++ flat_map (part_behind text) (map part_data (take n rest)) ≡ joined (map text (map part_data all)) =
+    let same : text (part_data part) ++ flat_map (part_behind text) (map part_data (take n rest))
+    ≡ joined (map text (map part_data all)) =
     ap (λ (ps : List Part). text (part_data part) ++ flat_map (part_behind text) (map part_data ps)) taken
     ∙ sym (first_part text (part_data part) (map part_data rest))
     ∙ ap (λ (ps : List Part). joined (map text (map part_data ps))) (sym split) in

@@ -1,6 +1,7 @@
 -- The text of a note: what a transaction says, with the names of its commands, the values of its
 -- numbers and the set bits of its status registers.
-use Rattle.std.specs.Prelude.{ℕ, zero, suc, ◌+◌, ◌*◌, ◌/◌, ◌%◌, ◌^◌, ◌==◌, Bool, true, false, if◌then◌else◌, Option, Some, None, Result, Ok, Err, List, [], ◌∷◌, ◌++◌, codes, decimal, flat_map, map}
+use Rattle.std.specs.Prelude.{ℕ, zero, suc, ◌+◌, ◌*◌, ◌/◌, ◌%◌, ◌^◌, ◌==◌, Bool, true, false, if◌then◌else◌, Option}
+use Rattle.std.specs.Prelude.{Some, None, Result, Ok, Err, List, [], ◌∷◌, ◌++◌, codes, decimal, flat_map, map}
 use Rattle.hex.specs.Hex.{encode_lower}
 use Rattle.pmb_quantity.specs.QuantityText.{spelling}
 use Rattle.pmb_coefficients.specs.Coefficients.{Coefficients}
@@ -11,7 +12,8 @@ use Rattle.pmb_value.specs.Vout.{format_of, vout_coding}
 use Rattle.pmb_value.specs.declared.vout.ModeFault.{ModeFault}
 use Rattle.pmb_value.specs.declared.vout.VoutFormat.{VoutFormat}
 use Rattle.pmb_command.specs.declared.entry.Kind.{Kind}
-use Rattle.pmb_command.specs.declared.entry.Kind.TheVariants.{Raw, Linear11, Linear11Fixed, Vout, VoutSigned, Direct, Status}
+use Rattle.pmb_command.specs.declared.entry.Kind.TheVariants.{Raw, Linear11, Linear11Fixed, Vout, VoutSigned, Direct}
+use Rattle.pmb_command.specs.declared.entry.Kind.TheVariants.{Status}
 use Rattle.pmb_command.specs.Entry.{EntryParts}
 use Rattle.pmb_command.specs.Parts.{CommandParts, DeviceParts, command_with, device_with}
 use Rattle.pmb_command.specs.StatusBits.{bit_text}
@@ -77,7 +79,8 @@ status_text code (a ∷ b ∷ c ∷ bytes) = []
 abbrev pub data_text : Option Coefficients → Option ℕ → ℕ → Kind → List ℕ → List ℕ
 data_text coefficients mode code Raw bytes = []
 data_text coefficients mode code Linear11 bytes = of_word (quantity_text linear11) bytes
-data_text coefficients mode code (Linear11Fixed exponent) bytes = of_word (quantity_text (linear11_fixed exponent)) bytes
+data_text coefficients mode code (Linear11Fixed exponent) bytes =
+    of_word (quantity_text (linear11_fixed exponent)) bytes
 data_text coefficients mode code Vout bytes = of_word (vout_text mode false coefficients) bytes
 data_text coefficients mode code VoutSigned bytes = of_word (vout_text mode true coefficients) bytes
 data_text coefficients mode code (Direct d) bytes = of_word (quantity_text (direct d)) bytes
@@ -117,7 +120,8 @@ refused_text (a ∷ b ∷ bytes) false = codes "byte refused"
 module _ (profile : List DeviceParts) (modes : ℕ → Option ℕ) where
   -- what was written to a device, or read from it
   abbrev pub command_text : ℕ → ℕ → List ℕ → List ℕ
-  command_text addr code bytes = of_device (λ device entry. value_text (modes addr) device entry bytes) code (device_with addr profile)
+  command_text addr code bytes = of_device (λ device entry. value_text (modes addr) device entry bytes) code
+      (device_with addr profile)
 
   abbrev pub part_text : PartData → List ℕ
   part_text part = command_text part.addr part.code part.bytes

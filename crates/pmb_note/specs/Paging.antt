@@ -1,6 +1,7 @@
 -- PAGE and VOUT_MODE of each device (PMBus Part II 1.3 sections 11.10 and 8), as the transactions on
 -- a bus tell them.
-use Rattle.std.specs.Prelude.{ℕ, Bool, false, not, ◌||◌, if◌then◌else◌, Option, Some, None, List, [], ◌∷◌, fold, length, map, nat_eq, nat_lt, option_and_then, option_map, replicate, slice_get, slice_set}
+use Rattle.std.specs.Prelude.{ℕ, Bool, false, not, ◌||◌, if◌then◌else◌, Option, Some, None, List, [], ◌∷◌, fold, length}
+use Rattle.std.specs.Prelude.{map, nat_eq, nat_lt, option_and_then, option_map, replicate, slice_get, slice_set}
 use Rattle.std.specs.List.{list_all}
 use Rattle.pmb_command.specs.Parts.{CommandParts, DeviceParts, command_with, device_with}
 use Rattle.pmb_transaction.specs.Transaction.{PartData, TransactionData, Write, Read, Call, Refused, Alert, NoAlert}
@@ -57,7 +58,11 @@ has_paged_mode device = is_paged (command_with vout_mode_code device.commands)
 -- selected page, and nowhere where the device has no such page.
 abbrev pub with_mode : DeviceParts → ℕ → PagingData → PagingData
 with_mode device mode p =
-    if not (has_paged_mode device) || nat_eq p.page all_pages then record { page = p.page; modes = replicate (length p.modes) mode }
+    if not (has_paged_mode device) || nat_eq p.page all_pages then record {
+      page = p.page;
+      modes =
+          replicate (length p.modes) mode;
+    }
     else if nat_lt p.page (length p.modes) then record { page = p.page; modes = slice_set p.modes p.page mode }
     else p
 

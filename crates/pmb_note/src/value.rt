@@ -11,14 +11,7 @@ use crate::text::append;
 use arrayvec::ArrayVec;
 use pmb_command::{Entry, Kind};
 use pmb_table::DeviceProfile;
-use pmb_value::{Format, Linear11, vout_format};
-
-/// Whether the words of an output voltage are signed, in the linear formats of VOUT_MODE.
-#[derive(Clone, Copy, Debug, PartialEq, Eq)]
-enum Sign {
-    Unsigned,
-    Signed,
-}
+use pmb_value::{Format, Linear11, Sign, vout_format};
 
 /// Appends what a command that is written or read says: its name, and what its kind tells of the
 /// data. Where it is an output voltage, `mode` is the VOUT_MODE to read it by, if that is known.

@@ -1,5 +1,6 @@
 -- Places after a front that ends between words.
-use Rattle.std.proofs.Common.{◌≡◌, ℕ, zero, suc, ◌+◌, List, [], ◌∷◌, ◌++◌, fold, get_or, length, refl, sym, ap, ◌∙◌, arith}
+use Rattle.std.proofs.Common.{◌≡◌, ℕ, zero, suc, ◌+◌, List, [], ◌∷◌, ◌++◌, fold, get_or, length, refl, sym, ap, ◌∙◌}
+use Rattle.std.proofs.Common.{arith}
 use Rattle.std.proofs.lemmas.List.{get_or_append_left, length-append}
 use Rattle.std.proofs.lemmas.List.Sums.{fold-append}
 use Rattle.pmb_bus.specs.Text.{EndsBetween, words}
@@ -12,7 +13,8 @@ use Rattle.pmb_places.proofs.Counts.{each_counted}
 -- each word has a place
 pub counted_behind : (front text : List ℕ) → EndsBetween front → length (places_from front text) ≡ length (words text)
 counted_behind front text between =
-    let all : length (word_places front) + length (places_from front text) ≡ length (words front) + length (words text) =
+    let all : length (word_places front) + length (places_from front text)
+    ≡ length (words front) + length (words text) =
     sym (length-append (word_places front) (places_from front text))
     ∙ ap (λ (places : List Place). length places) (sym (places_from-append [] front text))
     ∙ each_counted (front ++ text)
@@ -30,7 +32,8 @@ last_at (p ∷ q ∷ rest) zero before other is = absurd (omega arith)
 last_at (p ∷ rest) (suc n) before other is = last_at rest n p other (omega arith)
 
 -- so stands the last word, whatever follows
-pub last_stands_there : (front text more : List ℕ) (n : ℕ) (other : Place) → EndsBetween front → length (words text) ≡ n + 1
+pub last_stands_there : (front text more : List ℕ) (n : ℕ) (other : Place) → EndsBetween front
+    → length (words text) ≡ n + 1
     → get_or (places_from front (text ++ more)) n other ≡ place_of_last_word (front ++ text)
 last_stands_there front text more n other between count =
     let own : length (places_from front text) ≡ n + 1 = counted_behind front text between ∙ count in

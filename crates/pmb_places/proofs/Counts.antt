@@ -1,5 +1,6 @@
 -- Each word has a place.
-use Rattle.std.proofs.Common.{◌≡◌, ℕ, ◌+◌, ◌&&◌, not, Bool, true, false, cond, List, [], ◌∷◌, ◌++◌, length, refl, sym, ap, ◌∙◌, arith}
+use Rattle.std.proofs.Common.{◌≡◌, ℕ, ◌+◌, ◌&&◌, not, Bool, true, false, cond, List, [], ◌∷◌, ◌++◌, length, refl, sym}
+use Rattle.std.proofs.Common.{ap, ◌∙◌, arith}
 use Rattle.std.specs.List.{filter}
 use Rattle.std.proofs.lemmas.List.{length-append}
 use Rattle.pmb_bus.specs.Text.{ends_in_comment, ended_words, in_comment, is_separator, is_word, open_word, words}
@@ -18,7 +19,8 @@ of_place : (found : Bool) (place : Place) → length (place_if found place ++ []
 of_place true place = refl
 of_place false place = refl
 
-places_by : (text : List ℕ) (b : ℕ) → length (word_places (text ++ b ∷ [])) ≡ length (word_places text) + one_if (begins_word text b)
+places_by : (text : List ℕ) (b : ℕ) → length (word_places (text ++ b ∷ [])) ≡ length (word_places text) + one_if
+    (begins_word text b)
 places_by text b =
     ap (λ (places : List Place). length places) (places_from-append [] text (b ∷ []))
     ∙ length-append (word_places text) (place_if (begins_word text b) (place_behind text) ++ [])
@@ -48,9 +50,11 @@ sum all ended true is = omega arith
 sum all ended false is = omega arith
 
 -- a byte of a word begins one where none is under way
-words_longer : (text : List ℕ) (b : ℕ) → Longer text b → length (words (text ++ b ∷ [])) ≡ length (words text) + one_if (not (is_word (open_word text)))
+words_longer : (text : List ℕ) (b : ℕ) → Longer text b
+    → length (words (text ++ b ∷ [])) ≡ length (words text) + one_if (not (is_word (open_word text)))
 words_longer text b longer =
-    let opened : is_word (open_word (text ++ b ∷ [])) ≡ true = ap is_word longer.opened ∙ is_word-append (open_word text) b [] in
+    let opened : is_word (open_word (text ++ b ∷ [])) ≡ true = ap is_word longer.opened
+    ∙ is_word-append (open_word text) b [] in
     let first : length (words (text ++ b ∷ [])) ≡ length (ended_words text) + 1 =
     words_of (text ++ b ∷ [])
     ∙ ap (λ (v : Bool). length (ended_words (text ++ b ∷ [])) + one_if v) opened
@@ -60,14 +64,16 @@ words_longer text b longer =
 abbrev Counted : List ℕ → Type 0
 Counted text = length (word_places text) ≡ length (words text)
 
-counted_outside : (text : List ℕ) (b : ℕ) (separates : Bool) → is_separator b ≡ separates → in_comment (ends_in_comment text) b ≡ false
+counted_outside : (text : List ℕ) (b : ℕ) (separates : Bool) → is_separator b ≡ separates
+    → in_comment (ends_in_comment text) b ≡ false
     → length (words (text ++ b ∷ [])) ≡ length (words text) + one_if (not separates && not (is_word (open_word text)))
 counted_outside text b true is outside =
     words_cut text b (cut_by text b (ap is_separator (blank_out (ends_in_comment text) b outside) ∙ is)) ∙ omega arith
 counted_outside text b false is outside = words_longer text b (longer_by text b outside is)
 
 counted_by : (text : List ℕ) (b : ℕ) (inside : Bool) → in_comment (ends_in_comment text) b ≡ inside
-    → length (words (text ++ b ∷ [])) ≡ length (words text) + one_if ((not inside && not (is_separator b)) && not (is_word (open_word text)))
+    → length (words (text ++ b ∷ [])) ≡ length (words text) + one_if
+    ((not inside && not (is_separator b)) && not (is_word (open_word text)))
 counted_by text b true is = words_cut text b (cut_by text b (comment_cuts (ends_in_comment text) b is)) ∙ omega arith
 counted_by text b false is = counted_outside text b (is_separator b) refl is
 

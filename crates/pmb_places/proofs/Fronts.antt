@@ -8,18 +8,22 @@ use Rattle.pmb_places.specs.Text.{begins_word, place_behind, place_if, places_fr
 use Rattle.pmb_places.proofs.Bytes.{places_from-append}
 
 -- the first byte of a word does not cut
-no_cut : (b : ℕ) (rest : List ℕ) (cuts : Bool) → is_separator (blank false b) ≡ cuts → is_word (front_word (b ∷ rest)) ≡ true
+no_cut : (b : ℕ) (rest : List ℕ) (cuts : Bool) → is_separator (blank false b) ≡ cuts
+    → is_word (front_word (b ∷ rest)) ≡ true
     → is_separator (blank false b) ≡ false
 no_cut b rest true is word =
-    absurd (false≢true (sym (ap (λ (runs : List (List ℕ)). is_word (first_run runs)) (runs_from-cut false b rest is)) ∙ word))
+    absurd (false≢true (sym (ap (λ (runs : List (List ℕ)). is_word (first_run runs)) (runs_from-cut false b rest is))
+    ∙ word))
 no_cut b rest false is word = is
 
 -- so it stands in no comment, and separates no words
-outside : (b : ℕ) (inside : Bool) → in_comment false b ≡ inside → is_separator (blank false b) ≡ false → in_comment false b ≡ false
+outside : (b : ℕ) (inside : Bool) → in_comment false b ≡ inside → is_separator (blank false b) ≡ false
+    → in_comment false b ≡ false
 outside b true is keeps = absurd (false≢true (sym keeps ∙ ap is_separator (blank_in false b is)))
 outside b false is keeps = is
 
-begins_there : (front : List ℕ) (b : ℕ) (rest : List ℕ) → EndsBetween front → is_word (front_word (b ∷ rest)) ≡ true → begins_word front b ≡ true
+begins_there : (front : List ℕ) (b : ℕ) (rest : List ℕ) → EndsBetween front → is_word (front_word (b ∷ rest)) ≡ true
+    → begins_word front b ≡ true
 begins_there front b rest between word =
     let keeps = no_cut b rest (is_separator (blank false b)) refl word in
     let out = outside b (in_comment false b) refl keeps in
@@ -35,5 +39,7 @@ stands_there front [] between word = absurd (false≢true word)
 stands_there front (b ∷ rest) between word = (
   places_from (front ++ b ∷ []) rest,
   places_from-append [] front (b ∷ rest)
-      ∙ ap (λ (begins : Bool). word_places front ++ (place_if begins (place_behind front) ++ places_from (front ++ b ∷ []) rest)) (begins_there front b rest between word),
+      ∙ ap (λ (begins : Bool). word_places front
+      ++ (place_if begins (place_behind front) ++ places_from (front ++ b ∷ []) rest))
+      (begins_there front b rest between word),
 )

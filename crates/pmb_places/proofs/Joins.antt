@@ -14,11 +14,13 @@ both front back first second = (
       ∙ ap (λ (inside : Bool). last_run (glue [] (runs_from inside back))) first.1
       ∙ ap last_run (glue-nil (runs back))
       ∙ second.0,
-  ends_in_comment_from-append false front back ∙ ap (λ (inside : Bool). ends_in_comment_from inside back) first.1 ∙ second.1,
+  ends_in_comment_from-append false front back ∙ ap (λ (inside : Bool). ends_in_comment_from inside back) first.1
+      ∙ second.1,
 )
 
 -- nothing is kept at their ends
-pub kept : (word : OpenWord) (text other : List ℕ) → OpenWordStandsAt word text → EndsBetween text → EndsBetween other → OpenWordStandsAt word other
+pub kept : (word : OpenWord) (text other : List ℕ) → OpenWordStandsAt word text → EndsBetween text → EndsBetween other
+    → OpenWordStandsAt word other
 kept word text other stands here there = record {
   bytes = stands.bytes ∙ ap (take 32) (here.0 ∙ sym there.0);
   comment = stands.comment ∙ here.1 ∙ sym there.1;

@@ -1,6 +1,7 @@
 -- The rest of a line: the canonical text of events up to STOP, after a text that ends between
 -- words.
-use Rattle.std.proofs.Common.{◌≡◌, ℕ, suc, ◌+◌, ◌-◌, ◌<◌, ◌/◌, ◌%◌, Bool, false, List, [], ◌∷◌, ◌++◌, fold, length, slice_index, append_assoc, length-append, refl, subst, sym, ap, ◌∙◌, arith}
+use Rattle.std.proofs.Common.{◌≡◌, ℕ, suc, ◌+◌, ◌-◌, ◌<◌, ◌/◌, ◌%◌, Bool, false, List, [], ◌∷◌, ◌++◌, fold, length}
+use Rattle.std.proofs.Common.{slice_index, append_assoc, length-append, refl, subst, sym, ap, ◌∙◌, arith}
 use Rattle.std.specs.List.{Contains}
 use Rattle.std.proofs.lemmas.Bool.{ne_eqb}
 use Rattle.std.proofs.lemmas.Grind.{flat_map-append}
@@ -13,7 +14,7 @@ use Rattle.pmb_bus.specs.Event.{AreBytes, canonical_text, text_of}
 use Rattle.pmb_bus.specs.Text.{EndsBetween, in_comment, is_separator, is_word}
 use Rattle.pmb_bus.proofs.Tokens.{digit_goes_on}
 use Rattle.pmb_bus.proofs.Words.{word_byte}
-use Rattle.pmb_places.specs.declared.places.Inside.TheVariants.{Between}
+use Rattle.pmb_places.specs.declared.places.TextState.TheVariants.{Between}
 use Rattle.pmb_places.specs.declared.places.Place.{Place}
 use Rattle.pmb_places.specs.declared.places.Places.{Places}
 use Rattle.pmb_places.specs.Bounds.{IsInRange}
@@ -37,7 +38,13 @@ further_twice place n m =
     ap (λ (k : ℕ). record { line = place.line; column = k }) same
 
 further_in_range : (place : Place) (n : ℕ) → IsInRange place → IsInRange (further_along place n)
-further_in_range place n is = record { some_line = is.some_line; line = is.line; some_column = omega (arith, is.some_column); column = omega arith }
+further_in_range place n is = record {
+  some_line = is.some_line;
+  line = is.line;
+  some_column =
+      omega (arith, is.some_column);
+  column = omega arith;
+}
 
 -- bytes that end between words, none of them LF
 record IsInLine (bytes : List ℕ) : Type 0 where
@@ -62,13 +69,18 @@ both_in_line front back first second = record {
 
 -- a letter and a space
 letter_in_line : (a : ℕ) → EndsBetween (a ∷ 32 ∷ []) → (a ≡ 10 → ⊥) → IsInLine (a ∷ 32 ∷ [])
-letter_in_line a between other = record { between = between; places = λ place is. rw (ne_eqb a 10 other) (further_twice place 1 1) }
+letter_in_line a between other = record {
+  between = between;
+  places =
+      λ place is. rw (ne_eqb a 10 other) (further_twice place 1 1);
+}
 
 -- two digits and a space
 no_line : (a : ℕ) → is_separator a ≡ false → a ≡ 10 → ⊥
 no_line a keeps is = cc (keeps, ap is_separator is)
 
-digits_in_line : (a b : ℕ) → in_comment false a ≡ false → in_comment false b ≡ false → is_separator a ≡ false → is_separator b ≡ false → IsInLine (a ∷ b ∷ 32 ∷ [])
+digits_in_line : (a b : ℕ) → in_comment false a ≡ false → in_comment false b ≡ false → is_separator a ≡ false
+    → is_separator b ≡ false → IsInLine (a ∷ b ∷ 32 ∷ [])
 digits_in_line a b out_a out_b keeps_a keeps_b = record {
   between = (
     ended_by_separator (a ∷ b ∷ []) 32 refl,
@@ -97,20 +109,30 @@ none_in_rest event events none (k, within, is) = none (suc k, omega (arith, with
 in_line : (events : List Event) → AreBytes events → (Contains events Stop → ⊥) → IsInLine (canonical_text events)
 in_line [] small none = none_in_line
 in_line (Start ∷ events) small none =
-    both_in_line (text_of Start) (canonical_text events) (letter_in_line 83 (refl, refl) (λ is. omega (arith, is))) (in_line events small (none_in_rest Start events none))
+    both_in_line (text_of Start) (canonical_text events) (letter_in_line 83 (refl, refl) (λ is. omega (arith, is)))
+    (in_line events small (none_in_rest Start events none))
 in_line (Byte b ∷ events) small none =
-    both_in_line (text_of (Byte b)) (canonical_text events) (byte_in_line b small.0) (in_line events small.1 (none_in_rest (Byte b) events none))
+    both_in_line (text_of (Byte b)) (canonical_text events) (byte_in_line b small.0)
+    (in_line events small.1 (none_in_rest (Byte b) events none))
 in_line (Ack ∷ events) small none =
-    both_in_line (text_of Ack) (canonical_text events) (letter_in_line 65 (refl, refl) (λ is. omega (arith, is))) (in_line events small (none_in_rest Ack events none))
+    both_in_line (text_of Ack) (canonical_text events) (letter_in_line 65 (refl, refl) (λ is. omega (arith, is)))
+    (in_line events small (none_in_rest Ack events none))
 in_line (Nack ∷ events) small none =
-    both_in_line (text_of Nack) (canonical_text events) (letter_in_line 78 (refl, refl) (λ is. omega (arith, is))) (in_line events small (none_in_rest Nack events none))
+    both_in_line (text_of Nack) (canonical_text events) (letter_in_line 78 (refl, refl) (λ is. omega (arith, is)))
+    (in_line events small (none_in_rest Nack events none))
 in_line (Stop ∷ events) small none = absurd (none (0, omega arith, refl))
 
 -- ---- the last word and LF
 
 -- what stands between words after a text
 abbrev between_words : List ℕ → Places
-between_words text = record { here = place_behind text; word = place_of_last_word text; end = end_of_last_word text; inside = Between }
+between_words text = record {
+  here = place_behind text;
+  word = place_of_last_word text;
+  end =
+      end_of_last_word text;
+  inside = Between;
+}
 
 stands_between : (text : List ℕ) → EndsBetween text → PlacesStandAt (between_words text) text
 stands_between text between = record {
@@ -121,17 +143,21 @@ stands_between text between = record {
   in_word = sym (ap is_word between.0);
 }
 
-stop_behind : (text : List ℕ) → EndsBetween text → PlacesStandAt (behind_line (place_behind text)) (text ++ 80 ∷ 10 ∷ [])
+stop_behind : (text : List ℕ) → EndsBetween text
+    → PlacesStandAt (behind_line (place_behind text)) (text ++ 80 ∷ 10 ∷ [])
 stop_behind text between =
-    subst (λ (given : List ℕ). PlacesStandAt (behind_line (place_behind text)) given) (append_assoc text (80 ∷ []) (10 ∷ []))
+    subst (λ (given : List ℕ). PlacesStandAt (behind_line (place_behind text)) given)
+    (append_assoc text (80 ∷ []) (10 ∷ []))
     (stands_after _ (text ++ 80 ∷ []) 10 (stands_after (between_words text) text 80 (stands_between text between)))
 
 -- ---- all of it
 
 line_length : (events : List Event) → length (canonical_text (events ++ Stop ∷ [])) ≡ length (canonical_text events) + 2
-line_length events = ap (λ (text : List ℕ). length text) (flat_map-append text_of events (Stop ∷ [])) ∙ length-append (canonical_text events) (80 ∷ 10 ∷ [])
+line_length events = ap (λ (text : List ℕ). length text) (flat_map-append text_of events (Stop ∷ []))
+    ∙ length-append (canonical_text events) (80 ∷ 10 ∷ [])
 
-pub stands_behind_line : (here : Place) (text : List ℕ) (events : List Event) (bytes front : ℕ) → here ≡ place_behind text → EndsBetween text → AreBytes events
+pub stands_behind_line : (here : Place) (text : List ℕ) (events : List Event) (bytes front : ℕ)
+    → here ≡ place_behind text → EndsBetween text → AreBytes events
     → (Contains events Stop → ⊥) → bytes ≡ length (canonical_text (events ++ Stop ∷ [])) → front ≡ bytes - 2
     → PlacesStandAt (behind_line (further_along here front)) (text ++ canonical_text (events ++ Stop ∷ []))
 stands_behind_line here text events bytes front is between small none all rest =
@@ -145,5 +171,6 @@ stands_behind_line here text events bytes front is between small none all rest =
     ∙ ap (λ (place : Place). further_along place front) (sym is) in
     subst (λ (place : Place). PlacesStandAt (behind_line place) (text ++ canonical_text (events ++ Stop ∷ []))) there
     (subst (λ (given : List ℕ). PlacesStandAt (behind_line (place_behind behind)) given)
-    (append_assoc text (canonical_text events) (80 ∷ 10 ∷ []) ∙ ap (λ (rest : List ℕ). text ++ rest) (sym (flat_map-append text_of events (Stop ∷ []))))
+    (append_assoc text (canonical_text events) (80 ∷ 10 ∷ []) ∙ ap (λ (rest : List ℕ). text ++ rest)
+    (sym (flat_map-append text_of events (Stop ∷ []))))
     (stop_behind behind (both text (canonical_text events) between line.between)))

@@ -47,7 +47,8 @@ word_places text = places_from [] text
 -- after some text, the place after each byte of a word
 abbrev pub ends_from : List ℕ → List ℕ → List Place
 ends_from front [] = []
-ends_from front (b ∷ rest) = place_if (is_in_word front b) (place_behind (front ++ b ∷ [])) ++ ends_from (front ++ b ∷ []) rest
+ends_from front (b ∷ rest) = place_if (is_in_word front b) (place_behind (front ++ b ∷ []))
+    ++ ends_from (front ++ b ∷ []) rest
 
 -- the last one; that of a text's first byte where there is none
 abbrev pub last_place : List Place → Place

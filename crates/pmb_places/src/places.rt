@@ -66,24 +66,24 @@ impl Place {
 
 /// What the last byte stands in.
 #[derive(Clone, Copy)]
-enum Inside {
+enum TextState {
     /// Neither a word nor a comment, or no byte came.
     Between,
     Word,
     Comment,
 }
 
-impl Inside {
+impl TextState {
     // What a byte stands in, after one that stands in this.
     #[inline]
-    fn behind(self, byte: u8) -> Inside
+    fn behind(self, byte: u8) -> TextState
         ensures { result ≡ inside_behind self byte }
     {
         match (self, byte) {
-            (Inside::Comment, b'\n') => Inside::Between,
-            (Inside::Comment, _) | (_, b'#') => Inside::Comment,
-            (_, b' ' | b'\t' | b'\n' | b'\r') => Inside::Between,
-            _ => Inside::Word,
+            (TextState::Comment, b'\n') => TextState::Between,
+            (TextState::Comment, _) | (_, b'#') => TextState::Comment,
+            (_, b' ' | b'\t' | b'\n' | b'\r') => TextState::Between,
+            _ => TextState::Word,
         }
     }
 }
@@ -96,7 +96,7 @@ pub struct Places {
     /// Of the first byte of the last word, and of the byte after its last one.
     word: Place,
     end: Place,
-    inside: Inside,
+    inside: TextState,
 }
 
 impl Places {
@@ -109,7 +109,7 @@ impl Places {
             here: first,
             word: first,
             end: first,
-            inside: Inside::Between,
+            inside: TextState::Between,
         }
     }
 
@@ -140,8 +140,8 @@ impl Places {
         ensures { (text : List ℕ) → PlacesStandAt self.old text → PlacesStandAt self.new (text ++ bytes.now) }
     {
         match (self.inside, short_word(bytes)) {
-            (Inside::Between, ShortWord::One) => self.take_word(self.here.beside()),
-            (Inside::Between, ShortWord::Two) => self.take_word(self.here.beside().beside()),
+            (TextState::Between, ShortWord::One) => self.take_word(self.here.beside()),
+            (TextState::Between, ShortWord::Two) => self.take_word(self.here.beside().beside()),
             _ => self.take_each(bytes),
         }
     }
@@ -166,7 +166,7 @@ impl Places {
         self.word = word;
         self.end = word.beside();
         self.here = self.end.after(b'\n');
-        self.inside = Inside::Between;
+        self.inside = TextState::Between;
     }
 
     /// Takes a word of this line that ends at `end`, and one space.
@@ -177,7 +177,7 @@ impl Places {
         self.word = self.here;
         self.end = end;
         self.here = end.beside();
-        self.inside = Inside::Between;
+        self.inside = TextState::Between;
     }
 
     /// Takes bytes one after the other.
@@ -195,8 +195,8 @@ impl Places {
     {
         let here = self.here.after(byte);
         let inside = self.inside.behind(byte);
-        if let Inside::Word = inside {
-            if let Inside::Between | Inside::Comment = self.inside {
+        if let TextState::Word = inside {
+            if let TextState::Between | TextState::Comment = self.inside {
                 self.word = self.here;
             }
             self.end = here;

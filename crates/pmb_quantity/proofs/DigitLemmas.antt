@@ -1,5 +1,6 @@
 -- Digits in texts.
-use Rattle.std.proofs.Common.{◌≡◌, ◌≢◌, ℕ, zero, suc, ◌+◌, ◌-◌, ◌<◌, ◌≤◌, Bool, true, false, cond, ◌&&◌, ◌==◌, List, [], ◌∷◌, length, take, drop, get_or, Some, None, refl, sym, ap, ◌∙◌, subst, arith}
+use Rattle.std.proofs.Common.{◌≡◌, ◌≢◌, ℕ, zero, suc, ◌+◌, ◌-◌, ◌<◌, ◌≤◌, Bool, true, false, cond, ◌&&◌, ◌==◌, List, []}
+use Rattle.std.proofs.Common.{◌∷◌, length, take, drop, get_or, Some, None, refl, sym, ap, ◌∙◌, subst, arith}
 use Rattle.std.specs.Char.{is_ascii_digit, digit_value}
 use Rattle.std.specs.List.{prefix_len, list_all}
 use Rattle.std.specs.Str.Parse.{AllDigits}
@@ -28,7 +29,9 @@ AllDigits-from_test (d ∷ ds) passes =
     (digit_of_test d parts.0, AllDigits-from_test ds parts.1)
 
 -- one digit more
-prefix_step : (c : ℕ) (cs : List ℕ) (b : Bool) → is_ascii_digit c ≡ b → AllDigits 10 (take (prefix_len is_ascii_digit cs) cs) → AllDigits 10 (take (cond b (1 + prefix_len is_ascii_digit cs) 0) (c ∷ cs))
+prefix_step : (c : ℕ) (cs : List ℕ) (b : Bool) → is_ascii_digit c ≡ b
+    → AllDigits 10 (take (prefix_len is_ascii_digit cs) cs)
+    → AllDigits 10 (take (cond b (1 + prefix_len is_ascii_digit cs) 0) (c ∷ cs))
 prefix_step c cs false fails digits = tt
 prefix_step c cs true passes digits =
     let one : 1 + prefix_len is_ascii_digit cs ≡ suc (prefix_len is_ascii_digit cs) = omega arith in
@@ -48,20 +51,24 @@ pub parts-no_front : (front rest : List ℕ) → length front ≡ 0 → numeral_
 parts-no_front [] rest none = refl
 parts-no_front (d ∷ ds) rest none = absurd (omega arith)
 
-pub parts-no_rest : (front rest : List ℕ) → length front ≢ 0 → length rest < 1 → numeral_parts front rest ≡ Some (point front rest)
+pub parts-no_rest : (front rest : List ℕ) → length front ≢ 0 → length rest < 1
+    → numeral_parts front rest ≡ Some (point front rest)
 parts-no_rest [] rest some short = absurd (some refl)
 parts-no_rest (d ∷ ds) [] some short = refl
 parts-no_rest (d ∷ ds) (mark ∷ back) some short = absurd (omega arith)
 
-pub parts-marked : (front rest : List ℕ) → length front ≢ 0 → 1 ≤ length rest → numeral_parts front rest ≡ cond (are_digits (drop 1 rest)) (marked (get_or rest 0 0) front (drop 1 rest)) None
+pub parts-marked : (front rest : List ℕ) → length front ≢ 0 → 1 ≤ length rest
+    → numeral_parts front rest ≡ cond (are_digits (drop 1 rest)) (marked (get_or rest 0 0) front (drop 1 rest)) None
 parts-marked [] rest some long = absurd (some refl)
 parts-marked (d ∷ ds) [] some long = absurd (omega arith)
 parts-marked (d ∷ ds) (mark ∷ back) some long = refl
 
-pub numeral_of-parts : (text : List ℕ) (len : ℕ) (front rest : List ℕ) → len ≡ prefix_len is_ascii_digit text → front ≡ take len text → rest ≡ drop len text → numeral_of text ≡ numeral_parts front rest
+pub numeral_of-parts : (text : List ℕ) (len : ℕ) (front rest : List ℕ) → len ≡ prefix_len is_ascii_digit text
+    → front ≡ take len text → rest ≡ drop len text → numeral_of text ≡ numeral_parts front rest
 unfolding numeral_of
 numeral_of-parts text len front rest len_is front_is rest_is =
-    let by_len : numeral_of text ≡ numeral_parts (take len text) (drop len text) = ap (λ n. numeral_parts (take n text) (drop n text)) (sym len_is) in
+    let by_len : numeral_of text ≡ numeral_parts (take len text) (drop len text) =
+    ap (λ n. numeral_parts (take n text) (drop n text)) (sym len_is) in
     by_len ∙ ap (λ f. numeral_parts f (drop len text)) (sym front_is) ∙ ap (numeral_parts front) (sym rest_is)
 
 -- what a test for 0 says where it fails and where it passes
@@ -82,7 +89,8 @@ pub digits_of_test : (ds : List ℕ) → are_digits ds ≡ true → AllDigits 10
 digits_of_test [] passes = absurd (false≢true passes)
 digits_of_test (d ∷ ds) passes = AllDigits-from_test (d ∷ ds) passes
 
-pub AllDigits-front : (text : List ℕ) (len : ℕ) (front : List ℕ) → len ≡ prefix_len is_ascii_digit text → front ≡ take len text → AllDigits 10 front
+pub AllDigits-front : (text : List ℕ) (len : ℕ) (front : List ℕ) → len ≡ prefix_len is_ascii_digit text
+    → front ≡ take len text → AllDigits 10 front
 AllDigits-front text len front len_is front_is =
     subst (AllDigits 10) (sym (front_is ∙ ap (λ n. take n text) len_is)) (AllDigits-prefix text)
 

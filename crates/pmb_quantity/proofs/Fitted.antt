@@ -1,5 +1,6 @@
 -- When a fraction is a quantity.
-use Rattle.std.proofs.Common.{◌≡◌, ℕ, zero, suc, Bool, true, false, cond, ◌&&◌, ◌/◌, ◌^◌, ◌<◌, ◌≤◌, nat_lt, ℤ, pos, negsuc, neg_ℤ, unsigned_abs, Ok, Err, refl, sym, ◌∙◌, ap, arith}
+use Rattle.std.proofs.Common.{◌≡◌, ℕ, zero, suc, Bool, true, false, cond, ◌&&◌, ◌/◌, ◌^◌, ◌<◌, ◌≤◌, nat_lt, ℤ, pos}
+use Rattle.std.proofs.Common.{negsuc, neg_ℤ, unsigned_abs, Ok, Err, refl, sym, ◌∙◌, ap, arith}
 use Rattle.std.proofs.Math.Nat.{zero-div}
 use Rattle.std.proofs.lemmas.Bool.Decides.{nat_tests}
 use Rattle.pmb_quantity.specs.declared.quantity.QuantityFault.TheVariants.{TooLarge}
@@ -17,7 +18,8 @@ fitted-denominator q large = grind (arith, nat_tests)
 
 -- the same of lowest terms, by the two quotients
 module _ (n d : ℕ) where
-  pub lowest-fits : n / gcd n d < 2 ^ 62 → d / gcd n d < 2 ^ 62 → fitted (lowest_terms (pos n) d) ≡ Ok (record { numerator = pos (n / gcd n d); denominator = d / gcd n d })
+  pub lowest-fits : n / gcd n d < 2 ^ 62 → d / gcd n d < 2 ^ 62
+      → fitted (lowest_terms (pos n) d) ≡ Ok (record { numerator = pos (n / gcd n d); denominator = d / gcd n d })
   lowest-fits n_fits d_fits =
       fitted-fits (record { numerator = pos (n / gcd n d); denominator = d / gcd n d }) n_fits d_fits
 
@@ -35,17 +37,21 @@ unsigned_abs-neg (pos zero) = refl
 unsigned_abs-neg (pos (suc n)) = refl
 unsigned_abs-neg (negsuc n) = refl
 
-negated-cond : (b : Bool) (q : Fraction) → negated (cond b (Ok q) (Err TooLarge)) ≡ cond b (Ok (negative q)) (Err TooLarge)
+negated-cond : (b : Bool) (q : Fraction) → negated (cond b (Ok q) (Err TooLarge))
+    ≡ cond b (Ok (negative q)) (Err TooLarge)
 negated-cond true q = refl
 negated-cond false q = refl
 
 pub negated-fitted : (q : Fraction) → negated (fitted q) ≡ fitted (negative q)
 negated-fitted q =
-    negated-cond (nat_lt (unsigned_abs q.numerator) (2 ^ 62) && nat_lt q.denominator (2 ^ 62)) q ∙ ap (λ n. cond (nat_lt n (2 ^ 62) && nat_lt q.denominator (2 ^ 62)) (Ok (negative q)) (Err TooLarge)) (sym (unsigned_abs-neg q.numerator))
+    negated-cond (nat_lt (unsigned_abs q.numerator) (2 ^ 62) && nat_lt q.denominator (2 ^ 62)) q
+    ∙ ap (λ n. cond (nat_lt n (2 ^ 62) && nat_lt q.denominator (2 ^ 62)) (Ok (negative q)) (Err TooLarge))
+    (sym (unsigned_abs-neg q.numerator))
 
 pub lowest_terms-negative : (n d : ℕ) → negative (lowest_terms (pos n) d) ≡ lowest_terms (neg_ℤ (pos n)) d
 lowest_terms-negative zero d =
-    ap (λ x. record { numerator = x; denominator = d / gcd 0 d }) (ap (λ x. neg_ℤ (pos x)) (zero-div (gcd 0 d)) ∙ ap pos (sym (zero-div (gcd 0 d))))
+    ap (λ x. record { numerator = x; denominator = d / gcd 0 d })
+    (ap (λ x. neg_ℤ (pos x)) (zero-div (gcd 0 d)) ∙ ap pos (sym (zero-div (gcd 0 d))))
 lowest_terms-negative (suc n) d = refl
 
 pub negated-lowest : (n d : ℕ) → negated (fitted (lowest_terms (pos n) d)) ≡ fitted (lowest_terms (neg_ℤ (pos n)) d)

@@ -1,11 +1,14 @@
 -- The greatest common divisor and lowest terms.
-use Rattle.std.proofs.Common.{◌≡◌, ℕ, zero, suc, inl, inr, Bool, true, false, cond, ◌==◌, ◌&&◌, ◌+◌, ◌*◌, ◌/◌, ◌%◌, ◌^◌, ◌<◌, ◌≤◌, pos, unsigned_abs, refl, sym, ap, ◌∙◌, subst, arith, eq-eqb}
+use Rattle.std.proofs.Common.{◌≡◌, ℕ, zero, suc, inl, inr, Bool, true, false, cond, ◌==◌, ◌&&◌, ◌+◌, ◌*◌, ◌/◌, ◌%◌, ◌^◌}
+use Rattle.std.proofs.Common.{◌<◌, ◌≤◌, pos, unsigned_abs, refl, sym, ap, ◌∙◌, subst, arith, eq-eqb}
 use Rattle.std.specs.Int.{IsGcd, ◌∣◌}
 use Rattle.std.proofs.lemmas.Bool.{cases_Bool, cases_eq, false≢true}
 use Rattle.std.proofs.lemmas.Bool.Decides.{nat_tests}
 use Rattle.std.proofs.lemmas.Nat.{mod_below, div-add-mod', mod-mul-add}
-use Rattle.std.proofs.Math.Nat.{zero-mul, mul-lt-mul_of_pos_right, div-mul_cancel, mul-div_cancel, eq-zero_of_zero-dvd, eq-one_of_dvd-one, one-dvd, dvd-mul_right}
-use Rattle.std.proofs.lemmas.Nat.Gcd.{IsGcd-from_zero, IsGcd-from_mod, IsGcd-swap, same_from_IsGcd, dvd_trans, dvd_of_mod-eq-zero, mod-eq-zero_of_dvd, le_of_dvd}
+use Rattle.std.proofs.Math.Nat.{zero-mul, mul-lt-mul_of_pos_right, div-mul_cancel, mul-div_cancel, eq-zero_of_zero-dvd}
+use Rattle.std.proofs.Math.Nat.{eq-one_of_dvd-one, one-dvd, dvd-mul_right}
+use Rattle.std.proofs.lemmas.Nat.Gcd.{IsGcd-from_zero, IsGcd-from_mod, IsGcd-swap, same_from_IsGcd, dvd_trans}
+use Rattle.std.proofs.lemmas.Nat.Gcd.{dvd_of_mod-eq-zero, mod-eq-zero_of_dvd, le_of_dvd}
 use Rattle.pmb_quantity.specs.Fraction.{Fraction, common_divisor, gcd, IsLowest, IsQuantity}
 
 -- ---- there is a greatest common divisor: Euclid's division finds it, in so many turns
@@ -19,7 +22,8 @@ IsGcd-euclid : (t a b : ℕ) → b < t → IsGcd a b (euclid t a b)
 unfolding euclid
 IsGcd-euclid zero a b few = absurd (omega arith)
 IsGcd-euclid (suc t) a zero few = IsGcd-from_zero a 0 refl
-IsGcd-euclid (suc t) a (suc b) few = IsGcd-from_mod a (suc b) (euclid t (suc b) (a % suc b)) (IsGcd-euclid t (suc b) (a % suc b) (omega arith))
+IsGcd-euclid (suc t) a (suc b) few = IsGcd-from_mod a (suc b) (euclid t (suc b) (a % suc b))
+    (IsGcd-euclid t (suc b) (a % suc b) (omega arith))
 
 -- ---- the search for the greatest common divisor finds the same
 -- the test of one number
@@ -35,7 +39,8 @@ both_of_test a b k passes =
 test_of_both : (a b k : ℕ) → k ∣ a → k ∣ b → divides_both a b k ≡ true
 unfolding divides_both
 test_of_both a b k of_a of_b =
-    ap (λ t. t && b % k == 0) (eq-eqb (a % k) 0 (mod-eq-zero_of_dvd k of_a)) ∙ eq-eqb (b % k) 0 (mod-eq-zero_of_dvd k of_b)
+    ap (λ t. t && b % k == 0) (eq-eqb (a % k) 0 (mod-eq-zero_of_dvd k of_a))
+    ∙ eq-eqb (b % k) 0 (mod-eq-zero_of_dvd k of_b)
 
 found_here : (n a b : ℕ) → divides_both a b (suc n) ≡ true → common_divisor (suc n) a b ≡ suc n
 unfolding divides_both
@@ -92,7 +97,8 @@ module _ (a b : ℕ) where
       ] in
       let at_least : g ≤ common_divisor (a + b) a b = found_greatest (a + b) a b g g_some g_small is.0 is.1 in
       let divides = found_divides (a + b) a b (omega arith) in
-      let at_most : common_divisor (a + b) a b ≤ g = le_of_dvd g_some (is.2 (common_divisor (a + b) a b) divides.0 divides.1) in
+      let at_most : common_divisor (a + b) a b ≤ g =
+      le_of_dvd g_some (is.2 (common_divisor (a + b) a b) divides.0 divides.1) in
       omega arith
 
 pub IsGcd-gcd : (a b : ℕ) → IsGcd a b (gcd a b)
@@ -136,11 +142,13 @@ mod-scale a b k positive factor =
 -- a common factor comes out
 scale_turns : (t a b k : ℕ) → b < t → 0 < k → gcd (a * k) (b * k) ≡ gcd a b * k
 scale_turns zero a b k few positive = absurd (omega arith)
-scale_turns (suc t) a zero k few positive = ap (gcd (a * k)) (zero-mul k) ∙ gcd_of_zero (a * k) ∙ ap (λ g. g * k) (sym (gcd_of_zero a))
+scale_turns (suc t) a zero k few positive = ap (gcd (a * k)) (zero-mul k) ∙ gcd_of_zero (a * k)
+    ∙ ap (λ g. g * k) (sym (gcd_of_zero a))
 scale_turns (suc t) a (suc b) k few positive =
     let whole : 0 < suc b * k = omega (arith, mul-lt-mul_of_pos_right {m = 0} {n = suc b} (omega arith) positive) in
     let rest : (a * k) % (suc b * k) ≡ a % suc b * k = mod-scale a (suc b) k (omega arith) positive in
-    gcd_step (a * k) (suc b * k) whole ∙ ap (gcd (suc b * k)) rest ∙ scale_turns t (suc b) (a % suc b) k (omega arith) positive ∙ ap (λ g. g * k) (sym (gcd_step a (suc b) (omega arith)))
+    gcd_step (a * k) (suc b * k) whole ∙ ap (gcd (suc b * k)) rest ∙ scale_turns t (suc b) (a % suc b) k
+    (omega arith) positive ∙ ap (λ g. g * k) (sym (gcd_step a (suc b) (omega arith)))
 
 pub gcd-scale : (a b k : ℕ) → 0 < k → gcd (a * k) (b * k) ≡ gcd a b * k
 gcd-scale a b k positive = scale_turns (suc b) a b k (omega arith) positive
@@ -152,7 +160,8 @@ gcd-quotients a b positive =
     let g_positive : 0 < g = gcd_positive a b positive in
     let a_is : a / g * g ≡ a = div-mul_cancel g (IsGcd-gcd a b).0 in
     let b_is : b / g * g ≡ b = div-mul_cancel g (IsGcd-gcd a b).1 in
-    let scaled : gcd (a / g) (b / g) * g ≡ 1 * g = sym (gcd-scale (a / g) (b / g) g g_positive) ∙ ap (λ x. gcd x (b / g * g)) a_is ∙ ap (gcd a) b_is ∙ omega arith in
+    let scaled : gcd (a / g) (b / g) * g ≡ 1 * g = sym (gcd-scale (a / g) (b / g) g g_positive)
+    ∙ ap (λ x. gcd x (b / g * g)) a_is ∙ ap (gcd a) b_is ∙ omega arith in
     sym (mul-div_cancel (gcd (a / g) (b / g)) g_positive) ∙ ap (λ n. n / g) scaled ∙ mul-div_cancel 1 g_positive
 
 -- what divides a positive number goes into it at least once
@@ -168,7 +177,8 @@ pub lowest_of_gcd : (q : Fraction) → gcd (unsigned_abs q.numerator) q.denomina
 unfolding IsLowest
 lowest_of_gcd q one k of_numerator of_denominator =
     let P : ℕ → Type 0 = λ g. k ∣ g in
-    eq-one_of_dvd-one (subst P one ((IsGcd-gcd (unsigned_abs q.numerator) q.denominator).2 k of_numerator of_denominator))
+    eq-one_of_dvd-one (subst P one ((IsGcd-gcd (unsigned_abs q.numerator) q.denominator).2 k of_numerator
+    of_denominator))
 
 pub gcd_of_lowest : (q : Fraction) → IsLowest q → gcd (unsigned_abs q.numerator) q.denominator ≡ 1
 unfolding IsLowest
@@ -177,12 +187,14 @@ gcd_of_lowest q lowest =
     lowest (gcd (unsigned_abs q.numerator) q.denominator) is.0 is.1
 
 -- lowest terms that fit are a quantity
-pub IsQuantity-quotients : (n d : ℕ) → 0 < d → n / gcd n d < 2 ^ 62 → d / gcd n d < 2 ^ 62 → IsQuantity (record { numerator = pos (n / gcd n d); denominator = d / gcd n d })
+pub IsQuantity-quotients : (n d : ℕ) → 0 < d → n / gcd n d < 2 ^ 62 → d / gcd n d < 2 ^ 62
+    → IsQuantity (record { numerator = pos (n / gcd n d); denominator = d / gcd n d })
 IsQuantity-quotients n d positive n_fits d_fits = record {
   numerator_fits = n_fits;
   denominator_fits = d_fits;
   positive = quotient_positive d (gcd n d) positive (IsGcd-gcd n d).1;
-  lowest = lowest_of_gcd (record { numerator = pos (n / gcd n d); denominator = d / gcd n d }) (gcd-quotients n d positive);
+  lowest = lowest_of_gcd (record { numerator = pos (n / gcd n d); denominator = d / gcd n d })
+      (gcd-quotients n d positive);
 }
 
 -- ---- numbers without a common divisor

@@ -1,5 +1,6 @@
 -- The laws.
-use Rattle.std.proofs.Common.{◌≡◌, ℕ, suc, ◌*◌, ◌/◌, ◌<◌, ℤ, pos, negsuc, neg_ℤ, ◌*ℤ◌, unsigned_abs, int_div, refl, sym, ap, ◌∙◌, subst}
+use Rattle.std.proofs.Common.{◌≡◌, ℕ, suc, ◌*◌, ◌/◌, ◌<◌, ℤ, pos, negsuc, neg_ℤ, ◌*ℤ◌, unsigned_abs, int_div, refl, sym}
+use Rattle.std.proofs.Common.{ap, ◌∙◌, subst}
 use Rattle.std.proofs.Math.Nat.{div-mul_cancel, mul_assoc, mul_comm, dvd-mul_left, dvd-mul_right}
 use Rattle.std.proofs.Math.IntN.{*ℤ_comm}
 use Rattle.std.proofs.lemmas.Nat.Gcd.{dvd_antisymm}
@@ -8,21 +9,27 @@ use Rattle.pmb_quantity.specs.Fraction.{Fraction, HasValue, IsLowest, gcd, lowes
 use Rattle.pmb_quantity.proofs.Fitted.{unsigned_abs-neg}
 use Rattle.pmb_quantity.specs.Laws.{AreLowestTerms}
 use Rattle.pmb_quantity.proofs.Scaling.{neg-scale, unscale_eq, scale-swap}
-use Rattle.pmb_quantity.proofs.FractionLemmas.{IsGcd-gcd, gcd-quotients, gcd_of_lowest, lowest_of_gcd, quotient_positive, divides_other}
+use Rattle.pmb_quantity.proofs.FractionLemmas.{IsGcd-gcd, gcd-quotients, gcd_of_lowest, lowest_of_gcd}
+use Rattle.pmb_quantity.proofs.FractionLemmas.{quotient_positive, divides_other}
 
 -- both products are one multiple of the two quotients
 cross : (m d g : ℕ) → g ∣ m → g ∣ d → m / g * d ≡ d / g * m
 cross m d g of_m of_d =
-    ap (λ x. m / g * x) (sym (div-mul_cancel g of_d)) ∙ sym (mul_assoc (m / g) (d / g) g) ∙ ap (λ x. x * g) (mul_comm (m / g) (d / g)) ∙ mul_assoc (d / g) (m / g) g ∙ ap (λ x. d / g * x) (div-mul_cancel g of_m)
+    ap (λ x. m / g * x) (sym (div-mul_cancel g of_d)) ∙ sym (mul_assoc (m / g) (d / g) g)
+    ∙ ap (λ x. x * g) (mul_comm (m / g) (d / g)) ∙ mul_assoc (d / g) (m / g) g
+    ∙ ap (λ x. d / g * x) (div-mul_cancel g of_m)
 
 -- lowest terms have the value
-pub lowest_terms-same : (n : ℤ) (d : ℕ) → (lowest_terms n d).numerator *ℤ pos d ≡ pos (lowest_terms n d).denominator *ℤ n
+pub lowest_terms-same : (n : ℤ) (d : ℕ) → (lowest_terms n d).numerator *ℤ pos d
+    ≡ pos (lowest_terms n d).denominator *ℤ n
 lowest_terms-same (pos m) d = ap pos (cross m d (gcd m d) (IsGcd-gcd m d).0 (IsGcd-gcd m d).1)
 lowest_terms-same (negsuc m) d =
-    neg-scale (suc m / gcd (suc m) d) d ∙ ap (λ x. neg_ℤ (pos x)) (cross (suc m) d (gcd (suc m) d) (IsGcd-gcd (suc m) d).0 (IsGcd-gcd (suc m) d).1)
+    neg-scale (suc m / gcd (suc m) d) d ∙ ap (λ x. neg_ℤ (pos x))
+    (cross (suc m) d (gcd (suc m) d) (IsGcd-gcd (suc m) d).0 (IsGcd-gcd (suc m) d).1)
 
 pub lowest_terms-positive : (n : ℤ) (d : ℕ) → 0 < d → 0 < (lowest_terms n d).denominator
-lowest_terms-positive n d positive = quotient_positive d (gcd (unsigned_abs n) d) positive (IsGcd-gcd (unsigned_abs n) d).1
+lowest_terms-positive n d positive = quotient_positive d (gcd (unsigned_abs n) d) positive
+    (IsGcd-gcd (unsigned_abs n) d).1
 
 pub int_div-abs : (n : ℤ) (g : ℕ) → unsigned_abs (int_div n (pos g)) ≡ unsigned_abs n / g
 int_div-abs (pos m) g = refl
@@ -31,7 +38,8 @@ int_div-abs (negsuc m) g = unsigned_abs-neg (pos (suc m / g))
 pub lowest_terms-lowest : (n : ℤ) (d : ℕ) → 0 < d → IsLowest (lowest_terms n d)
 lowest_terms-lowest n d positive =
     let g = gcd (unsigned_abs n) d in
-    lowest_of_gcd (lowest_terms n d) (ap (λ m. gcd m (d / g)) (int_div-abs n g) ∙ gcd-quotients (unsigned_abs n) d positive)
+    lowest_of_gcd (lowest_terms n d) (ap (λ m. gcd m (d / g)) (int_div-abs n g)
+    ∙ gcd-quotients (unsigned_abs n) d positive)
 
 -- Two fractions of one value in lowest terms are one.
 same_denominator : (x e y f : ℕ) → 0 < e → 0 < f → gcd x e ≡ 1 → gcd y f ≡ 1 → x * f ≡ e * y → e ≡ f
@@ -46,16 +54,23 @@ abs-product : (z : ℤ) (d : ℕ) → unsigned_abs (z *ℤ pos d) ≡ unsigned_a
 abs-product (pos n) d = refl
 abs-product (negsuc n) d = unsigned_abs-neg (pos (suc n * d))
 
-only_lowest : (p q : Fraction) → 0 < p.denominator → 0 < q.denominator → IsLowest p → IsLowest q → p.numerator *ℤ pos q.denominator ≡ pos p.denominator *ℤ q.numerator → p ≡ q
+only_lowest : (p q : Fraction) → 0 < p.denominator → 0 < q.denominator → IsLowest p → IsLowest q
+    → p.numerator *ℤ pos q.denominator ≡ pos p.denominator *ℤ q.numerator → p ≡ q
 only_lowest p q p_some q_some p_lowest q_lowest same =
     let by_size : unsigned_abs p.numerator * q.denominator ≡ p.denominator * unsigned_abs q.numerator =
-    sym (abs-product p.numerator q.denominator) ∙ ap unsigned_abs (same ∙ *ℤ_comm (pos p.denominator) q.numerator) ∙ abs-product q.numerator p.denominator ∙ mul_comm (unsigned_abs q.numerator) p.denominator in
-    let one : p.denominator ≡ q.denominator = same_denominator (unsigned_abs p.numerator) p.denominator (unsigned_abs q.numerator) q.denominator p_some q_some (gcd_of_lowest p p_lowest) (gcd_of_lowest q q_lowest) by_size in
-    let numerators : p.numerator ≡ q.numerator = unscale_eq p.numerator q.numerator q.denominator q_some (same ∙ *ℤ_comm (pos p.denominator) q.numerator ∙ ap (λ d. q.numerator *ℤ pos d) one) in
-    ap (λ n. record { numerator = n; denominator = p.denominator }) numerators ∙ ap (λ d. record { numerator = q.numerator; denominator = d }) one
+    sym (abs-product p.numerator q.denominator) ∙ ap unsigned_abs (same ∙ *ℤ_comm (pos p.denominator) q.numerator)
+    ∙ abs-product q.numerator p.denominator ∙ mul_comm (unsigned_abs q.numerator) p.denominator in
+    let one : p.denominator ≡ q.denominator = same_denominator (unsigned_abs p.numerator) p.denominator
+    (unsigned_abs q.numerator) q.denominator p_some q_some (gcd_of_lowest p p_lowest)
+    (gcd_of_lowest q q_lowest) by_size in
+    let numerators : p.numerator ≡ q.numerator = unscale_eq p.numerator q.numerator q.denominator q_some
+    (same ∙ *ℤ_comm (pos p.denominator) q.numerator ∙ ap (λ d. q.numerator *ℤ pos d) one) in
+    ap (λ n. record { numerator = n; denominator = p.denominator }) numerators
+    ∙ ap (λ d. record { numerator = q.numerator; denominator = d }) one
 
 -- a fraction in lowest terms with the value of n over d is the lowest terms of n over d
-pub lowest_terms-only : (n : ℤ) (d : ℕ) → 0 < d → (q : Fraction) → 0 < q.denominator → HasValue n (pos d) q → IsLowest q → q ≡ lowest_terms n d
+pub lowest_terms-only : (n : ℤ) (d : ℕ) → 0 < d → (q : Fraction) → 0 < q.denominator → HasValue n (pos d) q → IsLowest q
+    → q ≡ lowest_terms n d
 lowest_terms-only n d positive q q_some q_value q_lowest =
     let p = lowest_terms n d in
     let p_some = lowest_terms-positive n d positive in
@@ -66,7 +81,8 @@ lowest_terms-only n d positive q q_some q_value q_lowest =
     ∙ ap (λ z. z *ℤ pos q.denominator) (*ℤ_comm n (pos p.denominator) ∙ sym (lowest_terms-same n d))
     ∙ scale-swap p.numerator d q.denominator
     ∙ ap (λ z. z *ℤ pos d) (*ℤ_comm p.numerator (pos q.denominator)) in
-    only_lowest q p q_some p_some q_lowest (lowest_terms-lowest n d positive) (unscale_eq (q.numerator *ℤ pos p.denominator) (pos q.denominator *ℤ p.numerator) d positive cross_value)
+    only_lowest q p q_some p_some q_lowest (lowest_terms-lowest n d positive)
+    (unscale_eq (q.numerator *ℤ pos p.denominator) (pos q.denominator *ℤ p.numerator) d positive cross_value)
 
 pub are_lowest_terms : (n : ℤ) (d : ℕ) → 0 < d → AreLowestTerms n d
 are_lowest_terms n d positive = record {

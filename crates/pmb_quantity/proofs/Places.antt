@@ -1,10 +1,12 @@
 -- How many digits after a point a denominator needs.
-use Rattle.std.proofs.Common.{◌≡◌, ◌≢◌, ℕ, zero, suc, ◌+◌, ◌-◌, ◌*◌, ◌/◌, ◌%◌, ◌^◌, ◌<◌, ◌≤◌, max, Bool, true, false, eq-eqb, inl, inr, Some, None, refl, sym, ap, ◌∙◌, subst, arith}
+use Rattle.std.proofs.Common.{◌≡◌, ◌≢◌, ℕ, zero, suc, ◌+◌, ◌-◌, ◌*◌, ◌/◌, ◌%◌, ◌^◌, ◌<◌, ◌≤◌, max, Bool, true, false}
+use Rattle.std.proofs.Common.{eq-eqb, inl, inr, Some, None, refl, sym, ap, ◌∙◌, subst, arith}
 use Rattle.std.specs.Int.{◌∣◌, w64, trailing_zeros}
 use Rattle.std.proofs.lemmas.Bool.{ne_eqb, cases_eq, cases_lt}
 use Rattle.std.proofs.lemmas.Nat.{pow_pos, pow-add, mul-pow, mul-le, mul-mod_first}
 use Rattle.std.proofs.lemmas.Nat.Gcd.{dvd_refl, dvd_trans, dvd_of_mod-eq-zero, mod-eq-zero_of_dvd}
-use Rattle.std.proofs.Math.Nat.{mul_assoc, mul-div_cancel, div-mul_cancel, div-le_self, pow-suc, zero-mul, one-le-pow, dvd-mul_left, dvd-mul_right, eq-one_of_dvd-one}
+use Rattle.std.proofs.Math.Nat.{mul_assoc, mul-div_cancel, div-mul_cancel, div-le_self, pow-suc, zero-mul, one-le-pow}
+use Rattle.std.proofs.Math.Nat.{dvd-mul_left, dvd-mul_right, eq-one_of_dvd-one}
 use Rattle.pmb_quantity.specs.Fraction.{gcd}
 use Rattle.pmb_quantity.specs.QuantityText.{first_of, places_of}
 use Rattle.pmb_quantity.proofs.FractionLemmas.{IsGcd-gcd, coprime_product, gcd_swap}
@@ -14,23 +16,29 @@ use Rattle.pmb_quantity.proofs.TextLemmas.{fits_places, places_of-is, first_of-p
 use Rattle.pmb_quantity.proofs.Twos.{odd_part, whole_twos}
 
 -- where each fails there is none
-none_of : (test : ℕ → Bool) (from count : ℕ) → ((j : ℕ) → from ≤ j → j < from + count → test j ≡ false) → first_of test from count ≡ None
+none_of : (test : ℕ → Bool) (from count : ℕ) → ((j : ℕ) → from ≤ j → j < from + count → test j ≡ false)
+    → first_of test from count ≡ None
 none_of test from zero fails = first_of-none test from 0 refl
 none_of test from (suc count) fails =
     let rest = none_of test (from + 1) count (λ j above below. fails j (omega arith) (omega arith)) in
     let less : suc count - 1 ≡ count = omega arith in
-    first_of-fails test from (suc count) (omega arith) (fails from (omega arith) (omega arith)) ∙ ap (first_of test (from + 1)) less ∙ rest
+    first_of-fails test from (suc count) (omega arith) (fails from (omega arith) (omega arith))
+    ∙ ap (first_of test (from + 1)) less ∙ rest
 
 -- the first that passes
-first_is : (test : ℕ → Bool) (from count k : ℕ) → from ≤ k → k < from + count → ((j : ℕ) → from ≤ j → j < k → test j ≡ false) → test k ≡ true → first_of test from count ≡ Some k
+first_is : (test : ℕ → Bool) (from count k : ℕ) → from ≤ k → k < from + count
+    → ((j : ℕ) → from ≤ j → j < k → test j ≡ false) → test k ≡ true → first_of test from count ≡ Some k
 first_is test from zero k above below fails passes = absurd (omega arith)
 first_is test from (suc count) k above below fails passes =
     elim (cases_eq k from) [
-      | inl same ↦ first_of-passes test from (suc count) (omega arith) (ap test (sym same) ∙ passes) ∙ ap Some (sym same)
+      | inl same ↦ first_of-passes test from (suc count) (omega arith) (ap test (sym same) ∙ passes)
+          ∙ ap Some (sym same)
       | inr other ↦
-          let rest = first_is test (from + 1) count k (omega arith) (omega arith) (λ j over under. fails j (omega arith) under) passes in
+          let rest = first_is test (from + 1) count k (omega arith) (omega arith)
+          (λ j over under. fails j (omega arith) under) passes in
           let less : suc count - 1 ≡ count = omega arith in
-          first_of-fails test from (suc count) (omega arith) (fails from (omega arith) (omega arith)) ∙ ap (first_of test (from + 1)) less ∙ rest
+          first_of-fails test from (suc count) (omega arith) (fails from (omega arith) (omega arith))
+          ∙ ap (first_of test (from + 1)) less ∙ rest
     ]
 
 -- fewer digits that do, with more of them, do too
@@ -38,12 +46,14 @@ more_do : (d p : ℕ) → 0 < d → p ≤ 24 → 10 ^ p % d ≡ 0 → 10 ^ 24 % 
 more_do d p positive few fits =
     let sum : p + (24 - p) ≡ 24 = omega arith in
     let product : 10 ^ 24 ≡ 10 ^ p * 10 ^ (24 - p) = ap (λ n. 10 ^ n) (sym sum) ∙ pow-add 10 p (24 - p) in
-    let none : (10 ^ p % d * 10 ^ (24 - p)) % d ≡ 0 = ap (λ n. (n * 10 ^ (24 - p)) % d) fits ∙ ap (λ n. n % d) (zero-mul (10 ^ (24 - p))) ∙ omega arith in
+    let none : (10 ^ p % d * 10 ^ (24 - p)) % d ≡ 0 = ap (λ n. (n * 10 ^ (24 - p)) % d) fits
+    ∙ ap (λ n. n % d) (zero-mul (10 ^ (24 - p))) ∙ omega arith in
     ap (λ n. n % d) product ∙ sym (mul-mod_first (10 ^ p) (10 ^ (24 - p)) d) ∙ none
 
 pub none_without_last : (d : ℕ) → 0 < d → 10 ^ 24 % d ≢ 0 → places_of d ≡ None
 none_without_last d positive rest =
-    places_of-is d ∙ none_of (fits_places d) 0 25 (λ j above below. ne_eqb (10 ^ j % d) 0 (λ fits. rest (more_do d j positive (omega arith) fits)))
+    places_of-is d ∙ none_of (fits_places d) 0 25
+    (λ j above below. ne_eqb (10 ^ j % d) 0 (λ fits. rest (more_do d j positive (omega arith) fits)))
 
 -- ---- twos and fives
 
@@ -69,8 +79,11 @@ module _ (b c : ℕ) (several : 2 ≤ b) (coprime : (i j : ℕ) → gcd (c ^ i) 
       let some : 0 < b ^ j = omega (arith, one-le-pow j b (omega arith)) in
       let sum : (k - j) + j ≡ k = omega arith in
       let split : b ^ k ≡ b ^ (k - j) * b ^ j = ap (λ n. b ^ n) (sym sum) ∙ pow-add b (k - j) j in
-      let of_c : b ^ (k - j) ∣ c ^ j = divides_less (b ^ (k - j)) (c ^ j) (b ^ j) some (subst (λ (n : ℕ). n ∣ c ^ j * b ^ j) split divides) in
-      let one : b ^ (k - j) ≡ 1 = eq-one_of_dvd-one (subst (λ (g : ℕ). b ^ (k - j) ∣ g) (coprime j (k - j)) ((IsGcd-gcd (c ^ j) (b ^ (k - j))).2 (b ^ (k - j)) of_c (dvd_refl (b ^ (k - j))))) in
+      let of_c : b ^ (k - j) ∣ c ^ j = divides_less (b ^ (k - j)) (c ^ j) (b ^ j) some
+      (subst (λ (n : ℕ). n ∣ c ^ j * b ^ j) split divides) in
+      let one : b ^ (k - j) ≡ 1 = eq-one_of_dvd-one
+      (subst (λ (g : ℕ). b ^ (k - j) ∣ g) (coprime j (k - j))
+      ((IsGcd-gcd (c ^ j) (b ^ (k - j))).2 (b ^ (k - j)) of_c (dvd_refl (b ^ (k - j))))) in
       let more : suc (k - j - 1) ≡ k - j = omega arith in
       let last : b ^ (k - j) ≡ b ^ (k - j - 1) * b = ap (λ n. b ^ n) (sym more) ∙ pow-suc b (k - j - 1) in
       omega (arith, one, last, mul-le 1 2 (b ^ (k - j - 1)) b (one-le-pow (k - j - 1) b (omega arith)) several)
@@ -79,13 +92,16 @@ module _ (b c : ℕ) (several : 2 ≤ b) (coprime : (i j : ℕ) → gcd (c ^ i) 
 module _ (a b : ℕ) where
   without_twos : (j : ℕ) → j < a → 10 ^ j % (5 ^ b * 2 ^ a) ≢ 0
   without_twos j less none =
-      let divides : 2 ^ a ∣ 10 ^ j = dvd_trans (2 ^ a) (dvd-mul_left (2 ^ a) (5 ^ b)) (dvd_of_mod-eq-zero (5 ^ b * 2 ^ a) none) in
+      let divides : 2 ^ a ∣ 10 ^ j = dvd_trans (2 ^ a) (dvd-mul_left (2 ^ a) (5 ^ b))
+      (dvd_of_mod-eq-zero (5 ^ b * 2 ^ a) none) in
       too_few 2 5 (omega arith) powers_coprime a j less (subst (λ (n : ℕ). 2 ^ a ∣ n) (mul-pow 5 2 j) divides)
 
   without_fives : (j : ℕ) → j < b → 10 ^ j % (5 ^ b * 2 ^ a) ≢ 0
   without_fives j less none =
-      let divides : 5 ^ b ∣ 10 ^ j = dvd_trans (5 ^ b) (dvd-mul_right (5 ^ b) (2 ^ a)) (dvd_of_mod-eq-zero (5 ^ b * 2 ^ a) none) in
-      too_few 5 2 (omega arith) (λ i m. gcd_swap (5 ^ m) (2 ^ i) ∙ powers_coprime m i) b j less (subst (λ (n : ℕ). 5 ^ b ∣ n) (mul-pow 2 5 j) divides)
+      let divides : 5 ^ b ∣ 10 ^ j = dvd_trans (5 ^ b) (dvd-mul_right (5 ^ b) (2 ^ a))
+      (dvd_of_mod-eq-zero (5 ^ b * 2 ^ a) none) in
+      too_few 5 2 (omega arith) (λ i m. gcd_swap (5 ^ m) (2 ^ i) ∙ powers_coprime m i) b j less
+      (subst (λ (n : ℕ). 5 ^ b ∣ n) (mul-pow 2 5 j) divides)
 
   too_few_places : (j : ℕ) → j < max a b → 10 ^ j % (5 ^ b * 2 ^ a) ≢ 0
   too_few_places j less =
@@ -94,12 +110,14 @@ module _ (a b : ℕ) where
   enough : 10 ^ max a b % (5 ^ b * 2 ^ a) ≡ 0
   enough =
       let k = max a b in
-      mod-eq-zero_of_dvd (5 ^ b * 2 ^ a) (subst (λ (n : ℕ). 5 ^ b * 2 ^ a ∣ n) (ten_parts k b a (omega arith) (omega arith)) (dvd-mul_right (5 ^ b * 2 ^ a) (5 ^ (k - b) * 2 ^ (k - a))))
+      mod-eq-zero_of_dvd (5 ^ b * 2 ^ a) (subst (λ (n : ℕ). 5 ^ b * 2 ^ a ∣ n)
+      (ten_parts k b a (omega arith) (omega arith)) (dvd-mul_right (5 ^ b * 2 ^ a) (5 ^ (k - b) * 2 ^ (k - a))))
 
   pub places_of_parts : max a b ≤ 24 → places_of (5 ^ b * 2 ^ a) ≡ Some (max a b)
   places_of_parts few =
       let d = 5 ^ b * 2 ^ a in
-      places_of-is d ∙ first_is (fits_places d) 0 25 (max a b) (omega arith) (omega arith) (λ j above below. ne_eqb (10 ^ j % d) 0 (too_few_places j below)) (eq-eqb (10 ^ max a b % d) 0 enough)
+      places_of-is d ∙ first_is (fits_places d) 0 25 (max a b) (omega arith) (omega arith)
+      (λ j above below. ne_eqb (10 ^ j % d) 0 (too_few_places j below)) (eq-eqb (10 ^ max a b % d) 0 enough)
 
   pub places_of_many : 24 < max a b → places_of (5 ^ b * 2 ^ a) ≡ None
   places_of_many many = none_without_last (5 ^ b * 2 ^ a) (parts_positive b a) (too_few_places 24 many)
@@ -111,17 +129,23 @@ places_of_power k few =
     ap places_of (sym alone) ∙ places_of_parts k 0 (omega arith) ∙ ap Some greater
 
 -- any other factor is in no power of ten
-pub places_of_other : (d rest rough : ℕ) → 0 < d → d ≡ rest * rough → rest ≢ 1 → (2 ∣ rest → ⊥) → (5 ∣ rest → ⊥) → places_of d ≡ None
+pub places_of_other : (d rest rough : ℕ) → 0 < d → d ≡ rest * rough → rest ≢ 1 → (2 ∣ rest → ⊥) → (5 ∣ rest → ⊥)
+    → places_of d ≡ None
 places_of_other d rest rough positive is other odd apart =
     none_without_last d positive (λ none.
     let inside : rest ∣ 5 ^ 24 * 2 ^ 24 =
-    subst (λ (n : ℕ). rest ∣ n) (mul-pow 5 2 24) (dvd_trans rest (subst (λ (n : ℕ). rest ∣ n) (sym is) (dvd-mul_right rest rough)) (dvd_of_mod-eq-zero d none)) in
-    let coprime : gcd rest (5 ^ 24 * 2 ^ 24) ≡ 1 = coprime_product rest (5 ^ 24) (2 ^ 24) (pow_pos 24) (five_coprime rest 24 apart) (two_coprime rest 24 odd) in
-    other (eq-one_of_dvd-one (subst (λ (g : ℕ). rest ∣ g) coprime ((IsGcd-gcd rest (5 ^ 24 * 2 ^ 24)).2 rest (dvd_refl rest) inside))))
+    subst (λ (n : ℕ). rest ∣ n) (mul-pow 5 2 24)
+    (dvd_trans rest (subst (λ (n : ℕ). rest ∣ n) (sym is) (dvd-mul_right rest rough))
+    (dvd_of_mod-eq-zero d none)) in
+    let coprime : gcd rest (5 ^ 24 * 2 ^ 24) ≡ 1 = coprime_product rest (5 ^ 24) (2 ^ 24) (pow_pos 24)
+    (five_coprime rest 24 apart) (two_coprime rest 24 odd) in
+    other (eq-one_of_dvd-one (subst (λ (g : ℕ). rest ∣ g) coprime
+    ((IsGcd-gcd rest (5 ^ 24 * 2 ^ 24)).2 rest (dvd_refl rest) inside))))
 
 -- A number of 64 bits without its twos is rest times five to so many, and rest has none in common
 -- with the fives that are left.
-module _ (d rest left : ℕ) (positive : 0 < d) (fits : d < 2 ^ 64) (value : rest * 5 ^ (28 - left) ≡ d / 2 ^ trailing_zeros w64 d) (lowest : gcd rest (5 ^ left) ≡ 1) where
+module _ (d rest left : ℕ) (positive : 0 < d) (fits : d < 2 ^ 64)
+    (value : rest * 5 ^ (28 - left) ≡ d / 2 ^ trailing_zeros w64 d) (lowest : gcd rest (5 ^ left) ≡ 1) where
   denominator_parts : d ≡ rest * (5 ^ (28 - left) * 2 ^ trailing_zeros w64 d)
   denominator_parts =
       let t = trailing_zeros w64 d in
@@ -129,7 +153,8 @@ module _ (d rest left : ℕ) (positive : 0 < d) (fits : d < 2 ^ 64) (value : res
 
   rest_odd : 2 ∣ rest → ⊥
   rest_odd even =
-      let inside : 2 ∣ d / 2 ^ trailing_zeros w64 d = subst (λ (n : ℕ). 2 ∣ n) value (dvd_trans 2 even (dvd-mul_right rest (5 ^ (28 - left)))) in
+      let inside : 2 ∣ d / 2 ^ trailing_zeros w64 d =
+      subst (λ (n : ℕ). 2 ∣ n) value (dvd_trans 2 even (dvd-mul_right rest (5 ^ (28 - left)))) in
       omega (arith, odd_part d positive fits, mod-eq-zero_of_dvd 2 inside)
 
   -- it has no 28 fives
@@ -145,7 +170,8 @@ module _ (d rest left : ℕ) (positive : 0 < d) (fits : d < 2 ^ 64) (value : res
 
   pub places_none : rest ≢ 1 → places_of d ≡ None
   places_none other =
-      places_of_other d rest (5 ^ (28 - left) * 2 ^ trailing_zeros w64 d) positive denominator_parts other rest_odd (five_apart rest left some_left lowest)
+      places_of_other d rest (5 ^ (28 - left) * 2 ^ trailing_zeros w64 d) positive denominator_parts other rest_odd
+      (five_apart rest left some_left lowest)
 
   pub places_same : rest ≡ 1 → places_of d ≡ places_of (5 ^ (28 - left) * 2 ^ trailing_zeros w64 d)
   places_same one =

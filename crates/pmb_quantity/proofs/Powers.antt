@@ -8,4 +8,5 @@ table_is_right = refl
 
 pub power_read : (k : ℕ) → k ≤ 18 → get_or POWERS_OF_FIVE k 0 ≡ 5 ^ k
 power_read k few =
-    sym (eqb-true (5 ^ k) (get_or POWERS_OF_FIVE k 0) (agree_below_at (λ k. 5 ^ k == get_or POWERS_OF_FIVE k 0) (λ k. true) 19 k table_is_right (omega arith)))
+    sym (eqb-true (5 ^ k) (get_or POWERS_OF_FIVE k 0)
+    (agree_below_at (λ k. 5 ^ k == get_or POWERS_OF_FIVE k 0) (λ k. true) 19 k table_is_right (omega arith)))

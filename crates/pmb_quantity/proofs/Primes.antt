@@ -1,10 +1,12 @@
 -- Numbers without a prime factor, and what they have in common with its powers.
-use Rattle.std.proofs.Common.{◌≡◌, ◌≢◌, ℕ, zero, suc, inl, inr, ◌-◌, ◌*◌, ◌/◌, ◌%◌, ◌^◌, ◌<◌, ◌≤◌, sym, ap, ◌∙◌, subst, arith}
+use Rattle.std.proofs.Common.{◌≡◌, ◌≢◌, ℕ, zero, suc, inl, inr, ◌-◌, ◌*◌, ◌/◌, ◌%◌, ◌^◌, ◌<◌, ◌≤◌, sym, ap, ◌∙◌, subst}
+use Rattle.std.proofs.Common.{arith}
 use Rattle.std.specs.Int.{◌∣◌}
 use Rattle.std.proofs.lemmas.Bool.{cases_eq}
 use Rattle.std.proofs.lemmas.Nat.{mod_below, mul-mod_second}
 use Rattle.std.proofs.lemmas.Nat.Gcd.{dvd_refl, dvd_trans, le_of_dvd, dvd_of_mod-eq-zero, mod-eq-zero_of_dvd}
-use Rattle.std.proofs.Math.Nat.{mul_assoc, mul_comm, mul-div_cancel, div-mul_cancel, pow-zero, pow-suc, one-dvd, dvd-mul_left, eq-one_of_dvd-one}
+use Rattle.std.proofs.Math.Nat.{mul_assoc, mul_comm, mul-div_cancel, div-mul_cancel, pow-zero, pow-suc, one-dvd}
+use Rattle.std.proofs.Math.Nat.{dvd-mul_left, eq-one_of_dvd-one}
 use Rattle.pmb_quantity.specs.Fraction.{gcd}
 use Rattle.pmb_quantity.proofs.FractionLemmas.{IsGcd-gcd, gcd_is}
 
@@ -27,8 +29,10 @@ module _ (b : ℕ) (some : 0 < b) (cancels : Cancels b) where
       let whole : m * d ≡ b ^ j * b = div-mul_cancel d divides ∙ pow-suc b j in
       let inside : b ∣ m = factor m d (subst (λ (x : ℕ). b ∣ x) (sym whole) (dvd-mul_left b (b ^ j))) other in
       let parted : m / b * b ≡ m = div-mul_cancel b inside in
-      let swapped : m / b * d * b ≡ b ^ j * b = mul_assoc (m / b) d b ∙ ap (λ x. m / b * x) (mul_comm d b) ∙ sym (mul_assoc (m / b) b d) ∙ ap (λ x. x * d) parted ∙ whole in
-      let less : m / b * d ≡ b ^ j = sym (mul-div_cancel (m / b * d) some) ∙ ap (λ x. x / b) swapped ∙ mul-div_cancel (b ^ j) some in
+      let swapped : m / b * d * b ≡ b ^ j * b = mul_assoc (m / b) d b ∙ ap (λ x. m / b * x) (mul_comm d b)
+      ∙ sym (mul_assoc (m / b) b d) ∙ ap (λ x. x * d) parted ∙ whole in
+      let less : m / b * d ≡ b ^ j = sym (mul-div_cancel (m / b * d) some) ∙ ap (λ x. x / b) swapped
+      ∙ mul-div_cancel (b ^ j) some in
       power_divisor j d other (subst (λ (x : ℕ). d ∣ x) less (dvd-mul_left d (m / b)))
 
   pub coprime_power : (n j : ℕ) → (b ∣ n → ⊥) → gcd n (b ^ j) ≡ 1
@@ -37,7 +41,8 @@ module _ (b : ℕ) (some : 0 < b) (cancels : Cancels b) where
         one-dvd n,
         one-dvd (b ^ j),
         λ d of_n of_power.
-            subst (λ (x : ℕ). x ∣ 1) (sym (power_divisor j d (λ of_d. other (dvd_trans b of_d of_n)) of_power)) (dvd_refl 1),
+            subst (λ (x : ℕ). x ∣ 1) (sym (power_divisor j d (λ of_d. other (dvd_trans b of_d of_n)) of_power))
+            (dvd_refl 1),
       )
 
 -- two and five
@@ -73,5 +78,6 @@ five_apart n j some one inside =
     let more : suc (j - 1) ≡ j = omega arith in
     let power : 5 ^ (j - 1) * 5 ≡ 5 ^ j = sym (pow-suc 5 (j - 1)) ∙ ap (λ x. 5 ^ x) more in
     let of_power : 5 ∣ 5 ^ j = subst (λ (x : ℕ). 5 ∣ x) power (dvd-mul_left 5 (5 ^ (j - 1))) in
-    let small : 5 ≤ 1 = le_of_dvd (omega arith) (subst (λ (g : ℕ). 5 ∣ g) one ((IsGcd-gcd n (5 ^ j)).2 5 inside of_power)) in
+    let small : 5 ≤ 1 = le_of_dvd (omega arith)
+    (subst (λ (g : ℕ). 5 ∣ g) one ((IsGcd-gcd n (5 ^ j)).2 5 inside of_power)) in
     omega arith

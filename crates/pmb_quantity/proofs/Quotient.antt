@@ -1,5 +1,6 @@
 -- The quantity of one number by another.
-use Rattle.std.proofs.Common.{◌≡◌, ℕ, zero, suc, ◌^◌, ◌<◌, inl, inr, ℤ, pos, negsuc, neg_ℤ, ◌*ℤ◌, unsigned_abs, Result, Ok, Err, IfOk, sym, ap, ◌∙◌, subst, arith}
+use Rattle.std.proofs.Common.{◌≡◌, ℕ, zero, suc, ◌^◌, ◌<◌, inl, inr, ℤ, pos, negsuc, neg_ℤ, ◌*ℤ◌, unsigned_abs, Result}
+use Rattle.std.proofs.Common.{Ok, Err, IfOk, sym, ap, ◌∙◌, subst, arith}
 use Rattle.std.specs.Int.{◌∣◌}
 use Rattle.std.proofs.Math.Nat.{div-le_self}
 use Rattle.std.proofs.Math.IntN.{*ℤ-zero, *ℤ-negsuc, neg_ℤ-neg_ℤ}
@@ -41,11 +42,13 @@ fitted-is p q is =
 -- the sign of both numbers changes no value
 minus_value : (n : ℤ) (d : ℕ) (q : Fraction) → HasValue (neg_ℤ n) (pos (suc d)) q → HasValue n (negsuc d) q
 minus_value n d q same =
-    *ℤ-negsuc q.numerator d ∙ ap neg_ℤ same ∙ ap neg_ℤ (*ℤ-neg (pos q.denominator) n) ∙ neg_ℤ-neg_ℤ (pos q.denominator *ℤ n)
+    *ℤ-negsuc q.numerator d ∙ ap neg_ℤ same ∙ ap neg_ℤ (*ℤ-neg (pos q.denominator) n)
+    ∙ neg_ℤ-neg_ℤ (pos q.denominator *ℤ n)
 
 value_minus : (n : ℤ) (d : ℕ) (q : Fraction) → HasValue n (negsuc d) q → HasValue (neg_ℤ n) (pos (suc d)) q
 value_minus n d q same =
-    sym (neg_ℤ-neg_ℤ (q.numerator *ℤ pos (suc d))) ∙ ap neg_ℤ (sym (*ℤ-negsuc q.numerator d) ∙ same) ∙ sym (*ℤ-neg (pos q.denominator) n)
+    sym (neg_ℤ-neg_ℤ (q.numerator *ℤ pos (suc d))) ∙ ap neg_ℤ (sym (*ℤ-negsuc q.numerator d) ∙ same)
+    ∙ sym (*ℤ-neg (pos q.denominator) n)
 
 value-of_fitted : (n : ℤ) (d : ℕ) (q : Fraction) → Ok q ≡ fitted (lowest_terms n (suc d)) → HasValue n (pos (suc d)) q
 value-of_fitted n d q is =
@@ -62,21 +65,26 @@ quotient-value n z (Ok q) is = by_sign n z q is
 quotient-value n z (Err fault) is = tt
 
 -- a quantity of the value fits
-none-of_fitted : (n : ℤ) (d : ℕ) → Err TooLarge ≡ fitted (lowest_terms n (suc d)) → (q : Fraction) → IsQuantity q → HasValue n (pos (suc d)) q → ⊥
+none-of_fitted : (n : ℤ) (d : ℕ) → Err TooLarge ≡ fitted (lowest_terms n (suc d)) → (q : Fraction) → IsQuantity q
+    → HasValue n (pos (suc d)) q → ⊥
 none-of_fitted n d is q q_is same =
     let one : q ≡ lowest_terms n (suc d) = lowest_terms-only n (suc d) (omega arith) q q_is.positive same q_is.lowest in
-    let wrong : Err TooLarge ≡ Ok q = is ∙ ap fitted (sym one) ∙ fitted-fits q q_is.numerator_fits q_is.denominator_fits in
+    let wrong : Err TooLarge ≡ Ok q = is ∙ ap fitted (sym one)
+    ∙ fitted-fits q q_is.numerator_fits q_is.denominator_fits in
     cc
 
-pub quotient-none : (n z : ℤ) (r : Result Fraction QuantityFault) → r ≡ quotient n z → r ≡ Err TooLarge → (q : Fraction) → IsQuantity q → HasValue n z q → ⊥
+pub quotient-none : (n z : ℤ) (r : Result Fraction QuantityFault) → r ≡ quotient n z → r ≡ Err TooLarge → (q : Fraction)
+    → IsQuantity q → HasValue n z q → ⊥
 quotient-none n (pos zero) r is large q q_is same = absurd (let wrong = sym large ∙ is in cc)
 quotient-none n (pos (suc d)) r is large q q_is same = none-of_fitted n d (sym large ∙ is) q q_is same
 quotient-none n (negsuc d) r is large q q_is same =
     none-of_fitted (neg_ℤ n) d (sym large ∙ is) q q_is (value_minus n d q same)
 
 -- two numbers in range
-pub quotient-in_range : (n z : ℤ) (r : Result Fraction QuantityFault) → r ≡ quotient n z → (d : ℕ) → z ≡ pos d → 0 < d → d < 2 ^ 62 → unsigned_abs n < 2 ^ 62 → r ≡ Ok (lowest_terms n d)
+pub quotient-in_range : (n z : ℤ) (r : Result Fraction QuantityFault) → r ≡ quotient n z → (d : ℕ) → z ≡ pos d → 0 < d
+    → d < 2 ^ 62 → unsigned_abs n < 2 ^ 62 → r ≡ Ok (lowest_terms n d)
 quotient-in_range n z r is zero z_is some d_fits n_fits = absurd (omega arith)
 quotient-in_range n z r is (suc d) z_is some d_fits n_fits =
     let g = gcd (unsigned_abs n) (suc d) in
-    is ∙ ap (quotient n) z_is ∙ fitted-fits (lowest_terms n (suc d)) (omega (arith, int_div-abs n g, div-le_self (unsigned_abs n) g)) (omega (arith, div-le_self (suc d) g))
+    is ∙ ap (quotient n) z_is ∙ fitted-fits (lowest_terms n (suc d))
+    (omega (arith, int_div-abs n g, div-le_self (unsigned_abs n) g)) (omega (arith, div-le_self (suc d) g))

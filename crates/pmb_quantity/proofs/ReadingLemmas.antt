@@ -1,5 +1,7 @@
 -- Numbers in texts, and the fractions that they make.
-use Rattle.std.proofs.Common.{◌≡◌, ◌≢◌, ℕ, zero, suc, ◌+◌, ◌-◌, ◌*◌, ◌/◌, ◌^◌, ◌<◌, ◌≤◌, cond, eq-eqb, pos, List, [], ◌∷◌, ◌++◌, length, length-append, take, drop, get_or, ◌⊎◌, Some, None, Result, Ok, Err, refl, sym, ap, ◌∙◌, inl, inr, arith, take-append-drop}
+use Rattle.std.proofs.Common.{◌≡◌, ◌≢◌, ℕ, zero, suc, ◌+◌, ◌-◌, ◌*◌, ◌/◌, ◌^◌, ◌<◌, ◌≤◌, cond, eq-eqb, pos, List, []}
+use Rattle.std.proofs.Common.{◌∷◌, ◌++◌, length, length-append, take, drop, get_or, ◌⊎◌, Some, None, Result, Ok, Err}
+use Rattle.std.proofs.Common.{refl, sym, ap, ◌∙◌, inl, inr, arith, take-append-drop}
 use Rattle.std.specs.Char.{digit_value}
 use Rattle.std.specs.Str.Parse.{AllDigits, digits_value, digits_value_after}
 use Rattle.std.specs.Int.{◌∣◌}
@@ -10,14 +12,17 @@ use Rattle.std.proofs.lemmas.Str.Parse.{digit_at}
 use Rattle.std.proofs.lemmas.Nat.{le-div, mul-le}
 use Rattle.std.proofs.lemmas.Nat.Gcd.{le_of_dvd}
 use Rattle.std.proofs.Math.Seq.{take-suc}
-use Rattle.std.proofs.Math.Nat.{pow-suc, div-one, div-le_self, div-mul_cancel, mul-div_cancel, mul_assoc, mul-lt-mul_of_pos_right, mul-add-mod_self_right}
+use Rattle.std.proofs.Math.Nat.{pow-suc, div-one, div-le_self, div-mul_cancel, mul-div_cancel, mul_assoc}
+use Rattle.std.proofs.Math.Nat.{mul-lt-mul_of_pos_right, mul-add-mod_self_right}
 use Rattle.pmb_quantity.specs.declared.quantity.QuantityFault.{QuantityFault}
 use Rattle.pmb_quantity.specs.declared.quantity.QuantityFault.TheVariants.{Empty, ZeroDenominator, TooLarge}
 use Rattle.pmb_quantity.specs.Fraction.{Fraction, gcd, lowest_terms}
 use Rattle.pmb_quantity.specs.Quantity.{fitted, negated}
-use Rattle.pmb_quantity.specs.Reading.{without_last_zeros, with_last, point_value, slash_value, numeral_of, numeral_value, reading}
+use Rattle.pmb_quantity.specs.Reading.{without_last_zeros, with_last, point_value, slash_value, numeral_of}
+use Rattle.pmb_quantity.specs.Reading.{numeral_value, reading}
 use Rattle.pmb_quantity.specs.machine.Below.{below}
-use Rattle.pmb_quantity.proofs.FractionLemmas.{gcd_step, gcd_positive, gcd-scale, gcd-quotients, IsGcd-gcd, quotient_positive}
+use Rattle.pmb_quantity.proofs.FractionLemmas.{gcd_step, gcd_positive, gcd-scale, gcd-quotients, IsGcd-gcd}
+use Rattle.pmb_quantity.proofs.FractionLemmas.{quotient_positive}
 use Rattle.pmb_quantity.proofs.Fitted.{lowest-fits, lowest-numerator, lowest-denominator}
 use Rattle.pmb_quantity.proofs.TextLemmas.{ten_at_most}
 
@@ -33,21 +38,32 @@ after_at_least : (n : ℕ) (ds : List ℕ) → n ≤ digits_value_after 10 n ds
 after_at_least n [] = omega arith
 after_at_least n (c ∷ cs) = omega (arith, after_at_least (n * 10 + digit_value c) cs)
 
-after-append : (n : ℕ) (xs ys : List ℕ) → digits_value_after 10 n (xs ++ ys) ≡ digits_value_after 10 (digits_value_after 10 n xs) ys
+after-append : (n : ℕ) (xs ys : List ℕ) → digits_value_after 10 n (xs ++ ys)
+    ≡ digits_value_after 10 (digits_value_after 10 n xs) ys
 after-append n [] ys = refl
 after-append n (x ∷ xs) ys = after-append (n * 10 + digit_value x) xs ys
 
 -- one digit more
-pub after_more : (n : ℕ) (ds : List ℕ) (i : ℕ) → AllDigits 10 ds → i < length ds → digits_value_after 10 n (take (i + 1) ds) ≡ digits_value_after 10 n (take i ds) * 10 + (get_or ds i 0 - 48)
+pub after_more : (n : ℕ) (ds : List ℕ) (i : ℕ) → AllDigits 10 ds → i < length ds
+    → digits_value_after 10 n (take (i + 1) ds) ≡ digits_value_after 10 n (take i ds) * 10 + (get_or ds i 0 - 48)
 after_more n ds i digits inside =
     let at = is_digit_at ds i digits inside in
     let next : i + 1 ≡ suc i = omega arith in
-    ap (λ k. digits_value_after 10 n (take k ds)) next ∙ ap (digits_value_after 10 n) (take-suc ds i 0 inside) ∙ after-append n (take i ds) (get_or ds i 0 ∷ []) ∙ ap (λ d. digits_value_after 10 n (take i ds) * 10 + d) (value_of_digit (get_or ds i 0) at.0 at.1)
+    ap (λ k. digits_value_after 10 n (take k ds)) next ∙ ap (digits_value_after 10 n) (take-suc ds i 0 inside)
+    ∙ after-append n (take i ds) (get_or ds i 0 ∷ []) ∙ ap (λ d. digits_value_after 10 n (take i ds) * 10 + d)
+    (value_of_digit (get_or ds i 0) at.0 at.1)
 
 pub after_front : (n : ℕ) (ds : List ℕ) (i : ℕ) → digits_value_after 10 n (take i ds) ≤ digits_value_after 10 n ds
 after_front n ds i =
-    let whole : digits_value_after 10 n (take i ds ++ drop i ds) ≡ digits_value_after 10 n ds = ap (digits_value_after 10 n) (take-append-drop i ds) in
-    omega (arith, whole, after-append n (take i ds) (drop i ds), after_at_least (digits_value_after 10 n (take i ds)) (drop i ds))
+    let whole : digits_value_after 10 n (take i ds ++ drop i ds) ≡ digits_value_after 10 n ds =
+    ap (digits_value_after 10 n) (take-append-drop i ds) in
+    omega (
+      arith,
+      whole,
+      after-append n (take i ds) (drop i ds),
+      after_at_least (digits_value_after 10 n (take i ds))
+          (drop i ds),
+    )
 
 -- digits after a number
 after-is : (n : ℕ) (ds : List ℕ) → digits_value_after 10 n ds ≡ n * 10 ^ length ds + digits_value 10 ds
@@ -59,7 +75,8 @@ after-is n (c ∷ cs) =
     let product : n * 10 ^ suc (length cs) ≡ n * (10 ^ length cs * 10) = ap (λ p. n * p) power in
     omega (arith, here, alone, product)
 
-pub digits_value-append : (xs ys : List ℕ) → digits_value 10 (xs ++ ys) ≡ digits_value 10 xs * 10 ^ length ys + digits_value 10 ys
+pub digits_value-append : (xs ys : List ℕ)
+    → digits_value 10 (xs ++ ys) ≡ digits_value 10 xs * 10 ^ length ys + digits_value 10 ys
 digits_value-append xs ys = after-append 0 xs ys ∙ after-is (digits_value 10 xs) ys
 
 -- few digits write a small number
@@ -72,12 +89,15 @@ few_digits most ds digits few =
     omega (arith, digits_value-lt 10 ds digits, ten_at_most (length ds) most few)
 
 -- two runs of digits, one after the other
-pub after_both : (front back : List ℕ) → digits_value_after 10 (digits_value 10 front) back ≡ digits_value 10 (front ++ back)
+pub after_both : (front back : List ℕ) → digits_value_after 10 (digits_value 10 front) back
+    ≡ digits_value 10 (front ++ back)
 after_both front back = sym (after-append 0 front back)
 
-pub few_in_both : (front back : List ℕ) → AllDigits 10 front → AllDigits 10 back → length front + length back ≤ 18 → digits_value 10 (front ++ back) < 10 ^ 18
+pub few_in_both : (front back : List ℕ) → AllDigits 10 front → AllDigits 10 back → length front + length back ≤ 18
+    → digits_value 10 (front ++ back) < 10 ^ 18
 few_in_both front back front_digits back_digits few =
-    few_digits 18 (front ++ back) (AllDigits-append front back front_digits back_digits) (omega (arith, length-append front back))
+    few_digits 18 (front ++ back) (AllDigits-append front back front_digits back_digits)
+    (omega (arith, length-append front back))
 
 -- a number below a limit, or none
 pub below-none : (limit n : ℕ) → limit ≤ n → below limit n ≡ None
@@ -104,7 +124,8 @@ some_below limit n x is =
 kept_some : (d e : ℕ) (es : List ℕ) → with_last d (e ∷ es) ≡ d ∷ e ∷ es
 kept_some d e es = refl
 
-pub zero_goes : (ds : List ℕ) (n : ℕ) → n < length ds → get_or ds n 0 ≡ 48 → without_last_zeros (take (n + 1) ds) ≡ without_last_zeros (take n ds)
+pub zero_goes : (ds : List ℕ) (n : ℕ) → n < length ds → get_or ds n 0 ≡ 48 → without_last_zeros (take (n + 1) ds)
+    ≡ without_last_zeros (take n ds)
 zero_goes [] n inside zero_at = absurd (omega arith)
 zero_goes (d ∷ ds) zero inside zero_at = ap (λ b. cond b [] (d ∷ [])) (eq-eqb d 48 zero_at)
 zero_goes (d ∷ ds) (suc n) inside zero_at =
@@ -114,7 +135,8 @@ zero_goes (d ∷ ds) (suc n) inside zero_at =
 last_stays : (d e : ℕ) (es rest : List ℕ) → rest ≡ e ∷ es → with_last d rest ≡ d ∷ rest
 last_stays d e es rest is = rw is refl
 
-pub other_stays : (ds : List ℕ) (n : ℕ) → n < length ds → get_or ds n 0 ≢ 48 → without_last_zeros (take (n + 1) ds) ≡ take (n + 1) ds
+pub other_stays : (ds : List ℕ) (n : ℕ) → n < length ds → get_or ds n 0 ≢ 48 → without_last_zeros (take (n + 1) ds)
+    ≡ take (n + 1) ds
 other_stays [] n inside other = absurd (omega arith)
 other_stays (d ∷ ds) zero inside other = ap (λ b. cond b [] (d ∷ [])) (ne_eqb d 48 other)
 other_stays (d ∷ []) (suc n) inside other = absurd (omega arith)
@@ -144,28 +166,38 @@ lowest_terms-scale n d k d_positive k_positive =
     let g = gcd n d in
     let g_positive : 0 < g = gcd_positive n d d_positive in
     let made : ℕ → ℕ → Fraction = λ x y. record { numerator = pos x; denominator = y } in
-    ap (λ h. made ((n * k) / h) ((d * k) / h)) (gcd-scale n d k k_positive) ∙ ap (λ x. made x ((d * k) / (g * k))) (div-of_multiple n g k g_positive k_positive (IsGcd-gcd n d).0) ∙ ap (made (n / g)) (div-of_multiple d g k g_positive k_positive (IsGcd-gcd n d).1)
+    ap (λ h. made ((n * k) / h) ((d * k) / h)) (gcd-scale n d k k_positive) ∙ ap (λ x. made x ((d * k) / (g * k)))
+    (div-of_multiple n g k g_positive k_positive (IsGcd-gcd n d).0)
+    ∙ ap (made (n / g)) (div-of_multiple d g k g_positive k_positive (IsGcd-gcd n d).1)
 
 gcd-add : (w a b : ℕ) → 0 < b → gcd (w * b + a) b ≡ gcd a b
-gcd-add w a b positive = gcd_step (w * b + a) b positive ∙ ap (gcd b) (mul-add-mod_self_right w b a) ∙ sym (gcd_step a b positive)
+gcd-add w a b positive = gcd_step (w * b + a) b positive ∙ ap (gcd b) (mul-add-mod_self_right w b a)
+    ∙ sym (gcd_step a b positive)
 
 -- a whole number and a fraction, by the fraction's lowest terms
 module _ (w rest scale : ℕ) (positive : 0 < scale) where
-  pub mixed-reduced : lowest_terms (pos (w * scale + rest)) scale ≡ lowest_terms (pos (w * (scale / gcd rest scale) + rest / gcd rest scale)) (scale / gcd rest scale)
+  pub mixed-reduced : lowest_terms (pos (w * scale + rest)) scale
+      ≡ lowest_terms (pos (w * (scale / gcd rest scale) + rest / gcd rest scale)) (scale / gcd rest scale)
   mixed-reduced =
       let g = gcd rest scale in
       let g_positive : 0 < g = gcd_positive rest scale positive in
       let scale_is : scale / g * g ≡ scale = div-mul_cancel g (IsGcd-gcd rest scale).1 in
       let rest_is : rest / g * g ≡ rest = div-mul_cancel g (IsGcd-gcd rest scale).0 in
-      let sum_is : (w * (scale / g) + rest / g) * g ≡ w * scale + rest = omega (arith, rest_is, ap (λ x. w * x) scale_is) in
-      sym (ap (λ n. lowest_terms (pos n) (scale / g * g)) sum_is ∙ ap (lowest_terms (pos (w * scale + rest))) scale_is) ∙ lowest_terms-scale (w * (scale / g) + rest / g) (scale / g) g (quotient_positive scale g positive (IsGcd-gcd rest scale).1) g_positive
+      let sum_is : (w * (scale / g) + rest / g) * g ≡ w * scale + rest =
+      omega (arith, rest_is, ap (λ x. w * x) scale_is) in
+      sym (ap (λ n. lowest_terms (pos n) (scale / g * g)) sum_is ∙ ap (lowest_terms (pos (w * scale + rest))) scale_is)
+      ∙ lowest_terms-scale (w * (scale / g) + rest / g) (scale / g) g
+      (quotient_positive scale g positive (IsGcd-gcd rest scale).1) g_positive
 
-  pub mixed-large_denominator : 2 ^ 62 ≤ scale / gcd rest scale → fitted (lowest_terms (pos (w * scale + rest)) scale) ≡ Err TooLarge
+  pub mixed-large_denominator : 2 ^ 62 ≤ scale / gcd rest scale → fitted (lowest_terms (pos (w * scale + rest)) scale)
+      ≡ Err TooLarge
   mixed-large_denominator large =
       let g = gcd rest scale in
       let reduced : 0 < scale / g = quotient_positive scale g positive (IsGcd-gcd rest scale).1 in
-      let alone : gcd (w * (scale / g) + rest / g) (scale / g) ≡ 1 = gcd-add w (rest / g) (scale / g) reduced ∙ gcd-quotients rest scale positive in
-      let same : scale / g / gcd (w * (scale / g) + rest / g) (scale / g) ≡ scale / g = ap (λ x. scale / g / x) alone ∙ div-one (scale / g) in
+      let alone : gcd (w * (scale / g) + rest / g) (scale / g) ≡ 1 = gcd-add w (rest / g) (scale / g) reduced
+      ∙ gcd-quotients rest scale positive in
+      let same : scale / g / gcd (w * (scale / g) + rest / g) (scale / g) ≡ scale / g = ap (λ x. scale / g / x) alone
+      ∙ div-one (scale / g) in
       ap fitted mixed-reduced ∙ lowest-denominator (w * (scale / g) + rest / g) (scale / g) (omega (arith, same))
 
   pub mixed-large_whole : 2 ^ 62 ≤ w → fitted (lowest_terms (pos (w * scale + rest)) scale) ≡ Err TooLarge
@@ -178,20 +210,30 @@ module _ (w rest scale : ℕ) (positive : 0 < scale) where
 
 -- ---- the cases of a reading
 module _ (front back : List ℕ) where
-  pub point-long : (kept : List ℕ) → kept ≡ without_last_zeros back → 24 < length kept → point_value front back ≡ Err TooLarge
+  pub point-long : (kept : List ℕ) → kept ≡ without_last_zeros back → 24 < length kept
+      → point_value front back ≡ Err TooLarge
   unfolding point_value
   point-long kept is long =
       let long_here : 24 < length (without_last_zeros back) = omega (arith, ap length is) in
-      sym (cond_below 24 (length (without_last_zeros back)) (Err TooLarge) (fitted (lowest_terms (pos (digits_value 10 (front ++ without_last_zeros back))) (10 ^ length (without_last_zeros back)))) long_here)
+      sym (cond_below 24 (length (without_last_zeros back)) (Err TooLarge)
+      (fitted (lowest_terms (pos (digits_value 10 (front ++ without_last_zeros back)))
+      (10 ^ length (without_last_zeros back)))) long_here)
 
-  pub point-is : (kept : List ℕ) → kept ≡ without_last_zeros back → length kept ≤ 24 → point_value front back ≡ fitted (lowest_terms (pos (digits_value 10 front * 10 ^ length kept + digits_value 10 kept)) (10 ^ length kept))
+  pub point-is : (kept : List ℕ) → kept ≡ without_last_zeros back → length kept ≤ 24
+      → point_value front back ≡ fitted (lowest_terms
+      (pos (digits_value 10 front * 10 ^ length kept + digits_value 10 kept)) (10 ^ length kept))
   unfolding point_value
   point-is kept is short =
-      let value : List ℕ → Result Fraction QuantityFault = λ (k : List ℕ). fitted (lowest_terms (pos (digits_value 10 (front ++ k))) (10 ^ length k)) in
+      let value : List ℕ → Result Fraction QuantityFault =
+      λ (k : List ℕ). fitted (lowest_terms (pos (digits_value 10 (front ++ k))) (10 ^ length k)) in
       let short_here : length (without_last_zeros back) ≤ 24 = omega (arith, ap length is) in
-      sym (cond_above 24 (length (without_last_zeros back)) (Err TooLarge) (value (without_last_zeros back)) (value (without_last_zeros back)) short_here refl) ∙ ap value (sym is) ∙ ap (λ n. fitted (lowest_terms (pos n) (10 ^ length kept))) (digits_value-append front kept)
+      sym (cond_above 24 (length (without_last_zeros back)) (Err TooLarge) (value (without_last_zeros back))
+      (value (without_last_zeros back)) short_here refl) ∙ ap value (sym is)
+      ∙ ap (λ n. fitted (lowest_terms (pos n) (10 ^ length kept))) (digits_value-append front kept)
 
-  pub point-short : (kept : List ℕ) → kept ≡ without_last_zeros back → length kept ≤ 18 → digits_value 10 (front ++ kept) < 2 ^ 62 → point_value front back ≡ Ok (lowest_terms (pos (digits_value 10 (front ++ kept))) (10 ^ length kept))
+  pub point-short : (kept : List ℕ) → kept ≡ without_last_zeros back → length kept ≤ 18
+      → digits_value 10 (front ++ kept) < 2 ^ 62
+      → point_value front back ≡ Ok (lowest_terms (pos (digits_value 10 (front ++ kept))) (10 ^ length kept))
   point-short kept is few small =
       let n = digits_value 10 (front ++ kept) in
       let d = 10 ^ length kept in
@@ -204,11 +246,13 @@ module _ (front back : List ℕ) where
   unfolding slash_value
   slash-zero none = grind (arith, nat_tests)
 
-  pub slash-large : digits_value 10 back ≢ 0 → (2 ^ 63 ≤ digits_value 10 front) ⊎ (2 ^ 63 ≤ digits_value 10 back) → slash_value front back ≡ Err TooLarge
+  pub slash-large : digits_value 10 back ≢ 0 → (2 ^ 63 ≤ digits_value 10 front) ⊎ (2 ^ 63 ≤ digits_value 10 back)
+      → slash_value front back ≡ Err TooLarge
   unfolding slash_value
   slash-large some large = grind (arith, nat_tests)
 
-  pub slash-is : digits_value 10 back ≢ 0 → digits_value 10 front < 2 ^ 63 → digits_value 10 back < 2 ^ 63 → slash_value front back ≡ fitted (lowest_terms (pos (digits_value 10 front)) (digits_value 10 back))
+  pub slash-is : digits_value 10 back ≢ 0 → digits_value 10 front < 2 ^ 63 → digits_value 10 back < 2 ^ 63
+      → slash_value front back ≡ fitted (lowest_terms (pos (digits_value 10 front)) (digits_value 10 back))
   unfolding slash_value
   slash-is some front_small back_small = grind (arith, nat_tests)
 
@@ -218,12 +262,16 @@ unfolding reading
 reading-none [] none = refl
 reading-none (c ∷ cs) none = absurd (omega arith)
 
-pub reading-minus : (text : List ℕ) (c : ℕ) (cs : List ℕ) → text ≡ c ∷ cs → c ≡ 45 → reading text ≡ negated (numeral_value (numeral_of cs))
+pub reading-minus : (text : List ℕ) (c : ℕ) (cs : List ℕ) → text ≡ c ∷ cs → c ≡ 45
+    → reading text ≡ negated (numeral_value (numeral_of cs))
 unfolding reading
 reading-minus text c cs is minus =
-    ap reading is ∙ ap (λ b. cond b (negated (numeral_value (numeral_of cs))) (numeral_value (numeral_of (c ∷ cs)))) (eq-eqb c 45 minus)
+    ap reading is ∙ ap (λ b. cond b (negated (numeral_value (numeral_of cs))) (numeral_value (numeral_of (c ∷ cs))))
+    (eq-eqb c 45 minus)
 
-pub reading-plus : (text : List ℕ) (c : ℕ) (cs : List ℕ) → text ≡ c ∷ cs → c ≢ 45 → reading text ≡ numeral_value (numeral_of text)
+pub reading-plus : (text : List ℕ) (c : ℕ) (cs : List ℕ) → text ≡ c ∷ cs → c ≢ 45
+    → reading text ≡ numeral_value (numeral_of text)
 unfolding reading
 reading-plus text c cs is other =
-    ap reading is ∙ ap (λ b. cond b (negated (numeral_value (numeral_of cs))) (numeral_value (numeral_of (c ∷ cs)))) (ne_eqb c 45 other) ∙ ap (λ t. numeral_value (numeral_of t)) (sym is)
+    ap reading is ∙ ap (λ b. cond b (negated (numeral_value (numeral_of cs))) (numeral_value (numeral_of (c ∷ cs))))
+    (ne_eqb c 45 other) ∙ ap (λ t. numeral_value (numeral_of t)) (sym is)

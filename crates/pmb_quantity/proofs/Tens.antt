@@ -6,7 +6,8 @@ use Rattle.std.proofs.Math.Nat.{mul_assoc, mul_comm, one-le-pow, pow-le-pow_righ
 -- the order of four factors
 swap_factors : (a b c d : ℕ) → (a * b) * (c * d) ≡ (a * c) * (b * d)
 swap_factors a b c d =
-    mul_assoc a b (c * d) ∙ ap (λ x. a * x) (sym (mul_assoc b c d) ∙ ap (λ x. x * d) (mul_comm b c) ∙ mul_assoc c b d) ∙ sym (mul_assoc a c (b * d))
+    mul_assoc a b (c * d) ∙ ap (λ x. a * x) (sym (mul_assoc b c d) ∙ ap (λ x. x * d) (mul_comm b c) ∙ mul_assoc c b d)
+    ∙ sym (mul_assoc a c (b * d))
 
 -- so many fives and twos, and those that ten to the p has besides
 pub ten_parts : (p l t : ℕ) → l ≤ p → t ≤ p → (5 ^ l * 2 ^ t) * (5 ^ (p - l) * 2 ^ (p - t)) ≡ 10 ^ p
@@ -22,7 +23,11 @@ pub fives_positive : (k : ℕ) → 0 < 5 ^ k
 fives_positive k = omega (arith, one-le-pow k 5 (omega arith))
 
 pub parts_positive : (l t : ℕ) → 0 < 5 ^ l * 2 ^ t
-parts_positive l t = omega (arith, mul-le 1 1 (5 ^ l) (2 ^ t) (omega (arith, fives_positive l)) (omega (arith, pow_pos t)))
+parts_positive l t = omega (
+  arith,
+  mul-le 1 1 (5 ^ l) (2 ^ t) (omega (arith, fives_positive l))
+      (omega (arith, pow_pos t)),
+)
 
 -- a factor is no greater than the product
 pub factor_at_most : (a k : ℕ) → 0 < k → a ≤ a * k

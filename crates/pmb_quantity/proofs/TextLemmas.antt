@@ -1,5 +1,7 @@
 -- Texts of numbers.
-use Rattle.std.proofs.Common.{◌≡◌, ℕ, zero, suc, ◌+◌, ◌-◌, ◌/◌, ◌%◌, ◌^◌, ◌<◌, ◌≤◌, Bool, true, false, cond, ◌==◌, Some, None, [], ◌∷◌, ◌++◌, length, length-append, append_assoc, ℤ, pos, negsuc, ◌<ℤ◌, ◌≤ℤ◌, refl, ap, ◌∙◌, arith}
+use Rattle.std.proofs.Common.{◌≡◌, ℕ, zero, suc, ◌+◌, ◌-◌, ◌/◌, ◌%◌, ◌^◌, ◌<◌, ◌≤◌, Bool, true, false, cond, ◌==◌, Some}
+use Rattle.std.proofs.Common.{None, [], ◌∷◌, ◌++◌, length, length-append, append_assoc, ℤ, pos, negsuc, ◌<ℤ◌, ◌≤ℤ◌}
+use Rattle.std.proofs.Common.{refl, ap, ◌∙◌, arith}
 use Rattle.std.proofs.lemmas.Int.{ints}
 use Rattle.std.specs.Fmt.{decimal}
 use Rattle.std.proofs.lemmas.Fmt.{decimal_step, decimal_digit, length-decimal-le}
@@ -15,7 +17,8 @@ pub decimal_pair : (n : ℕ) → 10 ≤ n → n < 100 → decimal n ≡ (48 + n 
 decimal_pair n large small =
     decimal_step n large (omega arith) ∙ ap (λ ds. ds ++ (48 + n % 10) ∷ []) (decimal_digit (n / 10) (omega arith))
 
-pub decimal_pairs : (n : ℕ) → 100 ≤ n → n < 2 ^ 64 → decimal n ≡ decimal (n / 100) ++ ((48 + n % 100 / 10) ∷ (48 + n % 100 % 10) ∷ [])
+pub decimal_pairs : (n : ℕ) → 100 ≤ n → n < 2 ^ 64
+    → decimal n ≡ decimal (n / 100) ++ ((48 + n % 100 / 10) ∷ (48 + n % 100 % 10) ∷ [])
 decimal_pairs n large small =
     let front : n / 10 / 10 ≡ n / 100 = omega arith in
     let first : n / 10 % 10 ≡ n % 100 / 10 = omega arith in
@@ -29,7 +32,8 @@ decimal_pairs n large small =
 
 pub length-decimal_pairs : (n : ℕ) → 100 ≤ n → n < 2 ^ 64 → length (decimal n) ≡ length (decimal (n / 100)) + 2
 length-decimal_pairs n large small =
-    ap length (decimal_pairs n large small) ∙ length-append (decimal (n / 100)) ((48 + n % 100 / 10) ∷ (48 + n % 100 % 10) ∷ [])
+    ap length (decimal_pairs n large small) ∙ length-append (decimal (n / 100))
+    ((48 + n % 100 / 10) ∷ (48 + n % 100 % 10) ∷ [])
 
 pub length-padded : (places n : ℕ) → length (padded places n) ≡ places
 length-padded zero n = refl
@@ -55,12 +59,14 @@ unfolding places_of
 places_of-is d = refl
 
 -- the search goes on where a test fails, ends where one passes, and finds none at its end
-pub first_of-passes : (test : ℕ → Bool) (from count : ℕ) → 0 < count → test from ≡ true → first_of test from count ≡ Some from
+pub first_of-passes : (test : ℕ → Bool) (from count : ℕ) → 0 < count → test from ≡ true
+    → first_of test from count ≡ Some from
 unfolding first_of
 first_of-passes test from zero some passes = absurd (omega arith)
 first_of-passes test from (suc count) some passes = ap (λ b. cond b (Some from) (first_of test (from + 1) count)) passes
 
-pub first_of-fails : (test : ℕ → Bool) (from count : ℕ) → 0 < count → test from ≡ false → first_of test from count ≡ first_of test (from + 1) (count - 1)
+pub first_of-fails : (test : ℕ → Bool) (from count : ℕ) → 0 < count → test from ≡ false
+    → first_of test from count ≡ first_of test (from + 1) (count - 1)
 unfolding first_of
 first_of-fails test from zero some fails = absurd (omega arith)
 first_of-fails test from (suc count) some fails =

@@ -1,5 +1,6 @@
 -- Twos in a number, and what it has in common with a power of two.
-use Rattle.std.proofs.Common.{◌≡◌, ℕ, zero, suc, inl, inr, ◌+◌, ◌-◌, ◌*◌, ◌/◌, ◌%◌, ◌^◌, ◌<◌, ◌≤◌, min, pos, sym, ap, ◌∙◌, arith}
+use Rattle.std.proofs.Common.{◌≡◌, ℕ, zero, suc, inl, inr, ◌+◌, ◌-◌, ◌*◌, ◌/◌, ◌%◌, ◌^◌, ◌<◌, ◌≤◌, min, pos, sym, ap}
+use Rattle.std.proofs.Common.{◌∙◌, arith}
 use Rattle.std.specs.Int.{bit_at, w64, trailing_zeros}
 use Rattle.std.specs.Int.Count.{trailing_of_zero}
 use Rattle.std.proofs.lemmas.Bool.{cases_lt}
@@ -25,7 +26,8 @@ no_rest (suc t) n clear =
     let q = n / 2 ^ t in
     let even : q % 2 ≡ 0 = clear t (omega arith) in
     let halves : q ≡ q / 2 * 2 = omega (arith, even) in
-    let whole : n ≡ q / 2 * 2 ^ suc t = below ∙ ap (λ x. x * 2 ^ t) halves ∙ mul_assoc (q / 2) 2 (2 ^ t) ∙ ap (λ x. q / 2 * x) (mul_comm 2 (2 ^ t) ∙ sym (pow-suc 2 t)) in
+    let whole : n ≡ q / 2 * 2 ^ suc t = below ∙ ap (λ x. x * 2 ^ t) halves ∙ mul_assoc (q / 2) 2 (2 ^ t)
+    ∙ ap (λ x. q / 2 * x) (mul_comm 2 (2 ^ t) ∙ sym (pow-suc 2 t)) in
     let quotient : n / 2 ^ suc t ≡ q / 2 = ap (λ x. x / 2 ^ suc t) whole ∙ mul-div_cancel (q / 2) (pow_pos (suc t)) in
     whole ∙ ap (λ x. x * 2 ^ suc t) (sym quotient)
 
@@ -34,7 +36,8 @@ common : (n h t : ℕ) → t ≤ h → n ≡ n / 2 ^ t * 2 ^ t → gcd (n / 2 ^ 
 common n h t few whole coprime =
     let sum : (h - t) + t ≡ h = omega arith in
     let power : 2 ^ h ≡ 2 ^ (h - t) * 2 ^ t = ap (λ x. 2 ^ x) (sym sum) ∙ pow-add 2 (h - t) t in
-    ap (λ x. gcd x (2 ^ h)) whole ∙ ap (gcd (n / 2 ^ t * 2 ^ t)) power ∙ gcd-scale (n / 2 ^ t) (2 ^ (h - t)) (2 ^ t) (pow_pos t) ∙ ap (λ x. x * 2 ^ t) coprime ∙ omega arith
+    ap (λ x. gcd x (2 ^ h)) whole ∙ ap (gcd (n / 2 ^ t * 2 ^ t)) power ∙ gcd-scale (n / 2 ^ t) (2 ^ (h - t)) (2 ^ t)
+    (pow_pos t) ∙ ap (λ x. x * 2 ^ t) coprime ∙ omega arith
 
 all_of_them : (n h : ℕ) → ((i : ℕ) → i < h → bit_at n i ≡ 0) → gcd n (2 ^ h) ≡ 2 ^ h
 all_of_them n h clear =
@@ -49,7 +52,8 @@ common_twos (suc n) h fits few =
     let t = trailing_zeros w64 (suc n) in
     let digits = bit_at-trailing_zeros w64 (suc n) (omega arith) fits in
     elim (cases_lt t h) [
-      | inl less ↦ common (suc n) h t (omega arith) (no_rest t (suc n) digits.2) (gcd_of_odd (suc n / 2 ^ t) (h - t) digits.1) ∙ ap (λ x. 2 ^ x) (omega arith)
+      | inl less ↦ common (suc n) h t (omega arith) (no_rest t (suc n) digits.2)
+          (gcd_of_odd (suc n / 2 ^ t) (h - t) digits.1) ∙ ap (λ x. 2 ^ x) (omega arith)
       | inr more ↦ all_of_them (suc n) h (λ i less. digits.2 i (omega arith)) ∙ ap (λ x. 2 ^ x) (omega arith)
     ]
 
@@ -67,15 +71,19 @@ few_twos n positive fits = (bit_at-trailing_zeros w64 n positive fits).0
 power_quotient : (h t : ℕ) → t ≤ h → 2 ^ h / 2 ^ t ≡ 2 ^ (h - t)
 power_quotient h t few =
     let sum : (h - t) + t ≡ h = omega arith in
-    ap (λ x. 2 ^ x / 2 ^ t) (sym sum) ∙ ap (λ x. x / 2 ^ t) (pow-add 2 (h - t) t) ∙ mul-div_cancel (2 ^ (h - t)) (pow_pos t)
+    ap (λ x. 2 ^ x / 2 ^ t) (sym sum) ∙ ap (λ x. x / 2 ^ t) (pow-add 2 (h - t) t)
+    ∙ mul-div_cancel (2 ^ (h - t)) (pow_pos t)
 
 -- without them both are in lowest terms
 module _ (n h t : ℕ) where
-  pub halved_lowest : t ≤ h → gcd n (2 ^ h) ≡ 2 ^ t → lowest_terms (pos n) (2 ^ h) ≡ record { numerator = pos (n / 2 ^ t); denominator = 2 ^ (h - t) }
+  pub halved_lowest : t ≤ h → gcd n (2 ^ h) ≡ 2 ^ t
+      → lowest_terms (pos n) (2 ^ h) ≡ record { numerator = pos (n / 2 ^ t); denominator = 2 ^ (h - t) }
   halved_lowest few is =
-      let divided : lowest_terms (pos n) (2 ^ h) ≡ record { numerator = pos (n / 2 ^ t); denominator = 2 ^ h / 2 ^ t } = ap (λ g. record { numerator = pos (n / g); denominator = 2 ^ h / g }) is in
+      let divided : lowest_terms (pos n) (2 ^ h) ≡ record { numerator = pos (n / 2 ^ t); denominator = 2 ^ h / 2 ^ t } =
+      ap (λ g. record { numerator = pos (n / g); denominator = 2 ^ h / g }) is in
       divided ∙ ap (λ x. record { numerator = pos (n / 2 ^ t); denominator = x }) (power_quotient h t few)
 
   pub halved_coprime : t ≤ h → gcd n (2 ^ h) ≡ 2 ^ t → gcd (n / 2 ^ t) (2 ^ (h - t)) ≡ 1
   halved_coprime few is =
-      ap (gcd (n / 2 ^ t)) (sym (power_quotient h t few)) ∙ ap (λ g. gcd (n / g) (2 ^ h / g)) (sym is) ∙ gcd-quotients n (2 ^ h) (pow_pos h)
+      ap (gcd (n / 2 ^ t)) (sym (power_quotient h t few)) ∙ ap (λ g. gcd (n / g) (2 ^ h / g)) (sym is)
+      ∙ gcd-quotients n (2 ^ h) (pow_pos h)

@@ -1,5 +1,6 @@
 -- Which quantity two numbers make.
-use Rattle.std.specs.Prelude.{zero, suc, ◌^◌, ◌&&◌, ℤ, pos, negsuc, neg_ℤ, unsigned_abs, nat_lt, if◌then◌else◌, Result, Ok, Err}
+use Rattle.std.specs.Prelude.{zero, suc, ◌^◌, ◌&&◌, ℤ, pos, negsuc, neg_ℤ, unsigned_abs, nat_lt, if◌then◌else◌, Result}
+use Rattle.std.specs.Prelude.{Ok, Err}
 use Rattle.pmb_quantity.specs.Fraction.{Fraction, lowest_terms}
 use Rattle.pmb_quantity.specs.declared.quantity.QuantityFault.{QuantityFault}
 use Rattle.pmb_quantity.specs.declared.quantity.QuantityFault.TheVariants.{ZeroDenominator, TooLarge}

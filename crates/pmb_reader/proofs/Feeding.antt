@@ -1,5 +1,6 @@
 -- What a piece of a capture comes to, one event after the other.
-use Rattle.std.proofs.Common.{◌≡◌, ℕ, ◌+◌, ◌<◌, ◌⊎◌, inl, inr, List, [], ◌∷◌, ◌++◌, length, take, drop, get_or, Some, None, refl, sym, ap, subst, ◌∙◌, arith, append_assoc, length-append}
+use Rattle.std.proofs.Common.{◌≡◌, ℕ, ◌+◌, ◌<◌, ◌⊎◌, inl, inr, List, [], ◌∷◌, ◌++◌, length, take, drop, get_or, Some}
+use Rattle.std.proofs.Common.{None, refl, sym, ap, subst, ◌∙◌, arith, append_assoc, length-append}
 use Rattle.std.proofs.lemmas.List.{append-nil, length-take-le, take_more, take_all, drop_more, take-append-drop}
 use Rattle.pmb_bus.specs.declared.event.Event.{Event}
 use Rattle.pmb_bus.specs.declared.event.Event.TheVariants.{Start, Byte, Ack, Nack, Stop}
@@ -8,13 +9,14 @@ use Rattle.pmb_transaction.specs.Transaction.{TransactionData}
 use Rattle.pmb_transaction.specs.Packet.{Packet}
 use Rattle.pmb_transaction.specs.Capture.{HasNoStop}
 use Rattle.pmb_transaction.specs.Reading.{IsUnderWay, RefusalData}
-use Rattle.pmb_under_way.specs.declared.under_way.UnderWay.{UnderWay}
-use Rattle.pmb_under_way.specs.UnderWay.{StandsIn}
+use Rattle.pmb_packet_state.specs.declared.packet_state.PacketState.{PacketState}
+use Rattle.pmb_packet_state.specs.PacketState.{StandsIn}
 use Rattle.pmb_reader.specs.declared.reader.Reader.{Reader}
 use Rattle.pmb_reader.specs.declared.reader.Took.TheVariants as answers
 use Rattle.pmb_reader.specs.declared.refusal.Refusal.{Refusal}
 use Rattle.pmb_reader.specs.Refusal.{refusal_data}
-use Rattle.pmb_reader.specs.Reader.{Standing, Open, Held, Passing, ReaderStandsAt, IsHeldAt, ReaderTakes, behind_passed, last_read}
+use Rattle.pmb_reader.specs.Reader.{Standing, Open, Held, Passing, ReaderStandsAt, IsHeldAt, ReaderTakes, behind_passed}
+use Rattle.pmb_reader.specs.Reader.{last_read}
 use Rattle.pmb_reader.specs.Feed.{IsUnderWayAt, Leads, ReaderNeedsMore, EndsPacket, ReaderRefuses, AnswersAgain}
 use Rattle.pmb_reader.proofs.Stopless.{no_stop_in_none, no_stop_in_more}
 
@@ -28,27 +30,37 @@ pub record LedTo (profile : List DeviceParts) (standing : Standing) (piece : Lis
 
 module _ (profile : List DeviceParts) where
   -- no event
-  pub led_nowhere : (now : Reader) (standing : Standing) → ReaderStandsAt profile now standing → LedTo profile standing [] now
+  pub led_nowhere : (now : Reader) (standing : Standing) → ReaderStandsAt profile now standing
+      → LedTo profile standing [] now
   led_nowhere now (Open n events) stands =
-      record { behind = Open n events; leads = ap (λ (es : List Event). Open n es) (sym (append-nil events)); stands = stands }
+      record {
+        behind = Open n events;
+        leads = ap (λ (es : List Event). Open n es) (sym (append-nil events));
+        stands =
+            stands;
+      }
   led_nowhere now (Held n refusal) stands = record { behind = Held n refusal; leads = (refl, refl); stands = stands }
   led_nowhere now (Passing n) stands =
       let same : n ≡ n + 0 = omega arith in
       record { behind = Passing n; leads = inl (no_stop_in_none, ap (λ (m : ℕ). Passing m) same); stands = stands }
 
   passed_one : (n : ℕ) (piece : List Event) (event : Event) (after : Reader) → HasNoStop (piece ++ event ∷ [])
-      → ReaderStandsAt profile after (Passing (n + length piece + 1)) → LedTo profile (Passing n) (piece ++ event ∷ []) after
+      → ReaderStandsAt profile after (Passing (n + length piece + 1))
+      → LedTo profile (Passing n) (piece ++ event ∷ []) after
   passed_one n piece event after none stands =
-      let count : n + length piece + 1 ≡ n + length (piece ++ event ∷ []) = omega (arith, length-append piece (event ∷ [])) in record {
+      let count : n + length piece + 1 ≡ n + length (piece ++ event ∷ []) =
+      omega (arith, length-append piece (event ∷ [])) in record {
         behind = Passing (n + length piece + 1);
         leads = inl (none, ap (λ (m : ℕ). Passing m) count);
         stands = stands;
       }
 
   passed_on : (n : ℕ) (piece : List Event) (event : Event) (after : Reader) → HasNoStop piece
-      → ReaderStandsAt profile after (behind_passed (n + length piece) event) → LedTo profile (Passing n) (piece ++ event ∷ []) after
+      → ReaderStandsAt profile after (behind_passed (n + length piece) event)
+      → LedTo profile (Passing n) (piece ++ event ∷ []) after
   passed_on n piece Stop after none stands =
-      let count : n + length piece + 1 ≡ n + length (piece ++ Stop ∷ []) = omega (arith, length-append piece (Stop ∷ [])) in record {
+      let count : n + length piece + 1 ≡ n + length (piece ++ Stop ∷ []) =
+      omega (arith, length-append piece (Stop ∷ [])) in record {
         behind = Open (n + length piece + 1) [];
         leads = inr (
           piece ++ Stop ∷ [],
@@ -59,28 +71,33 @@ module _ (profile : List DeviceParts) where
         );
         stands = stands;
       }
-  passed_on n piece Start after none stands = passed_one n piece Start after (no_stop_in_more piece Start none (λ e. cc e)) stands
-  passed_on n piece (Byte b) after none stands = passed_one n piece (Byte b) after (no_stop_in_more piece (Byte b) none (λ e. cc e)) stands
-  passed_on n piece Ack after none stands = passed_one n piece Ack after (no_stop_in_more piece Ack none (λ e. cc e)) stands
-  passed_on n piece Nack after none stands = passed_one n piece Nack after (no_stop_in_more piece Nack none (λ e. cc e)) stands
+  passed_on n piece Start after none stands =
+      passed_one n piece Start after (no_stop_in_more piece Start none (λ e. cc e)) stands
+  passed_on n piece (Byte b) after none stands =
+      passed_one n piece (Byte b) after (no_stop_in_more piece (Byte b) none (λ e. cc e)) stands
+  passed_on n piece Ack after none stands = passed_one n piece Ack after (no_stop_in_more piece Ack none (λ e. cc e))
+      stands
+  passed_on n piece Nack after none stands = passed_one n piece Nack after (no_stop_in_more piece Nack none (λ e. cc e))
+      stands
 
-  led_on : (standing behind : Standing) (piece : List Event) (event : Event) (after : Reader) → Leads standing piece behind
-      → ReaderTakes profile behind event answers.More after → LedTo profile standing (piece ++ event ∷ []) after
+  led_on : (standing behind : Standing) (piece : List Event) (event : Event) (after : Reader)
+      → Leads standing piece behind
+      → ReaderTakes profile behind event answers.Continues after → LedTo profile standing (piece ++ event ∷ []) after
   led_on (Open n events) behind piece event after leads takes =
-      let took : ReaderTakes profile (Open n (events ++ piece)) event answers.More after =
-      subst (λ (s : Standing). ReaderTakes profile s event answers.More after) leads takes in record {
+      let took : ReaderTakes profile (Open n (events ++ piece)) event answers.Continues after =
+      subst (λ (s : Standing). ReaderTakes profile s event answers.Continues after) leads takes in record {
         behind = Open n ((events ++ piece) ++ event ∷ []);
         leads = ap (λ (es : List Event). Open n es) (append_assoc events piece (event ∷ []));
         stands = took.1;
       }
   led_on (Held n refusal) behind piece event after leads takes =
-      absurd (subst (λ (s : Standing). ReaderTakes profile s event answers.More after) leads.1 takes)
+      absurd (subst (λ (s : Standing). ReaderTakes profile s event answers.Continues after) leads.1 takes)
   led_on (Passing n) behind piece event after (inl leads) takes =
       passed_on n piece event after leads.0
-      (subst (λ (s : Standing). ReaderTakes profile s event answers.More after) leads.1 takes)
+      (subst (λ (s : Standing). ReaderTakes profile s event answers.Continues after) leads.1 takes)
   led_on (Passing n) behind piece event after (inr leads) takes =
-      let took : ReaderTakes profile (Open (n + length leads.0) leads.1) event answers.More after =
-      subst (λ (s : Standing). ReaderTakes profile s event answers.More after) leads.4 takes in record {
+      let took : ReaderTakes profile (Open (n + length leads.0) leads.1) event answers.Continues after =
+      subst (λ (s : Standing). ReaderTakes profile s event answers.Continues after) leads.4 takes in record {
         behind = Open (n + length leads.0) (leads.1 ++ event ∷ []);
         leads = inr (
           leads.0,
@@ -96,17 +113,21 @@ module _ (profile : List DeviceParts) where
 
 -- what a reader that was given the first i events of a piece has come to
 pub record FedTo (before : Reader) (piece : List Event) (i : ℕ) (now : Reader) : Type 0 where
-  pub led : (profile : List DeviceParts) (standing : Standing) → ReaderStandsAt profile before standing → LedTo profile standing (take i piece) now
-  pub not_held : (profile : List DeviceParts) (standing : Standing) → ReaderStandsAt profile before standing → IsHeldAt standing None
+  pub led : (profile : List DeviceParts) (standing : Standing) → ReaderStandsAt profile before standing
+      → LedTo profile standing (take i piece) now
+  pub not_held : (profile : List DeviceParts) (standing : Standing) → ReaderStandsAt profile before standing
+      → IsHeldAt standing None
 
 length_take_within : (i : ℕ) (piece : List Event) → i < length piece → length (take i piece) ≡ i
 length_take_within i piece within = length-take-le i piece (omega arith)
 
 -- some packet begins with the events of the one under way
 abbrev UnderWayHolds : Type 0
-UnderWayHolds = (profile : List DeviceParts) (u : UnderWay) (events : List Event) → StandsIn profile u events → IsUnderWay profile events
+UnderWayHolds = (profile : List DeviceParts) (u : PacketState) (events : List Event) → StandsIn profile u events
+    → IsUnderWay profile events
 
-module _ (before now : Reader) (piece : List Event) (i : ℕ) (d : Event) (fed : FedTo before piece i now) (within : i < length piece) where
+module _ (before now : Reader) (piece : List Event) (i : ℕ) (d : Event) (fed : FedTo before piece i now)
+    (within : i < length piece) where
   whole : piece ≡ take i piece ++ get_or piece i d ∷ drop (i + 1) piece
   whole =
       sym (take-append-drop i piece)
@@ -114,7 +135,7 @@ module _ (before now : Reader) (piece : List Event) (i : ℕ) (d : Event) (fed :
 
   pub fed_more : (after : Reader)
       → ((profile : List DeviceParts) (standing : Standing) → ReaderStandsAt profile now standing
-      → ReaderTakes profile standing (get_or piece i d) answers.More after)
+      → ReaderTakes profile standing (get_or piece i d) answers.Continues after)
       → FedTo before piece (i + 1) after
   fed_more after takes = record {
     led = λ profile standing stands.
@@ -125,10 +146,13 @@ module _ (before now : Reader) (piece : List Event) (i : ℕ) (d : Event) (fed :
     not_held = fed.not_held;
   }
 
-  open_packet : UnderWayHolds → (profile : List DeviceParts) (standing behind : Standing) (ended after : Reader) (t : TransactionData)
-      → Leads standing (take i piece) behind → ReaderStandsAt profile now behind → ReaderTakes profile behind (get_or piece i d) answers.Packet ended
+  open_packet : UnderWayHolds → (profile : List DeviceParts) (standing behind : Standing) (ended after : Reader)
+      (t : TransactionData)
+      → Leads standing (take i piece) behind → ReaderStandsAt profile now behind
+      → ReaderTakes profile behind (get_or piece i d) answers.Packet ended
       → last_read ended ≡ t
-      → ((n : ℕ) → ReaderStandsAt profile ended (Open n []) → ReaderStandsAt profile after (Open n [])) → EndsPacket profile standing piece (i + 1) after t
+      → ((n : ℕ) → ReaderStandsAt profile ended (Open n []) → ReaderStandsAt profile after (Open n []))
+      → EndsPacket profile standing piece (i + 1) after t
   open_packet holds profile standing (Open n events) ended after t leads here takes is stands = record {
     front = take i piece;
     event = get_or piece i d;
@@ -149,15 +173,19 @@ module _ (before now : Reader) (piece : List Event) (i : ℕ) (d : Event) (fed :
       → ((profile : List DeviceParts) (standing : Standing) → ReaderStandsAt profile now standing
       → ReaderTakes profile standing (get_or piece i d) answers.Packet ended)
       → last_read ended ≡ t
-      → ((profile : List DeviceParts) (n : ℕ) → ReaderStandsAt profile ended (Open n []) → ReaderStandsAt profile after (Open n []))
-      → (profile : List DeviceParts) (standing : Standing) → ReaderStandsAt profile before standing → EndsPacket profile standing piece (i + 1) after t
+      → ((profile : List DeviceParts) (n : ℕ) → ReaderStandsAt profile ended (Open n [])
+      → ReaderStandsAt profile after (Open n []))
+      → (profile : List DeviceParts) (standing : Standing) → ReaderStandsAt profile before standing
+      → EndsPacket profile standing piece (i + 1) after t
   fed_packet holds ended after t takes is stands profile standing at =
       let here = fed.led profile standing at in
-      open_packet holds profile standing here.behind ended after t here.leads here.stands (takes profile here.behind here.stands) is (stands profile)
+      open_packet holds profile standing here.behind ended after t here.leads here.stands
+      (takes profile here.behind here.stands) is (stands profile)
 
   open_refused : (profile : List DeviceParts) (standing behind : Standing) (after : Reader) (refusal : Refusal)
       → IsHeldAt standing None → Leads standing (take i piece) behind → ReaderStandsAt profile now behind
-      → ReaderTakes profile behind (get_or piece i d) (answers.Refused refusal) after → ReaderRefuses profile standing piece i after (refusal_data refusal)
+      → ReaderTakes profile behind (get_or piece i d) (answers.Refused refusal) after
+      → ReaderRefuses profile standing piece i after (refusal_data refusal)
   open_refused profile standing (Open n events) after refusal none leads here takes = record {
     front = take i piece;
     event = get_or piece i d;
@@ -180,7 +208,8 @@ module _ (before now : Reader) (piece : List Event) (i : ℕ) (d : Event) (fed :
       → ((profile : List DeviceParts) (standing : Standing) → ReaderStandsAt profile now standing
       → ReaderTakes profile standing (get_or piece i d) (answers.Refused refusal) after)
       → (profile : List DeviceParts) (standing : Standing) → ReaderStandsAt profile before standing
-      → ReaderRefuses profile standing piece i after (refusal_data refusal) ⊎ AnswersAgain profile standing i after (refusal_data refusal)
+      → ReaderRefuses profile standing piece i after (refusal_data refusal) ⊎ AnswersAgain profile standing i after
+      (refusal_data refusal)
   fed_refused after refusal takes profile standing at =
       let here = fed.led profile standing at in
       inl
@@ -190,17 +219,20 @@ module _ (before now : Reader) (piece : List Event) (i : ℕ) (d : Event) (fed :
       )
 
 -- the whole piece
-not_held : (standing : Standing) → IsHeldAt standing None → (n : ℕ) (refusal : RefusalData) → standing ≡ Held n refusal → ⊥
+not_held : (standing : Standing) → IsHeldAt standing None → (n : ℕ) (refusal : RefusalData) → standing ≡ Held n refusal
+    → ⊥
 not_held standing none n refusal is = subst (λ (s : Standing). IsHeldAt s None) is none
 
 -- what some packet begins with, where a reader reads one
-under_way_at : (profile : List DeviceParts) (reader : Reader) (standing : Standing) → ReaderStandsAt profile reader standing → IsUnderWayAt profile standing
+under_way_at : (profile : List DeviceParts) (reader : Reader) (standing : Standing)
+    → ReaderStandsAt profile reader standing → IsUnderWayAt profile standing
 under_way_at profile reader (Open n events) stands = stands.inside.goes
 under_way_at profile reader (Held n refusal) stands = tt
 under_way_at profile reader (Passing n) stands = tt
 
 pub fed_all : (before now : Reader) (piece : List Event) (i : ℕ) → FedTo before piece i now → i ≡ length piece
-    → (profile : List DeviceParts) (standing : Standing) → ReaderStandsAt profile before standing → ReaderNeedsMore profile standing piece (length piece) now
+    → (profile : List DeviceParts) (standing : Standing) → ReaderStandsAt profile before standing
+    → ReaderNeedsMore profile standing piece (length piece) now
 fed_all before now piece i fed last profile standing at =
     let whole : take i piece ≡ piece = take_all i piece (omega arith) in
     let here = fed.led profile standing at in record {
@@ -213,7 +245,9 @@ fed_all before now piece i fed last profile standing at =
     }
 
 -- before the first event
-pub fed_none : (before : Reader) (piece : List Event) → ((profile : List DeviceParts) (standing : Standing) → ReaderStandsAt profile before standing → IsHeldAt standing None)
+pub fed_none : (before : Reader) (piece : List Event)
+    → ((profile : List DeviceParts) (standing : Standing) → ReaderStandsAt profile before standing
+    → IsHeldAt standing None)
     → FedTo before piece 0 before
 fed_none before piece none = record {
   led = λ profile standing stands. led_nowhere profile before standing stands;
@@ -222,7 +256,8 @@ fed_none before piece none = record {
 
 -- a refusal that is held
 pub held_again : (profile : List DeviceParts) (reader : Reader) (refusal : Refusal) (standing : Standing)
-    → IsHeldAt standing (Some refusal) → ReaderStandsAt profile reader standing → AnswersAgain profile standing 0 reader (refusal_data refusal)
+    → IsHeldAt standing (Some refusal) → ReaderStandsAt profile reader standing
+    → AnswersAgain profile standing 0 reader (refusal_data refusal)
 held_again profile reader refusal (Open n events) held stands = absurd held
 held_again profile reader refusal (Held n first) held stands =
     record { n = n; held = ap (λ (r : RefusalData). Held n r) (sym held); none = refl; stands = stands }

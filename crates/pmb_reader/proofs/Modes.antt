@@ -1,5 +1,6 @@
 -- What the mode of a reader says of where it stands.
-use Rattle.std.proofs.Common.{◌≡◌, true, false, ℕ, ◌+◌, List, [], ◌∷◌, ◌++◌, length, refl, sym, ap, subst, ◌∙◌, arith, length-append}
+use Rattle.std.proofs.Common.{◌≡◌, true, false, ℕ, ◌+◌, List, [], ◌∷◌, ◌++◌, length, refl, sym, ap, subst, ◌∙◌, arith}
+use Rattle.std.proofs.Common.{length-append}
 use Rattle.pmb_bus.specs.Count.{capped}
 use Rattle.pmb_bus.specs.declared.event.Event.{Event}
 use Rattle.pmb_bus.specs.declared.event.Event.TheVariants.{Stop}
@@ -21,10 +22,12 @@ use Rattle.pmb_reader.specs.machine.Standing.{IsMode}
 pub one_more : (used now n : ℕ) → used ≡ capped n → now ≡ capped (used + 1) → now ≡ capped (n + 1)
 one_more used now n was is = omega (arith)
 
-pub one_event_more : (used now n : ℕ) (events : List Event) (event : Event) → used ≡ capped (n + length events) → now ≡ capped (used + 1)
+pub one_event_more : (used now n : ℕ) (events : List Event) (event : Event) → used ≡ capped (n + length events)
+    → now ≡ capped (used + 1)
     → now ≡ capped (n + length (events ++ event ∷ []))
 one_event_more used now n events event was is =
-    let long : n + length events + 1 ≡ n + length (events ++ event ∷ []) = omega (arith, length-append events (event ∷ [])) in
+    let long : n + length events + 1 ≡ n + length (events ++ event ∷ []) =
+    omega (arith, length-append events (event ∷ [])) in
     one_more used now (n + length events) was is ∙ ap capped long
 
 pub one_packet_more : (used now n : ℕ) → used ≡ capped n → now ≡ capped (used + 1) → now ≡ capped (n + 1 + 0)
@@ -33,15 +36,18 @@ one_packet_more used now n was is = omega (arith)
 -- ---- modes
 
 -- a reader that reads a packet reads one, whatever came
-pub still_open : (mode : Mode) (n m : ℕ) (events more : List Event) → IsMode mode (Open n events) → IsMode mode (Open m more)
+pub still_open : (mode : Mode) (n m : ℕ) (events more : List Event) → IsMode mode (Open n events)
+    → IsMode mode (Open m more)
 still_open modes.Open n m events more is = tt
 still_open (modes.Held held) n m events more is = absurd is
 still_open modes.Passing n m events more is = absurd is
 
 -- after a STOP that is passed over it reads a packet
-pub behind_passed_stop : (profile : List DeviceParts) (after : Reader) (n : ℕ) (event : Event) → event ≡ Stop → ReaderStandsAt profile after (Open (n + 1) [])
+pub behind_passed_stop : (profile : List DeviceParts) (after : Reader) (n : ℕ) (event : Event) → event ≡ Stop
+    → ReaderStandsAt profile after (Open (n + 1) [])
     → ReaderStandsAt profile after (behind_passed n event)
-behind_passed_stop profile after n event is stands = subst (λ e. ReaderStandsAt profile after (behind_passed n e)) (sym is) stands
+behind_passed_stop profile after n event is stands = subst (λ e. ReaderStandsAt profile after (behind_passed n e))
+    (sym is) stands
 
 module _ (profile : List DeviceParts) (reader : Reader) (Holds : Standing → Type 0) where
   -- while a packet is read
@@ -54,14 +60,17 @@ module _ (profile : List DeviceParts) (reader : Reader) (Holds : Standing → Ty
 
   -- while a refusal is held
   pub while_held : (held : Answered) → reader.mode ≡ modes.Held held
-      → ((n : ℕ) (refusal : RefusalData) → refusal_data held ≡ refusal → ReaderStandsAt profile reader (Held n refusal) → Holds (Held n refusal))
+      → ((n : ℕ) (refusal : RefusalData) → refusal_data held ≡ refusal → ReaderStandsAt profile reader (Held n refusal)
+      → Holds (Held n refusal))
       → (standing : Standing) → ReaderStandsAt profile reader standing → Holds standing
   while_held held mode holds (Open n events) stands = absurd (subst (λ m. IsMode m (Open n events)) mode stands.mode)
-  while_held held mode holds (Held n refusal) stands = holds n refusal (subst (λ m. IsMode m (Held n refusal)) mode stands.mode) stands
+  while_held held mode holds (Held n refusal) stands =
+      holds n refusal (subst (λ m. IsMode m (Held n refusal)) mode stands.mode) stands
   while_held held mode holds (Passing n) stands = absurd (subst (λ m. IsMode m (Passing n)) mode stands.mode)
 
   -- while events are passed over
-  pub while_passing : reader.mode ≡ modes.Passing → ((n : ℕ) → ReaderStandsAt profile reader (Passing n) → Holds (Passing n))
+  pub while_passing : reader.mode ≡ modes.Passing
+      → ((n : ℕ) → ReaderStandsAt profile reader (Passing n) → Holds (Passing n))
       → (standing : Standing) → ReaderStandsAt profile reader standing → Holds standing
   while_passing mode holds (Open n events) stands = absurd (subst (λ m. IsMode m (Open n events)) mode stands.mode)
   while_passing mode holds (Held n refusal) stands = absurd (subst (λ m. IsMode m (Held n refusal)) mode stands.mode)
@@ -82,7 +91,8 @@ not_between profile reader other (Passing n) stands between = between
 -- ---- kinds
 
 -- no kind
-pub no_kinds : (kinds : Kinds) → bits kinds ≡ 0 → ((event : Event) → holds kinds event ≡ false) → AreKindsOf (λ event. ⊥) kinds
+pub no_kinds : (kinds : Kinds) → bits kinds ≡ 0 → ((event : Event) → holds kinds event ≡ false)
+    → AreKindsOf (λ event. ⊥) kinds
 no_kinds kinds none lacks = record {
   known = omega (arith, none);
   each = λ event absurdity. absurd absurdity;
@@ -90,7 +100,8 @@ no_kinds kinds none lacks = record {
 }
 
 -- all kinds
-pub all_kinds : (kinds : Kinds) → bits kinds ≡ 31 → ((event : Event) → holds kinds event ≡ true) → AreKindsOf (λ event. Unit {0}) kinds
+pub all_kinds : (kinds : Kinds) → bits kinds ≡ 31 → ((event : Event) → holds kinds event ≡ true)
+    → AreKindsOf (λ event. Unit {0}) kinds
 all_kinds kinds all has = record {
   known = omega (arith, all);
   each = λ event any. has event;

@@ -13,7 +13,8 @@ pub in_tail : (first : Event) (events : List Event) → HasNoStop (first ∷ eve
 in_tail first events none before after split = none (first ∷ before) after (ap (λ (es : List Event). first ∷ es) split)
 
 -- one event more that is none
-pub no_stop_in_more : (events : List Event) (event : Event) → HasNoStop events → (event ≡ Stop → ⊥) → HasNoStop (events ++ event ∷ [])
+pub no_stop_in_more : (events : List Event) (event : Event) → HasNoStop events → (event ≡ Stop → ⊥)
+    → HasNoStop (events ++ event ∷ [])
 no_stop_in_more [] event none other [] after split = other (cc split)
 no_stop_in_more [] event none other (e ∷ before) after split =
     let rest : [] ≡ before ++ Stop ∷ after = cc split in

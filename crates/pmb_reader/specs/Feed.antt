@@ -21,7 +21,8 @@ Leads (Open n events) piece behind = behind ≡ Open n (events ++ piece)
 Leads (Held n refusal) piece behind = (piece ≡ []) × (behind ≡ Held n refusal)
 Leads (Passing n) piece behind =
     (HasNoStop piece × (behind ≡ Passing (n + length piece)))
-    ⊎ ((passed : List Event) × (rest : List Event) × (piece ≡ passed ++ rest) × EndsAtFirstStop passed × (behind ≡ Open (n + length passed) rest))
+    ⊎ ((passed : List Event) × (rest : List Event) × (piece ≡ passed ++ rest) × EndsAtFirstStop passed
+    × (behind ≡ Open (n + length passed) rest))
 
 -- where a packet is read, some packet begins with its events so far, and they hold no whole one
 abbrev pub IsUnderWayAt : List DeviceParts → Standing → Type 0
@@ -30,7 +31,8 @@ IsUnderWayAt profile (Held n refusal) = Unit {0}
 IsUnderWayAt profile (Passing n) = Unit {0}
 
 -- The piece is used whole.
-pub record ReaderNeedsMore (profile : List DeviceParts) (standing : Standing) (piece : List Event) (used : ℕ) (after : Reader) : Type 0 where
+pub record ReaderNeedsMore (profile : List DeviceParts) (standing : Standing) (piece : List Event) (used : ℕ)
+    (after : Reader) : Type 0 where
   pub not_held : (n : ℕ) (refusal : RefusalData) → standing ≡ Held n refusal → ⊥
   pub all : used ≡ length piece
   pub behind : Standing
@@ -39,7 +41,8 @@ pub record ReaderNeedsMore (profile : List DeviceParts) (standing : Standing) (p
   pub stands : ReaderStandsAt profile after behind
 
 -- The last event used ends the packet of a transaction, and no event before it ended one.
-pub record EndsPacket (profile : List DeviceParts) (standing : Standing) (piece : List Event) (used : ℕ) (after : Reader) (t : TransactionData) : Type 0 where
+pub record EndsPacket (profile : List DeviceParts) (standing : Standing) (piece : List Event) (used : ℕ)
+    (after : Reader) (t : TransactionData) : Type 0 where
   pub front : List Event
   pub event : Event
   pub rest : List Event
@@ -53,7 +56,8 @@ pub record EndsPacket (profile : List DeviceParts) (standing : Standing) (piece 
   pub stands : ReaderStandsAt profile after (Open (n + length events + 1) [])
 
 -- The next event is refused, and not used.
-pub record ReaderRefuses (profile : List DeviceParts) (standing : Standing) (piece : List Event) (used : ℕ) (after : Reader) (refusal : RefusalData) : Type 0 where
+pub record ReaderRefuses (profile : List DeviceParts) (standing : Standing) (piece : List Event) (used : ℕ)
+    (after : Reader) (refusal : RefusalData) : Type 0 where
   pub front : List Event
   pub event : Event
   pub rest : List Event
@@ -66,7 +70,8 @@ pub record ReaderRefuses (profile : List DeviceParts) (standing : Standing) (pie
   pub stands : ReaderStandsAt profile after (Held (n + length events) refusal)
 
 -- The refusal that is held is returned again.
-pub record AnswersAgain (profile : List DeviceParts) (standing : Standing) (used : ℕ) (after : Reader) (refusal : RefusalData) : Type 0 where
+pub record AnswersAgain (profile : List DeviceParts) (standing : Standing) (used : ℕ) (after : Reader)
+    (refusal : RefusalData) : Type 0 where
   pub n : ℕ
   pub held : standing ≡ Held n refusal
   pub none : used ≡ 0
@@ -75,6 +80,8 @@ pub record AnswersAgain (profile : List DeviceParts) (standing : Standing) (used
 -- what a piece comes to
 abbrev pub ReaderFeeds : List DeviceParts → Standing → List Event → ℕ → Outcome → Reader → Type 0
 ReaderFeeds profile standing piece used answers.More after = ReaderNeedsMore profile standing piece used after
-ReaderFeeds profile standing piece used (answers.Packet t) after = EndsPacket profile standing piece used after (transaction_data t)
+ReaderFeeds profile standing piece used (answers.Packet t) after = EndsPacket profile standing piece used after
+    (transaction_data t)
 ReaderFeeds profile standing piece used (answers.Refused refusal) after =
-    ReaderRefuses profile standing piece used after (refusal_data refusal) ⊎ AnswersAgain profile standing used after (refusal_data refusal)
+    ReaderRefuses profile standing piece used after (refusal_data refusal) ⊎ AnswersAgain profile standing used after
+    (refusal_data refusal)

@@ -46,16 +46,19 @@ behind_resync (Passing n) = Passing n
 -- no packet can have it there. A refusal that is held is returned again. While events are passed
 -- over, this one is too.
 abbrev pub ReaderTakes : List DeviceParts → Standing → Event → Took → Reader → Type 0
-ReaderTakes profile (Open n events) event answers.More after =
+ReaderTakes profile (Open n events) event answers.Continues after =
     IsUnderWay profile (events ++ event ∷ []) × ReaderStandsAt profile after (Open n (events ++ event ∷ []))
 ReaderTakes profile (Open n events) event answers.Packet after =
-    Packet profile (last_read after) (events ++ event ∷ []) × ReaderStandsAt profile after (Open (n + length events + 1) [])
+    Packet profile (last_read after) (events ++ event ∷ [])
+    × ReaderStandsAt profile after (Open (n + length events + 1) [])
 ReaderTakes profile (Open n events) event (answers.Refused refusal) after =
-    RefusedAt profile n events event (refusal_data refusal) × ReaderStandsAt profile after (Held (n + length events) (refusal_data refusal))
-ReaderTakes profile (Held n refusal) event answers.More after = ⊥
+    RefusedAt profile n events event (refusal_data refusal)
+    × ReaderStandsAt profile after (Held (n + length events) (refusal_data refusal))
+ReaderTakes profile (Held n refusal) event answers.Continues after = ⊥
 ReaderTakes profile (Held n refusal) event answers.Packet after = ⊥
-ReaderTakes profile (Held n refusal) event (answers.Refused again) after = (refusal_data again ≡ refusal) × ReaderStandsAt profile after (Held n refusal)
-ReaderTakes profile (Passing n) event answers.More after = ReaderStandsAt profile after (behind_passed n event)
+ReaderTakes profile (Held n refusal) event (answers.Refused again) after = (refusal_data again ≡ refusal)
+    × ReaderStandsAt profile after (Held n refusal)
+ReaderTakes profile (Passing n) event answers.Continues after = ReaderStandsAt profile after (behind_passed n event)
 ReaderTakes profile (Passing n) event answers.Packet after = ⊥
 ReaderTakes profile (Passing n) event (answers.Refused refusal) after = ⊥
 

@@ -8,8 +8,8 @@ ghost use Rattle.pmb_reader.specs.Feed.{ReaderFeeds};
 use crate::reader::{Reader, Took};
 use crate::refusal::Refusal;
 use pmb_bus::Event;
+use pmb_packet_state::laws::some_packet_is_under_way;
 use pmb_transaction::Transaction;
-use pmb_under_way::laws::some_packet_is_under_way;
 
 /// What a piece of a capture came to.
 #[derive(Debug, Drop, PartialEq, Eq)]
@@ -51,7 +51,7 @@ impl<'p> Reader<'p> {
         }
         for (i, event) in events.iter().enumerate() {
             match self.take(*event) {
-                Took::More => {}
+                Took::Continues => {}
                 Took::Packet => {
                     return Feed {
                         used: i + 1,

@@ -20,8 +20,8 @@ ghost use Rattle.pmb_reader.specs.Reader.{Standing, Open, ReaderStandsAt, Reader
 ghost use Rattle.pmb_reader.specs.Feed.{ReaderFeeds};
 ghost use Rattle.pmb_reader.specs.Reading.{Due, AnyEvent, HeldEvent, HasRead, IsDue, IsNotHeld, due_behind_resync};
 
+use pmb_packet_state::laws::some_packet_is_under_way;
 use pmb_transaction::laws::{captures_read_as_written, passing_goes_on};
-use pmb_under_way::laws::some_packet_is_under_way;
 
 // ---- the packet under way
 
@@ -49,7 +49,7 @@ pub fn reading_goes_on()
     ensures { (profile : List DeviceParts) (before after : Reader) (events : List Event) (due : Due)
         (outcomes : List Outcome) (event : Event) → HasRead profile before events due outcomes
         → IsDue due (event ∷ [])
-        → ((standing : Standing) → ReaderStandsAt profile before standing → ReaderTakes profile standing event took.More after)
+        → ((standing : Standing) → ReaderStandsAt profile before standing → ReaderTakes profile standing event took.Continues after)
         → HasRead profile after (events ++ event ∷ []) AnyEvent outcomes }
 {
     passing_goes_on();

@@ -2,13 +2,13 @@
 //!
 //! A [`Reader`] takes the events of a capture in order. At each STOP that ends a packet it has the
 //! transaction; at the first event that no packet can have there it returns why, and what might
-//! have come. It keeps no list of events; the packet under way is kept by `pmb_under_way`.
+//! have come. It keeps no list of events; the packet under way is kept by `pmb_packet_state`.
 //!
 //! ```rust
 //! let profile = Profile::from_toml(rt.alloc(), SAMPLE.as_bytes())?;
 //! let mut reader = Reader::new(&profile);
 //! for event in [Event::Start, Event::Byte(0x40), Event::Nack] {
-//!     assert_eq!(rt; reader.take(event), Took::More);
+//!     assert_eq!(rt; reader.take(event), Took::Continues);
 //! }
 //! assert_eq!(rt; reader.expected(), Kinds::STOP);
 //! assert_eq!(rt; reader.take(Event::Stop), Took::Packet);

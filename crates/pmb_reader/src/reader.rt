@@ -1,14 +1,14 @@
 //! Reads packets.
 //!
 //! A [`Reader`] is between packets or inside one, or it holds a refusal, or it passes events over
-//! up to the next STOP. The packet under way is an [`UnderWay`], which alone knows what a packet
+//! up to the next STOP. The packet under way is an [`PacketState`], which alone knows what a packet
 //! is; here events are counted and refusals are kept.
 
 ghost use Rattle.std.specs.Prelude.{◌≡◌, ◌<◌, ◌≤◌, ◌↔◌, ◌+◌, ℕ, IfSome, IsSome, None, List, [], length, true};
 ghost use Rattle.pmb_bus.specs.declared.event.Event.{Event as BusEvent};
 ghost use Rattle.pmb_bus.specs.Kinds.{AreKindsOf};
 ghost use Rattle.pmb_command.specs.Parts.{DeviceParts};
-ghost use Rattle.pmb_common.specs.Common.{BeginsCommon, TakesPacket};
+ghost use Rattle.pmb_canonical.specs.Common.{BeginsCommon, TakesPacket};
 ghost use Rattle.pmb_transaction.specs.Capture.{MayFollow};
 ghost use Rattle.pmb_transaction.specs.Reading.{RefusedAt};
 ghost use Rattle.pmb_transaction.specs.Transaction.{transaction_data};
@@ -17,16 +17,16 @@ ghost use Rattle.pmb_reader.specs.Reader.{Standing, Open, Held, Passing, ReaderS
 
 use crate::refusal::Refusal;
 use pmb_bus::{Event, Kinds};
-use pmb_common::{Common, Taken};
+use pmb_canonical::{Common, TakenPacket};
+use pmb_packet_state::{Move, PacketState};
 use pmb_table::Profile;
 use pmb_transaction::{Reason, Transaction};
-use pmb_under_way::{Move, UnderWay};
 
 /// What one event came to.
 #[derive(Clone, Copy, Debug, PartialEq, Eq)]
 pub enum Took {
-    /// It was used, and no packet ended.
-    More,
+    /// It was used, and the packet continues.
+    Continues,
     /// It was used, and ends the packet of [`Reader::packet`].
     Packet,
     /// It was not used: no packet goes on with it.
@@ -47,7 +47,7 @@ pub(crate) enum Mode {
 /// Reads the packets of a profile's devices from the events of a capture.
 #[derive(Drop)]
 pub struct Reader<'p> {
-    under_way: UnderWay<'p>,
+    under_way: PacketState<'p>,
     /// How many events were used since `new`; stays at the greatest `u64`.
     used: u64,
     mode: Mode,
@@ -59,7 +59,7 @@ impl<'p> Reader<'p> {
         ensures { ReaderStandsAt profile.now result (Open 0 []) }
     {
         Reader {
-            under_way: UnderWay::new(profile),
+            under_way: PacketState::new(profile),
             used: 0,
             mode: Mode::Open,
         }
@@ -87,7 +87,7 @@ impl<'p> Reader<'p> {
             Mode::Held(refusal) => Took::Refused(refusal),
             Mode::Passing => {
                 self.pass(event);
-                Took::More
+                Took::Continues
             }
         }
     }
@@ -148,21 +148,11 @@ impl<'p> Reader<'p> {
         }
     }
 
-    /// Passes over the events of whole packets that were read elsewhere, between two packets. It
-    /// takes how many events they are.
-    #[inline(always)]
-    pub fn skip(&mut self, events: usize)
-        ensures { (profile : List DeviceParts) (n : ℕ) → ReaderStandsAt profile self.old (Open n [])
-            → ReaderStandsAt profile self.new (Open (n + events) []) }
-    {
-        self.used = self.used.saturating_add(events as u64);
-    }
-
     /// Takes the common packet at the front of a text whole, between two packets. It returns `None`
     /// where none lies there and where it doesn't stand between two packets, and stands where it
     /// stood.
     #[inline(always)]
-    pub fn take_common(&mut self, common: &mut Common, text: &[u8]) -> Option<Taken>
+    pub fn take_common(&mut self, common: &mut Common, text: &[u8]) -> Option<TakenPacket>
         ensures takes { (profile : List DeviceParts) (n : ℕ) → ReaderStandsAt profile self.old (Open n [])
             → IfSome result (λ taken. TakesPacket profile text.now taken.used taken.events (last_read self.new)) }
         ensures some { IfSome result (λ taken. 0 < taken.used) }
@@ -235,13 +225,13 @@ impl<'p> Reader<'p> {
         match self.under_way.step(event) {
             Move::On => {
                 self.used = self.used.saturating_add(1);
-                Took::More
+                Took::Continues
             }
             Move::Packet => {
                 self.used = self.used.saturating_add(1);
                 Took::Packet
             }
-            Move::No => Took::Refused(self.refuse(event)),
+            Move::Refused => Took::Refused(self.refuse(event)),
         }
     }
 

@@ -1,5 +1,6 @@
 -- A change of each element, one after another.
-use Rattle.std.proofs.Common.{◌≡◌, ℕ, zero, suc, ◌+◌, ◌<◌, List, [], ◌∷◌, ◌++◌, length, map, take, drop, set, get_or, arith, add-one}
+use Rattle.std.proofs.Common.{◌≡◌, ℕ, zero, suc, ◌+◌, ◌<◌, List, [], ◌∷◌, ◌++◌, length, map, take, drop, set, get_or}
+use Rattle.std.proofs.Common.{arith, add-one}
 
 module _ {X Y : Type 0} (view : X → Y) (f : Y → Y) where
   changed_at : (xs ys : List X) (i : ℕ) (d after : X) → i < length xs → length ys ≡ length xs

@@ -3,12 +3,14 @@
 --
 -- The bits are those of PMBus Part II 1.3 chapter 17; when a device sets which is this project's
 -- own rule, and so is the order of the reasons. COEFFICIENTS is of section 14.1 there.
-use Rattle.std.specs.Prelude.{ℕ, Bool, false, ◌&&◌, if◌then◌else◌, Option, Some, None, Result, Ok, Err, List, [], ◌∷◌, ◌++◌, is_some, nat_eq, option_and_then}
+use Rattle.std.specs.Prelude.{ℕ, Bool, false, ◌&&◌, if◌then◌else◌, Option, Some, None, Result, Ok, Err, List, [], ◌∷◌}
+use Rattle.std.specs.Prelude.{◌++◌, is_some, nat_eq, option_and_then}
 use Rattle.std.specs.Int.{w8, w16, cast_unsigned, to_le_bytes}
 use Rattle.std.specs.Option.{unwrap_or}
 use Rattle.pmb_coefficients.specs.Coefficients.{Coefficients}
 use Rattle.pmb_command.specs.declared.entry.Kind.{Kind}
-use Rattle.pmb_command.specs.declared.entry.Kind.TheVariants.{Raw, Linear11, Linear11Fixed, Vout, VoutSigned, Direct, Status}
+use Rattle.pmb_command.specs.declared.entry.Kind.TheVariants.{Raw, Linear11, Linear11Fixed, Vout, VoutSigned, Direct}
+use Rattle.pmb_command.specs.declared.entry.Kind.TheVariants.{Status}
 use Rattle.pmb_command.specs.Fitting.{register_form}
 use Rattle.pmb_command.specs.Parts.{CommandParts, DeviceParts, command_with}
 use Rattle.pmb_registers.specs.declared.cml_bit.CmlBit.{CmlBit}
@@ -40,7 +42,8 @@ coefficients_of_kind vout Status = None
 
 abbrev pub coefficients_of : DeviceParts → ℕ → Option Coefficients
 coefficients_of device code =
-    option_and_then (λ command. coefficients_of_kind device.vout_direct command.entry.kind) (command_with code device.commands)
+    option_and_then (λ command. coefficients_of_kind device.vout_direct command.entry.kind)
+    (command_with code device.commands)
 
 -- m and b as words in two's complement, low byte first, and R as a byte
 abbrev pub coefficient_bytes : Coefficients → List ℕ

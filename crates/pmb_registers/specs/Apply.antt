@@ -3,12 +3,14 @@
 -- In PMBus Part II 1.3, PAGE is in section 11.10, CLEAR_FAULTS in section 15.1, how the bits of a
 -- status register are cleared in section 10.2, and STATUS_CML in chapter 17. That a device keeps
 -- what is written to it, and acts in no other way, is this project's own rule.
-use Rattle.std.specs.Prelude.{ℕ, ◌-◌, Bool, true, false, ◌&&◌, ◌||◌, if◌then◌else◌, Option, Some, None, Result, Ok, Err, List, [], ◌∷◌, is_some, map, nat_eq}
+use Rattle.std.specs.Prelude.{ℕ, ◌-◌, Bool, true, false, ◌&&◌, ◌||◌, if◌then◌else◌, Option, Some, None, Result, Ok, Err}
+use Rattle.std.specs.Prelude.{List, [], ◌∷◌, is_some, map, nat_eq}
 use Rattle.std.specs.Int.Bits.{bit_and, bit_or}
 use Rattle.pmb_command.specs.declared.form.Form.TheVariants.{Zero}
 use Rattle.pmb_command.specs.Fitting.{is_form, is_status_kind}
 use Rattle.pmb_command.specs.Parts.{CommandParts, DeviceParts, command_with}
-use Rattle.pmb_transaction.specs.Transaction.{PartData, RefusedData, TransactionData, Write, Read, Call, Refused, Alert, NoAlert}
+use Rattle.pmb_transaction.specs.Transaction.{PartData, RefusedData, TransactionData, Write, Read, Call, Refused, Alert}
+use Rattle.pmb_transaction.specs.Transaction.{NoAlert}
 use Rattle.pmb_transaction.specs.Body.{forms}
 use Rattle.pmb_registers.specs.declared.cml_bit.CmlBit.{CmlBit}
 use Rattle.pmb_registers.specs.declared.cml_bit.CmlBit.TheVariants.{BadCommand, BadValue, PecFailed}
@@ -25,7 +27,8 @@ reaches selected (Some page) = nat_eq selected all_pages || nat_eq selected page
 
 -- A register changes if its code is one of these and it is reached. Any other stays as it was.
 abbrev pub changed_one : ℕ → (ℕ → Bool) → (List ℕ → List ℕ) → RegisterData → RegisterData
-changed_one selected codes change r = if codes r.code && reaches selected r.page then record r { bytes = change r.bytes } else r
+changed_one selected codes change r = if codes r.code
+    && reaches selected r.page then record r { bytes = change r.bytes } else r
 
 -- all registers after such a change
 abbrev pub changed : ℕ → (ℕ → Bool) → (List ℕ → List ℕ) → List RegisterData → List RegisterData
@@ -57,10 +60,16 @@ selected_by page (byte ∷ bytes) = byte
 -- status register loses the bits that are written as 1, and any other takes the bytes.
 abbrev pub after_write : DeviceParts → ℕ → List ℕ → DeviceState → DeviceState
 after_write device code bytes state =
-    if nat_eq code 0x00 then record { page = selected_by state.page bytes; registers = changed state.page (nat_eq code) (λ old. bytes) state.registers }
-    else if nat_eq code 0x03 then record state { registers = changed state.page (is_status device) (map (λ byte. 0)) state.registers }
+    if nat_eq code 0x00 then record {
+      page = selected_by state.page bytes;
+      registers =
+          changed state.page (nat_eq code) (λ old. bytes) state.registers;
+    }
+    else if nat_eq code 0x03 then record state
+    { registers = changed state.page (is_status device) (map (λ byte. 0)) state.registers }
     else if is_form Zero (forms device code).write then state
-    else if is_status device code then record state { registers = changed state.page (nat_eq code) (cleared_bits bytes) state.registers }
+    else if is_status device code then record state
+    { registers = changed state.page (nat_eq code) (cleared_bits bytes) state.registers }
     else record state { registers = changed state.page (nat_eq code) (λ old. bytes) state.registers }
 
 -- ---- what a refusal does
@@ -75,7 +84,10 @@ bit_value PecFailed = 0x20
 abbrev pub with_bit : DeviceParts → CmlBit → DeviceState → DeviceState
 with_bit device bit state =
     if is_some (forms device 0x7e).read
-    then record state { registers = changed state.page (nat_eq 0x7e) (map (λ byte. bit_or byte (bit_value bit))) state.registers }
+    then record state {
+      registers = changed state.page (nat_eq 0x7e) (map (λ byte. bit_or byte (bit_value bit)))
+          state.registers;
+    }
     else state
 
 abbrev pub with_noted : DeviceParts → Option CmlBit → DeviceState → DeviceState
@@ -105,7 +117,8 @@ bit_of_refused device state sent true = bit_of_answer (answer device state sent)
 module _ (device : DeviceParts) where
   -- a complete part, if it is the device's
   abbrev pub after_part : PartData → DeviceState → DeviceState
-  after_part part state = if nat_eq part.addr device.address then after_write device part.code part.bytes state else state
+  after_part part state = if nat_eq part.addr device.address then after_write device part.code part.bytes state else
+      state
 
   -- complete parts, in their order
   abbrev pub after_parts : List PartData → DeviceState → DeviceState
@@ -115,7 +128,8 @@ module _ (device : DeviceParts) where
   -- A leg that the device refused sets a bit of STATUS_CML, and does nothing else.
   abbrev pub after_refusal : RefusedData → DeviceState → DeviceState
   after_refusal t state =
-      if nat_eq t.addr device.address then with_noted device (bit_of_refused device state t.sent t.at_read) state else state
+      if nat_eq t.addr device.address then with_noted device (bit_of_refused device state t.sent t.at_read) state else
+      state
 
   -- What a transaction makes of a device's state: each complete part acts, and a refused leg is
   -- noted. A read, a call and the answer to an alert change nothing.

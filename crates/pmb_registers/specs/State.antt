@@ -2,7 +2,8 @@
 --
 -- Which registers a device has, and what they begin with, is this project's own rule; the standard
 -- leaves it to the device. Pages are those of PMBus Part II 1.3 section 11.10.
-use Rattle.std.specs.Prelude.{ℕ, Bool, true, ◌&&◌, if◌then◌else◌, Option, Some, None, List, [], ◌∷◌, map, nat_eq, nat_lt, option_map}
+use Rattle.std.specs.Prelude.{ℕ, Bool, true, ◌&&◌, if◌then◌else◌, Option, Some, None, List, [], ◌∷◌, map, nat_eq}
+use Rattle.std.specs.Prelude.{nat_lt, option_map}
 use Rattle.std.specs.List.{find, flat_map, range_with_len}
 use Rattle.std.specs.Option.{unwrap_or}
 use Rattle.pmb_command.specs.declared.form.Form.{Form}
@@ -32,7 +33,8 @@ is_of_page page (Some own) = nat_eq own page
 
 -- what the register of a code holds on a page
 abbrev pub held : ℕ → ℕ → List RegisterData → Option (List ℕ)
-held page code registers = option_map (λ r. r.bytes) (find (λ r. nat_eq r.code code && is_of_page page r.page) registers)
+held page code registers = option_map (λ r. r.bytes)
+    (find (λ r. nat_eq r.code code && is_of_page page r.page) registers)
 
 -- The same for a page that the device has; for another one there is nothing.
 abbrev pub register : DeviceParts → DeviceState → ℕ → ℕ → Option (List ℕ)
@@ -52,7 +54,8 @@ zeros Block = []
 -- What a code's register holds at first: that of VOUT_MODE the device's mode, any other the bytes
 -- that the profile gives it, or else zeros.
 abbrev pub first_bytes_at : DeviceParts → ℕ → Option (List ℕ) → Form → List ℕ
-first_bytes_at device code initial form = if nat_eq code 0x20 then device.vout_mode ∷ [] else unwrap_or initial (zeros form)
+first_bytes_at device code initial form = if nat_eq code 0x20 then device.vout_mode
+    ∷ [] else unwrap_or initial (zeros form)
 
 -- that of a command that the device has
 abbrev pub first_bytes : DeviceParts → CommandParts → Form → List ℕ

@@ -8,8 +8,8 @@ ghost use Rattle.pmb_registers.specs.machine.Registers.{register_data};
 ghost use Rattle.pmb_registers.specs.machine.Places.{ArePlaces, NoneHas, registers_of_some};
 
 use crate::forms::register_form;
-use crate::place::Place;
 use crate::register::Register;
+use crate::register_range::RegisterRange;
 use arrayvec::ArrayVec;
 use pmb_command::{Entry, Form};
 use pmb_table::DeviceProfile;
@@ -114,7 +114,7 @@ fn push_registers(
 /// Adds the registers of a code that has none yet, and keeps their place.
 fn add_registers(
     registers: &mut Vec<Register>,
-    places: &mut [Place; 256],
+    places: &mut [RegisterRange; 256],
     device: &DeviceProfile,
     code: u8,
 ) -> Result<(), AllocError>
@@ -126,7 +126,7 @@ fn add_registers(
 {
     let start = registers.len();
     push_registers(registers, device, code)?;
-    places[code as usize] = Place {
+    places[code as usize] = RegisterRange {
         start,
         end: registers.len(),
     };
@@ -136,7 +136,7 @@ fn add_registers(
 /// Adds the registers of the command at an index, after those of the commands before it.
 pub(crate) fn add_command(
     registers: &mut Vec<Register>,
-    places: &mut [Place; 256],
+    places: &mut [RegisterRange; 256],
     device: &DeviceProfile,
     index: usize,
 ) -> Result<(), AllocError>
@@ -154,10 +154,10 @@ pub(crate) fn add_command(
 }
 
 /// Places without registers.
-pub(crate) fn no_places() -> [Place; 256]
+pub(crate) fn no_places() -> [RegisterRange; 256]
     ensures { ArePlaces result [] }
 {
-    [Place { start: 0, end: 0 }; 256]
+    [RegisterRange { start: 0, end: 0 }; 256]
 }
 
 /// How many registers the device has.

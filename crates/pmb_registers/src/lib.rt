@@ -20,8 +20,8 @@ mod cml_bit;
 mod coefficients;
 mod first;
 mod forms;
-mod place;
 mod register;
+mod register_range;
 mod registers;
 mod reply;
 

@@ -20,8 +20,8 @@ use crate::cml_bit::CmlBit;
 use crate::coefficients::answer_coefficients;
 use crate::first::{add_command, count_registers, no_places};
 use crate::forms::{is_paged, is_read, is_sent_alone, is_status, status_codes};
-use crate::place::{Place, bytes_in, change_in, clear_in_each};
 use crate::register::{ALL_PAGES, Register};
+use crate::register_range::{RegisterRange, bytes_in, change_in, clear_in_each};
 use crate::reply::Reply;
 use arrayvec::ArrayVec;
 use pmb_table::DeviceProfile;
@@ -50,7 +50,7 @@ pub struct Registers<'p> {
     /// The registers, those of a command side by side.
     registers: Vec<Register>,
     /// Where those of each code lie.
-    places: [Place; 256],
+    places: [RegisterRange; 256],
     /// The codes of the status registers.
     status_codes: ArrayVec<u8, 256>,
 }

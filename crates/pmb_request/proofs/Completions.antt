@@ -5,9 +5,11 @@ use Rattle.pmb_line.specs.declared.token.Token.TheVariants as said
 use Rattle.pmb_request.specs.declared.verb.Verb.{Verb}
 use Rattle.pmb_request.specs.declared.verb.Verb.TheVariants.{Read, Call, Set, Get}
 use Rattle.pmb_request.specs.Request.{Command}
-use Rattle.pmb_request.specs.Spelling.{Task, to_read, to_call, to_set, to_get, Wording, Ask, Wanted, token, text, AreWanted, asking, Spells}
+use Rattle.pmb_request.specs.Spelling.{Task, to_read, to_call, to_set, to_get, Wording, Ask, Wanted, token, text}
+use Rattle.pmb_request.specs.Spelling.{AreWanted, asking, Spells}
 use Rattle.pmb_request.specs.Fault.{IsWithin}
-use Rattle.pmb_request.specs.machine.Reading.{Partial, nothing, writing, at_address, at_code, at_quantity, behind, ended, command_with, finish, Room}
+use Rattle.pmb_request.specs.machine.Reading.{Partial, nothing, writing, at_address, at_code, at_quantity, behind}
+use Rattle.pmb_request.specs.machine.Reading.{ended, command_with, finish, Room}
 use Rattle.pmb_request.proofs.Steps.{append-nil, spelled, wanted-append}
 
 -- Words that end a line.
@@ -28,8 +30,26 @@ abbrev byte_zero : Wanted
 byte_zero = token (said.Byte 0)
 
 after_verb : (verb : Verb) → Completes (at_address verb)
-after_verb Read = record { more = zero_zero; missing = byte_zero ∷ byte_zero ∷ []; command = command_with 0 0 false; task = to_read; are = (refl, (refl, tt)); whole = refl; within = λ room. tt }
-after_verb Call = record { more = zero_zero; missing = byte_zero ∷ byte_zero ∷ []; command = command_with 0 0 false; task = to_call []; are = (refl, (refl, tt)); whole = refl; within = λ room. omega arith }
+after_verb Read = record {
+  more = zero_zero;
+  missing = byte_zero ∷ byte_zero ∷ [];
+  command =
+      command_with 0 0 false;
+  task = to_read;
+  are = (refl, (refl, tt));
+  whole = refl;
+  within = λ room. tt;
+}
+after_verb Call = record {
+  more = zero_zero;
+  missing = byte_zero ∷ byte_zero ∷ [];
+  command =
+      command_with 0 0 false;
+  task = to_call [];
+  are = (refl, (refl, tt));
+  whole = refl;
+  within = λ room. omega arith;
+}
 after_verb Set = record {
   more = codes "00" ∷ zero_zero;
   missing = byte_zero ∷ byte_zero ∷ text (codes "00") ∷ [];
@@ -39,11 +59,38 @@ after_verb Set = record {
   whole = refl;
   within = λ room. tt;
 }
-after_verb Get = record { more = zero_zero; missing = byte_zero ∷ byte_zero ∷ []; command = command_with 0 0 false; task = to_get; are = (refl, (refl, tt)); whole = refl; within = λ room. tt }
+after_verb Get = record {
+  more = zero_zero;
+  missing = byte_zero ∷ byte_zero ∷ [];
+  command =
+      command_with 0 0 false;
+  task = to_get;
+  are = (refl, (refl, tt));
+  whole = refl;
+  within = λ room. tt;
+}
 
 after_address : (verb : Verb) (a : ℕ) → Completes (at_code verb a)
-after_address Read a = record { more = codes "00" ∷ []; missing = byte_zero ∷ []; command = command_with a 0 false; task = to_read; are = (refl, tt); whole = refl; within = λ room. tt }
-after_address Call a = record { more = codes "00" ∷ []; missing = byte_zero ∷ []; command = command_with a 0 false; task = to_call []; are = (refl, tt); whole = refl; within = λ room. omega arith }
+after_address Read a = record {
+  more = codes "00" ∷ [];
+  missing = byte_zero ∷ [];
+  command =
+      command_with a 0 false;
+  task = to_read;
+  are = (refl, tt);
+  whole = refl;
+  within = λ room. tt;
+}
+after_address Call a = record {
+  more = codes "00" ∷ [];
+  missing = byte_zero ∷ [];
+  command =
+      command_with a 0 false;
+  task = to_call [];
+  are = (refl, tt);
+  whole = refl;
+  within = λ room. omega arith;
+}
 after_address Set a = record {
   more = zero_zero;
   missing = byte_zero ∷ text (codes "00") ∷ [];
@@ -53,7 +100,16 @@ after_address Set a = record {
   whole = refl;
   within = λ room. tt;
 }
-after_address Get a = record { more = codes "00" ∷ []; missing = byte_zero ∷ []; command = command_with a 0 false; task = to_get; are = (refl, tt); whole = refl; within = λ room. tt }
+after_address Get a = record {
+  more = codes "00" ∷ [];
+  missing = byte_zero ∷ [];
+  command =
+      command_with a 0 false;
+  task = to_get;
+  are = (refl, tt);
+  whole = refl;
+  within = λ room. tt;
+}
 
 pub completes : (s : Partial) → s ≢ writing → Completes s
 completes nothing other = record {
@@ -68,13 +124,42 @@ completes nothing other = record {
 completes writing other = absurd (other refl)
 completes (at_address verb) other = after_verb verb
 completes (at_code verb a) other = after_address verb a
-completes (at_quantity a c) other = record { more = codes "00" ∷ []; missing = text (codes "00") ∷ []; command = command_with a c false; task = to_set (codes "00"); are = (refl, tt); whole = refl; within = λ room. tt }
-completes (behind a c task) other = record { more = []; missing = []; command = command_with a c false; task = task; are = tt; whole = refl; within = λ room. room }
-completes (ended a c task) other = record { more = []; missing = []; command = command_with a c true; task = task; are = tt; whole = append-nil (spelled (ended a c task)); within = λ room. room }
+completes (at_quantity a c) other = record {
+  more = codes "00" ∷ [];
+  missing = text (codes "00") ∷ [];
+  command =
+      command_with a c false;
+  task = to_set (codes "00");
+  are = (refl, tt);
+  whole = refl;
+  within = λ room. tt;
+}
+completes (behind a c task) other = record {
+  more = [];
+  missing = [];
+  command = command_with a c false;
+  task =
+      task;
+  are = tt;
+  whole = refl;
+  within = λ room. room;
+}
+completes (ended a c task) other = record {
+  more = [];
+  missing = [];
+  command = command_with a c true;
+  task = task;
+  are =
+      tt;
+  whole = append-nil (spelled (ended a c task));
+  within = λ room. room;
+}
 
 -- the words so far, and those that end the line
-pub ends : (s : Partial) (front : List (List ℕ)) (c : Completes s) → AreWanted (spelled s) front → Spells (front ++ c.more) (Ask c.command c.task)
-ends s front c so_far = subst (λ xs. AreWanted xs (front ++ c.more)) c.whole (wanted-append (spelled s) c.missing front c.more so_far c.are)
+pub ends : (s : Partial) (front : List (List ℕ)) (c : Completes s) → AreWanted (spelled s) front
+    → Spells (front ++ c.more) (Ask c.command c.task)
+ends s front c so_far = subst (λ xs. AreWanted xs (front ++ c.more)) c.whole
+    (wanted-append (spelled s) c.missing front c.more so_far c.are)
 
 -- What is asked for, where no word is missing.
 pub record Finished (s : Partial) (wording : Wording) : Type 0 where
@@ -92,5 +177,12 @@ finished (behind a c task) wording is = record {
   whole = sym (append-nil (spelled (behind a c task)));
   within = λ room. room;
 }
-finished (ended a c task) wording is = record { command = command_with a c true; task = task; is = cc is; whole = refl; within = λ room. room }
+finished (ended a c task) wording is = record {
+  command = command_with a c true;
+  task = task;
+  is = cc is;
+  whole =
+      refl;
+  within = λ room. room;
+}
 finished _ wording is = cc is

@@ -35,8 +35,10 @@ pub record BeginsRequest (front : List (List ℕ)) : Type 0 where
 -- There is room for what the words say so far: a request that is not too large goes on with them.
 -- The `+` after the 16th part of a write needs no room yet; the address after it does.
 pub data HasRoom (front : List (List ℕ)) : Type 0 where
-  goes_on : (more : List (List ℕ)) (wording : Wording) → Spells (front ++ more) wording → IsWithin wording → HasRoom front
-  plus : (before : List (List ℕ)) (word : List ℕ) (parts : List PartData) → front ≡ before ++ word ∷ [] → token_of word ≡ Some Plus
+  goes_on : (more : List (List ℕ)) (wording : Wording) → Spells (front ++ more) wording → IsWithin wording
+      → HasRoom front
+  plus : (before : List (List ℕ)) (word : List ℕ) (parts : List PartData) → front ≡ before ++ word ∷ []
+      → token_of word ≡ Some Plus
       → Spells before (Write parts) → IsWithin (Write parts) → HasRoom front
 
 -- ---- the faults

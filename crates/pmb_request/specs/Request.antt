@@ -21,6 +21,7 @@ pub data RequestData : Type 0 where
 abbrev pub request_data : Request → RequestData
 request_data (declared.Write parts) = WriteParts (map part_data parts.items)
 request_data (declared.Read addr code pec) = ReadBytes (record { addr = addr; code = code; pec = pec })
-request_data (declared.Call addr code bytes pec) = CallBytes (record { addr = addr; code = code; pec = pec }) bytes.items
+request_data (declared.Call addr code bytes pec) =
+    CallBytes (record { addr = addr; code = code; pec = pec }) bytes.items
 request_data (declared.Set addr code value mode pec) = Set (record { addr = addr; code = code; pec = pec }) value mode
 request_data (declared.Get addr code mode pec) = Get (record { addr = addr; code = code; pec = pec }) mode

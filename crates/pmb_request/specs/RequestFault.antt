@@ -21,7 +21,8 @@ abbrev pub Means : (ℕ → Option ℕ) → Wording → RequestData → Type 0
 Means mode (Write parts) request = request ≡ WriteParts parts
 Means mode (Ask command to_read) request = request ≡ ReadBytes command
 Means mode (Ask command (to_call bytes)) request = request ≡ CallBytes command bytes
-Means mode (Ask command (to_set text)) request = (q : Fraction) × (reading text ≡ Ok q) × (request ≡ Set command q (mode command.addr))
+Means mode (Ask command (to_set text)) request = (q : Fraction) × (reading text ≡ Ok q)
+    × (request ≡ Set command q (mode command.addr))
 Means mode (Ask command to_get) request = request ≡ Get command (mode command.addr)
 
 -- The line spells the request.

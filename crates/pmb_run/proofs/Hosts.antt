@@ -1,5 +1,6 @@
 -- A host on the bench, from its first signal to the end that it tells.
-use Rattle.std.proofs.Common.{◌≡◌, ◌≢◌, ◌≤◌, ℕ, ◌+◌, Bool, true, false, Option, List, [], ◌∷◌, ◌++◌, map, refl, sym, ◌∙◌, ap, subst, append-nil, arith}
+use Rattle.std.proofs.Common.{◌≡◌, ◌≢◌, ◌≤◌, ℕ, ◌+◌, Bool, true, false, Option, List, [], ◌∷◌, ◌++◌, map, refl, sym}
+use Rattle.std.proofs.Common.{◌∙◌, ap, subst, append-nil, arith}
 use Rattle.std.proofs.lemmas.Grind.{flat_map-append}
 use Rattle.pmb_bus.specs.Event.{canonical_text, text_of}
 use Rattle.pmb_bus.specs.declared.event.Event.{Event}
@@ -41,17 +42,20 @@ pub after_one_more : (ts : List TransactionData) (t : TransactionData) (members 
     → all_applied t (all_after ts members) ≡ all_after (ts ++ t ∷ []) members
 after_one_more ts t [] = refl
 after_one_more ts t (member ∷ members) =
-    λ i. record { device = member.device; state = applied_behind member.device ts t member.state i } ∷ after_one_more ts t members i
+    λ i. record { device = member.device; state = applied_behind member.device ts t member.state i }
+    ∷ after_one_more ts t members i
 
 -- the devices stay those of the profile
-pub devices_after : (ts : List TransactionData) (profile : List DeviceParts) → map (λ (member : InState). member.device) (all_after ts (first_members profile)) ≡ profile
+pub devices_after : (ts : List TransactionData) (profile : List DeviceParts)
+    → map (λ (member : InState). member.device) (all_after ts (first_members profile)) ≡ profile
 devices_after ts [] = refl
 devices_after ts (device ∷ profile) = ap (λ (devices : List DeviceParts). device ∷ devices) (devices_after ts profile)
 
 -- ---- how a request begins
 
 -- a new host and the bench's bus
-abbrev pub begins_on : (ts : List TransactionData) (bench : Bench) (request : RequestData) (host : Host) (stands : BenchStands bench ts) → IsNewHost (bench_profile bench) request host
+abbrev pub begins_on : (ts : List TransactionData) (bench : Bench) (request : RequestData) (host : Host)
+    (stands : BenchStands bench ts) → IsNewHost (bench_profile bench) request host
     → Begins (bench_profile bench) request host bench.bus
 begins_on ts bench request host stands new = record {
   new = new;
@@ -62,7 +66,8 @@ begins_on ts bench request host stands new = record {
 }
 
 -- where the host begins
-abbrev pub beginning_on : (ts : List TransactionData) (bench : Bench) (request : RequestData) (host : Host) (stands : BenchStands bench ts) → IsNewHost (bench_profile bench) request host
+abbrev pub beginning_on : (ts : List TransactionData) (bench : Bench) (request : RequestData) (host : Host)
+    (stands : BenchStands bench ts) → IsNewHost (bench_profile bench) request host
     → ExchangeStanding
 beginning_on ts bench request host stands new = record {
   job = record { profile = bench_profile bench; task = task_of request new.word; number = new.number };
@@ -73,13 +78,17 @@ beginning_on ts bench request host stands new = record {
 }
 
 -- no packet ends before its first event
-heard_nothing : (ts : List TransactionData) (bench : Bench) (n : ℕ) → ((profile : List DeviceParts) (t : TransactionData) (events : List Event) → Packet profile t events → events ≢ [])
-    → ReaderStandsAt (bench_profile bench) bench.reader (Open n []) → HasSeen bench.context (bench_profile bench) ts → HaveHeard bench ts n []
-heard_nothing ts bench n not_empty reader context t [] packet = absurd (not_empty (bench_profile bench) t [] packet refl)
+heard_nothing : (ts : List TransactionData) (bench : Bench) (n : ℕ)
+    → ((profile : List DeviceParts) (t : TransactionData) (events : List Event) → Packet profile t events → events ≢ [])
+    → ReaderStandsAt (bench_profile bench) bench.reader (Open n []) → HasSeen bench.context (bench_profile bench) ts
+    → HaveHeard bench ts n []
+heard_nothing ts bench n not_empty reader context t [] packet =
+    absurd (not_empty (bench_profile bench) t [] packet refl)
 heard_nothing ts bench n not_empty reader context t (event ∷ rest) packet = (reader, context)
 
 -- The host stands at its beginning.
-pub runs_first : (ts : List TransactionData) (bench : Bench) (request : RequestData) (host : Host) (exchange : Exchange) (stands : BenchStands bench ts) (new : IsNewHost (bench_profile bench) request host)
+pub runs_first : (ts : List TransactionData) (bench : Bench) (request : RequestData) (host : Host) (exchange : Exchange)
+    (stands : BenchStands bench ts) (new : IsNewHost (bench_profile bench) request host)
     → ((profile : List DeviceParts) (t : TransactionData) (events : List Event) → Packet profile t events → events ≢ [])
     → ExchangeStandsAt exchange bench.bus (beginning_on ts bench request host stands new)
     → RunsHost ts bench exchange (beginning_on ts bench request host stands new)
@@ -94,14 +103,17 @@ runs_first ts bench request host exchange stands new not_empty there = record {
 -- ---- how it goes on
 
 -- So many signals were sent, and their events put out.
-pub record HostRuns (ts : List TransactionData) (first : ExchangeStanding) (sent : ℕ) (bench : Bench) (exchange : Exchange) (held_old : Option (List ℕ)) (waiting_old : List ℕ) (held_new : Option (List ℕ)) (waiting_new : List ℕ) : Type 0 where
+pub record HostRuns (ts : List TransactionData) (first : ExchangeStanding) (sent : ℕ) (bench : Bench)
+    (exchange : Exchange) (held_old : Option (List ℕ)) (waiting_old : List ℕ) (held_new : Option (List ℕ))
+    (waiting_new : List ℕ) : Type 0 where
   pub few : sent ≤ 4161
   pub events : List Event
   pub writes : PutsText held_old waiting_old held_new waiting_new (canonical_text events)
   pub runs : RunsHost ts bench exchange (record first { events = events; sent = sent })
 
 -- One signal more was sent.
-pub sent_more : TextsAddUp → (ts : List TransactionData) (first : ExchangeStanding) (sent : ℕ) (bench after : Bench) (exchange next : Exchange)
+pub sent_more : TextsAddUp → (ts : List TransactionData) (first : ExchangeStanding) (sent : ℕ) (bench after : Bench)
+    (exchange next : Exchange)
     (h0 h1 h2 : Option (List ℕ)) (w0 w1 w2 : List ℕ) (runs : HostRuns ts first sent bench exchange h0 w0 h1 w1)
     → GoesOn ts (record first { events = runs.events; sent = sent }) after next h1 w1 h2 w2
     → HostRuns ts first (sent + 1) after next h0 w0 h2 w2
@@ -116,27 +128,34 @@ sent_more add_up ts first sent bench after exchange next h0 h1 h2 w0 w1 w2 runs 
 -- ---- how it ends
 
 -- After the end the bench stands between requests, with the transaction among those that were recorded.
-pub stands_behind : (ts : List TransactionData) (bench : Bench) (exchange : Exchange) (standing : ExchangeStanding) (end : HostStep)
-    → RunsHost ts bench exchange standing → (over : IsOver standing end bench.bus) → BenchStands bench (ts ++ over.done ∷ [])
+pub stands_behind : (ts : List TransactionData) (bench : Bench) (exchange : Exchange) (standing : ExchangeStanding)
+    (end : HostStep)
+    → RunsHost ts bench exchange standing → (over : IsOver standing end bench.bus)
+    → BenchStands bench (ts ++ over.done ∷ [])
 stands_behind ts bench exchange standing end runs over =
-    let packet = subst (λ (events : List Event). Packet (bench_profile bench) over.done events) (sym (append-nil standing.events))
+    let packet = subst (λ (events : List Event). Packet (bench_profile bench) over.done events)
+    (sym (append-nil standing.events))
     (subst (λ (profile : List DeviceParts). Packet profile over.done standing.events) runs.profile_is over.packet) in
     let heard : HaveRead bench ts runs.n standing.events over.done [] = runs.heard over.done [] packet in
-    let members = ap (all_applied over.done) runs.members_are ∙ after_one_more ts over.done (first_members (bench_profile bench)) in record {
+    let members = ap (all_applied over.done) runs.members_are
+    ∙ after_one_more ts over.done (first_members (bench_profile bench)) in record {
       past = standing.past ++ over.stretch ∷ [];
-      bus = subst (λ (ms : List InState). BusStandsAt bench.bus (record { past = standing.past ++ over.stretch ∷ []; members = ms; history = [] })) members over.stands;
+      bus = subst (λ (ms : List InState). BusStandsAt bench.bus
+          (record { past = standing.past ++ over.stretch ∷ []; members = ms; history = [] })) members over.stands;
       n = _;
       reader = heard.0;
       context = heard.1;
     }
 
 -- a refused byte is a failure
-refused_counted : (parts : List PartData) (sent : List ℕ) (at_read : Bool) (end : HostStep) (tally : Tally) → RefusedAt parts sent at_read end → end_counted end tally ≡ with_refusal tally
+refused_counted : (parts : List PartData) (sent : List ℕ) (at_read : Bool) (end : HostStep) (tally : Tally)
+    → RefusedAt parts sent at_read end → end_counted end tally ≡ with_refusal tally
 refused_counted parts sent true end tally is = ap (λ (e : HostStep). end_counted e tally) is
 refused_counted parts sent false end tally is = ap (λ (e : HostStep). end_counted e tally) is
 
 -- What the host tells is counted as the transaction is.
-pub counted_as : (number : Option NumberFormat) (t : TransactionData) (end : HostStep) (tally : Tally) → EndsWith number t end → end_counted end tally ≡ counted_transaction t tally
+pub counted_as : (number : Option NumberFormat) (t : TransactionData) (end : HostStep) (tally : Tally)
+    → EndsWith number t end → end_counted end tally ≡ counted_transaction t tally
 counted_as number (Write parts) end tally told = ap (λ (e : HostStep). end_counted e tally) told.1
 counted_as number (Read t) end tally told = ap (λ (e : HostStep). end_counted e tally) told.1
 counted_as number (Call t) end tally told = ap (λ (e : HostStep). end_counted e tally) told.1

@@ -1,5 +1,6 @@
 -- What is kept of each part of a profile, by its place.
-use Rattle.std.proofs.Common.{◌≡◌, ℕ, zero, suc, ◌<◌, ◌+◌, Option, Some, None, List, [], ◌∷◌, length, refl, ap, subst, ◌∙◌, arith, option_map, map, Bool, cond, nat_eq, eq-eqb, true, false, inl, inr}
+use Rattle.std.proofs.Common.{◌≡◌, ℕ, zero, suc, ◌<◌, ◌+◌, Option, Some, None, List, [], ◌∷◌, length, refl, ap, subst}
+use Rattle.std.proofs.Common.{◌∙◌, arith, option_map, map, Bool, cond, nat_eq, eq-eqb, true, false, inl, inr}
 use Rattle.std.specs.Prelude.{slice_get, IfSome}
 use Rattle.std.specs.List.{AllByRecursion, IsDistinct, find}
 use Rattle.std.specs.Option.{option_and_then}
@@ -11,12 +12,17 @@ use Rattle.pmb_host.specs.Requests.{KindMakesFormat, MakeFormats}
 use Rattle.pmb_run.specs.Kept.{AreKeptDevices, IsKeptCommand, IsKeptDevice}
 
 -- what holds at each place holds of all
-pub all_at_places : {X : Type 0} (P : X → Type 0) (xs : List X) → ((k : ℕ) → k < length xs → IfSome (slice_get xs k) P) → AllByRecursion P xs
+pub all_at_places : {X : Type 0} (P : X → Type 0) (xs : List X) → ((k : ℕ) → k < length xs → IfSome (slice_get xs k) P)
+    → AllByRecursion P xs
 all_at_places P [] each = tt
-all_at_places P (x ∷ xs) each = (each 0 (omega arith), all_at_places P xs (λ k small. each (suc k) (omega (arith, small))))
+all_at_places P (x ∷ xs) each = (
+  each 0 (omega arith),
+  all_at_places P xs (λ k small. each (suc k) (omega (arith, small))),
+)
 
 -- one place more
-pub one_place_more : {X : Type 0} (P : X → Type 0) (xs : List X) (n : ℕ) → ((k : ℕ) → k < n → IfSome (slice_get xs k) P) → IfSome (slice_get xs n) P
+pub one_place_more : {X : Type 0} (P : X → Type 0) (xs : List X) (n : ℕ) → ((k : ℕ) → k < n → IfSome (slice_get xs k) P)
+    → IfSome (slice_get xs n) P
     → (k : ℕ) → k < n + 1 → IfSome (slice_get xs k) P
 one_place_more P xs n each here k small = elim (cases_lt k n) [
   | inl less ↦ each k less
@@ -26,56 +32,70 @@ one_place_more P xs n each here k small = elim (cases_lt k n) [
 ]
 
 -- a code that is none of some others is not that of the command at a place
-apart_at : (code : ℕ) (cs : List CommandParts) (k : ℕ) (c : CommandParts) → AllByRecursion (λ other. nat_eq code other ≡ false) (map (λ c. c.entry.code) cs)
+apart_at : (code : ℕ) (cs : List CommandParts) (k : ℕ) (c : CommandParts)
+    → AllByRecursion (λ other. nat_eq code other ≡ false) (map (λ c. c.entry.code) cs)
     → slice_get cs k ≡ Some c → nat_eq code c.entry.code ≡ false
 apart_at code [] k c all is = absurd (cc is)
-apart_at code (x ∷ cs) zero c all is = let same : x ≡ c = cc is in subst (λ (d : CommandParts). nat_eq code d.entry.code ≡ false) same all.0
+apart_at code (x ∷ cs) zero c all is = let same : x ≡ c = cc is in
+    subst (λ (d : CommandParts). nat_eq code d.entry.code ≡ false) same all.0
 apart_at code (x ∷ cs) (suc k) c all is = apart_at code cs k c all.1 is
 
 -- the command at a place is found by its code
-found_there : (cs : List CommandParts) (k : ℕ) (c : CommandParts) → HaveOwnCodes cs → slice_get cs k ≡ Some c → command_with c.entry.code cs ≡ Some c
+found_there : (cs : List CommandParts) (k : ℕ) (c : CommandParts) → HaveOwnCodes cs → slice_get cs k ≡ Some c
+    → command_with c.entry.code cs ≡ Some c
 unfolding IsDistinct
 found_there [] k c own is = absurd (cc is)
 found_there (x ∷ cs) zero c own is =
     let same : x ≡ c = cc is in
-    let here : nat_eq x.entry.code c.entry.code ≡ true = eq-eqb x.entry.code c.entry.code (ap (λ (d : CommandParts). d.entry.code) same) in
+    let here : nat_eq x.entry.code c.entry.code ≡ true =
+    eq-eqb x.entry.code c.entry.code (ap (λ (d : CommandParts). d.entry.code) same) in
     rw here (ap Some same)
 found_there (x ∷ cs) (suc k) c own is =
     let other : nat_eq x.entry.code c.entry.code ≡ false = apart_at x.entry.code cs k c own.0 is in
     rw other (found_there cs k c own.1 is)
 
-module _ (cs : List CommandParts) (k : ℕ) (own : HaveOwnCodes cs) (entry : EntryParts) (kind : KindMakesFormat entry.kind)
-    (small : IfSome (option_and_then (λ (c : CommandParts). c.initial) (command_with entry.code cs)) AreByteValues) where
-  kept_if : (found : Option CommandParts) → slice_get cs k ≡ found → Some entry ≡ option_map (λ (c : CommandParts). c.entry) found → IfSome found IsKeptCommand
+module _ (cs : List CommandParts) (k : ℕ) (own : HaveOwnCodes cs) (entry : EntryParts)
+    (kind : KindMakesFormat entry.kind)
+    (small : IfSome (option_and_then (λ (c : CommandParts). c.initial) (command_with entry.code cs))
+    AreByteValues) where
+  kept_if : (found : Option CommandParts) → slice_get cs k ≡ found
+      → Some entry ≡ option_map (λ (c : CommandParts). c.entry) found → IfSome found IsKeptCommand
   kept_if None is at = tt
   kept_if (Some c) is at =
       let entry_is : entry ≡ c.entry = cc at in
-      let found : command_with entry.code cs ≡ Some c = ap (λ (e : EntryParts). command_with e.code cs) entry_is ∙ found_there cs k c own is in
+      let found : command_with entry.code cs ≡ Some c = ap (λ (e : EntryParts). command_with e.code cs) entry_is
+      ∙ found_there cs k c own is in
       record {
         kind = subst (λ (e : EntryParts). KindMakesFormat e.kind) entry_is kind;
-        initial = subst (λ (o : Option CommandParts). IfSome (option_and_then (λ (d : CommandParts). d.initial) o) AreByteValues) found small;
+        initial = subst (λ (o : Option CommandParts). IfSome (option_and_then (λ (d : CommandParts). d.initial) o)
+            AreByteValues) found small;
       }
 
   -- What is kept of the command at a place, where that has the entry.
-  pub command_kept : Some entry ≡ option_map (λ (c : CommandParts). c.entry) (slice_get cs k) → IfSome (slice_get cs k) IsKeptCommand
+  pub command_kept : Some entry ≡ option_map (λ (c : CommandParts). c.entry) (slice_get cs k)
+      → IfSome (slice_get cs k) IsKeptCommand
   command_kept at = kept_if (slice_get cs k) refl at
 
 -- where there is no entry there is no command
-none_kept_if : (found : Option CommandParts) → None ≡ option_map (λ (c : CommandParts). c.entry) found → IfSome found IsKeptCommand
+none_kept_if : (found : Option CommandParts) → None ≡ option_map (λ (c : CommandParts). c.entry) found
+    → IfSome found IsKeptCommand
 none_kept_if None at = tt
 none_kept_if (Some c) at = absurd (cc at)
 
-pub none_kept : (cs : List CommandParts) (k : ℕ) → None ≡ option_map (λ (c : CommandParts). c.entry) (slice_get cs k) → IfSome (slice_get cs k) IsKeptCommand
+pub none_kept : (cs : List CommandParts) (k : ℕ) → None ≡ option_map (λ (c : CommandParts). c.entry) (slice_get cs k)
+    → IfSome (slice_get cs k) IsKeptCommand
 none_kept cs k at = none_kept_if (slice_get cs k) at
 
 -- ---- what is found
 
 -- where each has a property, the one that is found has it
-found_if : {X : Type 0} (P : X → Type 0) (test : Bool) (x : X) (o : Option X) → P x → IfSome o P → IfSome (cond test (Some x) o) P
+found_if : {X : Type 0} (P : X → Type 0) (test : Bool) (x : X) (o : Option X) → P x → IfSome o P
+    → IfSome (cond test (Some x) o) P
 found_if P true x o here later = here
 found_if P false x o here later = later
 
-pub found_has : {X : Type 0} (P : X → Type 0) (test : X → Bool) (xs : List X) → AllByRecursion P xs → IfSome (find test xs) P
+pub found_has : {X : Type 0} (P : X → Type 0) (test : X → Bool) (xs : List X) → AllByRecursion P xs
+    → IfSome (find test xs) P
 found_has P test [] all = tt
 found_has P test (x ∷ xs) all = found_if P (test x) x (find test xs) all.0 (found_has P test xs all.1)
 
@@ -86,10 +106,12 @@ pub make_formats : (profile : List DeviceParts) → AreKeptDevices profile → M
 make_formats profile kept = record {
   vout = λ address device known. (device_kept address device known).vout;
   commands = λ address code device command known has.
-      let found = found_has IsKeptCommand (λ (c : CommandParts). nat_eq c.entry.code code) device.commands (device_kept address device known).commands in
+      let found = found_has IsKeptCommand (λ (c : CommandParts). nat_eq c.entry.code code) device.commands
+      (device_kept address device known).commands in
       (subst (λ (o : Option CommandParts). IfSome o IsKeptCommand) has found).kind;
 }
   where
     device_kept : (address : ℕ) (device : DeviceParts) → device_with address profile ≡ Some device → IsKeptDevice device
     device_kept address device known =
-        subst (λ (o : Option DeviceParts). IfSome o IsKeptDevice) known (found_has IsKeptDevice (λ (d : DeviceParts). nat_eq d.address address) profile kept)
+        subst (λ (o : Option DeviceParts). IfSome o IsKeptDevice) known
+        (found_has IsKeptDevice (λ (d : DeviceParts). nat_eq d.address address) profile kept)

@@ -1,5 +1,6 @@
 -- The devices of a bus and their states: what a transaction makes of them.
-use Rattle.std.proofs.Common.{◌≡◌, ℕ, zero, suc, ◌<◌, ◌⊎◌, inl, inr, Bool, true, false, Option, Some, None, cond, List, [], ◌∷◌, ◌++◌, map, nat_eq, refl, sym, ap, subst, ◌∙◌, arith}
+use Rattle.std.proofs.Common.{◌≡◌, ℕ, zero, suc, ◌<◌, ◌⊎◌, inl, inr, Bool, true, false, Option, Some, None, cond, List}
+use Rattle.std.proofs.Common.{[], ◌∷◌, ◌++◌, map, nat_eq, refl, sym, ap, subst, ◌∙◌, arith}
 use Rattle.std.specs.Prelude.{IfSome}
 use Rattle.std.specs.List.{AllByRecursion, Contains, flat_map}
 use Rattle.std.specs.Option.{unwrap_or}
@@ -14,7 +15,8 @@ use Rattle.pmb_command.specs.Wire.{AreByteValues}
 use Rattle.pmb_transaction.specs.Body.{forms}
 use Rattle.pmb_transaction.specs.Transaction.{PartData, RefusedData, TransactionData}
 use Rattle.pmb_registers.specs.Answer.{all_pages}
-use Rattle.pmb_registers.specs.Apply.{after_part, after_parts, after_refusal, after_write, apply, bit_of_refused, selected_by, with_noted}
+use Rattle.pmb_registers.specs.Apply.{after_part, after_parts, after_refusal, after_write, apply, bit_of_refused}
+use Rattle.pmb_registers.specs.Apply.{selected_by, with_noted}
 use Rattle.pmb_registers.specs.State.{DeviceState, InState, first_bytes, own_pages, registers_in, registers_of, zeros}
 use Rattle.pmb_devices.specs.Replies.{IsState}
 use Rattle.pmb_devices.specs.Runs.{first_members}
@@ -33,10 +35,17 @@ zeros_small Zero = tt
 zeros_small One = (omega arith, tt)
 zeros_small Two = (omega arith, (omega arith, tt))
 zeros_small Four = (omega arith, (omega arith, (omega arith, (omega arith, tt))))
-zeros_small Eight = (omega arith, (omega arith, (omega arith, (omega arith, (omega arith, (omega arith, (omega arith, (omega arith, tt))))))))
+zeros_small Eight = (
+  omega arith,
+  (
+    omega arith,
+    (omega arith, (omega arith, (omega arith, (omega arith, (omega arith, (omega arith, tt)))))),
+  ),
+)
 zeros_small Block = tt
 
-initial_small : (initial : Option (List ℕ)) (form : Form) → IfSome initial AreByteValues → AreByteValues (unwrap_or initial (zeros form))
+initial_small : (initial : Option (List ℕ)) (form : Form) → IfSome initial AreByteValues
+    → AreByteValues (unwrap_or initial (zeros form))
 initial_small None form small = zeros_small form
 initial_small (Some bytes) form small = small
 
@@ -49,25 +58,30 @@ on_pages : (code : ℕ) (bytes : List ℕ) (pages : List (Option ℕ)) → AreBy
 on_pages code bytes [] small = tt
 on_pages code bytes (page ∷ pages) small = (small, on_pages code bytes pages small)
 
-all_append : {X : Type 0} (P : X → Type 0) (xs ys : List X) → AllByRecursion P xs → AllByRecursion P ys → AllByRecursion P (xs ++ ys)
+all_append : {X : Type 0} (P : X → Type 0) (xs ys : List X) → AllByRecursion P xs → AllByRecursion P ys
+    → AllByRecursion P (xs ++ ys)
 all_append P [] ys all more = more
 all_append P (x ∷ xs) ys all more = (all.0, all_append P xs ys all.1 more)
 
 module _ (device : DeviceParts) (accepted : IsDevice device) where
-  command_small : (c : CommandParts) → IsKeptCommand c → (form : Option Form) → AllByRecursion HoldsBytes (registers_in device c form)
+  command_small : (c : CommandParts) → IsKeptCommand c → (form : Option Form)
+      → AllByRecursion HoldsBytes (registers_in device c form)
   command_small c kept None = tt
   command_small c kept (Some form) =
       let initial = initial_small c.initial form kept.initial in
       let first : AreByteValues (first_bytes device c form) =
-      picked AreByteValues (nat_eq c.entry.code 0x20) (device.vout_mode ∷ []) (unwrap_or c.initial (zeros form)) (accepted.byte, tt) initial in
+      picked AreByteValues (nat_eq c.entry.code 0x20) (device.vout_mode ∷ []) (unwrap_or c.initial (zeros form))
+      (accepted.byte, tt) initial in
       on_pages c.entry.code (first_bytes device c form) (own_pages device.pages c.entry.paged) first
 
-  commands_small : (cs : List CommandParts) → AllByRecursion IsKeptCommand cs → AllByRecursion HoldsBytes (flat_map (registers_of device) cs)
+  commands_small : (cs : List CommandParts) → AllByRecursion IsKeptCommand cs
+      → AllByRecursion HoldsBytes (flat_map (registers_of device) cs)
   commands_small [] kept = tt
   commands_small (c ∷ cs) kept =
       subst (AllByRecursion HoldsBytes) (sym (flat_map-cons (registers_of device) c cs))
       (
-      all_append HoldsBytes (registers_of device c) (flat_map (registers_of device) cs) (command_small c kept.0 (register_form c.entry.shape))
+      all_append HoldsBytes (registers_of device c) (flat_map (registers_of device) cs)
+      (command_small c kept.0 (register_form c.entry.shape))
       (commands_small cs kept.1)
       )
 
@@ -82,7 +96,10 @@ pub record IsMember (member : InState) : Type 0 where
 -- what each element is, all are
 pub all_contained : {X : Type 0} (P : X → Type 0) (xs : List X) → ((x : X) → Contains xs x → P x) → AllByRecursion P xs
 all_contained P [] each = tt
-all_contained P (x ∷ xs) each = (each x (0, omega arith, refl), all_contained P xs (λ y at. each y (suc at.0, omega (arith, at.1), at.2)))
+all_contained P (x ∷ xs) each = (
+  each x (0, omega arith, refl),
+  all_contained P xs (λ y at. each y (suc at.0, omega (arith, at.1), at.2)),
+)
 
 pub of_contained : {X : Type 0} (P : X → Type 0) (xs : List X) (x : X) → AllByRecursion P xs → Contains xs x → P x
 of_contained P [] x all (k, inside, is) = absurd (omega (arith, inside))
@@ -91,7 +108,8 @@ of_contained P (y ∷ xs) x all (suc k, inside, is) = of_contained P xs x all.1 
 
 -- Each device of a profile in its first state.
 pub first_good : (profile : List DeviceParts) → AllByRecursion IsDevice profile → AreKeptDevices profile
-    → AllByRecursion (λ (m : InState). IsState m.device m.state) (first_members profile) → AllByRecursion IsMember (first_members profile)
+    → AllByRecursion (λ (m : InState). IsState m.device m.state) (first_members profile)
+    → AllByRecursion IsMember (first_members profile)
 first_good [] accepted kept fits = tt
 first_good (device ∷ profile) accepted kept fits = (
   record {
@@ -103,7 +121,8 @@ first_good (device ∷ profile) accepted kept fits = (
 )
 
 -- After a transaction, where it makes a good state of each.
-pub all_good_after : (t : TransactionData) (members : List InState) → ((m : InState) → Contains members m → IsMember m → IsGood m.device (apply m.device t m.state))
+pub all_good_after : (t : TransactionData) (members : List InState)
+    → ((m : InState) → Contains members m → IsMember m → IsGood m.device (apply m.device t m.state))
     → AllByRecursion IsMember members → AllByRecursion IsMember (all_applied t members)
 all_good_after t [] each all = tt
 all_good_after t (m ∷ members) each all = (
@@ -111,19 +130,24 @@ all_good_after t (m ∷ members) each all = (
   all_good_after t members (λ x at. each x (suc at.0, omega (arith, at.1), at.2)) all.1,
 )
 
-module _ (profile : List DeviceParts) (members : List InState) (bus : IsBus profile) (devices_are : map (λ m. m.device) members ≡ profile) where
+module _ (profile : List DeviceParts) (members : List InState) (bus : IsBus profile)
+    (devices_are : map (λ m. m.device) members ≡ profile) where
   -- The device of an address is that of the member which has it.
-  pub same_device : (m : InState) → Contains members m → (address : ℕ) (device : DeviceParts) → device_with address profile ≡ Some device
+  pub same_device : (m : InState) → Contains members m → (address : ℕ) (device : DeviceParts)
+      → device_with address profile ≡ Some device
       → address ≡ m.device.address → device ≡ m.device
   same_device m at address device known here =
       let found =
-      found_with members address device (subst (λ (ds : List DeviceParts). device_with address ds ≡ Some device) (sym devices_are) known) in
-      let one : found.member ≡ m = one_member profile members found.member m bus devices_are found.in_bus at (found.address_is ∙ here) in
+      found_with members address device (subst (λ (ds : List DeviceParts). device_with address ds ≡ Some device)
+      (sym devices_are) known) in
+      let one : found.member ≡ m = one_member profile members found.member m bus devices_are found.in_bus at
+      (found.address_is ∙ here) in
       sym found.device_is ∙ ap (λ (x : InState). x.device) one
 
   module _ (m : InState) (at : Contains members m) (accepted : IsDevice m.device) where
     -- a value of PAGE that is taken is one of the device's pages, or ffh
-    page_taken : (part : PartData) → IsTaken members part → part.addr ≡ m.device.address → part.code ≡ 0x00 → (value : ℕ) → part.bytes ≡ value ∷ []
+    page_taken : (part : PartData) → IsTaken members part → part.addr ≡ m.device.address → part.code ≡ 0x00
+        → (value : ℕ) → part.bytes ≡ value ∷ []
         → (value < m.device.pages) ⊎ (value ≡ all_pages)
     page_taken part taken here page value is = elim (cases_lt value m.device.pages) [
       | inl small ↦ inl small
@@ -146,7 +170,8 @@ module _ (profile : List DeviceParts) (members : List InState) (bus : IsBus prof
           ]
     ]
 
-    part_good : (part : PartData) → HasLeg profile part → IsTaken members part → (state : DeviceState) → IsGood m.device state
+    part_good : (part : PartData) → HasLeg profile part → IsTaken members part → (state : DeviceState)
+        → IsGood m.device state
         → IsGood m.device (after_part m.device part state)
     part_good part has taken state good =
         if_good m.device (nat_eq part.addr m.device.address) (after_write m.device part.code part.bytes state) state
@@ -155,25 +180,31 @@ module _ (profile : List DeviceParts) (members : List InState) (bus : IsBus prof
         let here : part.addr ≡ m.device.address = eqb-true part.addr m.device.address own in
         let same : has.device ≡ m.device = same_device m at part.addr has.device has.known here in
         let form = has.allowed.form in
-        let written : (forms m.device part.code).write ≡ Some form = subst (λ (d : DeviceParts). (forms d part.code).write ≡ Some form) same has.allowed.written in
+        let written : (forms m.device part.code).write ≡ Some form =
+        subst (λ (d : DeviceParts). (forms d part.code).write ≡ Some form) same has.allowed.written in
         write_good m.device state good accepted part.code part.bytes form written has.allowed.fits
         (
         λ page.
-        let one = page_is m.device form part.bytes accepted (subst (λ (n : ℕ). (forms m.device n).write ≡ Some form) page written) has.allowed.fits in
-        subst (λ (bs : List ℕ). (selected_by state.page bs < m.device.pages) ⊎ (selected_by state.page bs ≡ all_pages)) (sym one.1)
+        let one = page_is m.device form part.bytes accepted
+        (subst (λ (n : ℕ). (forms m.device n).write ≡ Some form) page written) has.allowed.fits in
+        subst (λ (bs : List ℕ). (selected_by state.page bs < m.device.pages) ⊎ (selected_by state.page bs ≡ all_pages))
+        (sym one.1)
         (page_taken part taken here page one.0 one.1)
         )
         ) (λ other. good)
 
     -- What parts that are taken make of a good state, is good,
-    pub parts_good : (parts : List PartData) → AllByRecursion (HasLeg profile) parts → AllByRecursion (IsTaken members) parts → (state : DeviceState)
+    pub parts_good : (parts : List PartData) → AllByRecursion (HasLeg profile) parts
+        → AllByRecursion (IsTaken members) parts → (state : DeviceState)
         → IsGood m.device state → IsGood m.device (after_parts m.device parts state)
     parts_good [] has taken state good = good
     parts_good (part ∷ parts) has taken state good =
         parts_good parts has.1 taken.1 (after_part m.device part state) (part_good part has.0 taken.0 state good)
 
     -- and so is what a refusal makes of it.
-    pub refusal_good : (t : RefusedData) (state : DeviceState) → IsGood m.device state → IsGood m.device (after_refusal m.device t state)
+    pub refusal_good : (t : RefusedData) (state : DeviceState) → IsGood m.device state
+        → IsGood m.device (after_refusal m.device t state)
     refusal_good t state good =
-        if_good m.device (nat_eq t.addr m.device.address) (with_noted m.device (bit_of_refused m.device state t.sent t.at_read) state) state
+        if_good m.device (nat_eq t.addr m.device.address)
+        (with_noted m.device (bit_of_refused m.device state t.sent t.at_read) state) state
         (λ own. noted_good m.device state good (bit_of_refused m.device state t.sent t.at_read)) (λ other. good)

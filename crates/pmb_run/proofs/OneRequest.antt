@@ -1,5 +1,6 @@
 -- What is taken of one request line.
-use Rattle.std.proofs.Common.{◌≡◌, ◌≢◌, ◌≤◌, ℕ, Option, List, [], ◌∷◌, ◌++◌, refl, sym, ◌∙◌, ap, subst, append-nil, arith}
+use Rattle.std.proofs.Common.{◌≡◌, ◌≢◌, ◌≤◌, ℕ, Option, List, [], ◌∷◌, ◌++◌, refl, sym, ◌∙◌, ap, subst, append-nil}
+use Rattle.std.proofs.Common.{arith}
 use Rattle.std.specs.Borrow.{Bor}
 use Rattle.pmb_bus.specs.Event.{canonical_text}
 use Rattle.pmb_build.specs.Answer.{numbered_text}
@@ -28,7 +29,8 @@ use Rattle.pmb_run.specs.machine.Running.{RunnerTakes, end_counted}
 use Rattle.pmb_run.proofs.Hosts.{HostRuns, beginning_on, counted_as, stands_behind}
 
 -- A line whose fault is put out.
-pub fault_taken : (ts : List TransactionData) (before after : Runner) (line why : List ℕ) (h0 h1 : Option (List ℕ)) (w0 w1 : List ℕ)
+pub fault_taken : (ts : List TransactionData) (before after : Runner) (line why : List ℕ) (h0 h1 : Option (List ℕ))
+    (w0 w1 : List ℕ)
     → IsRefused (bench_profile before.bench) ts line why → BenchStands before.bench ts
     → after.bench ≡ before.bench → after.lines ≡ before.lines → after.tally ≡ with_refusal before.tally
     → PutsText h0 w0 h1 w1 (numbered_text before.lines why) → RunnerTakes ts before after line h0 w0 h1 w1
@@ -44,27 +46,36 @@ fault_taken ts before after line why h0 h1 w0 w1 refused stands same lines_are t
 }
 
 -- No host is made for the request.
-pub host_refused : (ts : List TransactionData) (bench : Bench) (line : List ℕ) (request : RequestData) (profile : Bor (List DeviceParts)) (because : HostFault)
-    → SpellsRequest (mode (bench_profile bench) ts) line request → profile ≡ bench.profile → IsFault profile.now request because
+pub host_refused : (ts : List TransactionData) (bench : Bench) (line : List ℕ) (request : RequestData)
+    (profile : Bor (List DeviceParts)) (because : HostFault)
+    → SpellsRequest (mode (bench_profile bench) ts) line request → profile ≡ bench.profile
+    → IsFault profile.now request because
     → IsRefused (bench_profile bench) ts line (host_fault_text because)
 host_refused ts bench line request profile because spells same fault =
-    IsRefused.no_host request because spells (subst (λ (p : Bor (List DeviceParts)). IsFault p.now request because) same fault) refl
+    IsRefused.no_host request because spells
+    (subst (λ (p : Bor (List DeviceParts)). IsFault p.now request because) same fault) refl
 
 -- The line spells no request.
 pub line_refused : (ts : List TransactionData) (bench : Bench) (line : List ℕ) (because : RequestFault)
-    → IsRequestFault line because → because ≢ Line line_fault.Blank → IsRefused (bench_profile bench) ts line (fault_text because)
+    → IsRequestFault line because → because ≢ Line line_fault.Blank
+    → IsRefused (bench_profile bench) ts line (fault_text because)
 line_refused ts bench line because fault has_words = IsRefused.no_request because fault has_words refl
 
 -- A request whose host has ended.
-pub host_taken : TextsAddUp → (ts : List TransactionData) (before after : Runner) (bench going : Bench) (request : RequestData) (host : Host) (line : List ℕ) (sent : ℕ) (end : HostStep) (exchange next : Exchange)
+pub host_taken : TextsAddUp → (ts : List TransactionData) (before after : Runner) (bench going : Bench)
+    (request : RequestData) (host : Host) (line : List ℕ) (sent : ℕ) (end : HostStep) (exchange next : Exchange)
     (h0 h1 h2 h3 : Option (List ℕ)) (w0 w1 w2 w3 : List ℕ)
-    (stands : BenchStands before.bench ts) (new : IsNewHost (bench_profile before.bench) request host) → SpellsRequest (mode (bench_profile before.bench) ts) line request
+    (stands : BenchStands before.bench ts) (new : IsNewHost (bench_profile before.bench) request host)
+    → SpellsRequest (mode (bench_profile before.bench) ts) line request
     → (runs : HostRuns ts (beginning_on ts before.bench request host stands new) sent going exchange h0 w0 h1 w1)
-    → HasEnded ts (record (beginning_on ts before.bench request host stands new) { events = runs.events; sent = sent }) end bench next h1 w1 h2 w2
+    → HasEnded ts (record (beginning_on ts before.bench request host stands new) { events = runs.events; sent = sent })
+    end bench next h1 w1 h2 w2
     → PutsText h2 w2 h3 w3 (result_line (end_text end))
-    → bench.profile ≡ before.bench.profile → after.bench ≡ bench → after.lines ≡ before.lines → after.tally ≡ end_counted end before.tally
+    → bench.profile ≡ before.bench.profile → after.bench ≡ bench → after.lines ≡ before.lines
+    → after.tally ≡ end_counted end before.tally
     → RunnerTakes ts before after line h0 w0 h3 w3
-host_taken add_up ts before after bench going request host line sent end exchange next h0 h1 h2 h3 w0 w1 w2 w3 stands new spells runs ended puts profile_is bench_is lines_are tally_is =
+host_taken add_up ts before after bench going request host line sent end exchange next h0 h1 h2 h3 w0 w1 w2 w3 stands
+    new spells runs ended puts profile_is bench_is lines_are tally_is =
     let first = beginning_on ts before.bench request host stands new in
     let over = ended.over in record {
       answer = Recorded over.done runs.events (end_text end);
@@ -90,7 +101,8 @@ host_taken add_up ts before after bench going request host line sent end exchang
     }
 
 -- A host never sends so many signals.
-pub never_taken : (ts : List TransactionData) (first : ExchangeStanding) (before after : Runner) (bench : Bench) (exchange : Exchange) (line : List ℕ) (sent : ℕ) (h0 h1 : Option (List ℕ)) (w0 w1 : List ℕ)
+pub never_taken : (ts : List TransactionData) (first : ExchangeStanding) (before after : Runner) (bench : Bench)
+    (exchange : Exchange) (line : List ℕ) (sent : ℕ) (h0 h1 : Option (List ℕ)) (w0 w1 : List ℕ)
     → HostRuns ts first sent bench exchange h0 w0 h1 w1 → 4162 ≤ sent → RunnerTakes ts before after line h0 w0 h1 w1
 never_taken ts first before after bench exchange line sent h0 h1 w0 w1 runs many =
     let none : ⊥ = omega (arith, runs.few, many) in absurd none

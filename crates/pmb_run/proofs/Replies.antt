@@ -1,5 +1,6 @@
 -- The reply of a device in a good state: bytes, and as many as its form takes.
-use Rattle.std.proofs.Common.{◌≡◌, ℕ, ◌<◌, ◌%◌, ◌/◌, ◌^◌, Bool, true, false, ◌&&◌, Option, Some, None, Result, Ok, Err, cond, List, [], ◌∷◌, ◌++◌, nat_eq, option_map, subst, arith}
+use Rattle.std.proofs.Common.{◌≡◌, ℕ, ◌<◌, ◌%◌, ◌/◌, ◌^◌, Bool, true, false, ◌&&◌, Option, Some, None, Result, Ok, Err}
+use Rattle.std.proofs.Common.{cond, List, [], ◌∷◌, ◌++◌, nat_eq, option_map, subst, arith}
 use Rattle.std.specs.Prelude.{ℤ, pos, negsuc, ◌≤ℤ◌, IfSome}
 use Rattle.std.proofs.lemmas.Int.{ints}
 use Rattle.std.specs.Int.{w8, w16, cast_unsigned, to_le_bytes}
@@ -7,12 +8,14 @@ use Rattle.std.specs.List.{find}
 use Rattle.std.specs.Option.{option_and_then, unwrap_or}
 use Rattle.pmb_coefficients.specs.Coefficients.{Coefficients, MakeFormat}
 use Rattle.pmb_command.specs.declared.entry.Kind.{Kind}
-use Rattle.pmb_command.specs.declared.entry.Kind.TheVariants.{Raw, Linear11, Linear11Fixed, Vout, VoutSigned, Direct, Status}
+use Rattle.pmb_command.specs.declared.entry.Kind.TheVariants.{Raw, Linear11, Linear11Fixed, Vout, VoutSigned, Direct}
+use Rattle.pmb_command.specs.declared.entry.Kind.TheVariants.{Status}
 use Rattle.pmb_command.specs.Parts.{CommandParts, DeviceParts, command_with}
 use Rattle.pmb_command.specs.Wire.{AreByteValues}
 use Rattle.pmb_registers.specs.declared.cml_bit.CmlBit.{CmlBit}
 use Rattle.pmb_registers.specs.declared.cml_bit.CmlBit.TheVariants.{BadCommand, BadValue}
-use Rattle.pmb_registers.specs.Answer.{all_pages, answer, answer_coefficients, answer_of_page, coefficient_bytes, coefficients_of, coefficients_of_kind, coefficients_reply, is_paged}
+use Rattle.pmb_registers.specs.Answer.{all_pages, answer, answer_coefficients, answer_of_page, coefficient_bytes}
+use Rattle.pmb_registers.specs.Answer.{coefficients_of, coefficients_of_kind, coefficients_reply, is_paged}
 use Rattle.pmb_registers.specs.State.{DeviceState, RegisterData, is_of_page}
 use Rattle.pmb_host.specs.Requests.{KindMakesFormat}
 use Rattle.pmb_run.specs.Kept.{IsKeptCommand, IsKeptDevice}
@@ -53,11 +56,13 @@ one_of_two : (test : Bool) (a b : Result (List ℕ) CmlBit) → HasBytes a → H
 one_of_two true a b here there = here
 one_of_two false a b here there = there
 
-found_bytes : (o : Option RegisterData) → IfSome o HoldsBytes → AreByteValues (unwrap_or (option_map (λ r. r.bytes) o) [])
+found_bytes : (o : Option RegisterData) → IfSome o HoldsBytes
+    → AreByteValues (unwrap_or (option_map (λ r. r.bytes) o) [])
 found_bytes None holds = tt
 found_bytes (Some r) holds = holds
 
-kind_formats : (vout : Option Coefficients) (kind : Kind) → IfSome vout MakeFormat → KindMakesFormat kind → IfSome (coefficients_of_kind vout kind) MakeFormat
+kind_formats : (vout : Option Coefficients) (kind : Kind) → IfSome vout MakeFormat → KindMakesFormat kind
+    → IfSome (coefficients_of_kind vout kind) MakeFormat
 kind_formats vout Raw make is = tt
 kind_formats vout Linear11 make is = tt
 kind_formats vout (Linear11Fixed exponent) make is = tt
@@ -66,7 +71,8 @@ kind_formats vout VoutSigned make is = make
 kind_formats vout (Direct d) make is = is
 kind_formats vout Status make is = tt
 
-command_formats : (vout : Option Coefficients) (o : Option CommandParts) → IfSome vout MakeFormat → IfSome o IsKeptCommand
+command_formats : (vout : Option Coefficients) (o : Option CommandParts) → IfSome vout MakeFormat
+    → IfSome o IsKeptCommand
     → IfSome (option_and_then (λ (command : CommandParts). coefficients_of_kind vout command.entry.kind) o) MakeFormat
 command_formats vout None make kept = tt
 command_formats vout (Some command) make kept = kind_formats vout command.entry.kind make kept.kind
@@ -82,7 +88,8 @@ module _ (device : DeviceParts) (kept : IsKeptDevice device) where
   called_bytes (count ∷ code ∷ []) = tt
   called_bytes (count ∷ code ∷ direction ∷ []) =
       reply_bytes (coefficients_of device code)
-      (command_formats device.vout_direct (command_with code device.commands) kept.vout (found_has IsKeptCommand (λ c. nat_eq c.entry.code code) device.commands kept.commands))
+      (command_formats device.vout_direct (command_with code device.commands) kept.vout
+      (found_has IsKeptCommand (λ c. nat_eq c.entry.code code) device.commands kept.commands))
   called_bytes (count ∷ code ∷ direction ∷ more ∷ rest) = tt
 
   module _ (state : DeviceState) (good : IsGood device state) where
@@ -91,12 +98,14 @@ module _ (device : DeviceParts) (kept : IsKeptDevice device) where
         found_bytes (find (λ r. nat_eq r.code code && is_of_page state.page r.page) state.registers)
         (found_has HoldsBytes (λ r. nat_eq r.code code && is_of_page state.page r.page) state.registers good.small)
     page_bytes code (byte ∷ behind) =
-        one_of_two (nat_eq code 0x30) (answer_coefficients device (byte ∷ behind)) (Err BadCommand) (called_bytes (byte ∷ behind)) tt
+        one_of_two (nat_eq code 0x30) (answer_coefficients device (byte ∷ behind)) (Err BadCommand)
+        (called_bytes (byte ∷ behind)) tt
 
     answer_has : (body : List ℕ) → HasBytes (answer device state body)
     answer_has [] = tt
     answer_has (code ∷ behind) =
-        one_of_two (nat_eq state.page all_pages && is_paged (command_with code device.commands)) (Err BadValue) (answer_of_page device state code behind) tt
+        one_of_two (nat_eq state.page all_pages && is_paged (command_with code device.commands)) (Err BadValue)
+        (answer_of_page device state code behind) tt
         (page_bytes code behind)
 
     -- What a device replies is bytes.

@@ -31,7 +31,8 @@ use Rattle.pmb_host.specs.Signals.{reply_form}
 use Rattle.pmb_host.specs.Task.{replied, task_of}
 use Rattle.pmb_host.proofs.Words.{quantity_is_word}
 use Rattle.pmb_exchange.specs.Exchange.{Exchanges}
-use Rattle.pmb_run.specs.Answer.{IsRefused, RunAnswer, Recorded, Refusal, Nothing, RunsLine, RunsText, end_text, host_fault_text, is_done, is_failed, most_request_line}
+use Rattle.pmb_run.specs.Answer.{IsRefused, RunAnswer, Recorded, Refusal, Nothing, RunsLine, RunsText, end_text}
+use Rattle.pmb_run.specs.Answer.{host_fault_text, is_done, is_failed, most_request_line}
 use Rattle.pmb_run.specs.Lines.{RunsEach, RunsInput, answers_behind, recorded_by}
 use Rattle.pmb_run.proofs.Exchanged.{exchanged}
 use Rattle.pmb_run.proofs.Hosts.{after_one_more, devices_after}
@@ -40,17 +41,24 @@ use Rattle.pmb_run.proofs.Members.{IsMember}
 -- what the layers below say of one line and one request
 pub record SomeLaws (profile : List DeviceParts) : Type 0 where
   pub request_or_fault : (mode : ℕ → Option ℕ) (line : List ℕ)
-      → ((request : RequestData) × SpellsRequest mode line request) ⊎ ((fault : RequestFault) × IsRequestFault line fault)
+      → ((request : RequestData) × SpellsRequest mode line request)
+      ⊎ ((fault : RequestFault) × IsRequestFault line fault)
   pub allowed_or_fault : (request : RequestData) → IsSound request
-      → ((word : ℕ) × (number : Option NumberFormat) × IsAllowed profile request word number) ⊎ ((fault : HostFault) × IsFault profile request fault)
-  pub some_exchange : (members : List InState) (request : RequestData) (word : ℕ) (number : Option NumberFormat) → map (λ m. m.device) members ≡ profile
+      → ((word : ℕ) × (number : Option NumberFormat) × IsAllowed profile request word number)
+      ⊎ ((fault : HostFault) × IsFault profile request fault)
+  pub some_exchange : (members : List InState) (request : RequestData) (word : ℕ) (number : Option NumberFormat)
+      → map (λ m. m.device) members ≡ profile
       → IsAllowed profile request word number → (done : TransactionData) × Exchanges members (task_of request word) done
-  pub packets : (request : RequestData) (word : ℕ) (number : Option NumberFormat) (reply : List ℕ) → IsAllowed profile request word number
-      → IfSome (reply_form profile (task_of request word)) (λ form. Fits form reply) → HasPacket profile (replied (task_of request word) reply)
+  pub packets : (request : RequestData) (word : ℕ) (number : Option NumberFormat) (reply : List ℕ)
+      → IsAllowed profile request word number
+      → IfSome (reply_form profile (task_of request word)) (λ form. Fits form reply)
+      → HasPacket profile (replied (task_of request word) reply)
   pub positive : (text : List ℕ) → HasPositive (reading text)
 
 -- a request that a line spells has at most 16 parts, and a quantity that is one
-sound_of : ((text : List ℕ) → HasPositive (reading text)) → (mode : ℕ → Option ℕ) (wording : Wording) (request : RequestData) → IsWithin wording → Means mode wording request → IsSound request
+sound_of : ((text : List ℕ) → HasPositive (reading text))
+    → (mode : ℕ → Option ℕ) (wording : Wording) (request : RequestData) → IsWithin wording → Means mode wording request
+    → IsSound request
 sound_of positive mode (Write parts) request within means = subst IsSound (sym means) within.few
 sound_of positive mode (Ask command to_read) request within means = subst IsSound (sym means) tt
 sound_of positive mode (Ask command (to_call bytes)) request within means = subst IsSound (sym means) tt
@@ -59,9 +67,13 @@ sound_of positive mode (Ask command (to_set text)) request within (q, reads, is)
 sound_of positive mode (Ask command to_get) request within means = subst IsSound (sym means) tt
 
 -- after no transactions
-pub at_first : (members : List InState) → AllByRecursion IsMember members → AllByRecursion IsMember (all_after [] members)
+pub at_first : (members : List InState) → AllByRecursion IsMember members
+    → AllByRecursion IsMember (all_after [] members)
 at_first [] all = tt
-at_first (m ∷ members) all = (record { accepted = all.0.accepted; kept = all.0.kept; good = all.0.good }, at_first members all.1)
+at_first (m ∷ members) all = (
+  record { accepted = all.0.accepted; kept = all.0.kept; good = all.0.good },
+  at_first members all.1,
+)
 
 module _ (profile : List DeviceParts) (bus : IsBus profile) (laws : SomeLaws profile) where
   -- the devices are in good states after these transactions
@@ -80,7 +92,8 @@ module _ (profile : List DeviceParts) (bus : IsBus profile) (laws : SomeLaws pro
 
     module _ (line : List ℕ) where
       -- a request that is allowed is run
-      run_some : (request : RequestData) → SpellsRequest (mode profile before) line request → (word : ℕ) (number : Option NumberFormat)
+      run_some : (request : RequestData) → SpellsRequest (mode profile before) line request
+          → (word : ℕ) (number : Option NumberFormat)
           → IsAllowed profile request word number → Answered before (RunsText profile before line)
       run_some request spells word number allowed =
           let members = all_after before (first_members profile) in
@@ -105,13 +118,16 @@ module _ (profile : List DeviceParts) (bus : IsBus profile) (laws : SomeLaws pro
               ends = ending.ends;
               told = refl;
             };
-            after = subst (AllByRecursion IsMember) (after_one_more before exchange.0 (first_members profile)) ending.after;
+            after = subst (AllByRecursion IsMember) (after_one_more before exchange.0 (first_members profile))
+                ending.after;
           }
 
       -- any other is refused
-      request_some : (request : RequestData) → SpellsRequest (mode profile before) line request → Answered before (RunsText profile before line)
+      request_some : (request : RequestData) → SpellsRequest (mode profile before) line request
+          → Answered before (RunsText profile before line)
       request_some request spells =
-          elim (laws.allowed_or_fault request (sound_of laws.positive (mode profile before) spells.wording request spells.within spells.means)) [
+          elim (laws.allowed_or_fault request (sound_of laws.positive (mode profile before) spells.wording request
+          spells.within spells.means)) [
             | inl allowed ↦ run_some request spells allowed.0 allowed.1 allowed.2
             | inr fault ↦ record {
               answer = Refusal (host_fault_text fault.0);
@@ -147,18 +163,27 @@ module _ (profile : List DeviceParts) (bus : IsBus profile) (laws : SomeLaws pro
       ]
 
     line_some : (line : TextLine) → Answered before (RunsLine profile before line)
-    line_some (lines.Ended line) = let some = text_some line in record { answer = some.answer; holds = some.holds; after = some.after }
-    line_some (lines.Last line) = let some = text_some line in record { answer = some.answer; holds = some.holds; after = some.after }
-    line_some lines.TooLong = record { answer = Refusal (fault_text (Line (line_fault.TooLong most_request_line))); holds = refl; after = still_good }
+    line_some (lines.Ended line) = let some = text_some line in
+        record { answer = some.answer; holds = some.holds; after = some.after }
+    line_some (lines.Last line) = let some = text_some line in
+        record { answer = some.answer; holds = some.holds; after = some.after }
+    line_some lines.TooLong = record {
+      answer =
+          Refusal (fault_text (Line (line_fault.TooLong most_request_line)));
+      holds = refl;
+      after = still_good;
+    }
 
-  each_some : (before : List TransactionData) → AreGood before → (given : List TextLine) → (answers : List RunAnswer) × RunsEach profile before given answers
+  each_some : (before : List TransactionData) → AreGood before → (given : List TextLine)
+      → (answers : List RunAnswer) × RunsEach profile before given answers
   each_some before good [] = ([], tt)
   each_some before good (line ∷ rest) =
       let first = line_some before good line in
       let behind = each_some (before ++ recorded_by first.answer) first.after rest in
       (first.answer ∷ behind.0, (first.holds, behind.1))
 
-  pub some_text : AllByRecursion IsMember (first_members profile) → (bytes : List ℕ) → (text : List ℕ) × (tally : Tally) × RunsInput profile tally bytes text
+  pub some_text : AllByRecursion IsMember (first_members profile) → (bytes : List ℕ)
+      → (text : List ℕ) × (tally : Tally) × RunsInput profile tally bytes text
   some_text good bytes =
       let all = each_some [] (at_first (first_members profile) good) (lines_of most_request_line bytes) in (
         answers_behind 0 all.0,

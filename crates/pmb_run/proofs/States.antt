@@ -1,5 +1,6 @@
 -- The state of a simulated device that fits it and holds bytes alone: what transactions make of it is so too.
-use Rattle.std.proofs.Common.{◌≡◌, ℕ, ◌<◌, ◌≤◌, ◌-◌, ◌⊎◌, Bool, true, false, ◌&&◌, Option, Some, None, cond, is_some, List, [], ◌∷◌, length, map, nat_eq, refl, sym, ap, subst, ◌∙◌, arith}
+use Rattle.std.proofs.Common.{◌≡◌, ℕ, ◌<◌, ◌≤◌, ◌-◌, ◌⊎◌, Bool, true, false, ◌&&◌, Option, Some, None, cond, is_some}
+use Rattle.std.proofs.Common.{List, [], ◌∷◌, length, map, nat_eq, refl, sym, ap, subst, ◌∙◌, arith}
 use Rattle.std.specs.Int.Bits.{bit_and, bit_or}
 use Rattle.std.specs.List.{AllByRecursion}
 use Rattle.std.proofs.lemmas.Bool.{eqb-true}
@@ -15,7 +16,8 @@ use Rattle.pmb_transaction.specs.Body.{forms, shape_of}
 use Rattle.pmb_registers.specs.declared.cml_bit.CmlBit.{CmlBit}
 use Rattle.pmb_registers.specs.declared.cml_bit.CmlBit.TheVariants.{BadCommand, BadValue, PecFailed}
 use Rattle.pmb_registers.specs.Answer.{all_pages}
-use Rattle.pmb_registers.specs.Apply.{after_write, bit_value, changed, cleared_bits, is_status, reaches, selected_by, with_bit, with_noted}
+use Rattle.pmb_registers.specs.Apply.{after_write, bit_value, changed, cleared_bits, is_status, reaches, selected_by}
+use Rattle.pmb_registers.specs.Apply.{with_bit, with_noted}
 use Rattle.pmb_registers.specs.State.{DeviceState, RegisterData}
 use Rattle.pmb_device.proofs.Requests.{page_form}
 use Rattle.pmb_devices.specs.Replies.{IsState}
@@ -42,7 +44,8 @@ value_small BadCommand = omega arith
 value_small BadValue = omega arith
 value_small PecFailed = omega arith
 
-set_small : (bit : CmlBit) (bytes : List ℕ) → AreByteValues bytes → AreByteValues (map (λ (byte : ℕ). bit_or byte (bit_value bit)) bytes)
+set_small : (bit : CmlBit) (bytes : List ℕ) → AreByteValues bytes
+    → AreByteValues (map (λ (byte : ℕ). bit_or byte (bit_value bit)) bytes)
 set_small bit [] small = tt
 set_small bit (b ∷ bytes) small = (or_lt 8 b (bit_value bit) small.0 (value_small bit), set_small bit bytes small.1)
 
@@ -66,17 +69,21 @@ one_of (byte ∷ []) is = (byte, refl)
 one_of (byte ∷ next ∷ more) is = absurd (omega (arith, is))
 
 -- PAGE is written with one byte
-pub page_is : (device : DeviceParts) (form : Form) (content : List ℕ) → IsDevice device → (forms device 0x00).write ≡ Some form → Fits form content
+pub page_is : (device : DeviceParts) (form : Form) (content : List ℕ) → IsDevice device
+    → (forms device 0x00).write ≡ Some form → Fits form content
     → (value : ℕ) × (content ≡ value ∷ [])
 page_is device form content accepted written fits =
     one_of content (subst (λ (f : Form). Takes f (length content)) (page_form device form accepted written) fits.taken)
 
-module _ (selected : ℕ) (codes : ℕ → Bool) (change : List ℕ → List ℕ) (keeps : (bytes : List ℕ) → AreByteValues bytes → AreByteValues (change bytes)) where
-  one_small : (hit : Bool) (r : RegisterData) → HoldsBytes r → HoldsBytes (cond hit (record r { bytes = change r.bytes }) r)
+module _ (selected : ℕ) (codes : ℕ → Bool) (change : List ℕ → List ℕ) (keeps : (bytes : List ℕ) → AreByteValues bytes
+    → AreByteValues (change bytes)) where
+  one_small : (hit : Bool) (r : RegisterData) → HoldsBytes r
+      → HoldsBytes (cond hit (record r { bytes = change r.bytes }) r)
   one_small true r small = keeps r.bytes small
   one_small false r small = small
 
-  changed_small : (rs : List RegisterData) → AllByRecursion HoldsBytes rs → AllByRecursion HoldsBytes (changed selected codes change rs)
+  changed_small : (rs : List RegisterData) → AllByRecursion HoldsBytes rs
+      → AllByRecursion HoldsBytes (changed selected codes change rs)
   changed_small [] all = tt
   changed_small (r ∷ rs) all = (one_small (codes r.code && reaches selected r.page) r all.0, changed_small rs all.1)
 
@@ -84,19 +91,22 @@ module _ (selected : ℕ) (codes : ℕ → Bool) (change : List ℕ → List ℕ
 
 module _ (device : DeviceParts) where
   -- one of two states
-  pub if_good : (test : Bool) (x y : DeviceState) → (test ≡ true → IsGood device x) → (test ≡ false → IsGood device y) → IsGood device (cond test x y)
+  pub if_good : (test : Bool) (x y : DeviceState) → (test ≡ true → IsGood device x) → (test ≡ false → IsGood device y)
+      → IsGood device (cond test x y)
   if_good true x y here there = here refl
   if_good false x y here there = there refl
 
   -- as many bytes as the form of a command's register takes
   abbrev KeepsForms : (ℕ → Bool) → (List ℕ → List ℕ) → Type 0
   KeepsForms codes change =
-      (code : ℕ) (command : CommandParts) (form : Form) → command_with code device.commands ≡ Some command → register_form command.entry.shape ≡ Some form
+      (code : ℕ) (command : CommandParts) (form : Form) → command_with code device.commands ≡ Some command
+      → register_form command.entry.shape ≡ Some form
       → codes code ≡ true → (bytes : List ℕ) → Takes form (length bytes) → Takes form (length (change bytes))
 
   module _ (before : DeviceState) (good : IsGood device before) where
     -- registers change, and a page is selected
-    changed_good : (page : ℕ) → (page < device.pages) ⊎ (page ≡ all_pages) → (codes : ℕ → Bool) (change : List ℕ → List ℕ) → KeepsForms codes change
+    changed_good : (page : ℕ) → (page < device.pages) ⊎ (page ≡ all_pages)
+        → (codes : ℕ → Bool) (change : List ℕ → List ℕ) → KeepsForms codes change
         → ((bytes : List ℕ) → AreByteValues bytes → AreByteValues (change bytes))
         → IsGood device (record { page = page; registers = changed before.page codes change before.registers })
     changed_good page valid codes change stays keeps = record {
@@ -105,7 +115,8 @@ module _ (device : DeviceParts) where
         holds = λ code at command form is register there.
             let old = good.fits.holds code at command form is register there in
             let new =
-            has_changed at code (λ bytes. Takes form (length bytes)) before.page codes change (stays code command form is register) before.registers
+            has_changed at code (λ bytes. Takes form (length bytes)) before.page codes change
+            (stays code command form is register) before.registers
             (old.bytes, old.held_is, old.taken) in
             record { bytes = new.0; held_is = new.1; taken = new.2 };
       };
@@ -113,7 +124,8 @@ module _ (device : DeviceParts) where
     }
 
     -- registers change, and keep their lengths
-    kept_good : (codes : ℕ → Bool) (change : List ℕ → List ℕ) → ((bytes : List ℕ) → length (change bytes) ≡ length bytes)
+    kept_good : (codes : ℕ → Bool) (change : List ℕ → List ℕ)
+        → ((bytes : List ℕ) → length (change bytes) ≡ length bytes)
         → ((bytes : List ℕ) → AreByteValues bytes → AreByteValues (change bytes))
         → IsGood device (record { page = before.page; registers = changed before.page codes change before.registers })
     kept_good codes change long keeps =
@@ -126,21 +138,26 @@ module _ (device : DeviceParts) where
         let set : List ℕ → List ℕ = map (λ (byte : ℕ). bit_or byte (bit_value bit)) in
         if_good (is_some (forms device 0x7e).read)
         (record { page = before.page; registers = changed before.page (nat_eq 0x7e) set before.registers }) before
-        (λ some. kept_good (nat_eq 0x7e) set (λ bytes. length-map bytes (λ (byte : ℕ). bit_or byte (bit_value bit))) (set_small bit)) (λ none. good)
+        (λ some. kept_good (nat_eq 0x7e) set (λ bytes. length-map bytes (λ (byte : ℕ). bit_or byte (bit_value bit)))
+        (set_small bit)) (λ none. good)
 
     pub noted_good : (bit : Option CmlBit) → IsGood device (with_noted device bit before)
     noted_good None = good
     noted_good (Some bit) = bit_good bit
 
-    module _ (accepted : IsDevice device) (code : ℕ) (content : List ℕ) (form : Form) (written : (forms device code).write ≡ Some form)
+    module _ (accepted : IsDevice device) (code : ℕ) (content : List ℕ) (form : Form)
+        (written : (forms device code).write ≡ Some form)
         (fits : Fits form content) where
       -- the register of the code takes the data
-      data_taken : same_form form Zero ≡ false → (other : ℕ) (command : CommandParts) (own : Form) → command_with other device.commands ≡ Some command
-          → register_form command.entry.shape ≡ Some own → nat_eq code other ≡ true → (bytes : List ℕ) → Takes own (length bytes) → Takes own (length content)
+      data_taken : same_form form Zero ≡ false → (other : ℕ) (command : CommandParts) (own : Form)
+          → command_with other device.commands ≡ Some command
+          → register_form command.entry.shape ≡ Some own → nat_eq code other ≡ true → (bytes : List ℕ)
+          → Takes own (length bytes) → Takes own (length content)
       data_taken some other command own known register same bytes taken =
           let code_is : code ≡ other = eqb-true code other same in
           let as_written : command.entry.shape.write ≡ Some form =
-          ap (λ (o : Option CommandParts). (shape_of o).write) (sym known) ∙ ap (λ (n : ℕ). (forms device n).write) (sym code_is) ∙ written in
+          ap (λ (o : Option CommandParts). (shape_of o).write) (sym known) ∙ ap (λ (n : ℕ). (forms device n).write)
+          (sym code_is) ∙ written in
           let agree = (command_is device accepted other command known).entry.fitting.one_form in
           let form_is : own ≡ form = written_register command.entry.shape form own as_written some agree register in
           subst (λ (f : Form). Takes f (length content)) (sym form_is) fits.taken
@@ -148,30 +165,37 @@ module _ (device : DeviceParts) where
       -- PAGE is written with data
       page_some : code ≡ 0x00 → same_form form Zero ≡ false
       page_some zero =
-          ap (λ (f : Form). same_form f Zero) (page_form device form accepted (subst (λ (n : ℕ). (forms device n).write ≡ Some form) zero written))
+          ap (λ (f : Form). same_form f Zero) (page_form device form accepted
+          (subst (λ (n : ℕ). (forms device n).write ≡ Some form) zero written))
 
       -- What a complete write makes of the state, where a value of PAGE is one of the device's pages, or ffh.
-      pub write_good : (code ≡ 0x00 → (selected_by before.page content < device.pages) ⊎ (selected_by before.page content ≡ all_pages))
+      pub write_good : (code ≡ 0x00 → (selected_by before.page content < device.pages)
+          ⊎ (selected_by before.page content ≡ all_pages))
           → IsGood device (after_write device code content before)
       write_good valid =
           if_good (nat_eq code 0x00) _ _
           (
           λ page.
           let zero : code ≡ 0x00 = eqb-true code 0x00 page in
-          changed_good (selected_by before.page content) (valid zero) (nat_eq code) (λ old. content) (data_taken (page_some zero)) (λ old small. fits.small)
+          changed_good (selected_by before.page content) (valid zero) (nat_eq code) (λ old. content)
+          (data_taken (page_some zero)) (λ old small. fits.small)
           )
           (
           λ other.
           if_good (nat_eq code 0x03) _ _
-          (λ clear. kept_good (is_status device) (map (λ byte. 0)) (λ bytes. length-map bytes (λ (byte : ℕ). 0)) (λ bytes small. zeros_small bytes))
+          (λ clear. kept_good (is_status device) (map (λ byte. 0)) (λ bytes. length-map bytes (λ (byte : ℕ). 0))
+          (λ bytes small. zeros_small bytes))
           (
           λ neither.
           if_good (is_form Zero (forms device code).write) before _ (λ zero. good)
           (
           λ filled.
-          let some : same_form form Zero ≡ false = flip_zero form (subst (λ (o : Option Form). is_form Zero o ≡ false) written filled) in
-          if_good (is_status device code) _ _ (λ status. kept_good (nat_eq code) (cleared_bits content) (cleared_length content) (cleared_small content))
-          (λ plain. changed_good before.page good.fits.page (nat_eq code) (λ old. content) (data_taken some) (λ old small. fits.small))
+          let some : same_form form Zero ≡ false =
+          flip_zero form (subst (λ (o : Option Form). is_form Zero o ≡ false) written filled) in
+          if_good (is_status device code) _ _ (λ status. kept_good (nat_eq code) (cleared_bits content)
+          (cleared_length content) (cleared_small content))
+          (λ plain. changed_good before.page good.fits.page (nat_eq code) (λ old. content) (data_taken some)
+          (λ old small. fits.small))
           )
           )
           )

@@ -17,21 +17,25 @@ pub record SameTask (request : RequestData) (word other : ℕ) (a b : Option Num
 
 module _ (profile : List DeviceParts) where
   -- a command has one number format
-  same_format : (c : Command) (mode : Option ℕ) (a b : NumberFormat) → HasNumber profile c mode a → HasNumber profile c mode b → a ≡ b
+  same_format : (c : Command) (mode : Option ℕ) (a b : NumberFormat) → HasNumber profile c mode a
+      → HasNumber profile c mode b → a ≡ b
   same_format c mode a b has also =
       let one = has.number_is in
       let other = also.number_is in
       let devices : Some one.device ≡ Some other.device = sym one.known ∙ other.known in
       let device : one.device ≡ other.device = cc devices in
-      let commands : Some one.command ≡ Some other.command = sym one.has ∙ ap (λ (d : DeviceParts). command_with c.code d.commands) device ∙ other.has in
+      let commands : Some one.command ≡ Some other.command = sym one.has
+      ∙ ap (λ (d : DeviceParts). command_with c.code d.commands) device ∙ other.has in
       let command : one.command ≡ other.command = cc commands in
       let same : Ok a ≡ Ok b =
       one.number_is ∙ ap (λ (d : DeviceParts). number_of d.vout_direct mode one.command.entry.kind) device
-      ∙ ap (λ (it : CommandParts). number_of other.device.vout_direct mode it.entry.kind) command ∙ sym other.number_is in
+      ∙ ap (λ (it : CommandParts). number_of other.device.vout_direct mode it.entry.kind) command
+      ∙ sym other.number_is in
       cc same
 
   -- a quantity is set by one word
-  one_word : (c : Command) (value : Fraction) (mode : Option ℕ) (a b : ℕ) → CanSet profile c value mode a → CanSet profile c value mode b → a ≡ b
+  one_word : (c : Command) (value : Fraction) (mode : Option ℕ) (a b : ℕ) → CanSet profile c value mode a
+      → CanSet profile c value mode b → a ≡ b
   one_word c value mode a b one other =
       let same = same_format c mode one.number other.number one.has other.has in
       other.only a (subst (λ (it : NumberFormat). IsNearest (number_coding it) value a) same one.nearest)
@@ -47,4 +51,5 @@ module _ (profile : List DeviceParts) where
   }
   one_task (Get c mode) word other None b one also = absurd (one.2 refl)
   one_task (Get c mode) word other (Some a) None one also = absurd (also.2 refl)
-  one_task (Get c mode) word other (Some a) (Some b) one also = record { task_is = refl; number_is = ap Some (same_format c mode a b one.1 also.1) }
+  one_task (Get c mode) word other (Some a) (Some b) one also =
+      record { task_is = refl; number_is = ap Some (same_format c mode a b one.1 also.1) }

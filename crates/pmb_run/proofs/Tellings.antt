@@ -20,7 +20,8 @@ same_word a b same =
     omega arith
 
 -- what is told of a reply
-one_told : (number : Option NumberFormat) (reply : List ℕ) (a b : ReplyData) → IsReplyTold number reply a → IsReplyTold number reply b → a ≡ b
+one_told : (number : Option NumberFormat) (reply : List ℕ) (a b : ReplyData) → IsReplyTold number reply a
+    → IsReplyTold number reply b → a ≡ b
 one_told number reply a b (bytes none is) (bytes also told) = is ∙ sym told
 one_told number reply a b (bytes none is) (value format word some reply_is told) = absurd (cc (none, some))
 one_told number reply a b (value format word some reply_is is) (bytes none told) = absurd (cc (none, some))
@@ -36,17 +37,21 @@ done_text : (step : HostStep) (reply : Reply) → step ≡ Done reply → end_te
 done_text step reply is = ap end_text is
 
 -- where a byte was refused
-one_refusal : (parts : List PartData) (sent : List ℕ) (at_read : Bool) (a b : HostStep) → RefusedAt parts sent at_read a → RefusedAt parts sent at_read b → a ≡ b
+one_refusal : (parts : List PartData) (sent : List ℕ) (at_read : Bool) (a b : HostStep) → RefusedAt parts sent at_read a
+    → RefusedAt parts sent at_read b → a ≡ b
 one_refusal parts sent true a b one other = one ∙ sym other
 one_refusal parts sent false a b one other = one ∙ sym other
 
-pub one_end : (number : Option NumberFormat) (t : TransactionData) (a b : HostStep) → EndsWith number t a → EndsWith number t b → end_text a ≡ end_text b
+pub one_end : (number : Option NumberFormat) (t : TransactionData) (a b : HostStep) → EndsWith number t a
+    → EndsWith number t b → end_text a ≡ end_text b
 one_end number (Write parts) a b (reply, is, all) (other, also, every) =
     done_text a reply is ∙ ap reply_text (all ∙ sym every) ∙ sym (done_text b other also)
 one_end number (Read t) a b (reply, is, told) (other, also, telling) =
-    done_text a reply is ∙ ap reply_text (one_told number t.reply (reply_data reply) (reply_data other) told telling) ∙ sym (done_text b other also)
+    done_text a reply is ∙ ap reply_text (one_told number t.reply (reply_data reply) (reply_data other) told telling)
+    ∙ sym (done_text b other also)
 one_end number (Call t) a b (reply, is, told) (other, also, telling) =
-    done_text a reply is ∙ ap reply_text (one_told number t.reply (reply_data reply) (reply_data other) told telling) ∙ sym (done_text b other also)
+    done_text a reply is ∙ ap reply_text (one_told number t.reply (reply_data reply) (reply_data other) told telling)
+    ∙ sym (done_text b other also)
 one_end number (Refused t) a b one other = ap end_text (one_refusal t.parts t.sent t.at_read a b one other)
 one_end number (Alert t) a b one other = absurd one
 one_end number NoAlert a b one other = absurd one

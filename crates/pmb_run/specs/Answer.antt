@@ -145,8 +145,10 @@ module _ (profile : List DeviceParts) (before : List TransactionData) where
 
   -- The first fault of a line with words: of the line, or of the request that it spells.
   pub data IsRefused (line : List ℕ) (why : List ℕ) : Type 0 where
-    no_request : (because : RequestFault) → IsRequestFault line because → because ≢ Line line_fault.Blank → why ≡ fault_text because → IsRefused line why
-    no_host : (request : RequestData) (because : HostFault) → SpellsRequest (mode profile before) line request → IsFault profile request because
+    no_request : (because : RequestFault) → IsRequestFault line because → because ≢ Line line_fault.Blank
+        → why ≡ fault_text because → IsRefused line why
+    no_host : (request : RequestData) (because : HostFault) → SpellsRequest (mode profile before) line request
+        → IsFault profile request because
         → why ≡ host_fault_text because → IsRefused line why
 
   -- what is answered to what a line says

@@ -8,7 +8,8 @@ use Rattle.pmb_io.specs.declared.fault.ToolFault.{ToolFault}
 use Rattle.pmb_io.specs.declared.fault.ToolFault.TheVariants as tool
 use Rattle.pmb_io.specs.declared.tally.Tally.{Tally}
 use Rattle.pmb_transaction.specs.Transaction.{TransactionData}
-use Rattle.pmb_run.specs.Answer.{RunAnswer, Recorded, Refusal, Nothing, RunsLine, answer_text, is_done, is_failed, most_request_line}
+use Rattle.pmb_run.specs.Answer.{RunAnswer, Recorded, Refusal, Nothing, RunsLine, answer_text, is_done, is_failed}
+use Rattle.pmb_run.specs.Answer.{most_request_line}
 
 -- the texts of the answers to lines that come after some others
 abbrev pub answers_behind : ℕ → List RunAnswer → List ℕ
@@ -30,7 +31,8 @@ module _ (profile : List DeviceParts) where
   RunsEach before [] [] = Unit {0}
   RunsEach before [] (answer ∷ answers) = ⊥
   RunsEach before (line ∷ rest) [] = ⊥
-  RunsEach before (line ∷ rest) (answer ∷ answers) = RunsLine profile before line answer × RunsEach (before ++ recorded_by answer) rest answers
+  RunsEach before (line ∷ rest) (answer ∷ answers) = RunsLine profile before line answer
+      × RunsEach (before ++ recorded_by answer) rest answers
 
   -- A text is the answers to some lines.
   abbrev pub RunsLines : List TextLine → List ℕ → Type 0

@@ -14,7 +14,7 @@ ghost use Rattle.pmb_run.specs.machine.Bench.{BenchStands, HaveHeard, RunsHost, 
 use pmb_build::put_event;
 use pmb_bus::Event;
 use pmb_devices::Bus;
-use pmb_exchange::{Exchange, Step};
+use pmb_exchange::{Exchange, ExchangeStep};
 use pmb_host::HostStep;
 use pmb_io::laws::texts_add_up;
 use pmb_io::{RunFault, Sink, Waiting};
@@ -79,12 +79,12 @@ impl<'p> Bench<'p> {
     {
         texts_add_up();
         match exchange.next(&mut self.bus) {
-            Step::Recorded(recorded) => {
+            ExchangeStep::Recorded(recorded) => {
                 put_events(recorded.events(), waiting, writer)?;
                 self.hear(recorded.events());
                 Ok(None)
             }
-            Step::End(end) => Ok(Some(end)),
+            ExchangeStep::End(end) => Ok(Some(end)),
         }
     }
 
@@ -102,7 +102,7 @@ impl<'p> Bench<'p> {
         for event in events {
             match self.reader.take(*event) {
                 Took::Packet => self.context.observe(self.reader.packet()),
-                Took::More | Took::Refused(_) => {}
+                Took::Continues | Took::Refused(_) => {}
             }
         }
     }

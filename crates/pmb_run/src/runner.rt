@@ -22,7 +22,7 @@ use pmb_build::numbered_line;
 use pmb_exchange::Exchange;
 use pmb_host::{Host, HostStep, Request, RequestFault, parse_request};
 use pmb_io::laws::texts_add_up;
-use pmb_io::{Line, LineTask, RunFault, Sink, Tally, Waiting, put};
+use pmb_io::{InputLine, LineTask, RunFault, Sink, Tally, Waiting, put};
 use pmb_line::LineFault;
 use pmb_transaction::laws::packet_is_not_empty;
 
@@ -167,15 +167,15 @@ impl<'p> LineTask for Runner<'p> {
 
     fn take_line<W: Sink>(
         &mut self,
-        line: Line<'_>,
+        line: InputLine<'_>,
         waiting: &mut Waiting,
         writer: &mut W,
     ) -> Result<(), RunFault> {
         self.lines = self.lines.saturating_add(1);
         match line {
-            Line::Ended(text) => self.take_text(text, waiting, writer),
-            Line::Last(text) => self.take_text(text, waiting, writer),
-            Line::TooLong => {
+            InputLine::Ended(text) => self.take_text(text, waiting, writer),
+            InputLine::Last(text) => self.take_text(text, waiting, writer),
+            InputLine::TooLong => {
                 let fault = LineFault::TooLong(MOST_BYTES).text();
                 self.take_fault(fault.as_slice(), waiting, writer)
             }

@@ -1,5 +1,6 @@
 -- What a scan has read comes to something, whatever follows.
-use Rattle.std.proofs.Common.{◌≡◌, ℕ, ◌+◌, List, [], ◌∷◌, ◌++◌, filter, length, inl, inr, refl, sym, ap, ◌∙◌, subst, append_assoc, append-nil}
+use Rattle.std.proofs.Common.{◌≡◌, ℕ, ◌+◌, List, [], ◌∷◌, ◌++◌, filter, length, inl, inr, refl, sym, ap, ◌∙◌, subst}
+use Rattle.std.proofs.Common.{append_assoc, append-nil}
 use Rattle.pmb_bus.specs.declared.event.Event.{Event}
 use Rattle.pmb_command.specs.Parts.{DeviceParts}
 use Rattle.pmb_reader.specs.Reader.{Standing, Open, Held, Passing}
@@ -26,7 +27,8 @@ module _ (some_pass : SomePass) (profile : List DeviceParts) (some : HaveSpans p
       let over = some_pass rest in
       let found = some (n + length over.0) over.1 in (found.0, (over.0, over.1, over.2, found.1))
 
-  some_others : (standing : Standing) (rest : List Event) → IsReading standing → (others : List Span) × SpansBehind profile standing rest others
+  some_others : (standing : Standing) (rest : List Event) → IsReading standing
+      → (others : List Span) × SpansBehind profile standing rest others
   some_others (Open n events) rest reading = some n (events ++ rest)
   some_others (Held n refusal) rest reading = absurd reading
   some_others (Passing n) rest reading = passed_over n rest
@@ -40,7 +42,8 @@ follows some_pass reached rest some on =
 -- ---- nothing follows
 
 -- some packet begins with a front of what some packet begins with
-front_viable : (profile : List DeviceParts) (events front rest : List Event) (event : Event) → Viable profile events → events ≡ front ++ event ∷ rest
+front_viable : (profile : List DeviceParts) (events front rest : List Event) (event : Event) → Viable profile events
+    → events ≡ front ++ event ∷ rest
     → Viable profile (front ++ event ∷ [])
 front_viable profile events front rest event (inl none) split = absurd (no_events front (sym split ∙ none))
   where
@@ -51,20 +54,25 @@ front_viable profile events front rest event (inr begun) split =
     inr (
       rest ++ begun.0,
       subst (λ (es : List Event). IsPacket profile es) (ap (λ (es : List Event). es ++ begun.0) split
-          ∙ append_assoc front (event ∷ rest) begun.0 ∙ sym (append_assoc front (event ∷ []) (rest ++ begun.0))) begun.1,
+          ∙ append_assoc front (event ∷ rest) begun.0 ∙ sym (append_assoc front (event ∷ []) (rest ++ begun.0)))
+          begun.1,
     )
 
 -- the spans of a packet under way: none, or an end inside it
-inside : (profile : List DeviceParts) (n : ℕ) (events : List Event) (spans : List Span) → IsUnderWay profile events → SpansFrom profile n events spans
+inside : (profile : List DeviceParts) (n : ℕ) (events : List Event) (spans : List Span) → IsUnderWay profile events
+    → SpansFrom profile n events spans
     → filter is_whole spans ≡ []
 inside profile n events [] under_way reads = refl
-inside profile n events (ReadSpan m front t ∷ more) under_way reads = absurd (under_way.no_packet front reads.1 reads.2 (t, reads.3))
+inside profile n events (ReadSpan m front t ∷ more) under_way reads =
+    absurd (under_way.no_packet front reads.1 reads.2 (t, reads.3))
 inside profile n events (RefusedSpan m front event refusal ∷ more) under_way reads =
     absurd (reads.3.refused (front_viable profile events front reads.1 event under_way.viable reads.2))
 inside profile n events (TruncatedSpan m front refusal ∷ more) under_way reads = ap (filter is_whole) reads.3
 
-ends_at : (reached : Reached) (standing : Standing) → reached.standing ≡ standing → HaveSpans reached.profile → LeadsOn reached
-    → ((n : ℕ) (events : List Event) → standing ≡ Open n events → IsUnderWay reached.profile events) → (last : List Span) × EndsWith reached last
+ends_at : (reached : Reached) (standing : Standing) → reached.standing ≡ standing → HaveSpans reached.profile
+    → LeadsOn reached
+    → ((n : ℕ) (events : List Event) → standing ≡ Open n events → IsUnderWay reached.profile events)
+    → (last : List Span) × EndsWith reached last
 ends_at reached (Open n events) same some on begun =
     let found = some n events in (
       found.0,
@@ -73,9 +81,13 @@ ends_at reached (Open n events) same some on begun =
           (inside reached.profile n events found.0 (begun n events refl) found.1),
     )
 ends_at reached (Held n refusal) same some on begun = absurd (subst IsReading same on.reading)
-ends_at reached (Passing n) same some on begun =
-    ([], ends_so reached [] on (subst (λ (s : Standing). SpansBehind reached.profile s [] []) (sym same) (after_none reached.profile n)) refl)
+ends_at reached (Passing n) same some on begun = (
+  [],
+  ends_so reached [] on (subst (λ (s : Standing). SpansBehind reached.profile s [] []) (sym same)
+      (after_none reached.profile n)) refl,
+)
 
 pub ends : (reached : Reached) → HaveSpans reached.profile → LeadsOn reached
-    → ((n : ℕ) (events : List Event) → reached.standing ≡ Open n events → IsUnderWay reached.profile events) → (last : List Span) × EndsWith reached last
+    → ((n : ℕ) (events : List Event) → reached.standing ≡ Open n events → IsUnderWay reached.profile events)
+    → (last : List Span) × EndsWith reached last
 ends reached some on begun = ends_at reached reached.standing refl some on begun

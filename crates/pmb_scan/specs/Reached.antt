@@ -3,7 +3,7 @@ use Rattle.std.specs.Prelude.{◌≡◌, ℕ, ◌+◌, List, [], ◌∷◌, ◌+
 use Rattle.pmb_bus.specs.declared.event.Event.{Event}
 use Rattle.pmb_bus.specs.Event.{canonical_text}
 use Rattle.pmb_command.specs.Parts.{DeviceParts}
-use Rattle.pmb_common.specs.Common.{IsCommon}
+use Rattle.pmb_canonical.specs.Common.{IsCommon}
 use Rattle.pmb_reader.specs.Reader.{Standing, Open, Held, Passing, behind_passed}
 use Rattle.pmb_spans.specs.Spans.{Span, ReadSpan, RefusedSpan, Spans, SpansAfterStop, SpansFrom, is_whole}
 use Rattle.pmb_transaction.specs.Packet.{Packet}
@@ -39,7 +39,11 @@ standing_after (Passing n) event = behind_passed n event
 
 -- such an event
 abbrev pub behind_event : Reached → Event → Reached
-behind_event reached event = record reached { events = reached.events ++ event ∷ []; standing = standing_after reached.standing event }
+behind_event reached event = record reached {
+  events = reached.events ++ event ∷ [];
+  standing =
+      standing_after reached.standing event;
+}
 
 -- An event that ends a packet, which began after n events with those of `front`.
 abbrev pub behind_packet : Reached → ℕ → List Event → Event → TransactionData → Reached
@@ -67,7 +71,8 @@ behind_refusal reached n front event refusal = record reached {
 }
 
 -- These bytes are the canonical text of these events, the packet of a common transaction.
-pub record IsWhole (profile : List DeviceParts) (t : TransactionData) (events : List Event) (bytes : List ℕ) : Type 0 where
+pub record IsWhole (profile : List DeviceParts) (t : TransactionData) (events : List Event)
+    (bytes : List ℕ) : Type 0 where
   pub common : IsCommon t
   pub packet : Packet profile t events
   pub text : bytes ≡ canonical_text events

@@ -13,8 +13,8 @@ use Rattle.pmb_reader.specs.declared.refusal.Refusal.{Refusal}
 use Rattle.pmb_reader.specs.Refusal.{refusal_data}
 use Rattle.pmb_reader.specs.Reader.{Standing, Open, Held, Passing}
 use Rattle.pmb_scan.specs.declared.scan.Scan.{Scan}
-use Rattle.pmb_scan.specs.declared.scan.Taken.{Taken}
-use Rattle.pmb_scan.specs.declared.scan.Taken.TheVariants.{All, Fault}
+use Rattle.pmb_scan.specs.declared.scan.PieceEnd.{PieceEnd}
+use Rattle.pmb_scan.specs.declared.scan.PieceEnd.TheVariants.{All, Fault}
 use Rattle.pmb_spans.specs.Spans.{Span, TruncatedSpan}
 use Rattle.pmb_scan.specs.Reached.{Reached, EndsWith}
 pub use Rattle.pmb_scan.specs.machine.Standing.{ScanStandsAt, HasRead}
@@ -39,7 +39,8 @@ module _ (Visited : Reached → List ℕ → Type 0) where
     pub visited : Visited there text
 
   -- The next piece, used up to a byte that no text of events can have there: a word is no token.
-  pub record StopsAtBadWord (reached : Reached) (piece : List ℕ) (used : ℕ) (fault : LexFault) (after : Scan) (text : List ℕ) : Type 0 where
+  pub record StopsAtBadWord (reached : Reached) (piece : List ℕ) (used : ℕ) (fault : LexFault) (after : Scan)
+      (text : List ℕ) : Type 0 where
     pub there : Reached
     pub profile : there.profile ≡ reached.profile
     pub within : used < length piece
@@ -53,7 +54,7 @@ module _ (Visited : Reached → List ℕ → Type 0) where
     pub visited : Visited there text
 
   -- what a piece comes to
-  abbrev pub TakesPiece : Reached → List ℕ → Taken → Scan → List ℕ → Type 0
+  abbrev pub TakesPiece : Reached → List ℕ → PieceEnd → Scan → List ℕ → Type 0
   TakesPiece reached piece All after text = TakesAll reached piece after text
   TakesPiece reached piece (Fault used fault) after text = StopsAtBadWord reached piece used fault after text
 

@@ -12,7 +12,7 @@
 //! let text = b"S b0 A 03 A P oops".as_slice();
 //! let taken = scan.take_words(text, &mut log, &mut Waiting::new(), &mut writer)?;
 //! let fault = LexFault::BadToken { at: 14 };
-//! assert_eq!(rt; taken, Taken::Fault { used: 14, fault });
+//! assert_eq!(rt; taken, PieceEnd::Fault { used: 14, fault });
 //! assert_eq!(rt; log.events.as_slice(), b"S b0 A 03 A packet ".as_slice());
 //! assert_eq!(rt; scan.truncation(), None);
 //! ```
@@ -24,5 +24,5 @@ mod reported;
 mod scan;
 mod visitor;
 
-pub use scan::{Scan, Taken};
+pub use scan::{PieceEnd, Scan};
 pub use visitor::Visitor;

@@ -23,8 +23,8 @@ use crate::blank::{begins_blank, front_blank};
 use crate::reported::report;
 use crate::visitor::Visitor;
 use pmb_bus::{Event, LexFault, Lexer, Step};
-use pmb_common::laws::common_packets_are_read;
-use pmb_common::{Common, Taken as Whole};
+use pmb_canonical::laws::common_packets_are_read;
+use pmb_canonical::{Common, TakenPacket as Whole};
 use pmb_io::{RunFault, Sink, Waiting};
 use pmb_reader::{Reader, Refusal, Took};
 use pmb_table::Profile;
@@ -32,7 +32,7 @@ use pmb_table::laws::accepted_bus;
 
 /// How far a piece of a text was taken.
 #[derive(Clone, Copy, Debug, PartialEq, Eq)]
-pub enum Taken {
+pub enum PieceEnd {
     /// All of it is used.
     All,
     /// A word is no token. `used` bytes of the piece are used: with the next one no text of events
@@ -76,7 +76,7 @@ impl<'p> Scan<'p> {
         visitor: &mut V,
         waiting: &mut Waiting,
         writer: &mut W,
-    ) -> Result<Taken, RunFault>
+    ) -> Result<PieceEnd, RunFault>
         ensures takes { (start : V) (reached : Reached) (text : List ℕ) → ScanStandsAt self.old reached → V.Stands start visitor.old reached text
             → IfOk result (λ taken. PutsOut (λ more. TakesPiece (V.Stands start visitor.new) reached piece.now taken self.new (text ++ more))
             (W.told writer.old).held waiting.old.items (W.told writer.new).held waiting.new.items) }
@@ -109,7 +109,7 @@ impl<'p> Scan<'p> {
                         let lexed = self.lexer.feed(rest);
                         visitor.visit_bytes(&rest[..lexed.used]);
                         match lexed.step {
-                            Step::Need => return Ok(Taken::All),
+                            Step::Need => return Ok(PieceEnd::All),
                             Step::Event(event) => {
                                 self.take_event(event, visitor, waiting, writer)?;
                                 rest = &rest[lexed.used..];
@@ -118,7 +118,7 @@ impl<'p> Scan<'p> {
                                 }
                             }
                             Step::Fault(fault) => {
-                                return Ok(Taken::Fault {
+                                return Ok(PieceEnd::Fault {
                                     used: piece.len() - rest.len() + lexed.used,
                                     fault,
                                 });
@@ -223,7 +223,7 @@ impl<'p> Scan<'p> {
         ensures failed { WriterTells (W.told writer.old) (W.told writer.new) result }
     {
         match report(&mut self.reader, event) {
-            Took::More => {
+            Took::Continues => {
                 visitor.visit_event(event);
                 Ok(())
             }

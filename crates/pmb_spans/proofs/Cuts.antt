@@ -1,5 +1,6 @@
 -- The spans of a capture that is cut after a STOP are those of its pieces.
-use Rattle.std.proofs.Common.{◌≡◌, ℕ, ◌+◌, ◌⊎◌, ◌↔◌, inl, inr, true, List, [], ◌∷◌, ◌++◌, length, refl, sym, ap, ◌∙◌, subst, append_assoc, arith}
+use Rattle.std.proofs.Common.{◌≡◌, ℕ, ◌+◌, ◌⊎◌, ◌↔◌, inl, inr, true, List, [], ◌∷◌, ◌++◌, length, refl, sym, ap, ◌∙◌}
+use Rattle.std.proofs.Common.{subst, append_assoc, arith}
 use Rattle.std.specs.List.{All}
 use Rattle.std.proofs.lemmas.List.{length-append}
 use Rattle.std.proofs.lemmas.List.Elements.{All-cons, All-nil}
@@ -10,7 +11,8 @@ use Rattle.pmb_transaction.specs.Capture.{HasNoStop, Viable}
 use Rattle.pmb_transaction.specs.Cut.{EndsWithStop}
 use Rattle.pmb_transaction.specs.Reading.{IsUnderWay, PassedOver, RefusalData, RefusedAt, TruncatedAt}
 use Rattle.pmb_transaction.proofs.Fronts.{Beyond, Within, cut}
-use Rattle.pmb_spans.specs.Spans.{ReadSpan, RefusedSpan, Span, SpansFrom, TruncatedSpan, is_whole, moved_refusal, moved_spans}
+use Rattle.pmb_spans.specs.Spans.{ReadSpan, RefusedSpan, Span, SpansFrom, TruncatedSpan, is_whole, moved_refusal}
+use Rattle.pmb_spans.specs.Spans.{moved_spans}
 
 -- a span that is whole
 abbrev IsWhole : Span → Type 0
@@ -43,13 +45,16 @@ ends_on events ends front rest split none =
 -- and of what is left of it
 rest_ends_on : (front rest events : List Event) → EndsOn events → events ≡ front ++ rest → EndsOn rest
 rest_ends_on front rest events ends split before last other none =
-    ends (front ++ before) last (split ∙ ap (λ (es : List Event). front ++ es) other ∙ sym (append_assoc front before last)) none
+    ends (front ++ before) last (split ∙ ap (λ (es : List Event). front ++ es) other
+    ∙ sym (append_assoc front before last)) none
 
 -- ---- further on
 
 module _ (profile : List DeviceParts) where
-  module _ (refused_moves : (n m : ℕ) (front : List Event) (event : Event) (refusal : RefusalData) → RefusedAt profile m front event refusal → RefusedAt profile (n + m) front event (moved_refusal n refusal))
-      (truncated_moves : (n m : ℕ) (events : List Event) (refusal : RefusalData) → TruncatedAt profile m events refusal → TruncatedAt profile (n + m) events (moved_refusal n refusal)) where
+  module _ (refused_moves : (n m : ℕ) (front : List Event) (event : Event) (refusal : RefusalData)
+      → RefusedAt profile m front event refusal → RefusedAt profile (n + m) front event (moved_refusal n refusal))
+      (truncated_moves : (n m : ℕ) (events : List Event) (refusal : RefusalData) → TruncatedAt profile m events refusal
+      → TruncatedAt profile (n + m) events (moved_refusal n refusal)) where
     -- after n more events the spans are the same, moved
     pub spans_move : (n : ℕ) (spans : List Span) (m : ℕ) (events : List Event) → SpansFrom profile m events spans
         → SpansFrom profile (n + m) events (moved_spans n spans)
@@ -89,7 +94,8 @@ module _ (profile : List DeviceParts) where
         let going = truncated.under_way in
         truncated.some (ends [] front same ((under_way front going.viable).0 going))
 
-    whole_from : (spans : List Span) (n : ℕ) (events : List Event) → EndsOn events → SpansFrom profile n events spans → All IsWhole spans
+    whole_from : (spans : List Span) (n : ℕ) (events : List Event) → EndsOn events → SpansFrom profile n events spans
+        → All IsWhole spans
     whole_from [] n events ends w = All-nil IsWhole
     whole_from (ReadSpan m front t ∷ more) n events ends w =
         All-cons IsWhole (ReadSpan m front t) more refl
@@ -98,18 +104,23 @@ module _ (profile : List DeviceParts) where
         All-cons IsWhole (RefusedSpan m front event refusal) more refl
         (
         whole_from more (n + length front + length w.4) w.5
-        (rest_ends_on w.4 w.5 (event ∷ w.1) (rest_ends_on front (event ∷ w.1) events ends w.2) (parts (event ∷ w.1) w.4 w.5 w.6)) w.7
+        (rest_ends_on w.4 w.5 (event ∷ w.1) (rest_ends_on front (event ∷ w.1) events ends w.2)
+        (parts (event ∷ w.1) w.4 w.5 w.6)) w.7
         )
-    whole_from (TruncatedSpan m front refusal ∷ more) n events ends w = absurd (not_truncated n events front refusal ends w.1 w.2)
+    whole_from (TruncatedSpan m front refusal ∷ more) n events ends w =
+        absurd (not_truncated n events front refusal ends w.1 w.2)
 
-    pub whole : (first : List Event) (spans : List Span) → EndsWithStop first → SpansFrom profile 0 first spans → All IsWhole spans
+    pub whole : (first : List Event) (spans : List Span) → EndsWithStop first → SpansFrom profile 0 first spans
+        → All IsWhole spans
     whole first spans ends w = whole_from spans 0 first (ends_on first ends) w
 
     -- ---- both
 
     -- where some STOP is among events, more of them are left where more follow
-    module _ (more_left : (events more passed left : List Event) → (HasNoStop events → ⊥) → PassedOver events passed left → PassedOver (events ++ more) passed (left ++ more)) where
-      joined_from : (spans others : List Span) (n : ℕ) (first second : List Event) → EndsOn first → SpansFrom profile n first spans
+    module _ (more_left : (events more passed left : List Event) → (HasNoStop events → ⊥)
+        → PassedOver events passed left → PassedOver (events ++ more) passed (left ++ more)) where
+      joined_from : (spans others : List Span) (n : ℕ) (first second : List Event) → EndsOn first
+          → SpansFrom profile n first spans
           → SpansFrom profile (n + length first) second others → SpansFrom profile n (first ++ second) (spans ++ others)
       joined_from [] others n first second ends none behind =
           let nothing : n + length {A = Event} [] ≡ n = omega arith in
@@ -134,7 +145,8 @@ module _ (profile : List DeviceParts) where
           let onwards_end : EndsOn onwards = rest_ends_on front onwards first ends split in
           let over : onwards ≡ w.4 ++ w.5 = parts onwards w.4 w.5 w.6 in
           let over_lengths : length onwards ≡ length w.4 + length w.5 = ap length over ∙ length-append w.4 w.5 in
-          let counted : n + length first ≡ (n + length front + length w.4) + length w.5 = omega (arith, lengths, over_lengths) in (
+          let counted : n + length first ≡ (n + length front + length w.4) + length w.5 =
+          omega (arith, lengths, over_lengths) in (
             w.0,
             w.1 ++ second,
             ap (λ (es : List Event). es ++ second) split ∙ append_assoc front onwards second,
@@ -142,28 +154,36 @@ module _ (profile : List DeviceParts) where
             w.4,
             w.5 ++ second,
             more_left onwards second w.4 w.5 (λ none. cc (onwards_end [] onwards refl none)) w.6,
-            joined_from more others (n + length front + length w.4) w.5 second (rest_ends_on w.4 w.5 onwards onwards_end over) w.7
+            joined_from more others (n + length front + length w.4) w.5 second
+                (rest_ends_on w.4 w.5 onwards onwards_end over) w.7
                 (subst (λ (k : ℕ). SpansFrom profile k second others) counted behind),
           )
       joined_from (TruncatedSpan m front refusal ∷ more) others n first second ends w behind =
           absurd (not_truncated n first front refusal ends w.1 w.2)
 
       -- the law `spans_move`
-      module _ (moves : (n m : ℕ) (events : List Event) (spans : List Span) → SpansFrom profile m events spans → SpansFrom profile (n + m) events (moved_spans n spans)) where
-        pub joined : (first second : List Event) (spans others : List Span) → EndsWithStop first → SpansFrom profile 0 first spans
-            → SpansFrom profile 0 second others → SpansFrom profile 0 (first ++ second) (spans ++ moved_spans (length first) others)
+      module _ (moves : (n m : ℕ) (events : List Event) (spans : List Span) → SpansFrom profile m events spans
+          → SpansFrom profile (n + m) events (moved_spans n spans)) where
+        pub joined : (first second : List Event) (spans others : List Span) → EndsWithStop first
+            → SpansFrom profile 0 first spans
+            → SpansFrom profile 0 second others → SpansFrom profile 0 (first ++ second)
+            (spans ++ moved_spans (length first) others)
         joined first second spans others ends w behind =
             let n = length first in
             let counted : n + 0 ≡ 0 + n = omega arith in
             joined_from spans (moved_spans n others) 0 first second (ends_on first ends) w
-            (subst (λ (k : ℕ). SpansFrom profile k second (moved_spans n others)) counted (moves n 0 second others behind))
+            (subst (λ (k : ℕ). SpansFrom profile k second (moved_spans n others)) counted
+            (moves n 0 second others behind))
 
         -- ---- in pieces
 
         module _ (some_spans : (n : ℕ) (events : List Event) → (spans : List Span) × SpansFrom profile n events spans)
-            (one_list : (n : ℕ) (events : List Event) (a b : List Span) → SpansFrom profile n events a → SpansFrom profile n events b → a ≡ b) where
-          pub in_pieces : (first second : List Event) (both : List Span) → EndsWithStop first → SpansFrom profile 0 (first ++ second) both
-              → (spans : List Span) × (others : List Span) × SpansFrom profile 0 first spans × SpansFrom profile 0 second others
+            (one_list : (n : ℕ) (events : List Event) (a b : List Span) → SpansFrom profile n events a
+            → SpansFrom profile n events b → a ≡ b) where
+          pub in_pieces : (first second : List Event) (both : List Span) → EndsWithStop first
+              → SpansFrom profile 0 (first ++ second) both
+              → (spans : List Span) × (others : List Span) × SpansFrom profile 0 first spans
+              × SpansFrom profile 0 second others
               × (both ≡ spans ++ moved_spans (length first) others)
           in_pieces first second both ends w =
               let a = some_spans 0 first in

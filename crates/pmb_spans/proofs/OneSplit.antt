@@ -1,5 +1,6 @@
 -- Events have one list of spans.
-use Rattle.std.proofs.Common.{◌≡◌, ℕ, ◌+◌, ◌<◌, ◌⊎◌, inl, inr, List, [], ◌∷◌, ◌++◌, length, map, refl, sym, ap, ◌∙◌, subst, append_assoc}
+use Rattle.std.proofs.Common.{◌≡◌, ℕ, ◌+◌, ◌<◌, ◌⊎◌, inl, inr, List, [], ◌∷◌, ◌++◌, length, map, refl, sym, ap, ◌∙◌}
+use Rattle.std.proofs.Common.{subst, append_assoc}
 use Rattle.std.proofs.lemmas.List.{append-nil, append_cancel_left}
 use Rattle.pmb_bus.specs.Kinds.{bits, holds}
 use Rattle.pmb_bus.specs.declared.event.Event.{Event}
@@ -16,7 +17,8 @@ use Rattle.pmb_spans.proofs.Outcomes.{spans_read}
 
 -- What begins viable events is viable, and events are passed over in one way.
 module _ (profile : List DeviceParts) (fronts : (a b : List Event) → Viable profile (a ++ b) → Viable profile a)
-    (one_way : (events passed left others rest : List Event) → PassedOver events passed left → PassedOver events others rest → (passed ≡ others) × (left ≡ rest)) where
+    (one_way : (events passed left others rest : List Event) → PassedOver events passed left
+    → PassedOver events others rest → (passed ≡ others) × (left ≡ rest)) where
   -- ---- one place
 
   -- no refused event stands in viable events
@@ -24,16 +26,19 @@ module _ (profile : List DeviceParts) (fronts : (a b : List Event) → Viable pr
       → RefusedAt profile n front event refusal → all ≡ front ++ event ∷ rest → Viable profile all → ⊥
   not_refused_in n front event refusal rest all refused split viable =
       refused.refused
-      (fronts (front ++ event ∷ []) rest (subst (Viable profile) (split ∙ sym (append_assoc front (event ∷ []) rest)) viable))
+      (fronts (front ++ event ∷ []) rest (subst (Viable profile) (split ∙ sym (append_assoc front (event ∷ []) rest))
+      viable))
 
-  place_within : (n : ℕ) (a b : List Event) (d e : Event) (x y : List Event) (r : RefusalData) → RefusedAt profile n a d r → Viable profile b
+  place_within : (n : ℕ) (a b : List Event) (d e : Event) (x y : List Event) (r : RefusalData)
+      → RefusedAt profile n a d r → Viable profile b
       → (rest : List Event) → b ≡ a ++ rest → d ∷ x ≡ rest ++ e ∷ y → a ≡ b
   place_within n a b d e x y r refused viable [] split same = sym (append-nil a) ∙ sym split
   place_within n a b d e x y r refused viable (f ∷ rest) split same =
       let first : f ≡ d = cc same in
       absurd (not_refused_in n a d r rest b refused (split ∙ ap (λ (event : Event). a ++ event ∷ rest) first) viable)
 
-  same_place_at : (n : ℕ) (a b : List Event) (d e : Event) (x y : List Event) (r s : RefusalData) → RefusedAt profile n a d r
+  same_place_at : (n : ℕ) (a b : List Event) (d e : Event) (x y : List Event) (r s : RefusalData)
+      → RefusedAt profile n a d r
       → RefusedAt profile n b e s → Within a (d ∷ x) b (e ∷ y) ⊎ Beyond a (d ∷ x) b (e ∷ y) → a ≡ b
   same_place_at n a b d e x y r s first second (inl w) =
       place_within n a b d e x y r first second.under_way.viable w.rest w.first w.second
@@ -41,20 +46,24 @@ module _ (profile : List DeviceParts) (fronts : (a b : List Event) → Viable pr
       sym (place_within n b a e d y x s second first.under_way.viable (w.event ∷ w.rest) w.first w.second)
 
   -- events are refused at one place
-  same_place : (n : ℕ) (a b : List Event) (d e : Event) (x y : List Event) (r s : RefusalData) → RefusedAt profile n a d r
+  same_place : (n : ℕ) (a b : List Event) (d e : Event) (x y : List Event) (r s : RefusalData)
+      → RefusedAt profile n a d r
       → RefusedAt profile n b e s → a ++ d ∷ x ≡ b ++ e ∷ y → a ≡ b
-  same_place n a b d e x y r s first second same = same_place_at n a b d e x y r s first second (cut a (d ∷ x) b (e ∷ y) same)
+  same_place n a b d e x y r s first second same = same_place_at n a b d e x y r s first second
+      (cut a (d ∷ x) b (e ∷ y) same)
 
   -- and not where they end inside a packet
   not_truncated : (n : ℕ) (front : List Event) (event : Event) (rest events all : List Event) (r s : RefusalData)
-      → RefusedAt profile n front event r → events ≡ front ++ event ∷ rest → TruncatedAt profile n all s → events ≡ all → ⊥
+      → RefusedAt profile n front event r → events ≡ front ++ event ∷ rest → TruncatedAt profile n all s → events ≡ all
+      → ⊥
   not_truncated n front event rest events all r s refused split truncated same =
       not_refused_in n front event r rest all refused (sym same ∙ split) truncated.under_way.viable
 
   -- ---- one list of spans
 
   -- spans of the same outcomes are the same
-  one_split : (a b : List Span) (n : ℕ) (events : List Event) → map outcome a ≡ map outcome b → SpansFrom profile n events a
+  one_split : (a b : List Span) (n : ℕ) (events : List Event) → map outcome a ≡ map outcome b
+      → SpansFrom profile n events a
       → SpansFrom profile n events b → a ≡ b
   one_split [] [] n events same first second = refl
   one_split [] (span ∷ others) n events same first second = absurd (cc same)
@@ -78,9 +87,11 @@ module _ (profile : List DeviceParts) (fronts : (a b : List Event) → Viable pr
       let onwards : f ++ d ∷ first.1 ≡ g ++ e ∷ second.1 = sym first.2 ∙ second.2 in
       let front : f ≡ g = same_place n f g d e first.1 second.1 r s first.3 second.3 onwards in
       let tails : d ∷ first.1 ≡ e ∷ second.1 =
-      append_cancel_left g (d ∷ first.1) (e ∷ second.1) (ap (λ (es : List Event). es ++ d ∷ first.1) (sym front) ∙ onwards) in
+      append_cancel_left g (d ∷ first.1) (e ∷ second.1) (ap (λ (es : List Event). es ++ d ∷ first.1) (sym front)
+      ∙ onwards) in
       let over =
-      one_way (e ∷ second.1) first.4 first.5 second.4 second.5 (subst (λ (es : List Event). PassedOver es first.4 first.5) tails first.6)
+      one_way (e ∷ second.1) first.4 first.5 second.4 second.5
+      (subst (λ (es : List Event). PassedOver es first.4 first.5) tails first.6)
       second.6 in
       let counted : SpansFrom profile (n + length g + length second.4) first.5 more =
       subst (λ (passed : List Event). SpansFrom profile (n + length g + length passed) first.5 more) over.0
@@ -88,7 +99,8 @@ module _ (profile : List DeviceParts) (fronts : (a b : List Event) → Viable pr
       let outcomes : map outcome more ≡ map outcome others = cc same in
       let later : more ≡ others =
       one_split more others (n + length g + length second.4) second.5 outcomes
-      (subst (λ (left : List Event). SpansFrom profile (n + length g + length second.4) left more) over.1 counted) second.7 in
+      (subst (λ (left : List Event). SpansFrom profile (n + length g + length second.4) left more) over.1 counted)
+      second.7 in
       let place : i ≡ j = first.0 ∙ sym second.0 in
       let event : d ≡ e = cc tails in
       let refusal : r ≡ s = cc same in
@@ -105,11 +117,14 @@ module _ (profile : List DeviceParts) (fronts : (a b : List Event) → Viable pr
       let later : more ≡ others = first.3 ∙ sym second.3 in
       cc (place, front, refusal, later)
 
-  pub one_list_of_spans : ((a b : Kinds) → bits a < 32 → bits b < 32 → ((event : Event) → holds a event ≡ holds b event) → a ≡ b)
-      → IsBus profile → (n : ℕ) (events : List Event) (a b : List Span) → SpansFrom profile n events a → SpansFrom profile n events b → a ≡ b
+  pub one_list_of_spans : ((a b : Kinds) → bits a < 32 → bits b < 32 → ((event : Event) → holds a event ≡ holds b event)
+      → a ≡ b)
+      → IsBus profile → (n : ℕ) (events : List Event) (a b : List Span) → SpansFrom profile n events a
+      → SpansFrom profile n events b → a ≡ b
   one_list_of_spans told_by_events bus n events a b first second =
       one_split a b n events
       (
-      one_reading_from profile told_by_events bus (map outcome a) (map outcome b) n events (spans_read profile a n events first)
+      one_reading_from profile told_by_events bus (map outcome a) (map outcome b) n events
+      (spans_read profile a n events first)
       (spans_read profile b n events second)
       ) first second

@@ -23,7 +23,8 @@ module _ (profile : List DeviceParts) where
   HaveSpans n events outcomes = (spans : List Span) × SpansFrom profile n events spans × (map outcome spans ≡ outcomes)
 
   -- what events read as are the outcomes of some spans
-  pub readings_have_spans : (outcomes : List Outcome) (n : ℕ) (events : List Event) → ReadsFrom profile n events outcomes
+  pub readings_have_spans : (outcomes : List Outcome) (n : ℕ) (events : List Event)
+      → ReadsFrom profile n events outcomes
       → HaveSpans n events outcomes
   readings_have_spans [] n events none = ([], none, refl)
   readings_have_spans (Accepted t ∷ more) n events w =
@@ -35,8 +36,12 @@ module _ (profile : List DeviceParts) where
         (refl, w.2, w.3, w.4, w.5, w.6, w.7, have.1),
         ap (λ (os : List Outcome). Refusal refusal ∷ os) have.2,
       )
-  readings_have_spans (Refusal refusal ∷ more) n events (inr w) =
-      (TruncatedSpan n events refusal ∷ [], (refl, refl, w.0, refl), ap (λ (os : List Outcome). Refusal refusal ∷ os) (sym w.1))
+  readings_have_spans (Refusal refusal ∷ more) n events (inr w) = (
+    TruncatedSpan n events refusal ∷ [],
+    (refl, refl, w.0, refl),
+    ap (λ (os : List Outcome). Refusal refusal ∷ os)
+        (sym w.1),
+  )
 
   -- each list of events has some
   pub some_spans : ((profile : List DeviceParts) (n : ℕ) (events : List Event) → IsBus profile

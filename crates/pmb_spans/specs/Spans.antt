@@ -43,7 +43,8 @@ module _ (profile : List DeviceParts) where
   abbrev pub SpansFrom : ℕ → List Event → List Span → Type 0
   SpansFrom n events [] = events ≡ []
   SpansFrom n events (ReadSpan m front t ∷ more) =
-      (m ≡ n) × (rest : List Event) × (events ≡ front ++ rest) × Packet profile t front × SpansFrom (n + length front) rest more
+      (m ≡ n) × (rest : List Event) × (events ≡ front ++ rest) × Packet profile t front
+      × SpansFrom (n + length front) rest more
   SpansFrom n events (RefusedSpan m front event refusal ∷ more) =
       (m ≡ n) × (rest : List Event) × (events ≡ front ++ event ∷ rest) × RefusedAt profile n front event refusal
       × (passed : List Event) × (left : List Event) × PassedOver (event ∷ rest) passed left
@@ -54,7 +55,8 @@ module _ (profile : List DeviceParts) where
   -- The spans of what is left after the first STOP of events, as `ReadsAfterStop` has its outcomes.
   abbrev pub SpansAfterStop : ℕ → List Event → List Span → Type 0
   SpansAfterStop n events spans =
-      (passed : List Event) × (left : List Event) × PassedOver events passed left × SpansFrom (n + length passed) left spans
+      (passed : List Event) × (left : List Event) × PassedOver events passed left
+      × SpansFrom (n + length passed) left spans
 
   -- the spans of a whole list of events
   abbrev pub Spans : List Event → List Span → Type 0

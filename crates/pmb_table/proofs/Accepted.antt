@@ -7,7 +7,8 @@ use Rattle.pmb_command.specs.Parts.{CommandParts}
 use Rattle.pmb_table.specs.Profile.{put}
 
 -- what holds of all and of one more holds of all of them
-pub All-push : {X : Type 0} (P : X → Type 0) (xs : List X) (x : X) → AllByRecursion P xs → P x → AllByRecursion P (xs ++ x ∷ [])
+pub All-push : {X : Type 0} (P : X → Type 0) (xs : List X) (x : X) → AllByRecursion P xs → P x
+    → AllByRecursion P (xs ++ x ∷ [])
 All-push P [] x all here = (here, tt)
 All-push P (y ∷ ys) x all here = (all.0, All-push P ys x all.1 here)
 
@@ -21,7 +22,8 @@ All-find P p (x ∷ xs) all = by (p x) (All-find P p xs all.1)
     by false rest = rest
 
 -- and a command that is put among commands that a device may have leaves them so
-pub IsCommand-put : (c : CommandParts) (cs : List CommandParts) → IsCommand c → AllByRecursion IsCommand cs → AllByRecursion IsCommand (put c cs)
+pub IsCommand-put : (c : CommandParts) (cs : List CommandParts) → IsCommand c → AllByRecursion IsCommand cs
+    → AllByRecursion IsCommand (put c cs)
 IsCommand-put c [] is all = (is, tt)
 IsCommand-put c (x ∷ xs) is all = by (nat_eq c.entry.code x.entry.code) (IsCommand-put c xs is all.1)
   where

@@ -1,5 +1,6 @@
 -- One more table of a device, and all that are left.
-use Rattle.std.proofs.Common.{◌≡◌, ℕ, ◌+◌, ◌<◌, List, [], ◌∷◌, ◌++◌, length, drop, get_or, Result, Ok, Err, sym, ap, ◌∙◌}
+use Rattle.std.proofs.Common.{◌≡◌, ℕ, ◌+◌, ◌<◌, List, [], ◌∷◌, ◌++◌, length, drop, get_or, Result, Ok, Err, sym, ap}
+use Rattle.std.proofs.Common.{◌∙◌}
 use Rattle.toml.specs.Data.{Data, Items, item}
 use Rattle.toml.specs.View.{view, items_view}
 use Rattle.toml.specs.declared.value.Value.{Value}
@@ -12,14 +13,20 @@ use Rattle.pmb_table.specs.machine.CommandMap.{Taken, after_one}
 use Rattle.pmb_table.specs.Profile.{at_command, commands_after, placed, put}
 
 -- the values from a place on are the one there and those after it
-pub item_at : (vs : List Value) (i : ℕ) (v : Value) → i < length vs → v ≡ get_or vs i v → items_view (drop i vs) ≡ item (view v) (items_view (drop (i + 1) vs))
-item_at vs i v within is = items_view-drop vs i v within ∙ ap (λ w. item (view w) (items_view (drop (i + 1) vs))) (sym is)
+pub item_at : (vs : List Value) (i : ℕ) (v : Value) → i < length vs → v ≡ get_or vs i v
+    → items_view (drop i vs) ≡ item (view v) (items_view (drop (i + 1) vs))
+item_at vs i v within is = items_view-drop vs i v within ∙ ap (λ w. item (view w) (items_view (drop (i + 1) vs)))
+    (sym is)
 
 -- a fault in a table is that of all that are left
-pub fault_of_one : (n : ℕ) (taken : List ℕ) (commands : List CommandParts) (d : Data) (ds : Items) (fault : ProfileFault) → Err fault ≡ after_one n (taken, commands) d → Err fault ≡ commands_after n taken commands (item d ds)
+pub fault_of_one : (n : ℕ) (taken : List ℕ) (commands : List CommandParts) (d : Data) (ds : Items)
+    (fault : ProfileFault) → Err fault ≡ after_one n (taken, commands) d
+    → Err fault ≡ commands_after n taken commands (item d ds)
 fault_of_one n taken commands d ds fault = by (placed (at_command n (length taken)) (command_of taken d))
   where
-    by : (r : Result CommandParts ProfileFault) → ◌≡◌ {A = Result Taken ProfileFault} (Err fault) (bind r (λ c. Ok (taken ++ c.entry.code ∷ [], put c commands)))
+    by : (r : Result CommandParts ProfileFault)
+        → ◌≡◌ {A = Result Taken ProfileFault} (Err fault)
+        (bind r (λ c. Ok (taken ++ c.entry.code ∷ [], put c commands)))
         → Err fault ≡ bind r (λ c. commands_after n (taken ++ c.entry.code ∷ []) (put c commands) ds)
     by (Ok c) e = cc
     by (Err f) e = cc

@@ -1,5 +1,6 @@
 -- The list of the standard commands, code by code.
-use Rattle.std.proofs.Common.{◌≡◌, ℕ, zero, suc, ◌+◌, ◌<◌, List, [], ◌∷◌, ◌++◌, map, filter_map, length, Option, None, Some, inr, ⊎_elim, refl, sym, ap, subst, ◌∙◌, arith, add-one, add-zero, zero-add}
+use Rattle.std.proofs.Common.{◌≡◌, ℕ, zero, suc, ◌+◌, ◌<◌, List, [], ◌∷◌, ◌++◌, map, filter_map, length, Option, None}
+use Rattle.std.proofs.Common.{Some, inr, ⊎_elim, refl, sym, ap, subst, ◌∙◌, arith, add-one, add-zero, zero-add}
 use Rattle.std.specs.List.{AllByRecursion, range_with_len, cons_option}
 use Rattle.std.proofs.lemmas.Bool.{ne_eqb}
 use Rattle.std.proofs.lemmas.List.{map-append, append-nil}
@@ -41,7 +42,8 @@ range_from_zero : (n : ℕ) → range_with_len 0 (n + 1) ≡ range_with_len 0 n 
 range_from_zero n = rw add-one (range_more 0 n ∙ ap (λ k. range_with_len 0 n ++ k ∷ []) (zero-add n))
 
 -- one more code, which has an entry or has none
-standard_from-more : (n : ℕ) (o : Option EntryParts) → standard_entry n ≡ o → standard_from 0 (n + 1) ≡ standard_from 0 n ++ map bare (cons_option o [])
+standard_from-more : (n : ℕ) (o : Option EntryParts) → standard_entry n ≡ o
+    → standard_from 0 (n + 1) ≡ standard_from 0 n ++ map bare (cons_option o [])
 standard_from-more n o is =
     ap (λ xs. map bare (filter_map standard_entry xs)) (range_from_zero n)
     ∙ ap (map bare) (filter_map-append standard_entry (range_with_len 0 n) (n ∷ []))
@@ -56,25 +58,31 @@ below : AreSound → (a n : ℕ) → AllByRecursion (λ x. x.entry.code < a + n)
 below sound a zero = tt
 below sound a (suc n) =
     let same : (a + 1) + n ≡ a + suc n = omega arith in
-    by (standard_entry a) refl (subst (λ k. AllByRecursion (λ x. x.entry.code < k) (standard_from (a + 1) n)) same (below sound (a + 1) n))
+    by (standard_entry a) refl (subst (λ k. AllByRecursion (λ x. x.entry.code < k) (standard_from (a + 1) n)) same
+    (below sound (a + 1) n))
   where
-    by : (o : Option EntryParts) → standard_entry a ≡ o → AllByRecursion (λ x. x.entry.code < a + suc n) (standard_from (a + 1) n)
-        → AllByRecursion (λ x. x.entry.code < a + suc n) (map bare (cons_option o (filter_map standard_entry (range_with_len (a + 1) n))))
+    by : (o : Option EntryParts) → standard_entry a ≡ o
+        → AllByRecursion (λ x. x.entry.code < a + suc n) (standard_from (a + 1) n)
+        → AllByRecursion (λ x. x.entry.code < a + suc n)
+        (map bare (cons_option o (filter_map standard_entry (range_with_len (a + 1) n))))
     by None is rest = rest
     by (Some e) is rest = (omega (arith, (sound a e is).same_code), rest)
 
 -- a command with a code above all others goes last
-put-above : (c : CommandParts) (cs : List CommandParts) → AllByRecursion (λ x. x.entry.code < c.entry.code) cs → put c cs ≡ cs ++ c ∷ []
+put-above : (c : CommandParts) (cs : List CommandParts) → AllByRecursion (λ x. x.entry.code < c.entry.code) cs
+    → put c cs ≡ cs ++ c ∷ []
 put-above c [] above = refl
 put-above c (x ∷ xs) above =
     let first : x.entry.code < c.entry.code = above.0 in
     rw (ne_eqb c.entry.code x.entry.code (λ same. omega arith)) (ap (λ ys. x ∷ ys) (put-above c xs above.1))
 
 -- so the next standard command goes last
-pub put-standard : AreSound → (n : ℕ) (e : EntryParts) → standard_entry n ≡ Some e → put (bare e) (standard_from 0 n) ≡ standard_from 0 (n + 1)
+pub put-standard : AreSound → (n : ℕ) (e : EntryParts) → standard_entry n ≡ Some e
+    → put (bare e) (standard_from 0 n) ≡ standard_from 0 (n + 1)
 put-standard sound n e has =
     let same : 0 + n ≡ e.code = omega (arith, (sound n e has).same_code) in
-    put-above (bare e) (standard_from 0 n) (subst (λ k. AllByRecursion (λ x. x.entry.code < k) (standard_from 0 n)) same (below sound 0 n))
+    put-above (bare e) (standard_from 0 n) (subst (λ k. AllByRecursion (λ x. x.entry.code < k) (standard_from 0 n)) same
+    (below sound 0 n))
     ∙ sym (standard_from-more n (Some e) has)
 
 -- ---- copies
@@ -87,21 +95,25 @@ bare-without_initial (e ∷ es) = ap (λ cs. bare e ∷ cs) (bare-without_initia
 -- so their copy is the same
 pub standard-without_initial : (n : ℕ) → n ≡ 256 → map without_initial standard_commands ≡ standard_commands
 standard-without_initial n all =
-    subst (λ cs. map without_initial cs ≡ cs) (standard_from-all n all) (bare-without_initial (filter_map standard_entry (range_with_len 0 n)))
+    subst (λ cs. map without_initial cs ≡ cs) (standard_from-all n all)
+    (bare-without_initial (filter_map standard_entry (range_with_len 0 n)))
 
 -- where some are kept, all are
 pub all_of_some : (cs : List CommandParts) → AreAllOrNone cs → 0 < length cs → cs ≡ standard_commands
-all_of_some cs kept some = ⊎_elim (λ none. let empty : length cs ≡ 0 = ap length none in absurd (omega arith)) (λ all. all) kept.all_or_none
+all_of_some cs kept some = ⊎_elim (λ none. let empty : length cs ≡ 0 = ap length none in absurd (omega arith))
+    (λ all. all) kept.all_or_none
 
 -- so a copy of them is them
-pub copy-standard : (cs copy : List CommandParts) → cs ≡ standard_commands → copy ≡ map without_initial cs → copy ≡ standard_commands
+pub copy-standard : (cs copy : List CommandParts) → cs ≡ standard_commands → copy ≡ map without_initial cs
+    → copy ≡ standard_commands
 copy-standard cs copy all is = is ∙ ap (map without_initial) all ∙ standard-without_initial 256 refl
 
 pub copy_same : (cs copy : List CommandParts) → cs ≡ standard_commands → copy ≡ map without_initial cs → cs ≡ copy
 copy_same cs copy all is = all ∙ sym (copy-standard cs copy all is)
 
 -- and can be kept
-pub kept_copy : (cs copy : List CommandParts) → cs ≡ standard_commands → HaveOwnCodes cs → AllByRecursion IsCommand cs → copy ≡ map without_initial cs → AreAllOrNone copy
+pub kept_copy : (cs copy : List CommandParts) → cs ≡ standard_commands → HaveOwnCodes cs → AllByRecursion IsCommand cs
+    → copy ≡ map without_initial cs → AreAllOrNone copy
 kept_copy cs copy all own_codes accepted is = record {
   all_or_none = inr (copy-standard cs copy all is);
   own_codes = subst HaveOwnCodes (copy_same cs copy all is) own_codes;

@@ -1,5 +1,6 @@
 -- What the table of a TOML document says as a profile, or its first fault with its place.
-use Rattle.std.specs.Prelude.{◌≡◌, ◌⊎◌, ℕ, suc, if◌then◌else◌, Some, None, IsUtf8, Result, Ok, Err, List, [], ◌∷◌, ◌++◌, map, codes, length, nat_eq, nat_le}
+use Rattle.std.specs.Prelude.{◌≡◌, ◌⊎◌, ℕ, suc, if◌then◌else◌, Some, None, IsUtf8, Result, Ok, Err, List, [], ◌∷◌, ◌++◌}
+use Rattle.std.specs.Prelude.{map, codes, length, nat_eq, nat_le}
 use Rattle.std.specs.List.{filter_map, range_with_len}
 use Rattle.toml.specs.Data.{Data, Items, no_items, item, Members, as_array, as_table}
 use Rattle.toml.specs.Parse.{parse_document}
@@ -40,7 +41,8 @@ put c (x ∷ xs) = if nat_eq c.entry.code x.entry.code then c ∷ xs else x ∷ 
 abbrev pub commands_after : ℕ → List ℕ → List CommandParts → Items → Result (List CommandParts) ProfileFault
 commands_after n taken commands no_items = Ok commands
 commands_after n taken commands (item d ds) =
-    bind (placed (at_command n (length taken)) (command_of taken d)) (λ c. commands_after n (taken ++ c.entry.code ∷ []) (put c commands) ds)
+    bind (placed (at_command n (length taken)) (command_of taken d))
+    (λ c. commands_after n (taken ++ c.entry.code ∷ []) (put c commands) ds)
 
 -- the device of what its keys say, with these commands
 abbrev pub device_parts : DeviceKeys → List CommandParts → DeviceParts
@@ -72,7 +74,8 @@ item_count (item d ds) = suc (item_count ds)
 
 -- the array of the devices
 abbrev pub device_array_rule : Data → Result Items FaultKind
-device_array_rule d = bind (typed as_array d) (λ ds. bind (unless faults.TooManyDevices (nat_le (item_count ds) 64)) (λ _. Ok ds))
+device_array_rule d = bind (typed as_array d)
+    (λ ds. bind (unless faults.TooManyDevices (nat_le (item_count ds) 64)) (λ _. Ok ds))
 
 -- the values of the array of the devices
 abbrev pub device_items : Members → Result Items FaultKind

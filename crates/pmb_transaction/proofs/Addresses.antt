@@ -1,5 +1,6 @@
 -- Addresses of parts: one more that is new, and an address that none of a few has.
-use Rattle.std.proofs.Common.{◌≡◌, ℕ, ◌+◌, ◌<◌, ◌≤◌, zero, suc, Bool, true, false, ◌||◌, List, [], ◌∷◌, ◌++◌, length, nat_eq, refl, sym, subst, arith}
+use Rattle.std.proofs.Common.{◌≡◌, ℕ, ◌+◌, ◌<◌, ◌≤◌, zero, suc, Bool, true, false, ◌||◌, List, [], ◌∷◌, ◌++◌, length}
+use Rattle.std.proofs.Common.{nat_eq, refl, sym, subst, arith}
 use Rattle.std.specs.List.{AllByRecursion, IsDistinct, list_any}
 use Rattle.std.proofs.lemmas.Bool.{eqb-true, eqb-false, ne_eqb, or_from, or_parts}
 use Rattle.std.proofs.lemmas.Cmp.{nat_eq_equiv}
@@ -24,7 +25,8 @@ unfolding IsDistinct
 distinct_front [] b own = tt
 distinct_front (x ∷ a) b own = (all_front (λ y. nat_eq x y ≡ false) a b own.0, distinct_front a b own.1)
 
-other_than : (x a : ℕ) (front rest : List ℕ) → AllByRecursion (λ y. nat_eq x y ≡ false) (front ++ a ∷ rest) → nat_eq x a ≡ false
+other_than : (x a : ℕ) (front rest : List ℕ) → AllByRecursion (λ y. nat_eq x y ≡ false) (front ++ a ∷ rest)
+    → nat_eq x a ≡ false
 other_than x a [] rest all = all.0
 other_than x a (y ∷ front) rest all = other_than x a front rest all.1
 
@@ -34,12 +36,14 @@ unfolding IsDistinct
 new_behind [] a rest own = refl
 new_behind (x ∷ front) a rest own =
     let other : nat_eq x a ≡ false = other_than x a front rest own.0 in
-    or_from (nat_eq a x) (list_any (nat_eq a) front) (ne_eqb a x (λ same. eqb-false x a other (sym same))) (new_behind front a rest own.1)
+    or_from (nat_eq a x) (list_any (nat_eq a) front) (ne_eqb a x (λ same. eqb-false x a other (sym same)))
+    (new_behind front a rest own.1)
 
 -- ---- parts
 
 -- the addresses of some parts are distinct, and that of the next is new
-pub parts_before : (done : List PartData) (part : PartData) (parts : List PartData) → IsDistinct nat_eq (addresses (done ++ part ∷ parts))
+pub parts_before : (done : List PartData) (part : PartData) (parts : List PartData)
+    → IsDistinct nat_eq (addresses (done ++ part ∷ parts))
     → IsDistinct nat_eq (addresses done) × IsNew part.addr (addresses done)
 parts_before done part parts own =
     let all = subst (IsDistinct nat_eq) (map-append (λ (p : PartData). p.addr) done (part ∷ parts)) own in (
@@ -48,7 +52,8 @@ parts_before done part parts own =
     )
 
 -- and the other way round
-pub distinct_with : (done : List PartData) (part : PartData) → IsDistinct nat_eq (addresses done) → IsNew part.addr (addresses done)
+pub distinct_with : (done : List PartData) (part : PartData) → IsDistinct nat_eq (addresses done)
+    → IsNew part.addr (addresses done)
     → IsDistinct nat_eq (addresses (done ++ part ∷ []))
 distinct_with done part own new =
     subst (IsDistinct nat_eq) (sym (map-append (λ (p : PartData). p.addr) done (part ∷ [])))
@@ -105,7 +110,8 @@ no_longer n (x ∷ xs) =
     omega (arith, here)
 
 shorter_at : (b : Bool) (n x : ℕ) (xs : List ℕ) → (b || list_any (nat_eq n) xs) ≡ true
-    → (list_any (nat_eq n) xs ≡ true → length (without n xs) < length xs) → length (unless_same b x (without n xs)) < length xs + 1
+    → (list_any (nat_eq n) xs ≡ true → length (without n xs) < length xs)
+    → length (unless_same b x (without n xs)) < length xs + 1
 shorter_at true n x xs is later = omega (arith, no_longer n xs)
 shorter_at false n x xs is later = let less = later is in omega (arith, less)
 
@@ -115,10 +121,12 @@ shorter n (x ∷ xs) is =
     let here = shorter_at (nat_eq n x) n x xs is (shorter n xs) in
     omega (arith, here)
 
-still_new_at : (b : Bool) (n m x : ℕ) (xs : List ℕ) → nat_eq m x ≡ b → nat_eq n m ≡ false → IsNew n (unless_same b x (without m xs))
+still_new_at : (b : Bool) (n m x : ℕ) (xs : List ℕ) → nat_eq m x ≡ b → nat_eq n m ≡ false
+    → IsNew n (unless_same b x (without m xs))
     → (IsNew n (without m xs) → IsNew n xs) → IsNew n (x ∷ xs)
 still_new_at true n m x xs is other new later =
-    or_from (nat_eq n x) (list_any (nat_eq n) xs) (subst (λ (y : ℕ). nat_eq n y ≡ false) (eqb-true m x is) other) (later new)
+    or_from (nat_eq n x) (list_any (nat_eq n) xs) (subst (λ (y : ℕ). nat_eq n y ≡ false) (eqb-true m x is) other)
+    (later new)
 still_new_at false n m x xs is other new later =
     let parts = or_parts (nat_eq n x) (list_any (nat_eq n) (without m xs)) new in
     or_from (nat_eq n x) (list_any (nat_eq n) xs) parts.0 (later parts.1)
@@ -140,8 +148,14 @@ free_at true k xs is few later =
     let less = shorter (suc k) xs is in
     let lower = later (omega (arith, less)) in
     let below : lower.number ≤ k = lower.small in
-    let other : nat_eq lower.number (suc k) ≡ false = ne_eqb lower.number (suc k) (λ same. omega (arith, same, below)) in
-    record { number = lower.number; small = omega (arith, below); new = still_new lower.number (suc k) xs other lower.new }
+    let other : nat_eq lower.number (suc k) ≡ false =
+    ne_eqb lower.number (suc k) (λ same. omega (arith, same, below)) in
+    record {
+      number = lower.number;
+      small = omega (arith, below);
+      new =
+          still_new lower.number (suc k) xs other lower.new;
+    }
 
 -- there is one where the others are no more than the bound
 pub free : (bound : ℕ) (xs : List ℕ) → length xs ≤ bound → IsFree bound xs

@@ -10,11 +10,14 @@ use Rattle.pmb_transaction.specs.Transaction.{AlertData, Alert, NoAlert}
 use Rattle.pmb_transaction.specs.Body.{checked}
 use Rattle.pmb_transaction.specs.Packet.{AlertPacket, leg, nacked}
 use Rattle.pmb_transaction.specs.Capture.{IsPacket, MayFollow}
-use Rattle.pmb_transaction.specs.Viable.{AlertBegins, AnswerBegins, IsBeginning, answer_taken, alert, alert_answer, at_alert}
+use Rattle.pmb_transaction.specs.Viable.{AlertBegins, AnswerBegins, IsBeginning, answer_taken, alert, alert_answer}
+use Rattle.pmb_transaction.specs.Viable.{at_alert}
 use Rattle.pmb_transaction.specs.Following.{IsAlertAnswer}
 use Rattle.pmb_transaction.proofs.Answers.{HasByte, checked_has_byte}
 use Rattle.pmb_transaction.proofs.Completions.{beginning_is_viable}
-use Rattle.pmb_transaction.proofs.LastStarts.{EndsInLeg, InLastLeg, at_read_address, at_reply, ends_alert, ends_at_address, ends_at_byte, ends_at_read, ends_reply, ends_write, in_alert, in_reply, in_written, not_a_part, not_in_written}
+use Rattle.pmb_transaction.proofs.LastStarts.{EndsInLeg, InLastLeg, at_read_address, at_reply, ends_alert}
+use Rattle.pmb_transaction.proofs.LastStarts.{ends_at_address, ends_at_byte, ends_at_read, ends_reply, ends_write}
+use Rattle.pmb_transaction.proofs.LastStarts.{in_alert, in_reply, in_written, not_a_part, not_in_written}
 use Rattle.pmb_transaction.proofs.ReadLegs.{Answered, Answering, IsReadLeg}
 use Rattle.pmb_transaction.proofs.Starts.{not_both}
 
@@ -23,13 +26,15 @@ pub alert_has_byte : (answer : List ℕ) → IsAlertAnswer answer → HasByte an
 alert_has_byte answer is =
     subst HasByte (sym is.spelled)
     (
-    checked_has_byte is.with_pec (read_address alert_address ∷ []) (is.byte ∷ []) (record { first = is.byte; rest = []; split = refl })
+    checked_has_byte is.with_pec (read_address alert_address ∷ []) (is.byte ∷ [])
+    (record { first = is.byte; rest = []; split = refl })
     )
 
 -- ---- after the address byte
 
 -- NACK may follow
-pub nack_follows : (profile : List DeviceParts) → MayFollow profile (Start ∷ Byte (read_address alert_address) ∷ []) Nack
+pub nack_follows : (profile : List DeviceParts)
+    → MayFollow profile (Start ∷ Byte (read_address alert_address) ∷ []) Nack
 nack_follows profile = inr (Stop ∷ [], (NoAlert, refl))
 
 -- and ACK
@@ -57,13 +62,15 @@ answering_alert own (alert_answer byte with_pec small begins) = record {
 module _ (profile : List DeviceParts) where
   answering : (own : List Event) → InLastLeg profile [] (Byte (read_address alert_address) ∷ Ack ∷ own)
       → Answering alert_address IsAlertAnswer own
-  answering own (in_written parts few distinct each begins) = absurd (not_in_written profile parts alert_address (Ack ∷ own) begins)
+  answering own (in_written parts few distinct each begins) =
+      absurd (not_in_written profile parts alert_address (Ack ∷ own) begins)
   answering own (at_reply addr device body known is front none) = absurd (cc none)
   answering own (at_read_address addr device body known is front same) = absurd (cc front)
   answering own (in_reply addr device body answer known answers front begins) = absurd (cc front)
   answering own (in_alert front begins) = answering_alert own begins
 
-  answer_ends : (own : List Event) → EndsInLeg profile [] (Byte (read_address alert_address) ∷ Ack ∷ own) → Answered IsAlertAnswer own
+  answer_ends : (own : List Event) → EndsInLeg profile [] (Byte (read_address alert_address) ∷ Ack ∷ own)
+      → Answered IsAlertAnswer own
   answer_ends own (ends_write parts part each here) = absurd (not_a_part profile part alert_address (Ack ∷ own) here)
   answer_ends own (ends_at_address other is) = absurd (cc is)
   answer_ends own (ends_at_byte other byte sent is) = absurd (not_both other alert_address (sym (cc is)))
@@ -72,7 +79,8 @@ module _ (profile : List DeviceParts) where
   answer_ends own (ends_alert answer answers front is) =
       record { answer = answer; answers = answers; some = alert_has_byte answer answers; all = cc is }
 
-  answer_begins : (answer : List ℕ) → IsAlertAnswer answer → (last : List Event) → AnswerBegins (read_address alert_address) answer last
+  answer_begins : (answer : List ℕ) → IsAlertAnswer answer → (last : List Event)
+      → AnswerBegins (read_address alert_address) answer last
       → IsBeginning profile last
   answer_begins answer is last begins =
       alert
@@ -88,7 +96,8 @@ module _ (profile : List DeviceParts) where
       let bytes = checked is.with_pec (read_address alert_address ∷ []) (is.byte ∷ []) in
       let packet : AlertPacket t (leg (read_address alert_address ∷ []) ++ nacked bytes ++ Stop ∷ []) =
       record { byte = is.small; spelled = refl } in
-      subst (λ (bs : List ℕ). IsPacket profile ((leg (read_address alert_address ∷ []) ++ nacked bs) ++ Stop ∷ [])) (sym is.spelled)
+      subst (λ (bs : List ℕ). IsPacket profile ((leg (read_address alert_address ∷ []) ++ nacked bs) ++ Stop ∷ []))
+      (sym is.spelled)
       (Alert t, packet)
 
   -- The leg is one in which these are read.

@@ -1,6 +1,7 @@
 -- The bytes of answers: there is one to each body that asks, and each has a byte; how far a leg
 -- that is read has come in them.
-use Rattle.std.proofs.Common.{◌≡◌, ℕ, ◌<◌, inl, inr, Bool, true, false, Some, List, [], ◌∷◌, ◌++◌, refl, sym, ap, ◌∙◌, subst, append_assoc, arith}
+use Rattle.std.proofs.Common.{◌≡◌, ℕ, ◌<◌, inl, inr, Bool, true, false, Some, List, [], ◌∷◌, ◌++◌, refl, sym, ap, ◌∙◌}
+use Rattle.std.proofs.Common.{subst, append_assoc, arith}
 use Rattle.std.proofs.lemmas.List.{same_from_push}
 use Rattle.pmb_bus.specs.declared.event.Event.TheVariants.{Byte, Nack}
 use Rattle.pmb_bus.specs.Address.{write_address, read_address}
@@ -30,14 +31,16 @@ pub record HasByte (bytes : List ℕ) : Type 0 where
   pub split : bytes ≡ first ∷ rest
 
 -- with a packet error code after them there is one too
-pub checked_has_byte : (with_pec : Bool) (before bytes : List ℕ) → HasByte bytes → HasByte (checked with_pec before bytes)
+pub checked_has_byte : (with_pec : Bool) (before bytes : List ℕ) → HasByte bytes
+    → HasByte (checked with_pec before bytes)
 checked_has_byte with_pec before bytes is = record {
   first = is.first;
   rest = is.rest ++ code_behind with_pec before bytes;
   split = checked_is with_pec before bytes ∙ ap (λ (bs : List ℕ). bs ++ code_behind with_pec before bytes) is.split;
 }
 
-pub wire_has_byte : (form : Form) (bytes : List ℕ) → Fits form bytes → same_form form Zero ≡ false → HasByte (wire form bytes)
+pub wire_has_byte : (form : Form) (bytes : List ℕ) → Fits form bytes → same_form form Zero ≡ false
+    → HasByte (wire form bytes)
 wire_has_byte form bytes fits some =
     let w = first_byte form bytes fits some in
     record { first = w.0; rest = w.1; split = w.2 }
@@ -50,7 +53,8 @@ asked_has_data device form body is (inl w) = read_has_data device w.0 form is w.
 asked_has_data device form body is (inr w) = call_has_data device w.0 form is w.2.called
 
 -- an answer has a byte
-pub answer_has_byte : (profile : List DeviceParts) → IsBus profile → (addr : ℕ) (device : DeviceParts) (body answer : List ℕ)
+pub answer_has_byte : (profile : List DeviceParts) → IsBus profile
+    → (addr : ℕ) (device : DeviceParts) (body answer : List ℕ)
     → device_with addr profile ≡ Some device → IsAnswer device addr body answer → HasByte answer
 answer_has_byte profile bus addr device body answer known answers =
     let is = device_is profile addr device bus known in
@@ -83,8 +87,16 @@ zeros_fit One = record { small = (zero_is_byte, tt); taken = refl }
 zeros_fit Two = record { small = (zero_is_byte, (zero_is_byte, tt)); taken = refl }
 zeros_fit Four = record { small = (zero_is_byte, (zero_is_byte, (zero_is_byte, (zero_is_byte, tt)))); taken = refl }
 zeros_fit Eight = record {
-  small =
-      (zero_is_byte, (zero_is_byte, (zero_is_byte, (zero_is_byte, (zero_is_byte, (zero_is_byte, (zero_is_byte, (zero_is_byte, tt))))))));
+  small = (
+    zero_is_byte,
+    (
+      zero_is_byte,
+      (
+        zero_is_byte,
+        (zero_is_byte, (zero_is_byte, (zero_is_byte, (zero_is_byte, (zero_is_byte, tt))))),
+      ),
+    ),
+  );
   taken = refl;
 }
 zeros_fit Block = record { small = tt; taken = omega arith }
@@ -108,14 +120,26 @@ some_answer device addr body is =
     let asked = asked_in device body is in
     let mode = some_pec device.pec in (
       checked mode.0 (write_address addr ∷ body ++ read_address addr ∷ []) (wire asked.0 (zeros asked.0)),
-      (zeros asked.0, mode.0, record { form = asked.0; asked = asked.1; fits = zeros_fit asked.0; mode = mode.1; spelled = refl }),
+      (
+        zeros asked.0,
+        mode.0,
+        record {
+          form = asked.0;
+          asked = asked.1;
+          fits = zeros_fit asked.0;
+          mode =
+              mode.1;
+          spelled = refl;
+        },
+      ),
     )
 
 -- ---- how far a leg has come
 
 -- to a byte that is not answered yet
 pub sent_of_answer : (address other : ℕ) (answer bytes : List ℕ) (byte : ℕ)
-    → AnswerBegins other answer (leg (address ∷ bytes) ++ Byte byte ∷ []) → (rest : List ℕ) × (answer ≡ (bytes ++ byte ∷ []) ++ rest)
+    → AnswerBegins other answer (leg (address ∷ bytes) ++ Byte byte ∷ [])
+    → (rest : List ℕ) × (answer ≡ (bytes ++ byte ∷ []) ++ rest)
 sent_of_answer address other answer bytes byte (answer_taken front fewer is) =
     let rest : acked front ≡ acked bytes ++ Byte byte ∷ [] = cc is in
     absurd (all_answered front bytes byte rest)
@@ -132,7 +156,8 @@ sent_of_answer address other answer bytes byte (answer_sent front last rest spli
     )
 
 -- or to a byte that was taken
-pub taken_of_answer : (address other : ℕ) (answer bytes : List ℕ) → AnswerBegins other answer (leg (address ∷ bytes)) → IsProperPrefix bytes answer
+pub taken_of_answer : (address other : ℕ) (answer bytes : List ℕ) → AnswerBegins other answer (leg (address ∷ bytes))
+    → IsProperPrefix bytes answer
 taken_of_answer address other answer bytes (answer_taken front fewer is) =
     let rest : acked front ≡ acked bytes = cc is in
     let same_bytes : front ≡ bytes = one_row_of_bytes front bytes rest in
@@ -142,8 +167,10 @@ taken_of_answer address other answer bytes (answer_sent front last rest split is
     absurd (all_answered bytes front last row)
 
 -- to the end
-pub all_of_answer : (answer bytes : List ℕ) (byte : ℕ) → acked bytes ++ Byte byte ∷ Nack ∷ [] ≡ nacked answer → answer ≡ bytes ++ byte ∷ []
-all_of_answer answer bytes byte same = one_row_of_refused answer (bytes ++ byte ∷ []) (sym same ∙ sym (nacked_append bytes byte []))
+pub all_of_answer : (answer bytes : List ℕ) (byte : ℕ) → acked bytes ++ Byte byte ∷ Nack ∷ [] ≡ nacked answer
+    → answer ≡ bytes ++ byte ∷ []
+all_of_answer answer bytes byte same = one_row_of_refused answer (bytes ++ byte ∷ [])
+    (sym same ∙ sym (nacked_append bytes byte []))
 
 -- where its last byte was taken, it has not come to the end
 pub no_end_taken : (answer bytes : List ℕ) → HasByte answer → acked bytes ≡ nacked answer → ⊥

@@ -1,5 +1,6 @@
 -- The bytes of packets are below 256.
-use Rattle.std.proofs.Common.{◌≡◌, ℕ, ◌<◌, Bool, true, false, Some, List, [], ◌∷◌, ◌++◌, ◌+◌, ◌*◌, inl, inr, refl, sym, subst, arith}
+use Rattle.std.proofs.Common.{◌≡◌, ℕ, ◌<◌, Bool, true, false, Some, List, [], ◌∷◌, ◌++◌, ◌+◌, ◌*◌, inl, inr, refl, sym}
+use Rattle.std.proofs.Common.{subst, arith}
 use Rattle.pmb_bus.specs.Event as of_events
 use Rattle.pmb_bus.specs.Pec.{pec}
 use Rattle.pmb_bus.specs.declared.event.Event.{Event}
@@ -50,16 +51,21 @@ bytes_of_nacked (b ∷ []) small = (small.0, tt)
 bytes_of_nacked (b ∷ c ∷ bytes) small = (small.0, bytes_of_nacked (c ∷ bytes) small.1)
 
 -- events with a STOP after them
-with_stop : (events front : List Event) → of_events.AreBytes front → events ≡ front ++ Stop ∷ [] → of_events.AreBytes events
-with_stop events front small spelled = subst of_events.AreBytes (sym spelled) (AreBytes-append front (Stop ∷ []) small tt)
+with_stop : (events front : List Event) → of_events.AreBytes front → events ≡ front ++ Stop ∷ []
+    → of_events.AreBytes events
+with_stop events front small spelled = subst of_events.AreBytes (sym spelled)
+    (AreBytes-append front (Stop ∷ []) small tt)
 
 -- A packet error code is a byte.
 module _ (pec_is_byte : (bytes : List ℕ) → pec bytes < 256) where
-  small_checked : (with_pec : Bool) (before bytes : List ℕ) → AreByteValues bytes → AreByteValues (checked with_pec before bytes)
+  small_checked : (with_pec : Bool) (before bytes : List ℕ) → AreByteValues bytes
+      → AreByteValues (checked with_pec before bytes)
   small_checked false before bytes small = small
-  small_checked true before bytes small = small-append bytes (pec (before ++ bytes) ∷ []) small (pec_is_byte (before ++ bytes), tt)
+  small_checked true before bytes small = small-append bytes (pec (before ++ bytes) ∷ []) small
+      (pec_is_byte (before ++ bytes), tt)
 
-  bytes_of_answered : (events : List Event) (addr : ℕ) (body reply : List ℕ) (with_pec : Bool) → addr < 128 → AreByteValues body → AreByteValues reply
+  bytes_of_answered : (events : List Event) (addr : ℕ) (body reply : List ℕ) (with_pec : Bool) → addr < 128
+      → AreByteValues body → AreByteValues reply
       → events ≡ answered addr body reply with_pec → of_events.AreBytes events
   bytes_of_answered events addr body reply with_pec seven sent replied spelled =
       let written = leg (write_address addr ∷ body) in
@@ -79,7 +85,8 @@ module _ (pec_is_byte : (bytes : List ℕ) → pec bytes < 256) where
         let is = device_is profile addr device bus known in
         omega (arith, is.0.address.greatest, is.1)
 
-    pub small_body : (device : DeviceParts) (addr code : ℕ) (bytes : List ℕ) (with_pec : Bool) (body : List ℕ) → device_with addr profile ≡ Some device
+    pub small_body : (device : DeviceParts) (addr code : ℕ) (bytes : List ℕ) (with_pec : Bool) (body : List ℕ)
+        → device_with addr profile ≡ Some device
         → WriteBody device code bytes with_pec body → AreByteValues body
     small_body device addr code bytes with_pec body known allowed =
         let is = device_is profile addr device bus known in
@@ -90,14 +97,16 @@ module _ (pec_is_byte : (bytes : List ℕ) → pec bytes < 256) where
         (code_small, small_wire allowed.form bytes allowed.fits)
         )
 
-    bytes_of_parts : (parts : List PartData) (events : List Event) → PartsEvents profile parts events → of_events.AreBytes events
+    bytes_of_parts : (parts : List PartData) (events : List Event) → PartsEvents profile parts events
+        → of_events.AreBytes events
     bytes_of_parts [] events each = subst of_events.AreBytes (sym each) tt
     bytes_of_parts (part ∷ parts) events each =
         let here = each.3 in
         let seven = seven_bits part.addr here.device here.known in
         let write : 2 * part.addr < 256 = omega arith in
         let body = small_body here.device part.addr part.code part.bytes part.pec here.body here.known here.allowed in
-        let first : of_events.AreBytes each.0 = subst of_events.AreBytes (sym here.spelled) (write, bytes_of_acked here.body body) in
+        let first : of_events.AreBytes each.0 = subst of_events.AreBytes (sym here.spelled)
+        (write, bytes_of_acked here.body body) in
         subst of_events.AreBytes (sym each.2) (AreBytes-append each.0 each.1 first (bytes_of_parts parts each.1 each.4))
 
     pub small_sent : (addr : ℕ) (device : DeviceParts) (sent : List ℕ) → device_with addr profile ≡ Some device
@@ -111,7 +120,8 @@ module _ (pec_is_byte : (bytes : List ℕ) → pec bytes < 256) where
         let code_small = code_is_byte (λ (s : Shape). s.call) device call.0 call.1 refl is.0 call.3.called in
         subst AreByteValues (sym call.3.spelled) (code_small, small_wire call.1 call.2 call.3.fits)
 
-    bytes_of_read_refused : (parts : List PartData) (addr : ℕ) (sent : List ℕ) (last : List Event) → ReadRefused profile parts addr sent last
+    bytes_of_read_refused : (parts : List PartData) (addr : ℕ) (sent : List ℕ) (last : List Event)
+        → ReadRefused profile parts addr sent last
         → of_events.AreBytes last
     bytes_of_read_refused parts addr sent last refused =
         let seven = seven_bits addr refused.device refused.known in
@@ -135,19 +145,23 @@ module _ (pec_is_byte : (bytes : List ℕ) → pec bytes < 256) where
         let write : 2 * addr < 256 = omega arith in
         subst of_events.AreBytes (sym refused.spelled) (write, bytes_of_nacked (b ∷ bytes) refused.bytes)
     bytes_of_refused parts addr [] true last refused = bytes_of_read_refused parts addr [] last refused
-    bytes_of_refused parts addr (b ∷ bytes) true last refused = bytes_of_read_refused parts addr (b ∷ bytes) last refused
+    bytes_of_refused parts addr (b ∷ bytes) true last refused =
+        bytes_of_read_refused parts addr (b ∷ bytes) last refused
 
-    pub packets_are_bytes : (t : TransactionData) (events : List Event) → Packet profile t events → of_events.AreBytes events
+    pub packets_are_bytes : (t : TransactionData) (events : List Event) → Packet profile t events
+        → of_events.AreBytes events
     packets_are_bytes (Write parts) events packet =
         with_stop events packet.legs (bytes_of_parts parts packet.legs packet.each) packet.spelled
     packets_are_bytes (Read t) events packet =
         let is = device_is profile t.addr packet.device bus packet.known in
         let code_small = code_is_byte (λ (s : Shape). s.read) packet.device t.code packet.form refl is.0 packet.read in
         bytes_of_answered events t.addr (t.code ∷ []) (wire packet.form t.reply) t.pec
-        (seven_bits t.addr packet.device packet.known) (code_small, tt) (small_wire packet.form t.reply packet.fits) packet.spelled
+        (seven_bits t.addr packet.device packet.known) (code_small, tt) (small_wire packet.form t.reply packet.fits)
+        packet.spelled
     packets_are_bytes (Call t) events packet =
         let is = device_is profile t.addr packet.device bus packet.known in
-        let code_small = code_is_byte (λ (s : Shape). s.call) packet.device t.code packet.form refl is.0 packet.called in
+        let code_small = code_is_byte (λ (s : Shape). s.call) packet.device t.code packet.form refl is.0
+        packet.called in
         bytes_of_answered events t.addr (t.code ∷ wire packet.form t.bytes) (wire packet.form t.reply) t.pec
         (seven_bits t.addr packet.device packet.known) (code_small, small_wire packet.form t.bytes packet.sent)
         (small_wire packet.form t.reply packet.replied) packet.spelled
@@ -161,7 +175,8 @@ module _ (pec_is_byte : (bytes : List ℕ) → pec bytes < 256) where
         let bytes = checked t.pec (read_address alert_address ∷ []) (t.byte ∷ []) in
         let small = small_checked t.pec (read_address alert_address ∷ []) (t.byte ∷ []) (packet.byte, tt) in
         let address : 25 < 256 = omega arith in
-        with_stop events (leg (read_address alert_address ∷ []) ++ nacked bytes) (address, bytes_of_nacked bytes small) packet.spelled
+        with_stop events (leg (read_address alert_address ∷ []) ++ nacked bytes) (address, bytes_of_nacked bytes small)
+        packet.spelled
     packets_are_bytes NoAlert events packet =
         let address : 25 < 256 = omega arith in
         subst of_events.AreBytes (sym packet) (address, tt)

@@ -15,12 +15,15 @@ use Rattle.pmb_transaction.proofs.Answers.{answer_has_byte, no_end_taken}
 use Rattle.pmb_transaction.proofs.Beginnings.{viable_is_beginning}
 use Rattle.pmb_transaction.proofs.Ends.{packet_with_stop}
 use Rattle.pmb_transaction.proofs.Fronts.{no_end}
-use Rattle.pmb_transaction.proofs.LastStarts.{EndsInLeg, InLastLeg, at_read_address, at_reply, by_open_leg, by_stop, ends_alert, ends_at_address, ends_at_byte, ends_at_read, ends_reply, ends_write, in_alert, in_reply, in_written, not_a_part, part_behind}
+use Rattle.pmb_transaction.proofs.LastStarts.{EndsInLeg, InLastLeg, at_read_address, at_reply, by_open_leg, by_stop}
+use Rattle.pmb_transaction.proofs.LastStarts.{ends_alert, ends_at_address, ends_at_byte, ends_at_read, ends_reply}
+use Rattle.pmb_transaction.proofs.LastStarts.{ends_write, in_alert, in_reply, in_written, not_a_part, part_behind}
 use Rattle.pmb_transaction.proofs.NextLegs.{no_answer_at_start}
 use Rattle.pmb_transaction.proofs.Starts.{ends_taken, no_start-acked, not_both, same_last_start}
 use Rattle.pmb_transaction.proofs.Turns.{events_take_turns}
 
-module _ (pec_is_byte : (bytes : List ℕ) → pec bytes < 256) (profile : List DeviceParts) (bus : IsBus profile) (front : List Event) (addr : ℕ) (bytes : List ℕ) where
+module _ (pec_is_byte : (bytes : List ℕ) → pec bytes < 256) (profile : List DeviceParts) (bus : IsBus profile)
+    (front : List Event) (addr : ℕ) (bytes : List ℕ) where
   abbrev bytes_taken : List Event
   bytes_taken = acked (read_address addr ∷ bytes)
 
@@ -37,10 +40,12 @@ module _ (pec_is_byte : (bytes : List ℕ) → pec bytes < 256) (profile : List 
   no_start_follows (in_written parts few own each begins) = no_parts parts each
   no_start_follows (at_reply other device body known is same none) =
       let cut =
-      same_last_start front [] bytes_taken (acked (write_address other ∷ body)) (no_start-acked bytes) (no_start-acked body) same in
+      same_last_start front [] bytes_taken (acked (write_address other ∷ body)) (no_start-acked bytes)
+      (no_start-acked body) same in
       not_both other addr (sym (cc (cut.1)))
   no_start_follows (at_read_address other device body known is same none) = cc none
-  no_start_follows (in_reply other device body answer known answers same begins) = no_answer_at_start (read_address other) answer begins
+  no_start_follows (in_reply other device body answer known answers same begins) =
+      no_answer_at_start (read_address other) answer begins
   no_start_follows (in_alert none begins) = no_end front Start bytes_taken none
 
   -- no STOP: NACK stands before it
@@ -62,7 +67,8 @@ module _ (pec_is_byte : (bytes : List ℕ) → pec bytes < 256) (profile : List 
       let taken = ends_taken (read_address addr) bytes in
       let same : all_legs ≡ (front ++ Start ∷ taken.0) ++ Ack ∷ [] =
       ap (λ (es : List Event). front ++ Start ∷ es) taken.1 ∙ sym (append_assoc front (Start ∷ taken.0) (Ack ∷ [])) in
-      events_take_turns profile (front ++ Start ∷ taken.0) Ack event (subst (λ (es : List Event). MayFollow profile es event) same follows)
+      events_take_turns profile (front ++ Start ∷ taken.0) Ack event
+      (subst (λ (es : List Event). MayFollow profile es event) same follows)
 
   pub bytes_alone : (event : Event) → MayFollow profile all_legs event → is_byte event ≡ true
   bytes_alone (Byte b) follows = refl
@@ -74,11 +80,13 @@ module _ (pec_is_byte : (bytes : List ℕ) → pec bytes < 256) (profile : List 
       no_start_follows
       (
       by_open_leg profile all_legs Start all_legs [] refl refl refl refl
-      (viable_is_beginning pec_is_byte profile bus (all_legs ++ Start ∷ []) (λ none. no_end all_legs Start [] none) follows)
+      (viable_is_beginning pec_is_byte profile bus (all_legs ++ Start ∷ []) (λ none. no_end all_legs Start [] none)
+      follows)
       )
       )
   bytes_alone Stop follows =
       absurd
       (
-      no_stop_follows (by_stop profile front bytes_taken all_legs (no_start-acked bytes) refl (packet_with_stop profile all_legs follows))
+      no_stop_follows (by_stop profile front bytes_taken all_legs (no_start-acked bytes) refl
+      (packet_with_stop profile all_legs follows))
       )

@@ -18,7 +18,8 @@ no_front (e ∷ first) rest same = cc same
 
 module _ (profile : List DeviceParts) where
   -- where two packets begin the same events, they are one, and so is what follows them
-  pub same_first_packet : (t u : TransactionData) (a b x y : List Event) → Packet profile t a → Packet profile u b → a ++ x ≡ b ++ y
+  pub same_first_packet : (t u : TransactionData) (a b x y : List Event) → Packet profile t a → Packet profile u b
+      → a ++ x ≡ b ++ y
       → (a ≡ b) × (x ≡ y)
   same_first_packet t u a b x y first second same =
       let p = packet_ends_with_stop profile t a first in
@@ -37,7 +38,8 @@ module _ (profile : List DeviceParts) where
   not_none t first rest packet none = packet_is_not_empty profile t first packet (no_front first rest none)
 
   -- events are the capture of one list of transactions
-  pub one_capture : (ts us : List TransactionData) (events : List Event) → IsBus profile → Capture profile ts events → Capture profile us events
+  pub one_capture : (ts us : List TransactionData) (events : List Event) → IsBus profile → Capture profile ts events
+      → Capture profile us events
       → ts ≡ us
   one_capture [] [] events bus a b = refl
   one_capture [] (u ∷ us) events bus a b = absurd (not_none u b.0 b.1 b.3 (sym a ∙ b.2))
@@ -49,7 +51,8 @@ module _ (profile : List DeviceParts) where
       cc (first, others)
 
   -- a list of transactions has one capture
-  pub one_list_of_events : (ts : List TransactionData) (a b : List Event) → Capture profile ts a → Capture profile ts b → a ≡ b
+  pub one_list_of_events : (ts : List TransactionData) (a b : List Event) → Capture profile ts a → Capture profile ts b
+      → a ≡ b
   one_list_of_events [] a b first second = first ∙ sym second
   one_list_of_events (t ∷ ts) a b first second =
       let here : first.0 ≡ second.0 = one_packet profile t first.0 second.0 first.3 second.3 in

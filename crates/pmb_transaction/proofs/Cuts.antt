@@ -1,5 +1,6 @@
 -- A capture that is cut after a STOP reads as its pieces do.
-use Rattle.std.proofs.Common.{◌≡◌, ℕ, ◌+◌, ◌<◌, ◌⊎◌, inl, inr, List, [], ◌∷◌, ◌++◌, length, sym, ap, ◌∙◌, subst, append_assoc, arith}
+use Rattle.std.proofs.Common.{◌≡◌, ℕ, ◌+◌, ◌<◌, ◌⊎◌, inl, inr, List, [], ◌∷◌, ◌++◌, length, sym, ap, ◌∙◌, subst}
+use Rattle.std.proofs.Common.{append_assoc, arith}
 use Rattle.std.specs.List.{All}
 use Rattle.std.proofs.lemmas.List.{append-nil, length-append}
 use Rattle.std.proofs.lemmas.List.Elements.{All-cons, All-nil}
@@ -42,7 +43,8 @@ stop_in_two : (front rest : List Event) → Stop ∷ [] ≡ front ++ rest → En
 stop_in_two [] rest same = inr (record { front = []; split = sym same })
 stop_in_two (event ∷ front) rest same = inl (none_behind front rest (sym (cc same)))
 
-rest_at : (before front rest : List Event) → Within before (Stop ∷ []) front rest ⊎ Beyond before (Stop ∷ []) front rest → EndsOn rest
+rest_at : (before front rest : List Event) → Within before (Stop ∷ []) front rest ⊎ Beyond before (Stop ∷ []) front rest
+    → EndsOn rest
 rest_at before front rest (inl w) = stop_in_two w.rest rest w.second
 rest_at before front rest (inr w) = inr (record { front = w.event ∷ w.rest; split = w.second })
 
@@ -60,7 +62,8 @@ some_stop event events (inr ends) no_stop = no_stop ends.front [] ends.split
 module _ (profile : List DeviceParts) where
   -- ---- further on
 
-  pub refused_moved : (n m : ℕ) (front : List Event) (event : Event) (refusal : RefusalData) → RefusedAt profile m front event refusal
+  pub refused_moved : (n m : ℕ) (front : List Event) (event : Event) (refusal : RefusalData)
+      → RefusedAt profile m front event refusal
       → RefusedAt profile (n + m) front event (moved_refusal n refusal)
   refused_moved n m front event refusal refused =
       let counted : n + (m + length front) ≡ (n + m) + length front = omega arith in record {
@@ -91,7 +94,8 @@ module _ (profile : List DeviceParts) where
       let later = reads_moved n more (m + length reads.0) reads.1 reads.4 in
       (reads.0, reads.1, reads.2, reads.3, subst (λ (k : ℕ). ReadsFrom profile k reads.1 (moved n more)) counted later)
   reads_moved n (Refusal refusal ∷ more) m events (inl reads) =
-      let counted : n + (m + length reads.0 + length reads.5) ≡ (n + m) + length reads.0 + length reads.5 = omega arith in
+      let counted : n + (m + length reads.0 + length reads.5) ≡ (n + m) + length reads.0 + length reads.5 =
+      omega arith in
       let later = reads_moved n more (m + length reads.0 + length reads.5) reads.6 reads.8 in
       inl (
         reads.0,
@@ -110,7 +114,8 @@ module _ (profile : List DeviceParts) where
   -- ---- both
 
   -- what ends with STOP is whole
-  not_truncated : (n : ℕ) (events : List Event) (refusal : RefusalData) → EndsOn events → TruncatedAt profile n events refusal → ⊥
+  not_truncated : (n : ℕ) (events : List Event) (refusal : RefusalData) → EndsOn events
+      → TruncatedAt profile n events refusal → ⊥
   not_truncated n events refusal (inl none) truncated = truncated.some none
   not_truncated n events refusal (inr ends) truncated =
       let going = truncated.under_way in
@@ -118,7 +123,8 @@ module _ (profile : List DeviceParts) where
       going.no_packet all [] (ends.split ∙ sym (append-nil all))
       (packet_with_stop profile ends.front (subst (Viable profile) ends.split going.viable))
 
-  joined_from : (outcomes others : List Outcome) (n : ℕ) (first second : List Event) → EndsOn first → ReadsFrom profile n first outcomes
+  joined_from : (outcomes others : List Outcome) (n : ℕ) (first second : List Event) → EndsOn first
+      → ReadsFrom profile n first outcomes
       → ReadsFrom profile (n + length first) second others → ReadsFrom profile n (first ++ second) (outcomes ++ others)
   joined_from [] others n first second ends none reads =
       let nothing : n + length {A = Event} [] ≡ n = omega arith in
@@ -153,13 +159,17 @@ module _ (profile : List DeviceParts) where
         w.5,
         w.6 ++ second,
         more_left refused second w.5 w.6 (some_stop w.1 w.2 refused_ends) w.7,
-        joined_from more others (n + length w.0 + length w.5) w.6 second (rest_ends w.5 w.6 refused refused_ends over) w.8
+        joined_from more others (n + length w.0 + length w.5) w.6 second (rest_ends w.5 w.6 refused refused_ends over)
+            w.8
             (subst (λ (k : ℕ). ReadsFrom profile k second others) counted reads),
       )
-  joined_from (Refusal refusal ∷ more) others n first second ends (inr w) reads = absurd (not_truncated n first refusal ends w.0)
+  joined_from (Refusal refusal ∷ more) others n first second ends (inr w) reads =
+      absurd (not_truncated n first refusal ends w.0)
 
-  pub joined : (first second : List Event) (outcomes others : List Outcome) → EndsWithStop first → ReadsFrom profile 0 first outcomes
-      → ReadsFrom profile 0 second others → ReadsFrom profile 0 (first ++ second) (outcomes ++ moved (length first) others)
+  pub joined : (first second : List Event) (outcomes others : List Outcome) → EndsWithStop first
+      → ReadsFrom profile 0 first outcomes
+      → ReadsFrom profile 0 second others → ReadsFrom profile 0 (first ++ second)
+      (outcomes ++ moved (length first) others)
   joined first second outcomes others ends reads behind =
       let n = length first in
       let counted : n + 0 ≡ 0 + n = omega arith in
@@ -168,13 +178,16 @@ module _ (profile : List DeviceParts) where
 
   -- ---- no truncation
 
-  not_at : (n : ℕ) (front : List Event) (event : Event) (refusal : RefusalData) → RefusedAt profile n front event refusal
+  not_at : (n : ℕ) (front : List Event) (event : Event) (refusal : RefusalData)
+      → RefusedAt profile n front event refusal
       → IsNotTruncated (Refusal refusal)
   not_at n front event refusal refused other same truncated =
       let one : refusal ≡ other = cc same in
-      no_truncation profile front event refusal.reason refused.reason (ap (λ (r : RefusalData). r.reason) one ∙ truncated)
+      no_truncation profile front event refusal.reason refused.reason
+      (ap (λ (r : RefusalData). r.reason) one ∙ truncated)
 
-  whole_from : (outcomes : List Outcome) (n : ℕ) (events : List Event) → EndsOn events → ReadsFrom profile n events outcomes
+  whole_from : (outcomes : List Outcome) (n : ℕ) (events : List Event) → EndsOn events
+      → ReadsFrom profile n events outcomes
       → All IsNotTruncated outcomes
   whole_from [] n events ends reads = All-nil IsNotTruncated
   whole_from (Accepted t ∷ more) n events ends w =
@@ -184,7 +197,8 @@ module _ (profile : List DeviceParts) where
       let refused = w.1 ∷ w.2 in
       let over : refused ≡ w.5 ++ w.6 = passed_then_left refused w.5 w.6 w.7 in
       All-cons IsNotTruncated (Refusal refusal) more (not_at n w.0 w.1 refusal w.4)
-      (whole_from more (n + length w.0 + length w.5) w.6 (rest_ends w.5 w.6 refused (rest_ends w.0 refused events ends w.3) over) w.8)
+      (whole_from more (n + length w.0 + length w.5) w.6
+      (rest_ends w.5 w.6 refused (rest_ends w.0 refused events ends w.3) over) w.8)
   whole_from (Refusal refusal ∷ more) n events ends (inr w) = absurd (not_truncated n events refusal ends w.0)
 
   pub whole : (first : List Event) (outcomes : List Outcome) → EndsWithStop first → ReadsFrom profile 0 first outcomes
@@ -194,10 +208,13 @@ module _ (profile : List DeviceParts) where
   -- ---- in pieces
 
   module _ (pec_is_byte : (bytes : List ℕ) → pec bytes < 256)
-      (told_by_events : (a b : Kinds) → bits a < 32 → bits b < 32 → ((event : Event) → holds a event ≡ holds b event) → a ≡ b)
+      (told_by_events : (a b : Kinds) → bits a < 32 → bits b < 32 → ((event : Event) → holds a event ≡ holds b event)
+      → a ≡ b)
       (bus : IsBus profile) where
-    pub in_pieces : (first second : List Event) (both : List Outcome) → EndsWithStop first → ReadsFrom profile 0 (first ++ second) both
-        → (outcomes : List Outcome) × (others : List Outcome) × ReadsFrom profile 0 first outcomes × ReadsFrom profile 0 second others
+    pub in_pieces : (first second : List Event) (both : List Outcome) → EndsWithStop first
+        → ReadsFrom profile 0 (first ++ second) both
+        → (outcomes : List Outcome) × (others : List Outcome) × ReadsFrom profile 0 first outcomes
+        × ReadsFrom profile 0 second others
         × (both ≡ outcomes ++ moved (length first) others)
     in_pieces first second both ends reads =
         let a = each_list_has_a_reading pec_is_byte profile bus 0 first in
@@ -207,5 +224,6 @@ module _ (profile : List DeviceParts) where
           b.0,
           a.1,
           b.1,
-          one_reading_from profile told_by_events bus both all 0 (first ++ second) reads (joined first second a.0 b.0 ends a.1 b.1),
+          one_reading_from profile told_by_events bus both all 0 (first ++ second) reads
+              (joined first second a.0 b.0 ends a.1 b.1),
         )

@@ -1,5 +1,6 @@
 -- The data of a form, read back from their bytes on the bus.
-use Rattle.std.proofs.Common.{◌≡◌, ℕ, Bool, true, false, Option, Some, None, List, [], ◌∷◌, ◌++◌, length, take, drop, refl, sym, ap, ◌∙◌, arith}
+use Rattle.std.proofs.Common.{◌≡◌, ℕ, Bool, true, false, Option, Some, None, List, [], ◌∷◌, ◌++◌, length, take, drop}
+use Rattle.std.proofs.Common.{refl, sym, ap, ◌∙◌, arith}
 use Rattle.std.proofs.lemmas.List.{append-nil, take_at, drop_at}
 use Rattle.pmb_bus.specs.Pec.{pec}
 use Rattle.pmb_command.specs.declared.form.Form.{Form}
@@ -33,14 +34,16 @@ data_of (Some Eight) bytes = data_at 8 bytes
 data_of (Some Block) [] = record { bytes = []; pec = false }
 data_of (Some Block) (count ∷ bytes) = data_at count bytes
 
-data_at_end : (n : ℕ) (bytes more : List ℕ) → length bytes ≡ n → data_at n (bytes ++ more) ≡ record { bytes = bytes; pec = has_some more }
+data_at_end : (n : ℕ) (bytes more : List ℕ) → length bytes ≡ n
+    → data_at n (bytes ++ more) ≡ record { bytes = bytes; pec = has_some more }
 data_at_end n bytes more long =
     let front : take n (bytes ++ more) ≡ bytes = take_at bytes more n long in
     let back : drop n (bytes ++ more) ≡ more = drop_at bytes more n long in
     cc (front, back)
 
 -- what is after the data tells whether a code follows them
-data_before : (form : Form) (bytes more : List ℕ) → Fits form bytes → data_of (Some form) (wire form bytes ++ more) ≡ record { bytes = bytes; pec = has_some more }
+data_before : (form : Form) (bytes more : List ℕ) → Fits form bytes → data_of (Some form) (wire form bytes ++ more)
+    ≡ record { bytes = bytes; pec = has_some more }
 data_before Zero bytes more fits = data_at_end 0 bytes more fits.taken
 data_before One bytes more fits = data_at_end 1 bytes more fits.taken
 data_before Two bytes more fits = data_at_end 2 bytes more fits.taken
@@ -53,7 +56,8 @@ abbrev pub code_behind : Bool → List ℕ → List ℕ → List ℕ
 code_behind false before bytes = []
 code_behind true before bytes = pec (before ++ bytes) ∷ []
 
-pub checked_is : (with_pec : Bool) (before bytes : List ℕ) → checked with_pec before bytes ≡ bytes ++ code_behind with_pec before bytes
+pub checked_is : (with_pec : Bool) (before bytes : List ℕ) → checked with_pec before bytes ≡ bytes
+    ++ code_behind with_pec before bytes
 checked_is false before bytes = sym (append-nil bytes)
 checked_is true before bytes = refl
 
@@ -63,14 +67,17 @@ has_code_behind true before bytes = refl
 
 -- the data with the code that covers some bytes, read back
 pub data_with_code : (form : Form) (bytes : List ℕ) (with_pec : Bool) (before covered : List ℕ) → Fits form bytes
-    → data_of (Some form) (wire form bytes ++ code_behind with_pec before covered) ≡ record { bytes = bytes; pec = with_pec }
+    → data_of (Some form) (wire form bytes ++ code_behind with_pec before covered)
+    ≡ record { bytes = bytes; pec = with_pec }
 data_with_code form bytes with_pec before covered fits =
     data_before form bytes (code_behind with_pec before covered) fits
     ∙ ap (λ (b : Bool). record { bytes = bytes; pec = b }) (has_code_behind with_pec before covered)
 
 -- the data alone, read back
-pub data_alone : (form : Form) (bytes : List ℕ) → Fits form bytes → data_of (Some form) (wire form bytes) ≡ record { bytes = bytes; pec = false }
-data_alone form bytes fits = ap (data_of (Some form)) (sym (append-nil (wire form bytes))) ∙ data_before form bytes [] fits
+pub data_alone : (form : Form) (bytes : List ℕ) → Fits form bytes → data_of (Some form) (wire form bytes)
+    ≡ record { bytes = bytes; pec = false }
+data_alone form bytes fits = ap (data_of (Some form)) (sym (append-nil (wire form bytes)))
+    ∙ data_before form bytes [] fits
 
 -- data of another form than Zero have a byte on the bus
 pub first_byte : (form : Form) (bytes : List ℕ) → Fits form bytes → same_form form Zero ≡ false

@@ -1,5 +1,6 @@
 -- What is decided: that something holds, or that it does not.
-use Rattle.std.proofs.Common.{◌≡◌, ℕ, zero, suc, ◌<◌, ◌≤◌, ◌⊎◌, inl, inr, Bool, true, false, Option, Some, None, List, [], ◌∷◌, ◌++◌, refl, sym, ap, subst, arith}
+use Rattle.std.proofs.Common.{◌≡◌, ℕ, zero, suc, ◌<◌, ◌≤◌, ◌⊎◌, inl, inr, Bool, true, false, Option, Some, None, List}
+use Rattle.std.proofs.Common.{[], ◌∷◌, ◌++◌, refl, sym, ap, subst, arith}
 use Rattle.std.specs.List.{AllByRecursion}
 
 abbrev pub Decided : Type 0 → Type 0
@@ -55,7 +56,8 @@ of_some_at A a P (inl p) = inl (a, refl, p)
 of_some_at A a P (inr none) = inr (λ w. let same : w.0 ≡ a = cc (w.1) in none (subst P same w.2))
 
 -- what is there, and something holds of it
-pub of_some : (A : Type 0) (o : Option A) (P : A → Type 0) → ((a : A) → Decided (P a)) → Decided ((a : A) × (o ≡ Some a) × P a)
+pub of_some : (A : Type 0) (o : Option A) (P : A → Type 0) → ((a : A) → Decided (P a))
+    → Decided ((a : A) × (o ≡ Some a) × P a)
 of_some A None P each = inr (λ w. cc (w.1))
 of_some A (Some a) P each = of_some_at A a P (each a)
 
@@ -81,7 +83,8 @@ at_most (suc a) (suc b) =
     either_way (a ≤ b) (suc a ≤ suc b) (λ less. omega (arith, less)) (λ less. omega (arith, less)) (at_most a b)
 
 pub below : (a b : ℕ) → Decided (a < b)
-below a b = either_way (suc a ≤ b) (a < b) (λ less. omega (arith, less)) (λ less. omega (arith, less)) (at_most (suc a) b)
+below a b = either_way (suc a ≤ b) (a < b) (λ less. omega (arith, less)) (λ less. omega (arith, less))
+    (at_most (suc a) b)
 
 -- each one of a list
 pub of_each : (A : Type 0) (P : A → Type 0) → ((a : A) → Decided (P a)) → (xs : List A) → Decided (AllByRecursion P xs)
@@ -92,7 +95,11 @@ of_each A P each (x ∷ xs) = both (P x) (AllByRecursion P xs) (each x) (of_each
 module _ (A : Type 0) (same : (a b : A) → Decided (a ≡ b)) where
   begins_at : (x y : A) (front all : List A) → Decided (x ≡ y) → Decided ((rest : List A) × (all ≡ front ++ rest))
       → Decided ((rest : List A) × (y ∷ all ≡ x ∷ front ++ rest))
-  begins_at x y front all (inl here) (inl later) = inl (later.0, let split : all ≡ front ++ later.0 = later.1 in cc (here, split))
+  begins_at x y front all (inl here) (inl later) = inl (
+    later.0,
+    let split : all ≡ front ++ later.0 = later.1 in
+        cc (here, split),
+  )
   begins_at x y front all (inl here) (inr none) = inr (λ w. none (w.0, cc (w.1)))
   begins_at x y front all (inr other) later = inr (λ w. other (let first : y ≡ x = cc (w.1) in sym first))
 

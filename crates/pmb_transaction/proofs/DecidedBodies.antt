@@ -1,5 +1,6 @@
 -- Which data, bodies and answers a form and a device take is decided.
-use Rattle.std.proofs.Common.{◌≡◌, ℕ, ◌<◌, ◌≤◌, ◌⊎◌, inl, inr, Bool, true, false, Some, List, [], ◌∷◌, ◌++◌, length, refl, sym, ap, ◌∙◌, subst, arith}
+use Rattle.std.proofs.Common.{◌≡◌, ℕ, ◌<◌, ◌≤◌, ◌⊎◌, inl, inr, Bool, true, false, Some, List, [], ◌∷◌, ◌++◌, length}
+use Rattle.std.proofs.Common.{refl, sym, ap, ◌∙◌, subst, arith}
 use Rattle.pmb_bus.specs.Address.{write_address}
 use Rattle.pmb_command.specs.declared.form.Form.{Form}
 use Rattle.pmb_command.specs.declared.form.Form.TheVariants.{Zero, One, Two, Four, Eight, Block}
@@ -9,8 +10,10 @@ use Rattle.pmb_command.specs.Parts.{DeviceParts}
 use Rattle.pmb_command.specs.PecMode.{AllowsPec}
 use Rattle.pmb_command.specs.Wire.{IsByte, AreByteValues, Fits, Takes, wire}
 use Rattle.pmb_transaction.specs.Transaction.{PartData}
-use Rattle.pmb_transaction.specs.Body.{forms, checked, IsProperPrefix, ReadBody, CallBody, IsWriteBody, IsReadBody, IsCallBody, Allowed, IsRequest}
-use Rattle.pmb_transaction.proofs.Decided.{Decided, at_most, below, both, either_way, of_each, of_some, one_of, same_bool, same_number}
+use Rattle.pmb_transaction.specs.Body.{forms, checked, IsProperPrefix, ReadBody, CallBody, IsWriteBody, IsReadBody}
+use Rattle.pmb_transaction.specs.Body.{IsCallBody, Allowed, IsRequest}
+use Rattle.pmb_transaction.proofs.Decided.{Decided, at_most, below, both, either_way, of_each, of_some, one_of}
+use Rattle.pmb_transaction.proofs.Decided.{same_bool, same_number}
 use Rattle.pmb_transaction.proofs.Finite.{Few, bools, data_bytes, some_of}
 
 -- ---- data
@@ -28,7 +31,8 @@ takes Block n = at_most n 255
 
 pub fits : (form : Form) (bytes : List ℕ) → Decided (Fits form bytes)
 fits form bytes =
-    either_way (AreByteValues bytes × Takes form (length bytes)) (Fits form bytes) (λ w. record { small = w.0; taken = w.1 }) (λ w. (w.small, w.taken))
+    either_way (AreByteValues bytes × Takes form (length bytes)) (Fits form bytes)
+    (λ w. record { small = w.0; taken = w.1 }) (λ w. (w.small, w.taken))
     (both (AreByteValues bytes) (Takes form (length bytes)) (are_bytes bytes) (takes form (length bytes)))
 
 -- data of a form are few
@@ -52,11 +56,14 @@ allows Optional with_pec = inl tt
 abbrev IsWire : Form → List ℕ → Type 0
 IsWire form sent = (bytes : List ℕ) × Fits form bytes × (sent ≡ wire form bytes)
 
-is_block : (count : ℕ) (bytes : List ℕ) → Decided (count ≡ length bytes) → Decided (Fits Block bytes) → Decided (IsWire Block (count ∷ bytes))
+is_block : (count : ℕ) (bytes : List ℕ) → Decided (count ≡ length bytes) → Decided (Fits Block bytes)
+    → Decided (IsWire Block (count ∷ bytes))
 is_block count bytes (inl same) (inl are) = inl (bytes, are, ap (λ n. n ∷ bytes) same)
-is_block count bytes (inl same) (inr none) = inr (λ w. let same : bytes ≡ w.0 = cc (w.2) in none (subst (Fits Block) (sym same) w.1))
+is_block count bytes (inl same) (inr none) =
+    inr (λ w. let same : bytes ≡ w.0 = cc (w.2) in none (subst (Fits Block) (sym same) w.1))
 is_block count bytes (inr other) are =
-    inr (λ w. let same : bytes ≡ w.0 = cc (w.2) in let counted : count ≡ length w.0 = cc (w.2) in other (cc (same, counted)))
+    inr (λ w. let same : bytes ≡ w.0 = cc (w.2) in let counted : count ≡ length w.0 = cc (w.2) in
+    other (cc (same, counted)))
 
 plain_wire : (form : Form) (sent : List ℕ) → ((bytes : List ℕ) → wire form bytes ≡ bytes) → Decided (IsWire form sent)
 plain_wire form sent plain =
@@ -74,14 +81,21 @@ is_wire Block (count ∷ bytes) = is_block count bytes (same_number count (lengt
 
 -- ---- bodies
 
-proper_at : (b x : ℕ) (bytes longer : List ℕ) → Decided (b ≡ x) → Decided (IsProperPrefix bytes longer) → Decided (IsProperPrefix (b ∷ bytes) (x ∷ longer))
+proper_at : (b x : ℕ) (bytes longer : List ℕ) → Decided (b ≡ x) → Decided (IsProperPrefix bytes longer)
+    → Decided (IsProperPrefix (b ∷ bytes) (x ∷ longer))
 proper_at b x bytes longer (inl same) (inl w) =
     let split : longer ≡ bytes ++ w.next ∷ w.rest = w.split in
     inl (record { next = w.next; rest = w.rest; split = cc (same, split) })
 proper_at b x bytes longer (inl same) (inr none) =
-    inr (λ w. none (record { next = w.next; rest = w.rest; split = let all : x ∷ longer ≡ b ∷ bytes ++ w.next ∷ w.rest = w.split in cc all }))
+    inr (λ w. none (record {
+      next = w.next;
+      rest = w.rest;
+      split = let all : x ∷ longer ≡ b ∷ bytes ++ w.next ∷ w.rest =
+          w.split in cc all;
+    }))
 proper_at b x bytes longer (inr other) later =
-    inr (λ w. other (let all : x ∷ longer ≡ b ∷ bytes ++ w.next ∷ w.rest = w.split in let same : x ≡ b = cc all in sym same))
+    inr (λ w. other (let all : x ∷ longer ≡ b ∷ bytes ++ w.next ∷ w.rest = w.split in let same : x ≡ b = cc all in
+    sym same))
 
 is_proper : (bytes longer : List ℕ) → Decided (IsProperPrefix bytes longer)
 is_proper [] [] = inr (λ w. let all : [] ≡ w.next ∷ w.rest = w.split in cc all)
@@ -93,7 +107,8 @@ nothing_more : (rest : List ℕ) (next : ℕ) (more : List ℕ) → [] ≡ rest 
 nothing_more [] next more none = cc none
 nothing_more (b ∷ rest) next more none = cc none
 
-same_code : (with_pec : Bool) (before : List ℕ) (code other : ℕ) (bytes more : List ℕ) → checked with_pec before (other ∷ bytes) ≡ code ∷ more
+same_code : (with_pec : Bool) (before : List ℕ) (code other : ℕ) (bytes more : List ℕ)
+    → checked with_pec before (other ∷ bytes) ≡ code ∷ more
     → other ≡ code
 same_code false before code other bytes more same = cc same
 same_code true before code other bytes more same = cc same
@@ -104,30 +119,35 @@ module _ (device : DeviceParts) where
   WritesOn front code =
       (form : Form) × ((forms device code).write ≡ Some form)
       × ((bytes : List ℕ) × ((with_pec : Bool) × (Fits form bytes
-      × (AllowsPec device.pec with_pec × IsProperPrefix front (checked with_pec (write_address device.address ∷ []) (code ∷ wire form bytes))))))
+      × (AllowsPec device.pec with_pec × IsProperPrefix front
+      (checked with_pec (write_address device.address ∷ []) (code ∷ wire form bytes))))))
 
   writes_on : (front : List ℕ) (code : ℕ) → Decided (WritesOn front code)
   writes_on front code =
       of_some Form (forms device code).write
       (λ form.
       (bytes : List ℕ) × ((with_pec : Bool) × (Fits form bytes
-      × (AllowsPec device.pec with_pec × IsProperPrefix front (checked with_pec (write_address device.address ∷ []) (code ∷ wire form bytes))))))
+      × (AllowsPec device.pec with_pec × IsProperPrefix front
+      (checked with_pec (write_address device.address ∷ []) (code ∷ wire form bytes))))))
       (λ form.
       some_of (List ℕ) (Few (λ b. b < 256) 255)
       (λ bytes.
       (with_pec : Bool) × (Fits form bytes
-      × (AllowsPec device.pec with_pec × IsProperPrefix front (checked with_pec (write_address device.address ∷ []) (code ∷ wire form bytes)))))
+      × (AllowsPec device.pec with_pec × IsProperPrefix front
+      (checked with_pec (write_address device.address ∷ []) (code ∷ wire form bytes)))))
       (data_bytes 255) (λ bytes w. few_that_fit form bytes w.1.0)
       (λ bytes.
       some_of Bool (λ b. Unit {0})
       (λ with_pec.
       Fits form bytes
-      × (AllowsPec device.pec with_pec × IsProperPrefix front (checked with_pec (write_address device.address ∷ []) (code ∷ wire form bytes))))
+      × (AllowsPec device.pec with_pec × IsProperPrefix front
+      (checked with_pec (write_address device.address ∷ []) (code ∷ wire form bytes))))
       bools (λ with_pec w. tt)
       (λ with_pec.
       let all = checked with_pec (write_address device.address ∷ []) (code ∷ wire form bytes) in
       both (Fits form bytes) (AllowsPec device.pec with_pec × IsProperPrefix front all) (fits form bytes)
-      (both (AllowsPec device.pec with_pec) (IsProperPrefix front all) (allows device.pec with_pec) (is_proper front all)))))
+      (both (AllowsPec device.pec with_pec) (IsProperPrefix front all) (allows device.pec with_pec)
+      (is_proper front all)))))
 
   -- a call body likewise
   abbrev CallsOn : List ℕ → ℕ → Type 0
@@ -140,9 +160,11 @@ module _ (device : DeviceParts) where
       of_some Form (forms device code).call
       (λ form. (bytes : List ℕ) × (Fits form bytes × IsProperPrefix front (code ∷ wire form bytes)))
       (λ form.
-      some_of (List ℕ) (Few (λ b. b < 256) 255) (λ bytes. Fits form bytes × IsProperPrefix front (code ∷ wire form bytes)) (data_bytes 255)
+      some_of (List ℕ) (Few (λ b. b < 256) 255)
+      (λ bytes. Fits form bytes × IsProperPrefix front (code ∷ wire form bytes)) (data_bytes 255)
       (λ bytes w. few_that_fit form bytes w.0)
-      (λ bytes. both (Fits form bytes) (IsProperPrefix front (code ∷ wire form bytes)) (fits form bytes) (is_proper front (code ∷ wire form bytes))))
+      (λ bytes. both (Fits form bytes) (IsProperPrefix front (code ∷ wire form bytes)) (fits form bytes)
+      (is_proper front (code ∷ wire form bytes))))
 
   -- some body of a sort goes on after some bytes
   abbrev GoesOn : (List ℕ → Type 0) → List ℕ → Type 0
@@ -155,21 +177,33 @@ module _ (device : DeviceParts) where
     w.2.1.1.1.1,
   )
 
-  write_parts : (code : ℕ) (rest body : List ℕ) → IsWriteBody device body → IsProperPrefix (code ∷ rest) body → WritesOn (code ∷ rest) code
+  write_parts : (code : ℕ) (rest body : List ℕ) → IsWriteBody device body → IsProperPrefix (code ∷ rest) body
+      → WritesOn (code ∷ rest) code
   write_parts code rest body is inside =
       let written = is.3 in
       let before = write_address device.address ∷ [] in
       let split : body ≡ code ∷ rest ++ inside.next ∷ inside.rest = inside.split in
       let same : is.0 ≡ code =
-      same_code is.2 before code is.0 (wire written.form is.1) (rest ++ inside.next ∷ inside.rest) (sym written.spelled ∙ split) in
-      subst (WritesOn (code ∷ rest)) same
-      (written.form, written.written, (is.1, (is.2, (written.fits, (written.mode, subst (IsProperPrefix (code ∷ rest)) written.spelled inside)))))
+      same_code is.2 before code is.0 (wire written.form is.1) (rest ++ inside.next ∷ inside.rest)
+      (sym written.spelled ∙ split) in
+      subst (WritesOn (code ∷ rest)) same (
+        written.form,
+        written.written,
+        (
+          is.1,
+          (
+            is.2,
+            (written.fits, (written.mode, subst (IsProperPrefix (code ∷ rest)) written.spelled inside)),
+          ),
+        ),
+      )
 
   call_goes_on : (code : ℕ) (rest : List ℕ) → CallsOn (code ∷ rest) code → GoesOn (IsCallBody device) (code ∷ rest)
   call_goes_on code rest w =
       (code ∷ wire w.0 w.2.0, (code, w.0, w.2.0, record { called = w.1; fits = w.2.1.0; spelled = refl }), w.2.1.1)
 
-  call_parts : (code : ℕ) (rest body : List ℕ) → IsCallBody device body → IsProperPrefix (code ∷ rest) body → CallsOn (code ∷ rest) code
+  call_parts : (code : ℕ) (rest body : List ℕ) → IsCallBody device body → IsProperPrefix (code ∷ rest) body
+      → CallsOn (code ∷ rest) code
   call_parts code rest body is inside =
       let called = is.3 in
       let split : body ≡ code ∷ rest ++ inside.next ∷ inside.rest = inside.split in
@@ -188,20 +222,24 @@ module _ (device : DeviceParts) where
   abbrev pub Goes : List PartData → List ℕ → Type 0
   Goes parts front = (front ≡ []) ⊎ GoesOn (Allowed device parts) front
 
-  first_leg : (code : ℕ) (rest : List ℕ) → Goes [] (code ∷ rest) → WritesOn (code ∷ rest) code ⊎ CallsOn (code ∷ rest) code
+  first_leg : (code : ℕ) (rest : List ℕ) → Goes [] (code ∷ rest)
+      → WritesOn (code ∷ rest) code ⊎ CallsOn (code ∷ rest) code
   first_leg code rest (inl none) = absurd (cc none)
   first_leg code rest (inr w) = sort w.0 w.1 w.2
     where
-      sort : (body : List ℕ) → Allowed device [] body → IsProperPrefix (code ∷ rest) body → WritesOn (code ∷ rest) code ⊎ CallsOn (code ∷ rest) code
+      sort : (body : List ℕ) → Allowed device [] body → IsProperPrefix (code ∷ rest) body
+          → WritesOn (code ∷ rest) code ⊎ CallsOn (code ∷ rest) code
       sort body (inl is) inside = inl (write_parts code rest body is inside)
       sort body (inr (inl is)) inside = absurd (read_ends code rest body is inside)
       sort body (inr (inr is)) inside = inr (call_parts code rest body is inside)
 
-  in_first_leg : (code : ℕ) (rest : List ℕ) → WritesOn (code ∷ rest) code ⊎ CallsOn (code ∷ rest) code → Goes [] (code ∷ rest)
+  in_first_leg : (code : ℕ) (rest : List ℕ) → WritesOn (code ∷ rest) code ⊎ CallsOn (code ∷ rest) code
+      → Goes [] (code ∷ rest)
   in_first_leg code rest (inl w) = let body = write_goes_on code rest w in inr (body.0, inl body.1, body.2)
   in_first_leg code rest (inr w) = let body = call_goes_on code rest w in inr (body.0, inr (inr body.1), body.2)
 
-  later_leg : (part : PartData) (parts : List PartData) (code : ℕ) (rest : List ℕ) → Goes (part ∷ parts) (code ∷ rest) → WritesOn (code ∷ rest) code
+  later_leg : (part : PartData) (parts : List PartData) (code : ℕ) (rest : List ℕ) → Goes (part ∷ parts) (code ∷ rest)
+      → WritesOn (code ∷ rest) code
   later_leg part parts code rest (inl none) = absurd (cc none)
   later_leg part parts code rest (inr w) = write_parts code rest w.0 w.1 w.2
 
@@ -209,10 +247,13 @@ module _ (device : DeviceParts) where
   pub goes : (parts : List PartData) (front : List ℕ) → Decided (Goes parts front)
   goes parts [] = inl (inl refl)
   goes [] (code ∷ rest) =
-      either_way (WritesOn (code ∷ rest) code ⊎ CallsOn (code ∷ rest) code) (Goes [] (code ∷ rest)) (in_first_leg code rest) (first_leg code rest)
-      (one_of (WritesOn (code ∷ rest) code) (CallsOn (code ∷ rest) code) (writes_on (code ∷ rest) code) (calls_on (code ∷ rest) code))
+      either_way (WritesOn (code ∷ rest) code ⊎ CallsOn (code ∷ rest) code) (Goes [] (code ∷ rest))
+      (in_first_leg code rest) (first_leg code rest)
+      (one_of (WritesOn (code ∷ rest) code) (CallsOn (code ∷ rest) code) (writes_on (code ∷ rest) code)
+      (calls_on (code ∷ rest) code))
   goes (part ∷ parts) (code ∷ rest) =
-      either_way (WritesOn (code ∷ rest) code) (Goes (part ∷ parts) (code ∷ rest)) (λ w. inr (write_goes_on code rest w))
+      either_way (WritesOn (code ∷ rest) code) (Goes (part ∷ parts) (code ∷ rest))
+      (λ w. inr (write_goes_on code rest w))
       (later_leg part parts code rest) (writes_on (code ∷ rest) code)
 
   is_read : (sent : List ℕ) → Decided (IsReadBody device sent)
@@ -222,7 +263,8 @@ module _ (device : DeviceParts) where
       (λ w. (code, w.0, record { read = w.1; spelled = refl })) (λ w. read_code w.0 w.1 w.2)
       (of_some Form (forms device code).read (λ form. Unit {0}) (λ form. inl tt))
     where
-      read_code : (other : ℕ) (form : Form) → ReadBody device other form (code ∷ []) → (form : Form) × ((forms device code).read ≡ Some form) × Unit {0}
+      read_code : (other : ℕ) (form : Form) → ReadBody device other form (code ∷ [])
+          → (form : Form) × ((forms device code).read ≡ Some form) × Unit {0}
       read_code other form is =
           let spelled : code ∷ [] ≡ other ∷ [] = is.spelled in
           let same : other ≡ code = cc spelled in
@@ -232,7 +274,8 @@ module _ (device : DeviceParts) where
   is_call : (sent : List ℕ) → Decided (IsCallBody device sent)
   is_call [] = inr (λ w. let spelled : [] ≡ w.0 ∷ wire w.1 w.2 = w.3.spelled in cc spelled)
   is_call (code ∷ sent) =
-      either_way ((form : Form) × ((forms device code).call ≡ Some form) × IsWire form sent) (IsCallBody device (code ∷ sent))
+      either_way ((form : Form) × ((forms device code).call ≡ Some form) × IsWire form sent)
+      (IsCallBody device (code ∷ sent))
       (λ w. (code, w.0, w.2.0, record { called = w.1; fits = w.2.1; spelled = ap (λ bs. code ∷ bs) w.2.2 }))
       (λ w. call_code w.0 w.1 w.2 w.3)
       (of_some Form (forms device code).call (λ form. IsWire form sent) (λ form. is_wire form sent))

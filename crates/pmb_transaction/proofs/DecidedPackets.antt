@@ -1,5 +1,6 @@
 -- Whether a transaction has a packet is decided, and with which events that begins.
-use Rattle.std.proofs.Common.{◌≡◌, ℕ, ◌<◌, ◌≤◌, inl, inr, Bool, true, false, Some, List, [], ◌∷◌, ◌++◌, length, nat_eq, refl, sym, ap, ◌∙◌, subst}
+use Rattle.std.proofs.Common.{◌≡◌, ℕ, ◌<◌, ◌≤◌, inl, inr, Bool, true, false, Some, List, [], ◌∷◌, ◌++◌, length, nat_eq}
+use Rattle.std.proofs.Common.{refl, sym, ap, ◌∙◌, subst}
 use Rattle.std.specs.List.{AllByRecursion, IsDistinct, list_any}
 use Rattle.std.proofs.lemmas.List.{same_from_push}
 use Rattle.pmb_bus.specs.declared.event.Event.{Event}
@@ -9,10 +10,14 @@ use Rattle.pmb_command.specs.declared.form.Form.{Form}
 use Rattle.pmb_command.specs.Parts.{DeviceParts, IsNew, device_with}
 use Rattle.pmb_command.specs.PecMode.{AllowsPec}
 use Rattle.pmb_command.specs.Wire.{AreByteValues, Fits, wire}
-use Rattle.pmb_transaction.specs.Transaction.{PartData, ReadData, CallData, RefusedData, TransactionData, Write, Read, Call, Refused, Alert, NoAlert}
+use Rattle.pmb_transaction.specs.Transaction.{PartData, ReadData, CallData, RefusedData, TransactionData, Write, Read}
+use Rattle.pmb_transaction.specs.Transaction.{Call, Refused, Alert, NoAlert}
 use Rattle.pmb_transaction.specs.Body.{forms, checked, IsRequest}
-use Rattle.pmb_transaction.specs.Packet.{Packet, PartEvents, PartsEvents, WritePacket, ReadPacket, CallPacket, RefusedPacket, AlertPacket, AddressRefused, ByteRefused, ReadRefused, RefusedLeg, addresses, answered, leg, nacked}
-use Rattle.pmb_transaction.proofs.Decided.{Decided, at_most, begins_with, below, both, either_way, of_each, of_some, same_bool, same_number}
+use Rattle.pmb_transaction.specs.Packet.{Packet, PartEvents, PartsEvents, WritePacket, ReadPacket, CallPacket}
+use Rattle.pmb_transaction.specs.Packet.{RefusedPacket, AlertPacket, AddressRefused, ByteRefused, ReadRefused}
+use Rattle.pmb_transaction.specs.Packet.{RefusedLeg, addresses, answered, leg, nacked}
+use Rattle.pmb_transaction.proofs.Decided.{Decided, at_most, begins_with, below, both, either_way, of_each, of_some}
+use Rattle.pmb_transaction.proofs.Decided.{same_bool, same_number}
 use Rattle.pmb_transaction.proofs.OnePacket.{one_packet}
 use Rattle.pmb_transaction.proofs.DecidedBodies.{Goes, allows, are_bytes, asks, fits, goes}
 
@@ -22,7 +27,8 @@ are_distinct : (xs : List ℕ) → Decided (IsDistinct nat_eq xs)
 unfolding IsDistinct
 are_distinct [] = inl tt
 are_distinct (x ∷ xs) =
-    both (AllByRecursion (λ y. nat_eq x y ≡ false) xs) (IsDistinct nat_eq xs) (of_each ℕ (λ y. nat_eq x y ≡ false) (λ y. same_bool (nat_eq x y) false) xs)
+    both (AllByRecursion (λ y. nat_eq x y ≡ false) xs) (IsDistinct nat_eq xs)
+    (of_each ℕ (λ y. nat_eq x y ≡ false) (λ y. same_bool (nat_eq x y) false) xs)
     (are_distinct xs)
 
 -- the last byte, and those before it
@@ -33,7 +39,8 @@ last_of b (c ∷ bytes) = let w = last_of c bytes in (b ∷ w.0, w.1, ap (λ bs.
 -- ---- events
 
 pub same_event : (a b : Event) → Decided (a ≡ b)
-same_event (Byte a) (Byte b) = either_way (a ≡ b) (Byte a ≡ Byte b) (λ same. ap Byte same) (λ same. cc same) (same_number a b)
+same_event (Byte a) (Byte b) = either_way (a ≡ b) (Byte a ≡ Byte b) (λ same. ap Byte same) (λ same. cc same)
+    (same_number a b)
 same_event Start Start = inl refl
 same_event Ack Ack = inl refl
 same_event Nack Nack = inl refl
@@ -45,7 +52,8 @@ module _ (profile : List DeviceParts) where
 
   abbrev Writes : PartData → DeviceParts → Type 0
   Writes part device =
-      (form : Form) × ((forms device part.code).write ≡ Some form) × (Fits form part.bytes × AllowsPec device.pec part.pec)
+      (form : Form) × ((forms device part.code).write ≡ Some form)
+      × (Fits form part.bytes × AllowsPec device.pec part.pec)
 
   part_events : (part : PartData) → Decided ((events : List Event) × PartEvents profile part events)
   part_events part =
@@ -55,7 +63,8 @@ module _ (profile : List DeviceParts) where
       of_some DeviceParts (device_with part.addr profile) (Writes part)
       (λ device.
       of_some Form (forms device part.code).write (λ form. Fits form part.bytes × AllowsPec device.pec part.pec)
-      (λ form. both (Fits form part.bytes) (AllowsPec device.pec part.pec) (fits form part.bytes) (allows device.pec part.pec)))
+      (λ form. both (Fits form part.bytes) (AllowsPec device.pec part.pec) (fits form part.bytes)
+      (allows device.pec part.pec)))
       )
     where
       spelled : (device : DeviceParts) → device_with part.addr profile ≡ Some device → Writes part device
@@ -79,11 +88,13 @@ module _ (profile : List DeviceParts) where
   parts_events : (parts : List PartData) → Decided ((events : List Event) × PartsEvents profile parts events)
   parts_events [] = inl ([], refl)
   parts_events (part ∷ parts) =
-      either_way (((events : List Event) × PartEvents profile part events) × ((events : List Event) × PartsEvents profile parts events))
+      either_way (((events : List Event) × PartEvents profile part events)
+      × ((events : List Event) × PartsEvents profile parts events))
       ((events : List Event) × PartsEvents profile (part ∷ parts) events)
       (λ w. (w.0.0 ++ w.1.0, (w.0.0, w.1.0, refl, w.0.1, w.1.1))) (λ w. ((w.1.0, w.1.3), (w.1.1, w.1.4)))
       (
-      both ((events : List Event) × PartEvents profile part events) ((events : List Event) × PartsEvents profile parts events) (part_events part)
+      both ((events : List Event) × PartEvents profile part events)
+      ((events : List Event) × PartsEvents profile parts events) (part_events part)
       (parts_events parts)
       )
 
@@ -93,8 +104,20 @@ module _ (profile : List DeviceParts) where
   write_packet parts =
       let Legs : Type 0 = (events : List Event) × PartsEvents profile parts events in
       let Distinct : Type 0 = IsDistinct nat_eq (addresses parts) in
-      either_way ((1 ≤ length parts) × ((length parts ≤ 16) × (Distinct × Legs))) ((events : List Event) × WritePacket profile parts events)
-      (λ w. (w.1.1.1.0 ++ Stop ∷ [], record { some = w.0; few = w.1.0; distinct = w.1.1.0; legs = w.1.1.1.0; each = w.1.1.1.1; spelled = refl }))
+      either_way ((1 ≤ length parts) × ((length parts ≤ 16) × (Distinct × Legs)))
+      ((events : List Event) × WritePacket profile parts events)
+      (λ w. (
+        w.1.1.1.0 ++ Stop ∷ [],
+        record {
+          some = w.0;
+          few = w.1.0;
+          distinct = w.1.1.0;
+          legs = w.1.1.1.0;
+          each =
+              w.1.1.1.1;
+          spelled = refl;
+        },
+      ))
       (λ w. (w.1.some, (w.1.few, (w.1.distinct, (w.1.legs, w.1.each)))))
       (
       both (1 ≤ length parts) ((length parts ≤ 16) × (Distinct × Legs)) (at_most 1 (length parts))
@@ -112,12 +135,22 @@ module _ (profile : List DeviceParts) where
       ((events : List Event) × ReadPacket profile t events)
       (λ w. (
         answered t.addr (t.code ∷ []) (wire w.2.0 t.reply) t.pec,
-        record { device = w.0; form = w.2.0; known = w.1; read = w.2.1; fits = w.2.2.0; mode = w.2.2.1; spelled = refl },
+        record {
+          device = w.0;
+          form = w.2.0;
+          known = w.1;
+          read = w.2.1;
+          fits = w.2.2.0;
+          mode = w.2.2.1;
+          spelled =
+              refl;
+        },
       ))
       (λ w. (w.1.device, w.1.known, (w.1.form, w.1.read, (w.1.fits, w.1.mode))))
       (
       of_some DeviceParts (device_with t.addr profile)
-      (λ device. (form : Form) × ((forms device t.code).read ≡ Some form) × (Fits form t.reply × AllowsPec device.pec t.pec))
+      (λ device. (form : Form) × ((forms device t.code).read ≡ Some form)
+      × (Fits form t.reply × AllowsPec device.pec t.pec))
       (λ device.
       of_some Form (forms device t.code).read (λ form. Fits form t.reply × AllowsPec device.pec t.pec)
       (λ form. both (Fits form t.reply) (AllowsPec device.pec t.pec) (fits form t.reply) (allows device.pec t.pec)))
@@ -127,19 +160,32 @@ module _ (profile : List DeviceParts) where
   call_packet t =
       either_way
       ((device : DeviceParts) × (device_with t.addr profile ≡ Some device)
-      × ((form : Form) × ((forms device t.code).call ≡ Some form) × (Fits form t.bytes × (Fits form t.reply × AllowsPec device.pec t.pec))))
+      × ((form : Form) × ((forms device t.code).call ≡ Some form)
+      × (Fits form t.bytes × (Fits form t.reply × AllowsPec device.pec t.pec))))
       ((events : List Event) × CallPacket profile t events)
       (λ w. (
         answered t.addr (t.code ∷ wire w.2.0 t.bytes) (wire w.2.0 t.reply) t.pec,
-        record { device = w.0; form = w.2.0; known = w.1; called = w.2.1; sent = w.2.2.0; replied = w.2.2.1.0; mode = w.2.2.1.1; spelled = refl },
+        record {
+          device = w.0;
+          form = w.2.0;
+          known = w.1;
+          called = w.2.1;
+          sent = w.2.2.0;
+          replied = w.2.2.1.0;
+          mode =
+              w.2.2.1.1;
+          spelled = refl;
+        },
       ))
       (λ w. (w.1.device, w.1.known, (w.1.form, w.1.called, (w.1.sent, (w.1.replied, w.1.mode)))))
       (
       of_some DeviceParts (device_with t.addr profile)
       (λ device.
-      (form : Form) × ((forms device t.code).call ≡ Some form) × (Fits form t.bytes × (Fits form t.reply × AllowsPec device.pec t.pec)))
+      (form : Form) × ((forms device t.code).call ≡ Some form)
+      × (Fits form t.bytes × (Fits form t.reply × AllowsPec device.pec t.pec)))
       (λ device.
-      of_some Form (forms device t.code).call (λ form. Fits form t.bytes × (Fits form t.reply × AllowsPec device.pec t.pec))
+      of_some Form (forms device t.code).call (λ form. Fits form t.bytes
+      × (Fits form t.reply × AllowsPec device.pec t.pec))
       (λ form.
       both (Fits form t.bytes) (Fits form t.reply × AllowsPec device.pec t.pec) (fits form t.bytes)
       (both (Fits form t.reply) (AllowsPec device.pec t.pec) (fits form t.reply) (allows device.pec t.pec))))
@@ -150,14 +196,17 @@ module _ (profile : List DeviceParts) where
   byte_refused : (parts : List PartData) (addr : ℕ) (sent front : List ℕ) (last : ℕ) → sent ≡ front ++ last ∷ []
       → Decided ((events : List Event) × ByteRefused profile parts addr sent events)
   byte_refused parts addr sent front last split =
-      either_way ((device : DeviceParts) × (device_with addr profile ≡ Some device) × (AreByteValues sent × Goes device parts front))
-      ((events : List Event) × ByteRefused profile parts addr sent events) (λ w. spelled w.0 w.1 w.2) (λ w. parts_of w.0 w.1)
+      either_way ((device : DeviceParts) × (device_with addr profile ≡ Some device)
+      × (AreByteValues sent × Goes device parts front))
+      ((events : List Event) × ByteRefused profile parts addr sent events) (λ w. spelled w.0 w.1 w.2)
+      (λ w. parts_of w.0 w.1)
       (
       of_some DeviceParts (device_with addr profile) (λ device. AreByteValues sent × Goes device parts front)
       (λ device. both (AreByteValues sent) (Goes device parts front) (are_bytes sent) (goes device parts front))
       )
     where
-      spelled : (device : DeviceParts) → device_with addr profile ≡ Some device → AreByteValues sent × Goes device parts front
+      spelled : (device : DeviceParts) → device_with addr profile ≡ Some device
+          → AreByteValues sent × Goes device parts front
           → (events : List Event) × ByteRefused profile parts addr sent events
       spelled device known w = (
         leg (write_address addr ∷ []) ++ nacked sent,
@@ -174,7 +223,8 @@ module _ (profile : List DeviceParts) where
       )
 
       parts_of : (events : List Event) → ByteRefused profile parts addr sent events
-          → (device : DeviceParts) × (device_with addr profile ≡ Some device) × (AreByteValues sent × Goes device parts front)
+          → (device : DeviceParts) × (device_with addr profile ≡ Some device)
+          × (AreByteValues sent × Goes device parts front)
       parts_of events w =
           let same = same_from_push w.front front w.last last (sym w.split ∙ split) in
           (w.device, w.known, (w.bytes, subst (Goes w.device parts) same.0 w.begins))
@@ -183,9 +233,11 @@ module _ (profile : List DeviceParts) where
   no_parts [] = inl refl
   no_parts (part ∷ parts) = inr (λ none. cc none)
 
-  read_refused : (parts : List PartData) (addr : ℕ) (sent : List ℕ) → Decided ((events : List Event) × ReadRefused profile parts addr sent events)
+  read_refused : (parts : List PartData) (addr : ℕ) (sent : List ℕ)
+      → Decided ((events : List Event) × ReadRefused profile parts addr sent events)
   read_refused parts addr sent =
-      either_way ((parts ≡ []) × ((device : DeviceParts) × (device_with addr profile ≡ Some device) × IsRequest device sent))
+      either_way ((parts ≡ []) × ((device : DeviceParts) × (device_with addr profile ≡ Some device)
+      × IsRequest device sent))
       ((events : List Event) × ReadRefused profile parts addr sent events)
       (λ w. (
         leg (write_address addr ∷ sent) ++ Start ∷ Byte (read_address addr) ∷ Nack ∷ [],
@@ -193,7 +245,8 @@ module _ (profile : List DeviceParts) where
       ))
       (λ w. (w.1.alone, (w.1.device, w.1.known, w.1.body)))
       (
-      both (parts ≡ []) ((device : DeviceParts) × (device_with addr profile ≡ Some device) × IsRequest device sent) (no_parts parts)
+      both (parts ≡ []) ((device : DeviceParts) × (device_with addr profile ≡ Some device) × IsRequest device sent)
+      (no_parts parts)
       (of_some DeviceParts (device_with addr profile) (λ device. IsRequest device sent) (λ device. asks device sent))
       )
 
@@ -201,7 +254,8 @@ module _ (profile : List DeviceParts) where
       → Decided ((events : List Event) × RefusedLeg profile parts addr sent at_read events)
   refused_leg parts addr [] false =
       either_way (addr < 128) ((events : List Event) × AddressRefused profile addr events)
-      (λ seven. (Start ∷ Byte (write_address addr) ∷ Nack ∷ [], record { seven = seven; spelled = refl })) (λ w. w.1.seven) (below addr 128)
+      (λ seven. (Start ∷ Byte (write_address addr) ∷ Nack ∷ [], record { seven = seven; spelled = refl }))
+      (λ w. w.1.seven) (below addr 128)
   refused_leg parts addr (b ∷ sent) false =
       let split = last_of b sent in
       byte_refused parts addr (b ∷ sent) split.0 split.1 split.2
@@ -214,7 +268,8 @@ module _ (profile : List DeviceParts) where
       let Last : Type 0 = (events : List Event) × RefusedLeg profile t.parts t.addr t.sent t.at_read events in
       let Distinct : Type 0 = IsDistinct nat_eq (addresses t.parts) in
       let New : Type 0 = IsNew t.addr (addresses t.parts) in
-      either_way ((length t.parts ≤ 15) × (Distinct × (New × (Legs × Last)))) ((events : List Event) × RefusedPacket profile t events)
+      either_way ((length t.parts ≤ 15) × (Distinct × (New × (Legs × Last))))
+      ((events : List Event) × RefusedPacket profile t events)
       (λ w. (
         w.1.1.1.0.0 ++ w.1.1.1.1.0 ++ Stop ∷ [],
         record {
@@ -249,7 +304,8 @@ module _ (profile : List DeviceParts) where
   has_packet (Alert t) =
       either_way (t.byte < 256) ((events : List Event) × AlertPacket t events)
       (λ small. (
-        leg (read_address alert_address ∷ []) ++ nacked (checked t.pec (read_address alert_address ∷ []) (t.byte ∷ [])) ++ Stop ∷ [],
+        leg (read_address alert_address ∷ []) ++ nacked (checked t.pec (read_address alert_address ∷ []) (t.byte ∷ []))
+            ++ Stop ∷ [],
         record { byte = small; spelled = refl },
       ))
       (λ w. w.1.byte) (below t.byte 256)
@@ -260,11 +316,13 @@ module _ (profile : List DeviceParts) where
   begins_at : (t : TransactionData) (events : List Event) → Decided ((packet : List Event) × Packet profile t packet)
       → Decided ((more : List Event) × Packet profile t (events ++ more))
   begins_at t events (inl w) =
-      either_way ((more : List Event) × (w.0 ≡ events ++ more)) ((more : List Event) × Packet profile t (events ++ more))
+      either_way ((more : List Event) × (w.0 ≡ events ++ more))
+      ((more : List Event) × Packet profile t (events ++ more))
       (λ v. (v.0, subst (Packet profile t) v.1 w.1)) (λ v. (v.0, one_packet profile t w.0 (events ++ v.0) w.1 v.1))
       (begins_with Event same_event events w.0)
   begins_at t events (inr none) = inr (λ v. none (events ++ v.0, v.1))
 
   -- whether a transaction's packet begins with some events
-  pub begins_packet : (events : List Event) (t : TransactionData) → Decided ((more : List Event) × Packet profile t (events ++ more))
+  pub begins_packet : (events : List Event) (t : TransactionData)
+      → Decided ((more : List Event) × Packet profile t (events ++ more))
   begins_packet events t = begins_at t events (has_packet t)

@@ -1,5 +1,6 @@
 -- The ends of packets: STOP makes a packet, or does not follow.
-use Rattle.std.proofs.Common.{◌≡◌, ◌≢◌, inl, inr, true, false, List, [], ◌∷◌, ◌++◌, refl, sym, ap, ◌∙◌, subst, append_assoc}
+use Rattle.std.proofs.Common.{◌≡◌, ◌≢◌, inl, inr, true, false, List, [], ◌∷◌, ◌++◌, refl, sym, ap, ◌∙◌, subst}
+use Rattle.std.proofs.Common.{append_assoc}
 use Rattle.std.proofs.lemmas.List.{append-nil, same_from_push}
 use Rattle.pmb_bus.specs.declared.event.Event.{Event}
 use Rattle.pmb_bus.specs.declared.event.Event.TheVariants.{Start, Byte, Ack, Nack, Stop}
@@ -12,7 +13,8 @@ use Rattle.pmb_transaction.proofs.Stops.{packet_ends_with_stop}
 use Rattle.pmb_transaction.proofs.Turns.{events_take_turns}
 
 -- what stands after STOP, where the only one is at the end, is nothing
-last_stop : (front before after : List Event) → HasNoStop front → front ++ Stop ∷ [] ≡ before ++ Stop ∷ after → after ≡ []
+last_stop : (front before after : List Event) → HasNoStop front → front ++ Stop ∷ [] ≡ before ++ Stop ∷ after
+    → after ≡ []
 last_stop [] [] after none same = sym (cc same)
 last_stop [] (e ∷ before) after none same =
     let rest : before ++ Stop ∷ after ≡ [] = cc same in
@@ -43,7 +45,8 @@ module _ (profile : List DeviceParts) where
       let stop = packet_ends_with_stop profile packet.0 (before ++ Stop ∷ after) packet.1 in
       last_stop stop.front before after stop.no_stop (sym stop.split)
 
-  packet_to_stop : (before after : List Event) → IsPacket profile (before ++ Stop ∷ after) → IsPacket profile (before ++ Stop ∷ [])
+  packet_to_stop : (before after : List Event) → IsPacket profile (before ++ Stop ∷ after)
+      → IsPacket profile (before ++ Stop ∷ [])
   packet_to_stop before after packet =
       subst (λ (es : List Event). IsPacket profile (before ++ Stop ∷ es)) (nothing_behind before after packet) packet
 
@@ -68,7 +71,8 @@ module _ (profile : List DeviceParts) where
       (event, inr (more, subst (IsPacket profile) (sym (append_assoc events (event ∷ []) more)) packet))
 
   -- no packet ends with another event than STOP
-  pub ends_with : (events : List Event) (event : Event) → is_stop event ≡ false → IsPacket profile (events ++ event ∷ []) → ⊥
+  pub ends_with : (events : List Event) (event : Event) → is_stop event ≡ false
+      → IsPacket profile (events ++ event ∷ []) → ⊥
   ends_with events event other packet =
       let stop = packet_ends_with_stop profile packet.0 (events ++ event ∷ []) packet.1 in
       let last = same_from_push events stop.front event Stop stop.split in
@@ -79,16 +83,19 @@ module _ (profile : List DeviceParts) where
   pub ends_behind : (events : List Event) (event : Event) → follows_in_turn event Stop ≡ false
       → IsPacket profile ((events ++ event ∷ []) ++ Stop ∷ []) → ⊥
   ends_behind events event other packet =
-      let turns = events_take_turns profile events event Stop (packet_is_viable ((events ++ event ∷ []) ++ Stop ∷ []) packet) in
+      let turns = events_take_turns profile events event Stop
+      (packet_is_viable ((events ++ event ∷ []) ++ Stop ∷ []) packet) in
       cc (other, turns)
 
-  stop_may_follow_nack : (events : List Event) → Viable profile (events ++ Nack ∷ []) → MayFollow profile (events ++ Nack ∷ []) Stop
+  stop_may_follow_nack : (events : List Event) → Viable profile (events ++ Nack ∷ [])
+      → MayFollow profile (events ++ Nack ∷ []) Stop
   stop_may_follow_nack events (inl none) = absurd (no_end events Nack [] none)
   stop_may_follow_nack events (inr w) =
       let front = events ++ Nack ∷ [] in
       let next =
       one_more front w.0 w.1
-      (λ none. ends_with events Nack refl (subst (IsPacket profile) (ap (λ (es : List Event). front ++ es) none ∙ append-nil front) w.1)) in
+      (λ none. ends_with events Nack refl (subst (IsPacket profile)
+      (ap (λ (es : List Event). front ++ es) none ∙ append-nil front) w.1)) in
       subst (MayFollow profile front) (only_stop next.0 (events_take_turns profile events Nack next.0 next.1)) next.1
 
   pub stop_follows_nack : (events : List Event) (event : Event) → Viable profile (events ++ Nack ∷ [])
@@ -149,7 +156,8 @@ module _ (profile : List DeviceParts) where
       no_end after event w.0 (nothing_behind before (after ++ event ∷ w.0) (subst (IsPacket profile) all w.1))
 
   -- so none stands in events and another event that may follow them
-  no_stop_with : (events : List Event) (event : Event) → event ≢ Stop → ((before after : List Event) → events ≡ before ++ Stop ∷ after → ⊥)
+  no_stop_with : (events : List Event) (event : Event) → event ≢ Stop
+      → ((before after : List Event) → events ≡ before ++ Stop ∷ after → ⊥)
       → (before after : List Event) → events ++ event ∷ [] ≡ before ++ Stop ∷ after → ⊥
   no_stop_with [] event other none [] after same = other (cc same)
   no_stop_with [] event other none (x ∷ before) after same =
@@ -169,7 +177,8 @@ module _ (profile : List DeviceParts) where
   packets_go_on events event follows other =
       under_way (events ++ event ∷ []) follows
       (λ before after split.
-      no_stop_with events event other (λ front back cut. no_stop_before events front back event follows cut) before after split)
+      no_stop_with events event other (λ front back cut. no_stop_before events front back event follows cut) before
+      after split)
 
   -- some event goes on with a packet under way
   goes_on : (events : List Event) → IsUnderWay profile events → events ≢ [] → Viable profile events
@@ -181,5 +190,6 @@ module _ (profile : List DeviceParts) where
       going.no_packet events [] (sym (append-nil events))
       (subst (IsPacket profile) (ap (λ (es : List Event). events ++ es) none ∙ append-nil events) w.1))
 
-  pub something_follows : (events : List Event) → IsUnderWay profile events → events ≢ [] → (event : Event) × MayFollow profile events event
+  pub something_follows : (events : List Event) → IsUnderWay profile events → events ≢ []
+      → (event : Event) × MayFollow profile events event
   something_follows events going some = goes_on events going some going.viable

@@ -1,5 +1,6 @@
 -- What is looked for among finitely many: numbers below a bound, lists of few of them.
-use Rattle.std.proofs.Common.{◌≡◌, ℕ, zero, suc, ◌<◌, ◌≤◌, ◌⊎◌, inl, inr, Bool, true, false, List, [], ◌∷◌, length, refl, sym, ap, subst, arith}
+use Rattle.std.proofs.Common.{◌≡◌, ℕ, zero, suc, ◌<◌, ◌≤◌, ◌⊎◌, inl, inr, Bool, true, false, List, [], ◌∷◌, length}
+use Rattle.std.proofs.Common.{refl, sym, ap, subst, arith}
 use Rattle.std.specs.List.{AllByRecursion}
 use Rattle.pmb_transaction.proofs.Decided.{Decided, either_way, one_of}
 
@@ -8,7 +9,8 @@ abbrev pub Finite : (A : Type 0) → (A → Type 0) → Type 1
 Finite A In = (P : A → Type 0) → ((a : A) → Decided (P a)) → Decided ((a : A) × In a × P a)
 
 -- where what has the property is one of them
-pub some_of : (A : Type 0) (In P : A → Type 0) → Finite A In → ((a : A) → P a → In a) → ((a : A) → Decided (P a)) → Decided ((a : A) × P a)
+pub some_of : (A : Type 0) (In P : A → Type 0) → Finite A In → ((a : A) → P a → In a) → ((a : A) → Decided (P a))
+    → Decided ((a : A) × P a)
 some_of A In P finite are each =
     either_way ((a : A) × In a × P a) ((a : A) × P a) (λ w. (w.0, w.2)) (λ w. (w.0, are w.0 w.1, w.1)) (finite P each)
 
@@ -21,7 +23,8 @@ image A B InA InB make in_there made finite P each =
     (finite (λ a. P (make a)) (λ a. each (make a)))
 
 -- pairs of them
-pub pairs : (A B : Type 0) (InA : A → Type 0) (InB : B → Type 0) → Finite A InA → Finite B InB → Finite (A × B) (λ p. InA p.0 × InB p.1)
+pub pairs : (A B : Type 0) (InA : A → Type 0) (InB : B → Type 0) → Finite A InA → Finite B InB
+    → Finite (A × B) (λ p. InA p.0 × InB p.1)
 pairs A B InA InB first second P each =
     either_way ((a : A) × InA a × ((b : B) × InB b × P (a, b))) ((p : A × B) × (InA p.0 × InB p.1) × P p)
     (λ w. ((w.0, w.2.0), (w.1, w.2.1), w.2.2)) (λ w. (w.0.0, w.1.0, (w.0.1, w.1.1, w.2)))
@@ -30,19 +33,25 @@ pairs A B InA InB first second P each =
 -- ---- numbers below a bound
 
 below_next : (n : ℕ) (P : ℕ → Type 0) → (k : ℕ) → k < suc n → P k → P n ⊎ ((j : ℕ) × (j < n) × P j)
-below_next n P k less p = elim (at_bound k n less) as (λ w. P n ⊎ ((j : ℕ) × (j < n) × P j)) [ inl same ↦ inl (subst P same p) | inr smaller ↦ inr (k, smaller, p) ]
+below_next n P k less p = elim (at_bound k n less) as (λ w. P n ⊎ ((j : ℕ) × (j < n) × P j))
+    [ inl same ↦ inl (subst P same p) | inr smaller ↦ inr (k, smaller, p) ]
   where
     at_bound : (k n : ℕ) → k < suc n → (k ≡ n) ⊎ (k < n)
     at_bound zero zero less = inl refl
     at_bound zero (suc n) less = inr (omega arith)
     at_bound (suc k) zero less = absurd (omega arith)
-    at_bound (suc k) (suc n) less = elim (at_bound k n (omega arith)) as (λ w. (suc k ≡ suc n) ⊎ (suc k < suc n)) [ inl same ↦ inl (ap suc same) | inr smaller ↦ inr (omega (arith, smaller)) ]
+    at_bound (suc k) (suc n) less = elim (at_bound k n (omega arith)) as (λ w. (suc k ≡ suc n) ⊎ (suc k < suc n))
+        [ inl same ↦ inl (ap suc same) | inr smaller ↦ inr (omega (arith, smaller)) ]
 
 pub numbers : (n : ℕ) → Finite ℕ (λ k. k < n)
 numbers zero P each = inr (λ w. let less : w.0 < 0 = w.1 in absurd (omega arith))
 numbers (suc n) P each =
     either_way (P n ⊎ ((k : ℕ) × (k < n) × P k)) ((k : ℕ) × (k < suc n) × P k)
-    (λ w. elim w [ inl here ↦ (n, omega arith, here) | inr later ↦ (later.0, let less : later.0 < n = later.1 in omega arith, later.2) ])
+    (λ w. elim w [
+      | inl here ↦ (n, omega arith, here)
+      | inr later ↦
+          (later.0, let less : later.0 < n = later.1 in omega arith, later.2)
+    ])
     (λ w. below_next n P w.0 w.1 w.2)
     (one_of (P n) ((k : ℕ) × (k < n) × P k) (each n) (numbers n P each))
 
@@ -86,7 +95,8 @@ module _ (A : Type 0) (In : A → Type 0) where
 
   pub lists : Finite A In → (n : ℕ) → Finite (List A) (Few In n)
   lists finite zero P each =
-      either_way (P []) ((xs : List A) × Few In 0 xs × P xs) (λ p. ([], (omega arith, tt), p)) (λ w. none_parted P w.0 w.1.0 w.2) (each [])
+      either_way (P []) ((xs : List A) × Few In 0 xs × P xs) (λ p. ([], (omega arith, tt), p))
+      (λ w. none_parted P w.0 w.1.0 w.2) (each [])
   lists finite (suc n) P each =
       either_way (P [] ⊎ FirstAndOthers n P) ((xs : List A) × Few In (suc n) xs × P xs)
       (joined n P) (λ w. parted n P w.0 w.1 w.2)

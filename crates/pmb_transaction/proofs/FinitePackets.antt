@@ -1,6 +1,7 @@
 -- Transactions that have packets are finitely many, so whether some packet begins with events is
 -- decided.
-use Rattle.std.proofs.Common.{◌≡◌, ℕ, ◌+◌, ◌<◌, ◌≤◌, ◌⊎◌, inl, inr, Bool, true, false, List, [], ◌∷◌, ◌++◌, length, refl, ap, arith}
+use Rattle.std.proofs.Common.{◌≡◌, ℕ, ◌+◌, ◌<◌, ◌≤◌, ◌⊎◌, inl, inr, Bool, true, false, List, [], ◌∷◌, ◌++◌, length}
+use Rattle.std.proofs.Common.{refl, ap, arith}
 use Rattle.std.specs.List.{AllByRecursion}
 use Rattle.std.proofs.lemmas.List.{length-append}
 use Rattle.pmb_bus.specs.Event as of_events
@@ -12,7 +13,8 @@ use Rattle.pmb_command.specs.declared.form.Shape.{Shape}
 use Rattle.pmb_command.specs.Bus.{IsBus}
 use Rattle.pmb_command.specs.Parts.{DeviceParts}
 use Rattle.pmb_command.specs.Wire.{Fits}
-use Rattle.pmb_transaction.specs.Transaction.{PartData, ReadData, CallData, RefusedData, AlertData, TransactionData, Write, Read, Call, Refused, Alert, NoAlert}
+use Rattle.pmb_transaction.specs.Transaction.{PartData, ReadData, CallData, RefusedData, AlertData, TransactionData}
+use Rattle.pmb_transaction.specs.Transaction.{Write, Read, Call, Refused, Alert, NoAlert}
 use Rattle.pmb_transaction.specs.Packet.{Packet, PartEvents, PartsEvents, ReadRefused, RefusedLeg}
 use Rattle.pmb_transaction.specs.Capture.{MayFollow, Viable}
 use Rattle.pmb_transaction.specs.Reason.{FollowsAlone}
@@ -95,7 +97,8 @@ refusals =
     (λ f in_there. in_there)
     (λ t in_there. ((t.parts, (t.addr, (t.sent, t.at_read))), in_there, refl))
     (
-    pairs (List PartData) (ℕ × (List ℕ × Bool)) (Few InPart 15) (λ f. (f.0 < 128) × (Few (λ b. b < 256) 259 f.1.0 × Unit {0}))
+    pairs (List PartData) (ℕ × (List ℕ × Bool)) (Few InPart 15)
+    (λ f. (f.0 < 128) × (Few (λ b. b < 256) 259 f.1.0 × Unit {0}))
     (lists PartData InPart parts 15)
     (
     pairs ℕ (List ℕ × Bool) (λ addr. addr < 128) (λ f. Few (λ b. b < 256) 259 f.0 × Unit {0}) (numbers 128)
@@ -108,7 +111,8 @@ InAlert t = (t.byte < 256) × Unit {0}
 
 alerts : Finite AlertData InAlert
 alerts =
-    image (ℕ × Bool) AlertData (λ f. (f.0 < 256) × Unit {0}) InAlert (λ f. record { byte = f.0; pec = f.1 }) (λ f in_there. in_there)
+    image (ℕ × Bool) AlertData (λ f. (f.0 < 256) × Unit {0}) InAlert (λ f. record { byte = f.0; pec = f.1 })
+    (λ f in_there. in_there)
     (λ t in_there. ((t.byte, t.pec), in_there, refl))
     (pairs ℕ Bool (λ b. b < 256) (λ b. Unit {0}) bytes bools)
 
@@ -162,7 +166,8 @@ transactions P each =
     one_of (SomeWrite P) (SomeRead P ⊎ (SomeCall P ⊎ (SomeRefused P ⊎ (SomeAlert P ⊎ P NoAlert))))
     (lists PartData InPart parts 16 (λ group. P (Write group)) (λ group. each (Write group)))
     (
-    one_of (SomeRead P) (SomeCall P ⊎ (SomeRefused P ⊎ (SomeAlert P ⊎ P NoAlert))) (reads (λ t. P (Read t)) (λ t. each (Read t)))
+    one_of (SomeRead P) (SomeCall P ⊎ (SomeRefused P ⊎ (SomeAlert P ⊎ P NoAlert)))
+    (reads (λ t. P (Read t)) (λ t. each (Read t)))
     (
     one_of (SomeCall P) (SomeRefused P ⊎ (SomeAlert P ⊎ P NoAlert)) (calls (λ t. P (Call t)) (λ t. each (Call t)))
     (
@@ -184,10 +189,14 @@ module _ (pec_is_byte : (bytes : List ℕ) → pec bytes < 256) (profile : List 
       let is = device_is profile part.addr w.device bus w.known in
       let allowed = w.allowed in (
         seven_bits pec_is_byte profile bus part.addr w.device w.known,
-        (code_is_byte (λ (s : Shape). s.write) w.device part.code allowed.form refl is.0 allowed.written, (data_in allowed.form part.bytes allowed.fits, tt)),
+        (
+          code_is_byte (λ (s : Shape). s.write) w.device part.code allowed.form refl is.0 allowed.written,
+          (data_in allowed.form part.bytes allowed.fits, tt),
+        ),
       )
 
-  parts_in : (group : List PartData) (events : List Event) → PartsEvents profile group events → AllByRecursion InPart group
+  parts_in : (group : List PartData) (events : List Event) → PartsEvents profile group events
+      → AllByRecursion InPart group
   parts_in [] events each = tt
   parts_in (part ∷ group) events each = (part_in part each.0 each.3, parts_in group each.1 each.4)
 
@@ -195,11 +204,15 @@ module _ (pec_is_byte : (bytes : List ℕ) → pec bytes < 256) (profile : List 
   abbrev InLeg : ℕ → List ℕ → Type 0
   InLeg addr sent = (addr < 128) × Few (λ b. b < 256) 259 sent
 
-  read_refused_in : (group : List PartData) (addr : ℕ) (sent : List ℕ) (events : List Event) → ReadRefused profile group addr sent events
+  read_refused_in : (group : List PartData) (addr : ℕ) (sent : List ℕ) (events : List Event)
+      → ReadRefused profile group addr sent events
       → InLeg addr sent
   read_refused_in group addr sent events w = (
     seven_bits pec_is_byte profile bus addr w.device w.known,
-    (omega (arith, body_is_short w.device [] sent (inr w.body)), small_sent pec_is_byte profile bus addr w.device sent w.known w.body),
+    (
+      omega (arith, body_is_short w.device [] sent (inr w.body)),
+      small_sent pec_is_byte profile bus addr w.device sent w.known w.body,
+    ),
   )
 
   refused_in : (group : List PartData) (addr : ℕ) (sent : List ℕ) (at_read : Bool) (events : List Event)
@@ -218,13 +231,19 @@ module _ (pec_is_byte : (bytes : List ℕ) → pec bytes < 256) (profile : List 
   in_bounds (Read t) events w =
       let is = device_is profile t.addr w.device bus w.known in (
         seven_bits pec_is_byte profile bus t.addr w.device w.known,
-        (code_is_byte (λ (s : Shape). s.read) w.device t.code w.form refl is.0 w.read, (data_in w.form t.reply w.fits, tt)),
+        (
+          code_is_byte (λ (s : Shape). s.read) w.device t.code w.form refl is.0 w.read,
+          (data_in w.form t.reply w.fits, tt),
+        ),
       )
   in_bounds (Call t) events w =
       let is = device_is profile t.addr w.device bus w.known in (
         (
           seven_bits pec_is_byte profile bus t.addr w.device w.known,
-          (code_is_byte (λ (s : Shape). s.call) w.device t.code w.form refl is.0 w.called, (data_in w.form t.bytes w.sent, tt)),
+          (
+            code_is_byte (λ (s : Shape). s.call) w.device t.code w.form refl is.0 w.called,
+            (data_in w.form t.bytes w.sent, tt),
+          ),
         ),
         data_in w.form t.reply w.replied,
       )
@@ -252,13 +271,15 @@ module _ (pec_is_byte : (bytes : List ℕ) → pec bytes < 256) (profile : List 
   pub viable : (events : List Event) → Decided (Viable profile events)
   viable [] = inl (inl refl)
   viable (event ∷ events) =
-      either_way (Begun (event ∷ events)) (Viable profile (event ∷ events)) (λ w. inr (w.1.0, (w.0, w.1.1))) (begun_if_viable event events)
+      either_way (Begun (event ∷ events)) (Viable profile (event ∷ events)) (λ w. inr (w.1.0, (w.0, w.1.1)))
+      (begun_if_viable event events)
       (begun (event ∷ events))
 
   pub may_follow : (events : List Event) (event : Event) → Decided (MayFollow profile events event)
   may_follow events event = viable (events ++ event ∷ [])
 
-  byte_in : (events : List Event) (b : ℕ) (more : List Event) → of_events.AreBytes ((events ++ Byte b ∷ []) ++ more) → b < 256
+  byte_in : (events : List Event) (b : ℕ) (more : List Event) → of_events.AreBytes ((events ++ Byte b ∷ []) ++ more)
+      → b < 256
   byte_in [] b more small = small.0
   byte_in (Byte x ∷ events) b more small = byte_in events b more small.1
   byte_in (Start ∷ events) b more small = byte_in events b more small
@@ -273,7 +294,8 @@ module _ (pec_is_byte : (bytes : List ℕ) → pec bytes < 256) (profile : List 
 
   pub some_byte : (events : List Event) → Decided ((b : ℕ) × MayFollow profile events (Byte b))
   some_byte events =
-      some_of ℕ (λ b. b < 256) (λ b. MayFollow profile events (Byte b)) bytes (small_byte events) (λ b. may_follow events (Byte b))
+      some_of ℕ (λ b. b < 256) (λ b. MayFollow profile events (Byte b)) bytes (small_byte events)
+      (λ b. may_follow events (Byte b))
 
   -- an event of each kind, or of all bytes some
   abbrev SomeEvent : (Event → Type 0) → Type 0
@@ -299,7 +321,8 @@ module _ (pec_is_byte : (bytes : List ℕ) → pec bytes < 256) (profile : List 
 
   another : (events : List Event) (event other : Event) → Decided (Another events event other)
   another events event other =
-      both (MayFollow profile events other) (other ≡ event → ⊥) (may_follow events other) (not_so (other ≡ event) (same_event other event))
+      both (MayFollow profile events other) (other ≡ event → ⊥) (may_follow events other)
+      (not_so (other ≡ event) (same_event other event))
 
   some_other : (events : List Event) (event : Event) → Decided ((other : Event) × Another events event other)
   some_other events event =
@@ -323,13 +346,16 @@ module _ (pec_is_byte : (bytes : List ℕ) → pec bytes < 256) (profile : List 
 
   pub follows_alone : (events : List Event) (event : Event) → Decided (FollowsAlone profile events event)
   follows_alone events event =
-      either_way (MayFollow profile events event × (((other : Event) × Another events event other) → ⊥)) (FollowsAlone profile events event)
+      either_way (MayFollow profile events event × (((other : Event) × Another events event other) → ⊥))
+      (FollowsAlone profile events event)
       (λ w. record {
         follows = w.0;
-        alone = λ other follows. settled (other ≡ event) (same_event other event) (λ diff. w.1 (other, (follows, diff)));
+        alone = λ other follows. settled (other ≡ event) (same_event other event)
+            (λ diff. w.1 (other, (follows, diff)));
       })
       (λ w. (w.follows, λ v. v.1.1 (w.alone v.0 v.1.0)))
       (
-      both (MayFollow profile events event) (((other : Event) × Another events event other) → ⊥) (may_follow events event)
+      both (MayFollow profile events event) (((other : Event) × Another events event other) → ⊥)
+      (may_follow events event)
       (not_so ((other : Event) × Another events event other) (some_other events event))
       )

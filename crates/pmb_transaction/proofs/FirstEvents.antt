@@ -1,5 +1,6 @@
 -- Packets begin with START.
-use Rattle.std.proofs.Common.{◌≡◌, ℕ, ◌<◌, inl, inr, Bool, true, false, List, [], ◌∷◌, ◌++◌, refl, sym, ap, ◌∙◌, subst, arith}
+use Rattle.std.proofs.Common.{◌≡◌, ℕ, ◌<◌, inl, inr, Bool, true, false, List, [], ◌∷◌, ◌++◌, refl, sym, ap, ◌∙◌, subst}
+use Rattle.std.proofs.Common.{arith}
 use Rattle.pmb_bus.specs.Pec.{pec}
 use Rattle.pmb_bus.specs.declared.event.Event.{Event}
 use Rattle.pmb_bus.specs.declared.event.Event.TheVariants.{Start, Byte, Ack, Nack, Stop}
@@ -25,7 +26,8 @@ in_front_of : (events front rest : List Event) → BeginsAtStart front → event
 in_front_of events front rest first split =
     record { rest = first.rest ++ rest; split = split ∙ ap (λ (es : List Event). es ++ rest) first.split }
 
-start_of_answered : (events : List Event) (addr : ℕ) (body reply : List ℕ) (with_pec : Bool) → events ≡ answered addr body reply with_pec
+start_of_answered : (events : List Event) (addr : ℕ) (body reply : List ℕ) (with_pec : Bool)
+    → events ≡ answered addr body reply with_pec
     → BeginsAtStart events
 start_of_answered events addr body reply with_pec spelled =
     let written_leg = leg (write_address addr ∷ body) in
@@ -38,13 +40,17 @@ start_of_answered events addr body reply with_pec spelled =
     ) spelled
 
 module _ (profile : List DeviceParts) where
-  start_of_parts : (part : PartData) (parts : List PartData) (legs : List Event) → PartsEvents profile (part ∷ parts) legs → BeginsAtStart legs
-  start_of_parts part parts legs each = in_front_of legs each.0 each.1 (record { rest = acked (write_address part.addr ∷ each.3.body); split = each.3.spelled }) each.2
+  start_of_parts : (part : PartData) (parts : List PartData) (legs : List Event)
+      → PartsEvents profile (part ∷ parts) legs → BeginsAtStart legs
+  start_of_parts part parts legs each = in_front_of legs each.0 each.1
+      (record { rest = acked (write_address part.addr ∷ each.3.body); split = each.3.spelled }) each.2
 
   start_of_refused : (parts : List PartData) (addr : ℕ) (sent : List ℕ) (at_read : Bool) (last : List Event)
       → RefusedLeg profile parts addr sent at_read last → BeginsAtStart last
-  start_of_refused parts addr [] false last refused = record { rest = Byte (write_address addr) ∷ Nack ∷ []; split = refused.spelled }
-  start_of_refused parts addr (b ∷ bytes) false last refused = record { rest = Byte (write_address addr) ∷ Ack ∷ nacked (b ∷ bytes); split = refused.spelled }
+  start_of_refused parts addr [] false last refused =
+      record { rest = Byte (write_address addr) ∷ Nack ∷ []; split = refused.spelled }
+  start_of_refused parts addr (b ∷ bytes) false last refused =
+      record { rest = Byte (write_address addr) ∷ Ack ∷ nacked (b ∷ bytes); split = refused.spelled }
   start_of_refused parts addr [] true last refused =
       in_front_of last (leg (write_address addr ∷ [])) (Start ∷ Byte (read_address addr) ∷ Nack ∷ [])
       (record { rest = acked (write_address addr ∷ []); split = refl }) refused.spelled
@@ -52,17 +58,25 @@ module _ (profile : List DeviceParts) where
       in_front_of last (leg (write_address addr ∷ b ∷ bytes)) (Start ∷ Byte (read_address addr) ∷ Nack ∷ [])
       (record { rest = acked (write_address addr ∷ b ∷ bytes); split = refl }) refused.spelled
 
-  start_of_legs : (parts : List PartData) (legs last : List Event) → PartsEvents profile parts legs → BeginsAtStart last → BeginsAtStart (legs ++ last)
-  start_of_legs [] legs last each first = record { rest = first.rest; split = ap (λ (es : List Event). es ++ last) each ∙ first.split }
-  start_of_legs (part ∷ parts) legs last each first = in_front_of (legs ++ last) legs last (start_of_parts part parts legs each) refl
+  start_of_legs : (parts : List PartData) (legs last : List Event) → PartsEvents profile parts legs → BeginsAtStart last
+      → BeginsAtStart (legs ++ last)
+  start_of_legs [] legs last each first = record {
+    rest = first.rest;
+    split = ap (λ (es : List Event). es ++ last) each
+        ∙ first.split;
+  }
+  start_of_legs (part ∷ parts) legs last each first = in_front_of (legs ++ last) legs last
+      (start_of_parts part parts legs each) refl
 
   start_of_packet : (t : TransactionData) (events : List Event) → Packet profile t events → BeginsAtStart events
   start_of_packet (Write []) events packet = absurd (omega (arith, packet.some))
   start_of_packet (Write (part ∷ parts)) events packet =
       in_front_of events packet.legs (Stop ∷ []) (start_of_parts part parts packet.legs packet.each) packet.spelled
-  start_of_packet (Read t) events packet = start_of_answered events t.addr (t.code ∷ []) (wire packet.form t.reply) t.pec packet.spelled
+  start_of_packet (Read t) events packet = start_of_answered events t.addr (t.code ∷ [])
+      (wire packet.form t.reply) t.pec packet.spelled
   start_of_packet (Call t) events packet =
-      start_of_answered events t.addr (t.code ∷ wire packet.form t.bytes) (wire packet.form t.reply) t.pec packet.spelled
+      start_of_answered events t.addr (t.code ∷ wire packet.form t.bytes)
+      (wire packet.form t.reply) t.pec packet.spelled
   start_of_packet (Refused t) events packet =
       in_front_of events (packet.legs ++ packet.last) (Stop ∷ [])
       (
@@ -73,10 +87,15 @@ module _ (profile : List DeviceParts) where
       let bytes = checked t.pec (read_address alert_address ∷ []) (t.byte ∷ []) in
       in_front_of events (leg (read_address alert_address ∷ []) ++ nacked bytes) (Stop ∷ [])
       (
-      in_front_of (leg (read_address alert_address ∷ []) ++ nacked bytes) (leg (read_address alert_address ∷ [])) (nacked bytes)
+      in_front_of (leg (read_address alert_address ∷ []) ++ nacked bytes) (leg (read_address alert_address ∷ []))
+      (nacked bytes)
       (record { rest = acked (read_address alert_address ∷ []); split = refl }) refl
       ) packet.spelled
-  start_of_packet NoAlert events packet = record { rest = Byte (read_address alert_address) ∷ Nack ∷ Stop ∷ []; split = packet }
+  start_of_packet NoAlert events packet = record {
+    rest = Byte (read_address alert_address) ∷ Nack ∷ Stop ∷ [];
+    split =
+        packet;
+  }
 
   pub first_is_start : (event : Event) → MayFollow profile [] event → event ≡ Start
   first_is_start event (inl none) = cc none
@@ -106,5 +125,6 @@ module _ (profile : List DeviceParts) where
         )
         )
 
-    pub packets_begin_with_start : (event : Event) → (MayFollow profile [] event → event ≡ Start) × (event ≡ Start → MayFollow profile [] event)
+    pub packets_begin_with_start : (event : Event) → (MayFollow profile [] event → event ≡ Start)
+        × (event ≡ Start → MayFollow profile [] event)
     packets_begin_with_start event = (first_is_start event, start_is_first event)

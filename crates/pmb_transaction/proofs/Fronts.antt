@@ -21,7 +21,8 @@ pub record Beyond (a b c d : List Event) : Type 0 where
   pub first : a ≡ c ++ event ∷ rest
   pub second : d ≡ event ∷ rest ++ b
 
-one_more : (e f : Event) (a b c d : List Event) → e ≡ f → Within a b c d ⊎ Beyond a b c d → Within (e ∷ a) b (f ∷ c) d ⊎ Beyond (e ∷ a) b (f ∷ c) d
+one_more : (e f : Event) (a b c d : List Event) → e ≡ f → Within a b c d ⊎ Beyond a b c d
+    → Within (e ∷ a) b (f ∷ c) d ⊎ Beyond (e ∷ a) b (f ∷ c) d
 one_more e f a b c d same (inl w) =
     let first : c ≡ a ++ w.rest = w.first in
     inl (record { rest = w.rest; first = cc (same, first); second = w.second })
@@ -107,16 +108,24 @@ sent_more b bytes e f events is_byte is_ack w =
       spelled = cc (is_byte, is_ack, spelled);
     }
 
-acked_more : (b : ℕ) (bytes : List ℕ) (e f : Event) (events : List Event) → e ≡ Byte b → f ≡ Ack → SomeTaken bytes events ⊎ OneSent bytes events
+acked_more : (b : ℕ) (bytes : List ℕ) (e f : Event) (events : List Event) → e ≡ Byte b → f ≡ Ack
+    → SomeTaken bytes events ⊎ OneSent bytes events
     → SomeTaken (b ∷ bytes) (e ∷ f ∷ events) ⊎ OneSent (b ∷ bytes) (e ∷ f ∷ events)
 acked_more b bytes e f events is_byte is_ack (inl w) =
     let split : bytes ≡ w.front ++ w.rest = w.split in
     let spelled : events ≡ acked w.front = w.spelled in
     inl
-    (record { front = b ∷ w.front; rest = w.rest; split = ap (λ (bs : List ℕ). b ∷ bs) split; spelled = cc (is_byte, is_ack, spelled) })
+    (record {
+      front = b ∷ w.front;
+      rest = w.rest;
+      split = ap (λ (bs : List ℕ). b ∷ bs) split;
+      spelled =
+          cc (is_byte, is_ack, spelled);
+    })
 acked_more b bytes e f events is_byte is_ack (inr w) = inr (sent_more b bytes e f events is_byte is_ack w)
 
-pub front_of_acked : (bytes : List ℕ) (events more : List Event) → events ++ more ≡ acked bytes → SomeTaken bytes events ⊎ OneSent bytes events
+pub front_of_acked : (bytes : List ℕ) (events more : List Event) → events ++ more ≡ acked bytes
+    → SomeTaken bytes events ⊎ OneSent bytes events
 front_of_acked [] [] more same = inl (record { front = []; rest = []; split = refl; spelled = refl })
 front_of_acked [] (e ∷ events) more same = absurd (cc same)
 front_of_acked (b ∷ bytes) [] more same = inl (record { front = []; rest = b ∷ bytes; split = refl; spelled = refl })
@@ -131,7 +140,8 @@ front_of_acked (b ∷ bytes) (e ∷ f ∷ events) more same =
 
 -- ---- the beginnings of bytes of which the last was refused
 
-nacked_more : (b : ℕ) (bytes : List ℕ) (e f : Event) (events : List Event) → e ≡ Byte b → f ≡ Ack → NotAllTaken bytes events ⊎ OneSent bytes events
+nacked_more : (b : ℕ) (bytes : List ℕ) (e f : Event) (events : List Event) → e ≡ Byte b → f ≡ Ack
+    → NotAllTaken bytes events ⊎ OneSent bytes events
     → NotAllTaken (b ∷ bytes) (e ∷ f ∷ events) ⊎ OneSent (b ∷ bytes) (e ∷ f ∷ events)
 nacked_more b bytes e f events is_byte is_ack (inl w) =
     let split : bytes ≡ w.front ++ w.fewer.next ∷ w.fewer.rest = w.fewer.split in
@@ -145,7 +155,8 @@ nacked_more b bytes e f events is_byte is_ack (inl w) =
 nacked_more b bytes e f events is_byte is_ack (inr w) = inr (sent_more b bytes e f events is_byte is_ack w)
 
 -- what begins them and is not all
-pub front_of_nacked : (bytes : List ℕ) (events : List Event) (next : Event) (more : List Event) → events ++ next ∷ more ≡ nacked bytes
+pub front_of_nacked : (bytes : List ℕ) (events : List Event) (next : Event) (more : List Event)
+    → events ++ next ∷ more ≡ nacked bytes
     → NotAllTaken bytes events ⊎ OneSent bytes events
 front_of_nacked [] events next more same = absurd (no_end events next more same)
 front_of_nacked (b ∷ bytes) [] next more same =

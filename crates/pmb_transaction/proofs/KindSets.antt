@@ -49,7 +49,8 @@ abbrev told : Bool → Bool → Bool → Bool → Bool → Bool
 told s b a n p =
     alike (holds (set_of s b a n p) Start) s
     && (alike (holds (set_of s b a n p) (Byte 0)) b
-    && (alike (holds (set_of s b a n p) Ack) a && (alike (holds (set_of s b a n p) Nack) n && alike (holds (set_of s b a n p) Stop) p)))
+    && (alike (holds (set_of s b a n p) Ack) a
+    && (alike (holds (set_of s b a n p) Nack) n && alike (holds (set_of s b a n p) Stop) p)))
 
 -- computed for each set
 all_told : every (λ s. every (λ b. every (λ a. every (λ n. every (λ p. told s b a n p))))) ≡ true
@@ -92,9 +93,11 @@ tells s b a n p =
       stop_is = same_if_alike (holds kinds Stop) p fourth.1;
     }
 
-module _ (events : Event → Type 0) (start : Decided (events Start)) (byte : Decided ((b : ℕ) × events (Byte b))) (ack : Decided (events Ack))
+module _ (events : Event → Type 0) (start : Decided (events Start)) (byte : Decided ((b : ℕ) × events (Byte b)))
+    (ack : Decided (events Ack))
     (nack : Decided (events Nack)) (stop : Decided (events Stop)) where
-  module _ (kinds : Kinds) (tells_them : Tells kinds (is_yes start) (is_yes byte) (is_yes ack) (is_yes nack) (is_yes stop)) where
+  module _ (kinds : Kinds) (tells_them : Tells kinds (is_yes start) (is_yes byte) (is_yes ack) (is_yes nack)
+      (is_yes stop)) where
     each_kind : (event : Event) → events event → holds kinds event ≡ true
     each_kind Start is = tells_them.start_is ∙ holds_yes start is
     each_kind (Byte b) is = tells_them.byte_is ∙ holds_yes byte (b, is)
@@ -102,7 +105,8 @@ module _ (events : Event → Type 0) (start : Decided (events Start)) (byte : De
     each_kind Nack is = tells_them.nack_is ∙ holds_yes nack is
     each_kind Stop is = tells_them.stop_is ∙ holds_yes stop is
 
-    only_kinds : (event : Event) → holds kinds event ≡ true → (other : Event) × (kind_of other ≡ kind_of event) × events other
+    only_kinds : (event : Event) → holds kinds event ≡ true → (other : Event) × (kind_of other ≡ kind_of event)
+        × events other
     only_kinds Start has = (Start, refl, yes_holds start (sym tells_them.start_is ∙ has))
     only_kinds (Byte b) has = let w = yes_holds byte (sym tells_them.byte_is ∙ has) in (Byte w.0, refl, w.1)
     only_kinds Ack has = (Ack, refl, yes_holds ack (sym tells_them.ack_is ∙ has))

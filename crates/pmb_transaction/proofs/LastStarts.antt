@@ -1,5 +1,6 @@
 -- What stands before the last START of events that a packet begins with, and after it.
-use Rattle.std.proofs.Common.{◌≡◌, ℕ, ◌≤◌, ◌⊎◌, inl, inr, Bool, true, false, Some, List, [], ◌∷◌, ◌++◌, length, map, nat_eq, refl, sym, ap, ◌∙◌, subst, append_assoc}
+use Rattle.std.proofs.Common.{◌≡◌, ℕ, ◌≤◌, ◌⊎◌, inl, inr, Bool, true, false, Some, List, [], ◌∷◌, ◌++◌, length, map}
+use Rattle.std.proofs.Common.{nat_eq, refl, sym, ap, ◌∙◌, subst, append_assoc}
 use Rattle.std.specs.List.{IsDistinct}
 use Rattle.std.proofs.lemmas.List.{append-nil}
 use Rattle.pmb_bus.specs.declared.event.Event.{Event}
@@ -12,14 +13,18 @@ use Rattle.pmb_transaction.specs.Body.{checked, IsRequest}
 use Rattle.pmb_transaction.specs.Packet.{Packet, PartEvents, PartsEvents, RefusedLeg, acked, addresses, leg, nacked}
 use Rattle.pmb_transaction.specs.Capture.{IsPacket}
 use Rattle.pmb_transaction.specs.Turns.{is_stop, follows_in_turn}
-use Rattle.pmb_transaction.specs.Viable.{IsAnswer, AnswerBegins, answer_taken, answer_sent, AlertBegins, ReadBegins, LegBegins, IsBeginning, at_alert, alert_answer, read_start, read_address_sent, read_answer, leg_start, leg_address, leg_taken, leg_sent, whole, before_stop, written, read, alert}
+use Rattle.pmb_transaction.specs.Viable.{IsAnswer, AnswerBegins, answer_taken, answer_sent, AlertBegins, ReadBegins}
+use Rattle.pmb_transaction.specs.Viable.{LegBegins, IsBeginning, at_alert, alert_answer, read_start, read_address_sent}
+use Rattle.pmb_transaction.specs.Viable.{read_answer, leg_start, leg_address, leg_taken, leg_sent, whole, before_stop}
+use Rattle.pmb_transaction.specs.Viable.{written, read, alert}
 use Rattle.pmb_transaction.specs.Following.{IsAlertAnswer}
 use Rattle.pmb_transaction.proofs.Beginnings.{call_answers, read_answers, same_before_stop}
 use Rattle.pmb_transaction.proofs.Ends.{ends_behind, ends_with}
 use Rattle.pmb_transaction.proofs.Fronts.{no_end}
 use Rattle.pmb_transaction.proofs.Legs.{one_row_of_legs}
 use Rattle.pmb_transaction.proofs.OneTransaction.{tell_parts}
-use Rattle.pmb_transaction.proofs.Starts.{has_start, no_start-acked, no_start-answer, no_start-nacked, no_start-sent, not_both, same_last_start}
+use Rattle.pmb_transaction.proofs.Starts.{has_start, no_start-acked, no_start-answer, no_start-nacked, no_start-sent}
+use Rattle.pmb_transaction.proofs.Starts.{not_both, same_last_start}
 use Rattle.pmb_transaction.proofs.Telling.{part_told}
 
 -- events that begin with their only START
@@ -29,14 +34,17 @@ pub record IsLeg (events : List Event) : Type 0 where
   pub no_start : has_start tail ≡ false
 
 -- where events end with such, they are cut there
-pub cut_leg : (front own before events : List Event) → has_start own ≡ false → IsLeg events → front ++ Start ∷ own ≡ before ++ events
+pub cut_leg : (front own before events : List Event) → has_start own ≡ false → IsLeg events
+    → front ++ Start ∷ own ≡ before ++ events
     → (before ≡ front) × (events ≡ Start ∷ own)
 cut_leg front own before events none is same =
     let cut =
-    same_last_start front before own is.tail none is.no_start (same ∙ ap (λ (es : List Event). before ++ es) is.split) in
+    same_last_start front before own is.tail none is.no_start
+    (same ∙ ap (λ (es : List Event). before ++ es) is.split) in
     (sym cut.0, is.split ∙ ap (λ (es : List Event). Start ∷ es) (sym cut.1))
 
-is_answer_leg : (address : ℕ) (answer : List ℕ) (events : List Event) → AnswerBegins address answer events → IsLeg events
+is_answer_leg : (address : ℕ) (answer : List ℕ) (events : List Event) → AnswerBegins address answer events
+    → IsLeg events
 is_answer_leg address answer events begins =
     let tail = no_start-answer address answer events begins in
     record { tail = Byte address ∷ tail.0; split = tail.1; no_start = tail.2 }
@@ -44,7 +52,8 @@ is_answer_leg address answer events begins =
 -- ---- addresses for writing and for reading
 
 -- an answer stands after no address byte for writing
-pub not_written : (addr other : ℕ) (answer : List ℕ) (rest : List Event) → AnswerBegins (read_address other) answer (Start ∷ Byte (write_address addr) ∷ rest) → ⊥
+pub not_written : (addr other : ℕ) (answer : List ℕ) (rest : List Event)
+    → AnswerBegins (read_address other) answer (Start ∷ Byte (write_address addr) ∷ rest) → ⊥
 not_written addr other answer rest (answer_taken bytes fewer is) = not_both addr other (cc is)
 not_written addr other answer rest (answer_sent bytes byte more split is) = not_both addr other (cc is)
 
@@ -54,19 +63,23 @@ no_alert_written addr rest (alert_answer byte with_pec small begins) = not_writt
 
 module _ (profile : List DeviceParts) where
   -- no written leg begins with an address byte for reading
-  pub not_in_written : (parts : List PartData) (addr : ℕ) (rest : List Event) → LegBegins profile parts (Start ∷ Byte (read_address addr) ∷ rest) → ⊥
+  pub not_in_written : (parts : List PartData) (addr : ℕ) (rest : List Event)
+      → LegBegins profile parts (Start ∷ Byte (read_address addr) ∷ rest) → ⊥
   not_in_written parts addr rest (leg_start is) = cc is
   not_in_written parts addr rest (leg_address other seven new is) = not_both other addr (cc is)
   not_in_written parts addr rest (leg_taken other device bytes new known begins is) = not_both other addr (cc is)
-  not_in_written parts addr rest (leg_sent other device bytes byte new known inside small is) = not_both other addr (cc is)
+  not_in_written parts addr rest (leg_sent other device bytes byte new known inside small is) =
+      not_both other addr (cc is)
 
-  pub not_a_part : (part : PartData) (addr : ℕ) (rest : List Event) → PartEvents profile part (Start ∷ Byte (read_address addr) ∷ rest) → ⊥
+  pub not_a_part : (part : PartData) (addr : ℕ) (rest : List Event)
+      → PartEvents profile part (Start ∷ Byte (read_address addr) ∷ rest) → ⊥
   not_a_part part addr rest here = not_both part.addr addr (cc (here.spelled))
 
   -- ---- parts
 
   -- events are those of one list of parts
-  pub one_list_of_parts : (a b : List PartData) (events : List Event) → PartsEvents profile a events → PartsEvents profile b events → a ≡ b
+  pub one_list_of_parts : (a b : List PartData) (events : List Event) → PartsEvents profile a events
+      → PartsEvents profile b events → a ≡ b
   one_list_of_parts a b events first second =
       let x = tell_parts profile a events first in
       let y = tell_parts profile b events second in
@@ -84,7 +97,8 @@ module _ (profile : List DeviceParts) where
     pub here : PartEvents profile part last
     pub spelled : events ≡ before ++ last
 
-  last_part : (part : PartData) (parts : List PartData) (events : List Event) → PartsEvents profile (part ∷ parts) events
+  last_part : (part : PartData) (parts : List PartData) (events : List Event)
+      → PartsEvents profile (part ∷ parts) events
       → LastPart (part ∷ parts) events
   last_part part [] events each = record {
     done = [];
@@ -114,7 +128,12 @@ module _ (profile : List DeviceParts) where
 
   is_part_leg : (part : PartData) (events : List Event) → PartEvents profile part events → IsLeg events
   is_part_leg part events here =
-      record { tail = acked (write_address part.addr ∷ here.body); split = here.spelled; no_start = no_start-acked here.body }
+      record {
+        tail = acked (write_address part.addr ∷ here.body);
+        split = here.spelled;
+        no_start =
+            no_start-acked here.body;
+      }
 
   -- the last of parts, by the last START of their events
   pub record PartBehind (all : List PartData) (front own : List Event) : Type 0 where
@@ -124,7 +143,8 @@ module _ (profile : List DeviceParts) where
     pub each : PartsEvents profile done front
     pub here : PartEvents profile part (Start ∷ own)
 
-  pub part_behind : (all : List PartData) (events front own : List Event) → has_start own ≡ false → PartsEvents profile all events
+  pub part_behind : (all : List PartData) (events front own : List Event) → has_start own ≡ false
+      → PartsEvents profile all events
       → front ++ Start ∷ own ≡ events → PartBehind all front own
   part_behind [] events front own none each same = absurd (no_end front Start own (same ∙ each))
   part_behind (part ∷ parts) events front own none each same =
@@ -142,15 +162,18 @@ module _ (profile : List DeviceParts) where
 
   -- What ends inside a leg, by the events before its START and those after it.
   pub data InLastLeg (front own : List Event) : Type 0 where
-    in_written : (parts : List PartData) → length parts ≤ 15 → IsDistinct nat_eq (addresses parts) → PartsEvents profile parts front
+    in_written : (parts : List PartData) → length parts ≤ 15 → IsDistinct nat_eq (addresses parts)
+        → PartsEvents profile parts front
         → LegBegins profile parts (Start ∷ own) → InLastLeg front own
     at_reply : (addr : ℕ) → (device : DeviceParts) → (body : List ℕ) → device_with addr profile ≡ Some device
         → IsRequest device body → front ≡ leg (write_address addr ∷ body) → own ≡ [] → InLastLeg front own
     at_read_address : (addr : ℕ) → (device : DeviceParts) → (body : List ℕ) → device_with addr profile ≡ Some device
         → IsRequest device body → front ≡ leg (write_address addr ∷ body) → own ≡ Byte (read_address addr) ∷ []
         → InLastLeg front own
-    in_reply : (addr : ℕ) → (device : DeviceParts) → (body : List ℕ) → (answer : List ℕ) → device_with addr profile ≡ Some device
-        → IsAnswer device addr body answer → front ≡ leg (write_address addr ∷ body) → AnswerBegins (read_address addr) answer (Start ∷ own)
+    in_reply : (addr : ℕ) → (device : DeviceParts) → (body : List ℕ) → (answer : List ℕ)
+        → device_with addr profile ≡ Some device
+        → IsAnswer device addr body answer → front ≡ leg (write_address addr ∷ body)
+        → AnswerBegins (read_address addr) answer (Start ∷ own)
         → InLastLeg front own
     in_alert : front ≡ [] → AlertBegins (Start ∷ own) → InLastLeg front own
 
@@ -161,35 +184,52 @@ module _ (profile : List DeviceParts) where
   is_written_leg parts events (leg_taken addr device bytes new known begins is) =
       record { tail = acked (write_address addr ∷ bytes); split = is; no_start = no_start-acked bytes }
   is_written_leg parts events (leg_sent addr device bytes byte new known inside small is) =
-      record { tail = acked (write_address addr ∷ bytes) ++ Byte byte ∷ []; split = is; no_start = no_start-sent bytes byte }
+      record {
+        tail = acked (write_address addr ∷ bytes) ++ Byte byte ∷ [];
+        split = is;
+        no_start =
+            no_start-sent bytes byte;
+      }
 
   is_alert_leg : (events : List Event) → AlertBegins events → IsLeg events
-  is_alert_leg events (at_alert is) = record { tail = Byte (read_address alert_address) ∷ []; split = is; no_start = refl }
+  is_alert_leg events (at_alert is) = record {
+    tail = Byte (read_address alert_address) ∷ [];
+    split = is;
+    no_start =
+        refl;
+  }
   is_alert_leg events (alert_answer byte with_pec small begins) =
-      is_answer_leg (read_address alert_address) (checked with_pec (read_address alert_address ∷ []) (byte ∷ [])) events begins
+      is_answer_leg (read_address alert_address) (checked with_pec (read_address alert_address ∷ []) (byte ∷ [])) events
+      begins
 
-  in_read_leg : (front own events : List Event) → has_start own ≡ false → events ≡ front ++ Start ∷ own → ReadBegins profile events
+  in_read_leg : (front own events : List Event) → has_start own ≡ false → events ≡ front ++ Start ∷ own
+      → ReadBegins profile events
       → InLastLeg front own
   in_read_leg front own events none spelled (read_start addr device body known is same) =
       let cut = same_last_start front (leg (write_address addr ∷ body)) own [] none refl (sym spelled ∙ same) in
       at_reply addr device body known is cut.0 cut.1
   in_read_leg front own events none spelled (read_address_sent addr device body known is same) =
       let cut =
-      same_last_start front (leg (write_address addr ∷ body)) own (Byte (read_address addr) ∷ []) none refl (sym spelled ∙ same) in
+      same_last_start front (leg (write_address addr ∷ body)) own (Byte (read_address addr) ∷ []) none refl
+      (sym spelled ∙ same) in
       at_read_address addr device body known is cut.0 cut.1
   in_read_leg front own events none spelled (read_answer addr device body answer last known answers begins same) =
       let cut =
-      cut_leg front own (leg (write_address addr ∷ body)) last none (is_answer_leg (read_address addr) answer last begins)
+      cut_leg front own (leg (write_address addr ∷ body)) last none
+      (is_answer_leg (read_address addr) answer last begins)
       (sym spelled ∙ same) in
-      in_reply addr device body answer known answers (sym cut.0) (subst (AnswerBegins (read_address addr) answer) cut.1 begins)
+      in_reply addr device body answer known answers (sym cut.0)
+      (subst (AnswerBegins (read_address addr) answer) cut.1 begins)
 
   -- A beginning is a packet with or without its STOP, or ends inside its last leg.
-  pub by_last_leg : (front own events : List Event) → has_start own ≡ false → events ≡ front ++ Start ∷ own → IsBeginning profile events
+  pub by_last_leg : (front own events : List Event) → has_start own ≡ false → events ≡ front ++ Start ∷ own
+      → IsBeginning profile events
       → (IsPacket profile events ⊎ IsPacket profile (events ++ Stop ∷ [])) ⊎ InLastLeg front own
   by_last_leg front own events none spelled (whole packet) = inl (inl packet)
   by_last_leg front own events none spelled (before_stop packet) = inl (inr packet)
   by_last_leg front own events none spelled (written w) =
-      let cut = cut_leg front own w.legs w.last none (is_written_leg w.parts w.last w.begins) (sym spelled ∙ w.spelled) in
+      let cut = cut_leg front own w.legs w.last none (is_written_leg w.parts w.last w.begins)
+      (sym spelled ∙ w.spelled) in
       inr
       (
       in_written w.parts w.few w.distinct (subst (PartsEvents profile w.parts) cut.0 w.each)
@@ -201,45 +241,61 @@ module _ (profile : List DeviceParts) where
       inr (in_alert (sym cut.0) (subst AlertBegins cut.1 begins))
 
   -- after an event that neither ends a packet nor has STOP after it, the latter
-  by_open_leg_at : (events : List Event) (event : Event) (front own : List Event) → is_stop event ≡ false → follows_in_turn event Stop ≡ false
-      → (IsPacket profile (events ++ event ∷ []) ⊎ IsPacket profile ((events ++ event ∷ []) ++ Stop ∷ [])) ⊎ InLastLeg front own
+  by_open_leg_at : (events : List Event) (event : Event) (front own : List Event) → is_stop event ≡ false
+      → follows_in_turn event Stop ≡ false
+      → (IsPacket profile (events ++ event ∷ []) ⊎ IsPacket profile ((events ++ event ∷ []) ++ Stop ∷ []))
+      ⊎ InLastLeg front own
       → InLastLeg front own
-  by_open_leg_at events event front own other stays (inl (inl packet)) = absurd (ends_with profile events event other packet)
-  by_open_leg_at events event front own other stays (inl (inr packet)) = absurd (ends_behind profile events event stays packet)
+  by_open_leg_at events event front own other stays (inl (inl packet)) =
+      absurd (ends_with profile events event other packet)
+  by_open_leg_at events event front own other stays (inl (inr packet)) =
+      absurd (ends_behind profile events event stays packet)
   by_open_leg_at events event front own other stays (inr w) = w
 
-  pub by_open_leg : (events : List Event) (event : Event) (front own : List Event) → is_stop event ≡ false → follows_in_turn event Stop ≡ false
-      → has_start own ≡ false → events ++ event ∷ [] ≡ front ++ Start ∷ own → IsBeginning profile (events ++ event ∷ []) → InLastLeg front own
+  pub by_open_leg : (events : List Event) (event : Event) (front own : List Event) → is_stop event ≡ false
+      → follows_in_turn event Stop ≡ false
+      → has_start own ≡ false → events ++ event ∷ [] ≡ front ++ Start ∷ own → IsBeginning profile (events ++ event ∷ [])
+      → InLastLeg front own
   by_open_leg events event front own other stays none spelled begins =
-      by_open_leg_at events event front own other stays (by_last_leg front own (events ++ event ∷ []) none spelled begins)
+      by_open_leg_at events event front own other stays
+      (by_last_leg front own (events ++ event ∷ []) none spelled begins)
 
   -- ---- packets
 
   -- A packet without its STOP, by the events before its last START and those after it.
   pub data EndsInLeg (front own : List Event) : Type 0 where
-    ends_write : (parts : List PartData) → (part : PartData) → PartsEvents profile parts front → PartEvents profile part (Start ∷ own)
+    ends_write : (parts : List PartData) → (part : PartData) → PartsEvents profile parts front
+        → PartEvents profile part (Start ∷ own)
         → EndsInLeg front own
     ends_at_address : (addr : ℕ) → own ≡ Byte (write_address addr) ∷ Nack ∷ [] → EndsInLeg front own
-    ends_at_byte : (addr : ℕ) → (byte : ℕ) → (bytes : List ℕ) → own ≡ Byte (write_address addr) ∷ Ack ∷ nacked (byte ∷ bytes)
+    ends_at_byte : (addr : ℕ) → (byte : ℕ) → (bytes : List ℕ) → own ≡ Byte (write_address addr) ∷ Ack
+        ∷ nacked (byte ∷ bytes)
         → EndsInLeg front own
     ends_at_read : (addr : ℕ) → own ≡ Byte (read_address addr) ∷ Nack ∷ [] → EndsInLeg front own
-    ends_reply : (addr : ℕ) → (device : DeviceParts) → (body : List ℕ) → (answer : List ℕ) → device_with addr profile ≡ Some device
-        → IsAnswer device addr body answer → front ≡ leg (write_address addr ∷ body) → own ≡ Byte (read_address addr) ∷ Ack ∷ nacked answer
+    ends_reply : (addr : ℕ) → (device : DeviceParts) → (body : List ℕ) → (answer : List ℕ)
+        → device_with addr profile ≡ Some device
+        → IsAnswer device addr body answer → front ≡ leg (write_address addr ∷ body)
+        → own ≡ Byte (read_address addr) ∷ Ack ∷ nacked answer
         → EndsInLeg front own
-    ends_alert : (answer : List ℕ) → IsAlertAnswer answer → front ≡ [] → own ≡ Byte (read_address alert_address) ∷ Ack ∷ nacked answer
+    ends_alert : (answer : List ℕ) → IsAlertAnswer answer → front ≡ [] → own ≡ Byte (read_address alert_address) ∷ Ack
+        ∷ nacked answer
         → EndsInLeg front own
 
-  ends_in_reply : (front own : List Event) → has_start own ≡ false → (addr : ℕ) (device : DeviceParts) (body answer : List ℕ)
+  ends_in_reply : (front own : List Event) → has_start own ≡ false
+      → (addr : ℕ) (device : DeviceParts) (body answer : List ℕ)
       → device_with addr profile ≡ Some device → IsAnswer device addr body answer
-      → front ++ Start ∷ own ≡ leg (write_address addr ∷ body) ++ (leg (read_address addr ∷ []) ++ nacked answer) → EndsInLeg front own
+      → front ++ Start ∷ own ≡ leg (write_address addr ∷ body) ++ (leg (read_address addr ∷ []) ++ nacked answer)
+      → EndsInLeg front own
   ends_in_reply front own none addr device body answer known answers same =
       let cut =
       same_last_start front (leg (write_address addr ∷ body)) own (Byte (read_address addr) ∷ Ack ∷ nacked answer) none
       (no_start-nacked answer) same in
       ends_reply addr device body answer known answers cut.0 cut.1
 
-  ends_in_read_refused : (front own : List Event) → has_start own ≡ false → (legs : List Event) (addr : ℕ) (sent : List ℕ) (last : List Event)
-      → last ≡ leg (write_address addr ∷ sent) ++ Start ∷ Byte (read_address addr) ∷ Nack ∷ [] → front ++ Start ∷ own ≡ legs ++ last
+  ends_in_read_refused : (front own : List Event) → has_start own ≡ false
+      → (legs : List Event) (addr : ℕ) (sent : List ℕ) (last : List Event)
+      → last ≡ leg (write_address addr ∷ sent) ++ Start ∷ Byte (read_address addr) ∷ Nack ∷ []
+      → front ++ Start ∷ own ≡ legs ++ last
       → EndsInLeg front own
   ends_in_read_refused front own none legs addr sent last spelled same =
       let written_leg = leg (write_address addr ∷ sent) in
@@ -252,8 +308,10 @@ module _ (profile : List DeviceParts) where
       ) in
       ends_at_read addr cut.1
 
-  ends_in_refused : (front own : List Event) → has_start own ≡ false → (parts : List PartData) (addr : ℕ) (sent : List ℕ) (at_read : Bool)
-      → (legs last : List Event) → RefusedLeg profile parts addr sent at_read last → front ++ Start ∷ own ≡ legs ++ last → EndsInLeg front own
+  ends_in_refused : (front own : List Event) → has_start own ≡ false
+      → (parts : List PartData) (addr : ℕ) (sent : List ℕ) (at_read : Bool)
+      → (legs last : List Event) → RefusedLeg profile parts addr sent at_read last → front ++ Start ∷ own ≡ legs ++ last
+      → EndsInLeg front own
   ends_in_refused front own none parts addr [] false legs last refused same =
       let cut =
       same_last_start front legs own (Byte (write_address addr) ∷ Nack ∷ []) none refl
@@ -261,7 +319,8 @@ module _ (profile : List DeviceParts) where
       ends_at_address addr cut.1
   ends_in_refused front own none parts addr (b ∷ bytes) false legs last refused same =
       let cut =
-      same_last_start front legs own (Byte (write_address addr) ∷ Ack ∷ nacked (b ∷ bytes)) none (no_start-nacked (b ∷ bytes))
+      same_last_start front legs own (Byte (write_address addr) ∷ Ack ∷ nacked (b ∷ bytes)) none
+      (no_start-nacked (b ∷ bytes))
       (same ∙ ap (λ (es : List Event). legs ++ es) refused.spelled) in
       ends_at_byte addr b bytes cut.1
   ends_in_refused front own none parts addr [] true legs last refused same =
@@ -269,22 +328,26 @@ module _ (profile : List DeviceParts) where
   ends_in_refused front own none parts addr (b ∷ bytes) true legs last refused same =
       ends_in_read_refused front own none legs addr (b ∷ bytes) last refused.spelled same
 
-  ends_in_leg : (front own events : List Event) → has_start own ≡ false → events ≡ front ++ Start ∷ own → (t : TransactionData)
+  ends_in_leg : (front own events : List Event) → has_start own ≡ false → events ≡ front ++ Start ∷ own
+      → (t : TransactionData)
       → Packet profile t (events ++ Stop ∷ []) → EndsInLeg front own
   ends_in_leg front own events none spelled (Write parts) packet =
-      let w = part_behind parts packet.legs front own none packet.each (sym spelled ∙ same_before_stop events packet.legs packet.spelled) in
+      let w = part_behind parts packet.legs front own none packet.each
+      (sym spelled ∙ same_before_stop events packet.legs packet.spelled) in
       ends_write w.done w.part w.each w.here
   ends_in_leg front own events none spelled (Read t) packet =
       let body = t.code ∷ [] in
       let answer = checked t.pec (write_address t.addr ∷ body ++ read_address t.addr ∷ []) (wire packet.form t.reply) in
       let all = leg (write_address t.addr ∷ body) ++ (leg (read_address t.addr ∷ []) ++ nacked answer) in
-      ends_in_reply front own none t.addr packet.device body answer packet.known (read_answers profile t (events ++ Stop ∷ []) packet)
+      ends_in_reply front own none t.addr packet.device body answer packet.known
+      (read_answers profile t (events ++ Stop ∷ []) packet)
       (sym spelled ∙ same_before_stop events all packet.spelled)
   ends_in_leg front own events none spelled (Call t) packet =
       let body = t.code ∷ wire packet.form t.bytes in
       let answer = checked t.pec (write_address t.addr ∷ body ++ read_address t.addr ∷ []) (wire packet.form t.reply) in
       let all = leg (write_address t.addr ∷ body) ++ (leg (read_address t.addr ∷ []) ++ nacked answer) in
-      ends_in_reply front own none t.addr packet.device body answer packet.known (call_answers profile t (events ++ Stop ∷ []) packet)
+      ends_in_reply front own none t.addr packet.device body answer packet.known
+      (call_answers profile t (events ++ Stop ∷ []) packet)
       (sym spelled ∙ same_before_stop events all packet.spelled)
   ends_in_leg front own events none spelled (Refused t) packet =
       ends_in_refused front own none t.parts t.addr t.sent t.at_read packet.legs packet.last packet.refused
@@ -293,7 +356,8 @@ module _ (profile : List DeviceParts) where
       let answer = checked t.pec (read_address alert_address ∷ []) (t.byte ∷ []) in
       let all = leg (read_address alert_address ∷ []) ++ nacked answer in
       let cut =
-      same_last_start front [] own (Byte (read_address alert_address) ∷ Ack ∷ nacked answer) none (no_start-nacked answer)
+      same_last_start front [] own (Byte (read_address alert_address) ∷ Ack ∷ nacked answer) none
+      (no_start-nacked answer)
       (sym spelled ∙ same_before_stop events all packet.spelled) in
       ends_alert answer (record { byte = t.byte; small = packet.byte; with_pec = t.pec; spelled = refl }) cut.0 cut.1
   ends_in_leg front own events none spelled NoAlert packet =
@@ -303,6 +367,7 @@ module _ (profile : List DeviceParts) where
       (sym spelled ∙ same_before_stop events all packet) in
       ends_at_read alert_address cut.1
 
-  pub by_stop : (front own events : List Event) → has_start own ≡ false → events ≡ front ++ Start ∷ own → IsPacket profile (events ++ Stop ∷ [])
+  pub by_stop : (front own events : List Event) → has_start own ≡ false → events ≡ front ++ Start ∷ own
+      → IsPacket profile (events ++ Stop ∷ [])
       → EndsInLeg front own
   by_stop front own events none spelled packet = ends_in_leg front own events none spelled packet.0 packet.1

@@ -25,7 +25,8 @@ legs_then (leg ∷ legs) rest = Start ∷ behind_start leg.taken leg.bytes ++ le
 abbrev pub events_of_legs : List Leg → List Event
 events_of_legs legs = legs_then legs (Stop ∷ [])
 
-pub legs_then-append : (legs more : List Leg) (rest : List Event) → legs_then (legs ++ more) rest ≡ legs_then legs (legs_then more rest)
+pub legs_then-append : (legs more : List Leg) (rest : List Event)
+    → legs_then (legs ++ more) rest ≡ legs_then legs (legs_then more rest)
 legs_then-append [] more rest = refl
 legs_then-append (leg ∷ legs) more rest =
     ap (λ (events : List Event). Start ∷ behind_start leg.taken leg.bytes ++ events) (legs_then-append legs more rest)

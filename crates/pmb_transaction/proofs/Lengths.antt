@@ -18,7 +18,8 @@ data_are_short Four bytes fits = omega (arith, fits.taken)
 data_are_short Eight bytes fits = omega (arith, fits.taken)
 data_are_short Block bytes fits = omega (arith, fits.taken)
 
-pub one_code_more : (with_pec : Bool) (before bytes : List ℕ) → length (checked with_pec before bytes) ≤ length bytes + 1
+pub one_code_more : (with_pec : Bool) (before bytes : List ℕ)
+    → length (checked with_pec before bytes) ≤ length bytes + 1
 one_code_more false before bytes = omega arith
 one_code_more true before bytes = omega (arith, length-append bytes (pec (before ++ bytes) ∷ []))
 
@@ -38,13 +39,20 @@ read_body device body (code, form, is) = omega (arith, ap length is.spelled)
 call_body : (device : DeviceParts) (body : List ℕ) → IsCallBody device body → length body ≤ 258
 call_body device body (code, form, bytes, is) = omega (arith, ap length is.spelled, data_are_short form bytes is.fits)
 
-pub body_is_short : (device : DeviceParts) (parts : List PartData) (body : List ℕ) → Allowed device parts body → length body ≤ 258
+pub body_is_short : (device : DeviceParts) (parts : List PartData) (body : List ℕ) → Allowed device parts body
+    → length body ≤ 258
 body_is_short device [] body (inl is) = write_body device body is
 body_is_short device [] body (inr (inl is)) = read_body device body is
 body_is_short device [] body (inr (inr is)) = call_body device body is
 body_is_short device (part ∷ parts) body is = write_body device body is
 
-pub front_is_short : (device : DeviceParts) (parts : List PartData) (front : List ℕ) → IsInsideBody device parts front → length front ≤ 257
+pub front_is_short : (device : DeviceParts) (parts : List PartData) (front : List ℕ) → IsInsideBody device parts front
+    → length front ≤ 257
 front_is_short device parts front (inl none) = omega (arith, ap length none)
 front_is_short device parts front (inr (body, allowed, inside)) =
-    omega (arith, ap length inside.split, length-append front (inside.next ∷ inside.rest), body_is_short device parts body allowed)
+    omega (
+      arith,
+      ap length inside.split,
+      length-append front (inside.next ∷ inside.rest),
+      body_is_short device parts body allowed,
+    )

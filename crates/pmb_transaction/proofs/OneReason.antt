@@ -1,14 +1,18 @@
 -- An event that is refused has one reason at most, and that is no truncation.
-use Rattle.std.proofs.Common.{◌≡◌, ◌≢◌, ◌%◌, ◌==◌, inl, inr, Bool, false, if◌then◌else◌, List, [], ◌∷◌, ◌++◌, refl, sym, ap, ◌∙◌, append_assoc}
+use Rattle.std.proofs.Common.{◌≡◌, ◌≢◌, ◌%◌, ◌==◌, inl, inr, Bool, false, if◌then◌else◌, List, [], ◌∷◌, ◌++◌, refl, sym}
+use Rattle.std.proofs.Common.{ap, ◌∙◌, append_assoc}
 use Rattle.std.proofs.lemmas.List.{same_from_push}
 use Rattle.pmb_bus.specs.declared.event.Event.{Event}
 use Rattle.pmb_bus.specs.declared.event.Event.TheVariants.{Start, Byte, Ack, Nack, Stop}
 use Rattle.pmb_bus.specs.Address.{write_address, read_address}
 use Rattle.pmb_command.specs.Parts.{DeviceParts}
 use Rattle.pmb_transaction.specs.declared.reason.Reason.{Reason}
-use Rattle.pmb_transaction.specs.declared.reason.Reason.TheVariants.{UnknownDevice, UnknownCommand, BadPec, TooLong, Truncated, WrongEvent}
+use Rattle.pmb_transaction.specs.declared.reason.Reason.TheVariants.{UnknownDevice, UnknownCommand, BadPec, TooLong}
+use Rattle.pmb_transaction.specs.declared.reason.Reason.TheVariants.{Truncated, WrongEvent}
 use Rattle.pmb_transaction.specs.Packet.{acked, leg}
-use Rattle.pmb_transaction.specs.Reason.{ByteReason, read_first, bad_restart, bad_pec_sent, AckReason, unknown_device, unknown_command, bad_pec_taken, too_long, NackReason, too_short, IsReason, Whether}
+use Rattle.pmb_transaction.specs.Reason.{ByteReason, read_first, bad_restart, bad_pec_sent, AckReason, unknown_device}
+use Rattle.pmb_transaction.specs.Reason.{unknown_command, bad_pec_taken, too_long, NackReason, too_short, IsReason}
+use Rattle.pmb_transaction.specs.Reason.{Whether}
 use Rattle.pmb_transaction.proofs.Starts.{has_start, no_start-sent, same_last_start}
 use Rattle.pmb_transaction.proofs.Telling.{is_write-read, is_write-write}
 
@@ -19,13 +23,19 @@ same_end a b events x y first second = same_from_push a b x y (sym first ∙ sec
 
 one_byte_reason : (events : List Event) (r s : Reason) → ByteReason events r → ByteReason events s → r ≡ s
 one_byte_reason events r s (read_first is) (read_first also) = refl
-one_byte_reason events r s (read_first is) (bad_restart front some also) = absurd (some (sym (same_end [] front events Start Start is also).0))
-one_byte_reason events r s (read_first is) (bad_pec_sent front also) = absurd (cc ((same_end [] front events Start Ack is also).1))
-one_byte_reason events r s (bad_restart front some is) (read_first also) = absurd (some (same_end front [] events Start Start is also).0)
+one_byte_reason events r s (read_first is) (bad_restart front some also) =
+    absurd (some (sym (same_end [] front events Start Start is also).0))
+one_byte_reason events r s (read_first is) (bad_pec_sent front also) =
+    absurd (cc ((same_end [] front events Start Ack is also).1))
+one_byte_reason events r s (bad_restart front some is) (read_first also) =
+    absurd (some (same_end front [] events Start Start is also).0)
 one_byte_reason events r s (bad_restart front some is) (bad_restart other others also) = refl
-one_byte_reason events r s (bad_restart front some is) (bad_pec_sent other also) = absurd (cc ((same_end front other events Start Ack is also).1))
-one_byte_reason events r s (bad_pec_sent front is) (read_first also) = absurd (cc ((same_end front [] events Ack Start is also).1))
-one_byte_reason events r s (bad_pec_sent front is) (bad_restart other others also) = absurd (cc ((same_end front other events Ack Start is also).1))
+one_byte_reason events r s (bad_restart front some is) (bad_pec_sent other also) =
+    absurd (cc ((same_end front other events Start Ack is also).1))
+one_byte_reason events r s (bad_pec_sent front is) (read_first also) =
+    absurd (cc ((same_end front [] events Ack Start is also).1))
+one_byte_reason events r s (bad_pec_sent front is) (bad_restart other others also) =
+    absurd (cc ((same_end front other events Ack Start is also).1))
 one_byte_reason events r s (bad_pec_sent front is) (bad_pec_sent other also) = refl
 
 -- ---- ACK
@@ -54,7 +64,8 @@ record Told (events : List Event) (reason : Reason) : Type 0 where
 
 ack_told : (events : List Event) (reason : Reason) → AckReason events reason → Told events reason
 unfolding told_written
-ack_told events reason (unknown_device front addr is) = record { front = front; own = Byte (write_address addr) ∷ []; none = refl; split = is; is = refl }
+ack_told events reason (unknown_device front addr is) =
+    record { front = front; own = Byte (write_address addr) ∷ []; none = refl; split = is; is = refl }
 ack_told events reason (unknown_command front addr code is) = record {
   front = front;
   own = acked (write_address addr ∷ []) ++ Byte code ∷ [];
@@ -91,7 +102,8 @@ one_nack_reason events r s (too_short front addr bytes byte is) (too_short other
 
 -- ---- each event
 
-one_of_two : (Holds : Type 0) (Told : Reason → Type 0) (r s : Reason) → (Told r → Told s → r ≡ s) → Whether Holds (Told r) (r ≡ WrongEvent)
+one_of_two : (Holds : Type 0) (Told : Reason → Type 0) (r s : Reason) → (Told r → Told s → r ≡ s)
+    → Whether Holds (Told r) (r ≡ WrongEvent)
     → Whether Holds (Told s) (s ≡ WrongEvent) → r ≡ s
 one_of_two Holds Told r s one (inl a) (inl b) = one a.1 b.1
 one_of_two Holds Told r s one (inl a) (inr b) = absurd (b.0 a.0)
@@ -99,16 +111,20 @@ one_of_two Holds Told r s one (inr a) (inl b) = absurd (a.0 b.0)
 one_of_two Holds Told r s one (inr a) (inr b) = a.1 ∙ sym b.1
 
 module _ (profile : List DeviceParts) where
-  pub one_reason : (events : List Event) (event : Event) (r s : Reason) → IsReason profile events event r → IsReason profile events event s → r ≡ s
+  pub one_reason : (events : List Event) (event : Event) (r s : Reason) → IsReason profile events event r
+      → IsReason profile events event s → r ≡ s
   one_reason events Start r s first second = first ∙ sym second
   one_reason events Stop r s first second = first ∙ sym second
-  one_reason events (Byte b) r s first second = one_of_two _ (ByteReason events) r s (one_byte_reason events r s) first second
+  one_reason events (Byte b) r s first second = one_of_two _ (ByteReason events) r s
+      (one_byte_reason events r s) first second
   one_reason events Ack r s first second = one_of_two _ (AckReason events) r s (one_ack_reason events r s) first second
-  one_reason events Nack r s first second = one_of_two _ (NackReason events) r s (one_nack_reason events r s) first second
+  one_reason events Nack r s first second = one_of_two _ (NackReason events) r s
+      (one_nack_reason events r s) first second
 
   -- ---- no truncation
 
-  pub no_truncation : (events : List Event) (event : Event) (reason : Reason) → IsReason profile events event reason → reason ≢ Truncated
+  pub no_truncation : (events : List Event) (event : Event) (reason : Reason) → IsReason profile events event reason
+      → reason ≢ Truncated
   no_truncation events Start reason wrong is = cc (sym wrong ∙ is)
   no_truncation events Stop reason wrong is = cc (sym wrong ∙ is)
   no_truncation events (Byte b) reason (inl (some, read_first at)) is = cc is

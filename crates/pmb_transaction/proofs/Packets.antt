@@ -1,5 +1,6 @@
 -- Packets that events make with their last one.
-use Rattle.std.proofs.Common.{◌≡◌, ℕ, ◌+◌, ◌<◌, ◌≤◌, inl, inr, Bool, true, false, Option, Some, List, [], ◌∷◌, ◌++◌, length, nat_eq, refl, sym, ap, ◌∙◌, subst, append_assoc, arith}
+use Rattle.std.proofs.Common.{◌≡◌, ℕ, ◌+◌, ◌<◌, ◌≤◌, inl, inr, Bool, true, false, Option, Some, List, [], ◌∷◌, ◌++◌}
+use Rattle.std.proofs.Common.{length, nat_eq, refl, sym, ap, ◌∙◌, subst, append_assoc, arith}
 use Rattle.std.specs.List.{IsDistinct}
 use Rattle.std.proofs.lemmas.List.{length_push}
 use Rattle.std.proofs.lemmas.Option.{same_Some}
@@ -26,7 +27,8 @@ use Rattle.pmb_transaction.proofs.Known.{device_is}
 
 -- before STOP
 refused_last : (front : List Event) (address : ℕ) (bytes : List ℕ) (byte : ℕ)
-    → front ++ leg (address ∷ bytes) ++ Byte byte ∷ [] ++ Nack ∷ [] ≡ front ++ (leg (address ∷ []) ++ nacked (bytes ++ byte ∷ []))
+    → front ++ leg (address ∷ bytes) ++ Byte byte ∷ [] ++ Nack ∷ [] ≡ front
+    ++ (leg (address ∷ []) ++ nacked (bytes ++ byte ∷ []))
 refused_last front address bytes byte =
     append_assoc (front ++ leg (address ∷ bytes)) (Byte byte ∷ []) (Nack ∷ [])
     ∙ append_assoc front (leg (address ∷ bytes)) (Byte byte ∷ Nack ∷ [])
@@ -48,9 +50,11 @@ answered_is addr body reply with_pec bytes byte spelled =
 one_form : (o : Option Form) (a b : Form) → o ≡ Some a → o ≡ Some b → a ≡ b
 one_form o a b first second = same_Some a b (sym first ∙ second)
 
-module _ (profile : List DeviceParts) (bus : IsBus profile) (addr : ℕ) (device : DeviceParts) (known : device_with addr profile ≡ Some device) (body : List ℕ) where
+module _ (profile : List DeviceParts) (bus : IsBus profile) (addr : ℕ) (device : DeviceParts)
+    (known : device_with addr profile ≡ Some device) (body : List ℕ) where
   -- a call body has data after its code, and so is no read body
-  no_call : (code : ℕ) (a b : Form) (asked : ℕ) (sent : List ℕ) → ReadBody device code a body → CallBody device asked b sent body → ⊥
+  no_call : (code : ℕ) (a b : Form) (asked : ℕ) (sent : List ℕ) → ReadBody device code a body
+      → CallBody device asked b sent body → ⊥
   no_call code a b asked sent read call =
       let is = device_is profile addr device bus known in
       let some = wire_has_byte b sent call.fits (asked_has_data device b body is.0 (inr (asked, sent, call))) in
@@ -62,26 +66,33 @@ module _ (profile : List DeviceParts) (bus : IsBus profile) (addr : ℕ) (device
   read_form_is code a b read (inl w) =
       let same : code ∷ [] ≡ w.0 ∷ [] = sym read.spelled ∙ w.1.spelled in
       let same_code : code ≡ w.0 = cc same in
-      one_form (forms device w.0).read a b (subst (λ (c : ℕ). (forms device c).read ≡ Some a) same_code read.read) w.1.read
+      one_form (forms device w.0).read a b (subst (λ (c : ℕ). (forms device c).read ≡ Some a) same_code read.read)
+      w.1.read
   read_form_is code a b read (inr w) = absurd (no_call code a b w.0 w.1 read w.2)
 
-  call_form_is : (code : ℕ) (content : List ℕ) (a b : Form) → CallBody device code a content body → IsFormOfRequest device b body → a ≡ b
+  call_form_is : (code : ℕ) (content : List ℕ) (a b : Form) → CallBody device code a content body
+      → IsFormOfRequest device b body → a ≡ b
   call_form_is code content a b call (inl w) = absurd (no_call w.0 b a code content w.1 call)
   call_form_is code content a b call (inr w) =
       let same : code ∷ wire a content ≡ w.0 ∷ wire b w.1 = sym call.spelled ∙ w.2.spelled in
       let same_code : code ≡ w.0 = cc same in
-      one_form (forms device w.0).call a b (subst (λ (c : ℕ). (forms device c).call ≡ Some a) same_code call.called) w.2.called
+      one_form (forms device w.0).call a b (subst (λ (c : ℕ). (forms device c).call ≡ Some a) same_code call.called)
+      w.2.called
 
   module _ (form : Form) (reply : List ℕ) (with_pec : Bool) (bytes : List ℕ) (byte : ℕ) where
     abbrev all_events : List Event
-    all_events = leg (write_address addr ∷ body) ++ leg (read_address addr ∷ bytes) ++ Byte byte ∷ [] ++ Nack ∷ [] ++ Stop ∷ []
+    all_events = leg (write_address addr ∷ body) ++ leg (read_address addr ∷ bytes) ++ Byte byte ∷ [] ++ Nack ∷ []
+        ++ Stop ∷ []
 
     abbrev IsWhole : Type 0
-    IsWhole = bytes ++ byte ∷ [] ≡ checked with_pec (write_address addr ∷ body ++ read_address addr ∷ []) (wire form reply)
+    IsWhole = bytes ++ byte ∷ [] ≡ checked with_pec (write_address addr ∷ body ++ read_address addr ∷ [])
+        (wire form reply)
 
     -- a whole reply to a read body
-    pub read_packet : (code : ℕ) (read_form : Form) → IsFormOfRequest device form body → Fits form reply → AllowsPec device.pec with_pec → IsWhole
-        → ReadBody device code read_form body → Packet profile (Read (record { addr = addr; code = code; reply = reply; pec = with_pec })) all_events
+    pub read_packet : (code : ℕ) (read_form : Form) → IsFormOfRequest device form body → Fits form reply
+        → AllowsPec device.pec with_pec → IsWhole
+        → ReadBody device code read_form body → Packet profile
+        (Read (record { addr = addr; code = code; reply = reply; pec = with_pec })) all_events
     read_packet code read_form asks fits mode spelled read = record {
       device = device;
       form = form;
@@ -95,12 +106,15 @@ module _ (profile : List DeviceParts) (bus : IsBus profile) (addr : ℕ) (device
     }
 
     -- a whole reply to a call body
-    pub call_packet : (code : ℕ) (content : List ℕ) (call_form : Form) → IsFormOfRequest device form body → Fits form reply → AllowsPec device.pec with_pec
+    pub call_packet : (code : ℕ) (content : List ℕ) (call_form : Form) → IsFormOfRequest device form body
+        → Fits form reply → AllowsPec device.pec with_pec
         → IsWhole → CallBody device code call_form content body
-        → Packet profile (Call (record { addr = addr; code = code; bytes = content; reply = reply; pec = with_pec })) all_events
+        → Packet profile (Call (record { addr = addr; code = code; bytes = content; reply = reply; pec = with_pec }))
+        all_events
     call_packet code content call_form asks fits mode spelled call =
         let same : call_form ≡ form = call_form_is code content call_form form call asks in
-        let sent : CallBody device code form content body = subst (λ (f : Form). CallBody device code f content body) same call in
+        let sent : CallBody device code form content body =
+        subst (λ (f : Form). CallBody device code f content body) same call in
         record {
           device = device;
           form = form;
@@ -115,7 +129,8 @@ module _ (profile : List DeviceParts) (bus : IsBus profile) (addr : ℕ) (device
         }
 
 -- a whole answer at the Alert Response Address
-pub alert_packet : (profile : List DeviceParts) (answer : ℕ) (with_pec : Bool) (bytes : List ℕ) (byte : ℕ) → IsByte answer
+pub alert_packet : (profile : List DeviceParts) (answer : ℕ) (with_pec : Bool) (bytes : List ℕ) (byte : ℕ)
+    → IsByte answer
     → bytes ++ byte ∷ [] ≡ checked with_pec (read_address alert_address ∷ []) (answer ∷ [])
     → Packet profile (Alert (record { byte = answer; pec = with_pec }))
     (leg (read_address alert_address ∷ bytes) ++ Byte byte ∷ [] ++ Nack ∷ [] ++ Stop ∷ [])
@@ -128,21 +143,27 @@ alert_packet profile answer with_pec bytes byte small spelled = record {
 
 -- ---- written legs
 
-module _ (pec_is_byte : (bytes : List ℕ) → pec bytes < 256) (profile : List DeviceParts) (bus : IsBus profile) (parts : List PartData) (few : length parts ≤ 15) (own : IsDistinct nat_eq (addresses parts)) (legs : List Event) (each : PartsEvents profile parts legs) (addr : ℕ) (new : IsNew addr (addresses parts)) where
+module _ (pec_is_byte : (bytes : List ℕ) → pec bytes < 256) (profile : List DeviceParts) (bus : IsBus profile)
+    (parts : List PartData) (few : length parts ≤ 15) (own : IsDistinct nat_eq (addresses parts)) (legs : List Event)
+    (each : PartsEvents profile parts legs) (addr : ℕ) (new : IsNew addr (addresses parts)) where
   module _ (device : DeviceParts) (known : device_with addr profile ≡ Some device) where
     -- one part more
-    pub part_more : (code : ℕ) (content : List ℕ) (with_pec : Bool) (bytes : List ℕ) → WriteBody device code content with_pec bytes
+    pub part_more : (code : ℕ) (content : List ℕ) (with_pec : Bool) (bytes : List ℕ)
+        → WriteBody device code content with_pec bytes
         → PartsEvents profile (parts ++ record { addr = addr; code = code; bytes = content; pec = with_pec } ∷ [])
         (legs ++ leg (write_address addr ∷ bytes))
-        × IsDistinct nat_eq (addresses (parts ++ record { addr = addr; code = code; bytes = content; pec = with_pec } ∷ []))
+        × IsDistinct nat_eq (addresses (parts ++ record { addr = addr; code = code; bytes = content; pec = with_pec }
+        ∷ []))
     part_more code content with_pec bytes allowed =
         let part : PartData = record { addr = addr; code = code; bytes = content; pec = with_pec } in
         let first = leg (write_address addr ∷ bytes) in
-        let here : PartEvents profile part first = record { device = device; body = bytes; known = known; allowed = allowed; spelled = refl } in
+        let here : PartEvents profile part first =
+        record { device = device; body = bytes; known = known; allowed = allowed; spelled = refl } in
         (parts_push pec_is_byte profile bus parts part legs first each here, distinct_with parts part own new)
 
     -- with STOP after it
-    pub write_packet : (code : ℕ) (content : List ℕ) (with_pec : Bool) (bytes : List ℕ) → WriteBody device code content with_pec bytes
+    pub write_packet : (code : ℕ) (content : List ℕ) (with_pec : Bool) (bytes : List ℕ)
+        → WriteBody device code content with_pec bytes
         → Packet profile (Write (parts ++ record { addr = addr; code = code; bytes = content; pec = with_pec } ∷ []))
         (legs ++ leg (write_address addr ∷ bytes) ++ Stop ∷ [])
     write_packet code content with_pec bytes allowed =
@@ -176,7 +197,8 @@ module _ (pec_is_byte : (bytes : List ℕ) → pec bytes < 256) (profile : List 
     }
 
 -- a device that refuses to be read
-pub read_refused_packet : (pec_is_byte : (bytes : List ℕ) → pec bytes < 256) (profile : List DeviceParts) → IsBus profile
+pub read_refused_packet : (pec_is_byte : (bytes : List ℕ) → pec bytes < 256) (profile : List DeviceParts)
+    → IsBus profile
     → (addr : ℕ) (device : DeviceParts) (body : List ℕ) → device_with addr profile ≡ Some device → IsRequest device body
     → Packet profile (Refused (record { parts = []; addr = addr; sent = body; at_read = true }))
     (leg (write_address addr ∷ body) ++ Start ∷ Byte (read_address addr) ∷ [] ++ Nack ∷ [] ++ Stop ∷ [])
@@ -194,5 +216,6 @@ read_refused_packet pec_is_byte profile bus addr device body known is =
           read_refused pec_is_byte profile bus addr body last
           (record { alone = refl; device = device; known = known; body = is; spelled = refl });
       spelled =
-          ap (λ (es : List Event). es ++ Stop ∷ []) (append_assoc written_leg (Start ∷ Byte (read_address addr) ∷ []) (Nack ∷ []));
+          ap (λ (es : List Event). es ++ Stop ∷ [])
+          (append_assoc written_leg (Start ∷ Byte (read_address addr) ∷ []) (Nack ∷ []));
     }

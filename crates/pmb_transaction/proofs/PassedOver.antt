@@ -46,9 +46,18 @@ other_passed event events passed left other (to_the_end all none nothing) =
 one_passed : (event : Event) (events : List Event) → Decided (event ≡ Stop)
     → (passed : List Event) × (left : List Event) × PassedOver events passed left
     → (passed : List Event) × (left : List Event) × PassedOver (event ∷ events) passed left
-one_passed event events (inl stop) later =
-    (event ∷ [], events, to_first_stop refl (record { front = []; no_stop = none_without; split = ap (λ (e : Event). e ∷ []) stop }))
-one_passed event events (inr other) later = (event ∷ later.0, later.1, other_passed event events later.0 later.1 other later.2)
+one_passed event events (inl stop) later = (
+  event ∷ [],
+  events,
+  to_first_stop refl (record {
+    front = [];
+    no_stop = none_without;
+    split =
+        ap (λ (e : Event). e ∷ []) stop;
+  }),
+)
+one_passed event events (inr other) later =
+    (event ∷ later.0, later.1, other_passed event events later.0 later.1 other later.2)
 
 -- of each list of events some are passed over
 pub some_passed : (events : List Event) → (passed : List Event) × (left : List Event) × PassedOver events passed left
@@ -62,7 +71,8 @@ passed_then_left events passed left (to_the_end all none nothing) =
     all ∙ sym (append-nil passed) ∙ ap (λ (es : List Event). passed ++ es) (sym nothing)
 
 -- the STOP, and what is left
-at_stop : (events passed left : List Event) → events ≡ passed ++ left → (ends : EndsAtFirstStop passed) → events ≡ ends.front ++ Stop ∷ left
+at_stop : (events passed left : List Event) → events ≡ passed ++ left → (ends : EndsAtFirstStop passed)
+    → events ≡ ends.front ++ Stop ∷ left
 at_stop events passed left split ends =
     split ∙ ap (λ (es : List Event). es ++ left) ends.split ∙ append_assoc ends.front (Stop ∷ []) left
 
@@ -70,7 +80,8 @@ at_stop events passed left split ends =
 pub one_way : (events a x b y : List Event) → PassedOver events a x → PassedOver events b y → (a ≡ b) × (x ≡ y)
 one_way events a x b y (to_first_stop split ends) (to_first_stop other others) =
     let same =
-    same_cut ends.front others.front x y ends.no_stop others.no_stop (sym (at_stop events a x split ends) ∙ at_stop events b y other others) in
+    same_cut ends.front others.front x y ends.no_stop others.no_stop
+    (sym (at_stop events a x split ends) ∙ at_stop events b y other others) in
     (ends.split ∙ ap (λ (es : List Event). es ++ Stop ∷ []) same.0 ∙ sym others.split, same.1)
 one_way events a x b y (to_first_stop split ends) (to_the_end all none nothing) =
     absurd (none ends.front x (sym all ∙ at_stop events a x split ends))

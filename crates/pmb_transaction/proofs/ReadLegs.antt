@@ -37,14 +37,20 @@ pub record Answered (Answers : List ℕ → Type 0) (own : List Event) : Type 0 
   pub all : own ≡ nacked answer
 
 -- After some events a leg to an address is one in which an answer is read.
-pub record IsReadLeg (profile : List DeviceParts) (front : List Event) (addr : ℕ) (Answers : List ℕ → Type 0) : Type 0 where
-  pub inside : (own : List Event) → InLastLeg profile front (Byte (read_address addr) ∷ Ack ∷ own) → Answering addr Answers own
-  pub at_end : (own : List Event) → EndsInLeg profile front (Byte (read_address addr) ∷ Ack ∷ own) → Answered Answers own
+pub record IsReadLeg (profile : List DeviceParts) (front : List Event) (addr : ℕ)
+    (Answers : List ℕ → Type 0) : Type 0 where
+  pub inside : (own : List Event) → InLastLeg profile front (Byte (read_address addr) ∷ Ack ∷ own)
+      → Answering addr Answers own
+  pub at_end : (own : List Event) → EndsInLeg profile front (Byte (read_address addr) ∷ Ack ∷ own)
+      → Answered Answers own
   pub begins : (answer : List ℕ) → Answers answer → (last : List Event) → AnswerBegins (read_address addr) answer last
       → IsBeginning profile (front ++ last)
-  pub ends : (answer : List ℕ) → Answers answer → IsPacket profile ((front ++ (leg (read_address addr ∷ []) ++ nacked answer)) ++ Stop ∷ [])
+  pub ends : (answer : List ℕ) → Answers answer
+      → IsPacket profile ((front ++ (leg (read_address addr ∷ []) ++ nacked answer)) ++ Stop ∷ [])
 
-module _ (pec_is_byte : (bytes : List ℕ) → pec bytes < 256) (profile : List DeviceParts) (bus : IsBus profile) (front : List Event) (addr : ℕ) (Answers : List ℕ → Type 0) (is : IsReadLeg profile front addr Answers) (bytes : List ℕ) (byte : ℕ) where
+module _ (pec_is_byte : (bytes : List ℕ) → pec bytes < 256) (profile : List DeviceParts) (bus : IsBus profile)
+    (front : List Event) (addr : ℕ) (Answers : List ℕ → Type 0) (is : IsReadLeg profile front addr Answers)
+    (bytes : List ℕ) (byte : ℕ) where
   abbrev so_far : List Event
   so_far = front ++ leg (read_address addr ∷ bytes)
 
@@ -62,7 +68,8 @@ module _ (pec_is_byte : (bytes : List ℕ) → pec bytes < 256) (profile : List 
       let w =
       is.inside own
       (
-      by_open_leg profile so_far (Byte byte) front (Byte (read_address addr) ∷ Ack ∷ own) refl refl (no_start-sent bytes byte) sent_is
+      by_open_leg profile so_far (Byte byte) front (Byte (read_address addr) ∷ Ack ∷ own) refl refl
+      (no_start-sent bytes byte) sent_is
       (viable_is_beginning pec_is_byte profile bus sent (λ none. no_end so_far (Byte byte) [] none) follows)
       ) in
       let rest = sent_of_answer (read_address addr) (read_address w.other) w.answer bytes byte w.begins in
@@ -91,7 +98,8 @@ module _ (pec_is_byte : (bytes : List ℕ) → pec bytes < 256) (profile : List 
       ∙ append_assoc front (leg (read_address addr ∷ bytes)) (Byte byte ∷ Ack ∷ [])
       ∙ ap (λ (es : List Event). front ++ Start ∷ Byte (read_address addr) ∷ Ack ∷ es) (sym (acked_push bytes byte))
 
-  taken_in : (IsPacket profile (sent ++ Ack ∷ []) ⊎ IsPacket profile ((sent ++ Ack ∷ []) ++ Stop ∷ [])) ⊎ InLastLeg profile front bytes_taken
+  taken_in : (IsPacket profile (sent ++ Ack ∷ []) ⊎ IsPacket profile ((sent ++ Ack ∷ []) ++ Stop ∷ []))
+      ⊎ InLastLeg profile front bytes_taken
       → IsInsideAnswer Answers (bytes ++ byte ∷ [])
   taken_in (inl (inl packet)) = absurd (ends_with profile sent Ack refl packet)
   taken_in (inl (inr packet)) =
@@ -100,8 +108,12 @@ module _ (pec_is_byte : (bytes : List ℕ) → pec bytes < 256) (profile : List 
       (by_stop profile front bytes_taken (sent ++ Ack ∷ []) (no_start-acked (bytes ++ byte ∷ [])) taken_is packet) in
       absurd (no_end_taken w.answer (bytes ++ byte ∷ []) w.some w.all)
   taken_in (inr in_leg) =
-      let w = is.inside (acked (bytes ++ byte ∷ [])) in_leg in
-      (w.answer, w.answers, taken_of_answer (read_address addr) (read_address w.other) w.answer (bytes ++ byte ∷ []) w.begins)
+      let w = is.inside (acked (bytes ++ byte ∷ [])) in_leg in (
+        w.answer,
+        w.answers,
+        taken_of_answer (read_address addr) (read_address w.other) w.answer
+            (bytes ++ byte ∷ []) w.begins,
+      )
 
   ack_goes_on : IsInsideAnswer Answers (bytes ++ byte ∷ []) → MayFollow profile sent Ack
   ack_goes_on inside =
@@ -130,7 +142,8 @@ module _ (pec_is_byte : (bytes : List ℕ) → pec bytes < 256) (profile : List 
   refused_is =
       append_assoc so_far (Byte byte ∷ []) (Nack ∷ [])
       ∙ append_assoc front (leg (read_address addr ∷ bytes)) (Byte byte ∷ Nack ∷ [])
-      ∙ ap (λ (es : List Event). front ++ Start ∷ Byte (read_address addr) ∷ Ack ∷ es) (sym (nacked_append bytes byte []))
+      ∙ ap (λ (es : List Event). front ++ Start ∷ Byte (read_address addr) ∷ Ack ∷ es)
+      (sym (nacked_append bytes byte []))
 
   answer_ends : MayFollow profile sent Nack → Answers (bytes ++ byte ∷ [])
   answer_ends follows =
@@ -146,9 +159,12 @@ module _ (pec_is_byte : (bytes : List ℕ) → pec bytes < 256) (profile : List 
   nack_ends : Answers (bytes ++ byte ∷ []) → MayFollow profile sent Nack
   nack_ends answers =
       let packet =
-      subst (λ (es : List Event). IsPacket profile (es ++ Stop ∷ [])) (sym refused_is) (is.ends (bytes ++ byte ∷ []) answers) in
-      front_is_viable profile (sent ++ Nack ∷ []) (Stop ∷ []) (packet_is_viable profile ((sent ++ Nack ∷ []) ++ Stop ∷ []) packet)
+      subst (λ (es : List Event). IsPacket profile (es ++ Stop ∷ [])) (sym refused_is)
+      (is.ends (bytes ++ byte ∷ []) answers) in
+      front_is_viable profile (sent ++ Nack ∷ []) (Stop ∷ [])
+      (packet_is_viable profile ((sent ++ Nack ∷ []) ++ Stop ∷ []) packet)
 
   -- NACK may follow the answer's last
-  pub byte_refused : (MayFollow profile sent Nack → Answers (bytes ++ byte ∷ [])) × (Answers (bytes ++ byte ∷ []) → MayFollow profile sent Nack)
+  pub byte_refused : (MayFollow profile sent Nack → Answers (bytes ++ byte ∷ []))
+      × (Answers (bytes ++ byte ∷ []) → MayFollow profile sent Nack)
   byte_refused = (answer_ends, nack_ends)

@@ -1,5 +1,6 @@
 -- What events read as: that of a capture of transactions is these, and there is one.
-use Rattle.std.proofs.Common.{◌≡◌, ℕ, ◌+◌, ◌<◌, ◌⊎◌, inl, inr, Bool, true, false, List, [], ◌∷◌, ◌++◌, length, map, refl, sym, ap, ◌∙◌, subst, append_assoc}
+use Rattle.std.proofs.Common.{◌≡◌, ℕ, ◌+◌, ◌<◌, ◌⊎◌, inl, inr, Bool, true, false, List, [], ◌∷◌, ◌++◌, length, map}
+use Rattle.std.proofs.Common.{refl, sym, ap, ◌∙◌, subst, append_assoc}
 use Rattle.std.proofs.lemmas.List.{append-nil, append_cancel_left}
 use Rattle.pmb_bus.specs.declared.event.Event.{Event}
 use Rattle.pmb_bus.specs.declared.event.Event.TheVariants.{Start, Byte, Ack, Nack, Stop}
@@ -11,7 +12,8 @@ use Rattle.pmb_transaction.specs.declared.reason.Reason.{Reason}
 use Rattle.pmb_transaction.specs.Transaction.{TransactionData}
 use Rattle.pmb_transaction.specs.Packet.{Packet}
 use Rattle.pmb_transaction.specs.Capture.{Capture, IsPacket, MayFollow, Viable}
-use Rattle.pmb_transaction.specs.Reading.{Outcome, Accepted, Refusal, RefusalData, PassedOver, ReadsFrom, RefusedAt, TruncatedAt}
+use Rattle.pmb_transaction.specs.Reading.{Outcome, Accepted, Refusal, RefusalData, PassedOver, ReadsFrom, RefusedAt}
+use Rattle.pmb_transaction.specs.Reading.{TruncatedAt}
 use Rattle.pmb_transaction.proofs.Captures.{not_none, same_first_packet}
 use Rattle.pmb_transaction.proofs.Fronts.{Beyond, Within, cut, no_end, no_front}
 use Rattle.pmb_transaction.proofs.OneReason.{one_reason}
@@ -49,7 +51,8 @@ alike_of_kind kinds Stop Ack same is = absurd (cc same)
 alike_of_kind kinds Stop Nack same is = absurd (cc same)
 
 -- what holds in one set holds in the other
-also_holds : (events : Event → Type 0) (a b : Kinds) → AreKindsOf events a → AreKindsOf events b → (event : Event) → holds a event ≡ true
+also_holds : (events : Event → Type 0) (a b : Kinds) → AreKindsOf events a → AreKindsOf events b → (event : Event)
+    → holds a event ≡ true
     → holds b event ≡ true
 also_holds events a b first second event is =
     let one = first.only event is in
@@ -62,12 +65,14 @@ same_test false true there back = back refl
 same_test false false there back = refl
 
 -- Sets of kinds are told by their events.
-module _ (told_by_events : (a b : Kinds) → bits a < 32 → bits b < 32 → ((event : Event) → holds a event ≡ holds b event) → a ≡ b) where
+module _ (told_by_events : (a b : Kinds) → bits a < 32 → bits b < 32 → ((event : Event) → holds a event ≡ holds b event)
+    → a ≡ b) where
   one_set : (events : Event → Type 0) (a b : Kinds) → AreKindsOf events a → AreKindsOf events b → a ≡ b
   one_set events a b first second =
       told_by_events a b first.known second.known
       (λ event.
-      same_test (holds a event) (holds b event) (also_holds events a b first second event) (also_holds events b a second first event))
+      same_test (holds a event) (holds b event) (also_holds events a b first second event)
+      (also_holds events b a second first event))
 
 module _ (profile : List DeviceParts) where
   -- ---- fronts
@@ -78,19 +83,23 @@ module _ (profile : List DeviceParts) where
   front_is_viable a b (inr w) = inr (b ++ w.0, subst (IsPacket profile) (append_assoc a b w.0) w.1)
 
   -- so the event after a front of viable events may follow it
-  pub may_follow : (front : List Event) (event : Event) (rest events : List Event) → events ≡ front ++ event ∷ rest → Viable profile events
+  pub may_follow : (front : List Event) (event : Event) (rest events : List Event) → events ≡ front ++ event ∷ rest
+      → Viable profile events
       → MayFollow profile front event
   may_follow front event rest events split viable =
       front_is_viable (front ++ event ∷ []) rest
       (subst (Viable profile) (split ∙ sym (append_assoc front (event ∷ []) rest)) viable)
 
   -- no refused event stands in viable events
-  not_refused_in : (n : ℕ) (front : List Event) (event : Event) (refusal : RefusalData) (rest events : List Event) → RefusedAt profile n front event refusal
+  not_refused_in : (n : ℕ) (front : List Event) (event : Event) (refusal : RefusalData) (rest events : List Event)
+      → RefusedAt profile n front event refusal
       → events ≡ front ++ event ∷ rest → Viable profile events → ⊥
-  not_refused_in n front event refusal rest events refused split viable = refused.refused (may_follow front event rest events split viable)
+  not_refused_in n front event refusal rest events refused split viable =
+      refused.refused (may_follow front event rest events split viable)
 
   -- events that a packet begins are not refused
-  not_refused_at : (t : TransactionData) (n : ℕ) (first behind front : List Event) (event : Event) (rest : List Event) (refusal : RefusalData)
+  not_refused_at : (t : TransactionData) (n : ℕ) (first behind front : List Event) (event : Event) (rest : List Event)
+      (refusal : RefusalData)
       → Packet profile t first → RefusedAt profile n front event refusal
       → Within first behind front (event ∷ rest) ⊎ Beyond first behind front (event ∷ rest) → ⊥
   not_refused_at t n first behind front event rest refusal packet refused (inl w) =
@@ -100,21 +109,26 @@ module _ (profile : List DeviceParts) where
       not_refused_in n front event refusal w.rest first refused (w.first ∙ ap (λ (e : Event). front ++ e ∷ w.rest) same)
       (inr ([], (t, subst (Packet profile t) (sym (append-nil first)) packet)))
 
-  not_refused : (t : TransactionData) (n : ℕ) (first behind front : List Event) (event : Event) (rest events : List Event) (refusal : RefusalData)
-      → Packet profile t first → RefusedAt profile n front event refusal → events ≡ first ++ behind → events ≡ front ++ event ∷ rest → ⊥
+  not_refused : (t : TransactionData) (n : ℕ) (first behind front : List Event) (event : Event)
+      (rest events : List Event) (refusal : RefusalData)
+      → Packet profile t first → RefusedAt profile n front event refusal → events ≡ first ++ behind
+      → events ≡ front ++ event ∷ rest → ⊥
   not_refused t n first behind front event rest events refusal packet refused split other =
-      not_refused_at t n first behind front event rest refusal packet refused (cut first behind front (event ∷ rest) (sym split ∙ other))
+      not_refused_at t n first behind front event rest refusal packet refused
+      (cut first behind front (event ∷ rest) (sym split ∙ other))
 
   -- ---- one refusal
 
-  place_within : (n : ℕ) (a b : List Event) (d e : Event) (x y : List Event) (r : RefusalData) → RefusedAt profile n a d r → Viable profile b
+  place_within : (n : ℕ) (a b : List Event) (d e : Event) (x y : List Event) (r : RefusalData)
+      → RefusedAt profile n a d r → Viable profile b
       → (rest : List Event) → b ≡ a ++ rest → d ∷ x ≡ rest ++ e ∷ y → a ≡ b
   place_within n a b d e x y r refused viable [] split same = sym (append-nil a) ∙ sym split
   place_within n a b d e x y r refused viable (f ∷ rest) split same =
       let first : f ≡ d = cc same in
       absurd (not_refused_in n a d r rest b refused (split ∙ ap (λ (event : Event). a ++ event ∷ rest) first) viable)
 
-  same_place_at : (n : ℕ) (a b : List Event) (d e : Event) (x y : List Event) (r s : RefusalData) → RefusedAt profile n a d r → RefusedAt profile n b e s
+  same_place_at : (n : ℕ) (a b : List Event) (d e : Event) (x y : List Event) (r s : RefusalData)
+      → RefusedAt profile n a d r → RefusedAt profile n b e s
       → Within a (d ∷ x) b (e ∷ y) ⊎ Beyond a (d ∷ x) b (e ∷ y) → a ≡ b
   same_place_at n a b d e x y r s first second (inl w) =
       place_within n a b d e x y r first second.under_way.viable w.rest w.first w.second
@@ -124,7 +138,8 @@ module _ (profile : List DeviceParts) where
       absurd (not_refused_in n b e s w.rest a second split first.under_way.viable)
 
   -- events are refused at one place
-  same_place : (n : ℕ) (a b : List Event) (d e : Event) (x y events : List Event) (r s : RefusalData) → RefusedAt profile n a d r
+  same_place : (n : ℕ) (a b : List Event) (d e : Event) (x y events : List Event) (r s : RefusalData)
+      → RefusedAt profile n a d r
       → RefusedAt profile n b e s → events ≡ a ++ d ∷ x → events ≡ b ++ e ∷ y → a ≡ b
   same_place n a b d e x y events r s first second split other =
       same_place_at n a b d e x y r s first second (cut a (d ∷ x) b (e ∷ y) (sym split ∙ other))
@@ -155,20 +170,25 @@ module _ (profile : List DeviceParts) where
   none_read n (Refusal refusal ∷ more) (inl reads) = absurd (no_end reads.0 reads.1 reads.2 (sym reads.3))
   none_read n (Refusal refusal ∷ more) (inr reads) = absurd (reads.0.some refl)
 
-  module _ (told_by_events : (a b : Kinds) → bits a < 32 → bits b < 32 → ((event : Event) → holds a event ≡ holds b event) → a ≡ b) (bus : IsBus profile) where
-    one_refused : (n : ℕ) (front : List Event) (event : Event) (r s : RefusalData) → RefusedAt profile n front event r → RefusedAt profile n front event s
+  module _ (told_by_events : (a b : Kinds) → bits a < 32 → bits b < 32
+      → ((event : Event) → holds a event ≡ holds b event) → a ≡ b) (bus : IsBus profile) where
+    one_refused : (n : ℕ) (front : List Event) (event : Event) (r s : RefusalData) → RefusedAt profile n front event r
+        → RefusedAt profile n front event s
         → r ≡ s
     one_refused n front event r s first second =
-        same_refusal r s (first.at ∙ sym second.at) (one_reason profile front event r.reason s.reason first.reason second.reason)
+        same_refusal r s (first.at ∙ sym second.at)
+        (one_reason profile front event r.reason s.reason first.reason second.reason)
         (one_set told_by_events (MayFollow profile front) r.expected s.expected first.expected second.expected)
 
-    one_truncated : (n : ℕ) (events : List Event) (r s : RefusalData) → TruncatedAt profile n events r → TruncatedAt profile n events s → r ≡ s
+    one_truncated : (n : ℕ) (events : List Event) (r s : RefusalData) → TruncatedAt profile n events r
+        → TruncatedAt profile n events s → r ≡ s
     one_truncated n events r s first second =
         same_refusal r s (first.at ∙ sym second.at) (first.reason ∙ sym second.reason)
         (one_set told_by_events (MayFollow profile events) r.expected s.expected first.expected second.expected)
 
     -- events read as one list of outcomes
-    pub one_reading_from : (first second : List Outcome) (n : ℕ) (events : List Event) → ReadsFrom profile n events first
+    pub one_reading_from : (first second : List Outcome) (n : ℕ) (events : List Event)
+        → ReadsFrom profile n events first
         → ReadsFrom profile n events second → first ≡ second
     one_reading_from [] [] n events a b = refl
     one_reading_from [] (Accepted u ∷ more) n events a b = absurd (not_none profile u b.0 b.1 b.3 (sym a ∙ b.2))
@@ -201,8 +221,10 @@ module _ (profile : List DeviceParts) where
         (ap (λ (es : List Event). es ++ a.1 ∷ a.2) (sym front) ∙ sym a.3 ∙ b.3) in
         let event : a.1 ≡ b.1 = cc tails in
         let refused : RefusedAt profile n b.0 b.1 r =
-        subst (λ (e : Event). RefusedAt profile n b.0 e r) event (subst (λ (es : List Event). RefusedAt profile n es a.1 r) front a.4) in
-        let over = one_way (b.1 ∷ b.2) a.5 a.6 b.5 b.6 (subst (λ (es : List Event). PassedOver es a.5 a.6) tails a.7) b.7 in
+        subst (λ (e : Event). RefusedAt profile n b.0 e r) event
+        (subst (λ (es : List Event). RefusedAt profile n es a.1 r) front a.4) in
+        let over = one_way (b.1 ∷ b.2) a.5 a.6 b.5 b.6 (subst (λ (es : List Event). PassedOver es a.5 a.6) tails a.7)
+        b.7 in
         let counted : ReadsFrom profile (n + length b.0 + length b.5) a.6 more =
         subst (λ (passed : List Event). ReadsFrom profile (n + length b.0 + length passed) a.6 more) over.0
         (subst (λ (es : List Event). ReadsFrom profile (n + length es + length a.5) a.6 more) front a.8) in
@@ -221,8 +243,10 @@ module _ (profile : List DeviceParts) where
         cc (first, later)
 
     -- and a capture as its transactions alone
-    pub captures_read_as_written : (ts : List TransactionData) (events : List Event) (outcomes : List Outcome) → Capture profile ts events
-        → (ReadsFrom profile 0 events outcomes → outcomes ≡ map Accepted ts) × (outcomes ≡ map Accepted ts → ReadsFrom profile 0 events outcomes)
+    pub captures_read_as_written : (ts : List TransactionData) (events : List Event) (outcomes : List Outcome)
+        → Capture profile ts events
+        → (ReadsFrom profile 0 events outcomes → outcomes ≡ map Accepted ts)
+        × (outcomes ≡ map Accepted ts → ReadsFrom profile 0 events outcomes)
     captures_read_as_written ts events outcomes capture = (
       λ reads. one_reading_from outcomes (map Accepted ts) 0 events reads (reads_capture ts 0 events capture),
       λ same. subst (ReadsFrom profile 0 events) (sym same) (reads_capture ts 0 events capture),

@@ -12,12 +12,15 @@ use Rattle.pmb_transaction.specs.Capture.{IsPacket, MayFollow}
 use Rattle.pmb_transaction.specs.Viable.{IsAnswer, answer_taken, read, read_answer}
 use Rattle.pmb_transaction.proofs.Answers.{answer_has_byte, some_answer}
 use Rattle.pmb_transaction.proofs.Completions.{answered_packet, beginning_is_viable, read_follows}
-use Rattle.pmb_transaction.proofs.LastStarts.{EndsInLeg, InLastLeg, at_read_address, at_reply, ends_alert, ends_at_address, ends_at_byte, ends_at_read, ends_reply, ends_write, in_alert, in_reply, in_written, not_a_part, not_in_written}
+use Rattle.pmb_transaction.proofs.LastStarts.{EndsInLeg, InLastLeg, at_read_address, at_reply, ends_alert}
+use Rattle.pmb_transaction.proofs.LastStarts.{ends_at_address, ends_at_byte, ends_at_read, ends_reply, ends_write}
+use Rattle.pmb_transaction.proofs.LastStarts.{in_alert, in_reply, in_written, not_a_part, not_in_written}
 use Rattle.pmb_transaction.proofs.OnePacket.{same_found}
 use Rattle.pmb_transaction.proofs.ReadLegs.{Answered, Answering, IsReadLeg}
 use Rattle.pmb_transaction.proofs.Starts.{not_both, one_row_of_bytes, same_half}
 
-module _ (pec_is_byte : (bytes : List ℕ) → pec bytes < 256) (profile : List DeviceParts) (bus : IsBus profile) (addr : ℕ) (device : DeviceParts) (known : device_with addr profile ≡ Some device) (body : List ℕ) where
+module _ (pec_is_byte : (bytes : List ℕ) → pec bytes < 256) (profile : List DeviceParts) (bus : IsBus profile)
+    (addr : ℕ) (device : DeviceParts) (known : device_with addr profile ≡ Some device) (body : List ℕ) where
   abbrev written_leg : List Event
   written_leg = leg (write_address addr ∷ body)
 
@@ -29,7 +32,8 @@ module _ (pec_is_byte : (bytes : List ℕ) → pec bytes < 256) (profile : List 
   -- NACK may follow
   pub nack_follows : IsRequest device body → MayFollow profile addressed Nack
   nack_follows is =
-      read_follows pec_is_byte profile bus addr device body known is (addressed ++ Nack ∷ []) (Start ∷ Byte (read_address addr) ∷ Nack ∷ [])
+      read_follows pec_is_byte profile bus addr device body known is (addressed ++ Nack ∷ [])
+      (Start ∷ Byte (read_address addr) ∷ Nack ∷ [])
       (Stop ∷ []) (append_assoc written_leg (Start ∷ Byte (read_address addr) ∷ []) (Nack ∷ [])) refl
 
   -- and ACK
@@ -50,14 +54,16 @@ module _ (pec_is_byte : (bytes : List ℕ) → pec bytes < 256) (profile : List 
   -- ---- the answers
 
   -- an answer after a leg that is this one
-  is_answer : (other : ℕ) (d : DeviceParts) (sent answer : List ℕ) → device_with other profile ≡ Some d → IsAnswer d other sent answer
+  is_answer : (other : ℕ) (d : DeviceParts) (sent answer : List ℕ) → device_with other profile ≡ Some d
+      → IsAnswer d other sent answer
       → written_leg ≡ leg (write_address other ∷ sent) → IsAnswer device addr body answer
   is_answer other d sent answer found answers same =
       let address : Byte (write_address addr) ≡ Byte (write_address other) = cc same in
       let rest : acked body ≡ acked sent = cc same in
       let same_address : other ≡ addr = sym (same_half addr other address) in
       let same_bytes : sent ≡ body = sym (one_row_of_bytes body sent rest) in
-      let there : device_with addr profile ≡ Some d = subst (λ (a : ℕ). device_with a profile ≡ Some d) same_address found in
+      let there : device_with addr profile ≡ Some d =
+      subst (λ (a : ℕ). device_with a profile ≡ Some d) same_address found in
       let same_device : d ≡ device = same_found (device_with addr profile) d device there known in
       let by_address = subst (λ (a : ℕ). IsAnswer d a sent answer) same_address answers in
       let by_device = subst (λ (x : DeviceParts). IsAnswer x addr sent answer) same_device by_address in
@@ -65,11 +71,18 @@ module _ (pec_is_byte : (bytes : List ℕ) → pec bytes < 256) (profile : List 
 
   answering : (own : List Event) → InLastLeg profile written_leg (Byte (read_address addr) ∷ Ack ∷ own)
       → Answering addr (IsAnswer device addr body) own
-  answering own (in_written parts few distinct each begins) = absurd (not_in_written profile parts addr (Ack ∷ own) begins)
+  answering own (in_written parts few distinct each begins) =
+      absurd (not_in_written profile parts addr (Ack ∷ own) begins)
   answering own (at_reply other d sent found is front none) = absurd (cc none)
   answering own (at_read_address other d sent found is front same) = absurd (cc same)
   answering own (in_reply other d sent answer found answers front begins) =
-      record { answer = answer; answers = is_answer other d sent answer found answers front; other = other; begins = begins }
+      record {
+        answer = answer;
+        answers = is_answer other d sent answer found answers front;
+        other = other;
+        begins =
+            begins;
+      }
   answering own (in_alert front begins) = absurd (cc front)
 
   answer_ends : (own : List Event) → EndsInLeg profile written_leg (Byte (read_address addr) ∷ Ack ∷ own)
@@ -94,7 +107,9 @@ module _ (pec_is_byte : (bytes : List ℕ) → pec bytes < 256) (profile : List 
     begins = λ answer answers last begins. read (read_answer addr device body answer last known answers begins refl);
     ends =
         λ answer answers.
-        subst (λ (bs : List ℕ). IsPacket profile ((written_leg ++ (leg (read_address addr ∷ []) ++ nacked bs)) ++ Stop ∷ []))
+        subst (λ (bs : List ℕ). IsPacket profile ((written_leg ++ (leg (read_address addr ∷ []) ++ nacked bs)) ++ Stop
+        ∷ []))
         (sym answers.2.spelled)
-        (answered_packet pec_is_byte profile bus addr device body answers.0 answers.1 known answer answers.2 answers.2.asked);
+        (answered_packet pec_is_byte profile bus addr device body answers.0 answers.1 known answer answers.2
+        answers.2.asked);
   }

@@ -1,5 +1,6 @@
 -- Each list of events reads as some outcomes.
-use Rattle.std.proofs.Common.{◌≡◌, ◌≢◌, ℕ, ◌+◌, ◌<◌, inl, inr, List, [], ◌∷◌, ◌++◌, length, refl, sym, subst, append_assoc, arith}
+use Rattle.std.proofs.Common.{◌≡◌, ◌≢◌, ℕ, ◌+◌, ◌<◌, inl, inr, List, [], ◌∷◌, ◌++◌, length, refl, sym, subst}
+use Rattle.std.proofs.Common.{append_assoc, arith}
 use Rattle.std.proofs.lemmas.List.{append-nil}
 use Rattle.pmb_bus.specs.Count.{capped}
 use Rattle.pmb_bus.specs.Kinds.{AreKindsOf}
@@ -12,8 +13,10 @@ use Rattle.pmb_command.specs.Parts.{DeviceParts}
 use Rattle.pmb_transaction.specs.declared.reason.Reason.{Reason}
 use Rattle.pmb_transaction.specs.declared.reason.Reason.TheVariants.{TooShort, Truncated, WrongEvent}
 use Rattle.pmb_transaction.specs.Capture.{MayFollow}
-use Rattle.pmb_transaction.specs.Reason.{AckReason, ByteReason, IsReason, NackReason, Whether, SomeByteMayFollow, FollowsAlone}
-use Rattle.pmb_transaction.specs.Reading.{IsUnderWay, Outcome, Accepted, ReadsAfterStop, ReadsFrom, Refusal, RefusalData, RefusedAt, TruncatedAt}
+use Rattle.pmb_transaction.specs.Reason.{AckReason, ByteReason, IsReason, NackReason, Whether, SomeByteMayFollow}
+use Rattle.pmb_transaction.specs.Reason.{FollowsAlone}
+use Rattle.pmb_transaction.specs.Reading.{IsUnderWay, Outcome, Accepted, ReadsAfterStop, ReadsFrom, Refusal}
+use Rattle.pmb_transaction.specs.Reading.{RefusalData, RefusedAt, TruncatedAt}
 use Rattle.pmb_transaction.proofs.Captures.{not_none}
 use Rattle.pmb_transaction.proofs.Decided.{Decided}
 use Rattle.pmb_transaction.proofs.DecidedPackets.{same_event}
@@ -35,18 +38,21 @@ module _ (pec_is_byte : (bytes : List ℕ) → pec bytes < 256) (profile : List 
   some_reason events Start = (WrongEvent, refl)
   some_reason events Stop = (WrongEvent, refl)
   some_reason events (Byte b) =
-      one_of_both (SomeByteMayFollow profile events) (ByteReason events) (byte_has_reason profile events) (some_byte pec_is_byte profile bus events)
+      one_of_both (SomeByteMayFollow profile events) (ByteReason events) (byte_has_reason profile events)
+      (some_byte pec_is_byte profile bus events)
   some_reason events Ack =
       one_of_both (FollowsAlone profile events Nack) (AckReason events) (ack_has_reason pec_is_byte profile bus events)
       (follows_alone pec_is_byte profile bus events Nack)
   some_reason events Nack =
-      one_of_both (FollowsAlone profile events Ack) (NackReason events) (λ alone. (TooShort, nack_has_reason pec_is_byte profile bus events alone))
+      one_of_both (FollowsAlone profile events Ack) (NackReason events)
+      (λ alone. (TooShort, nack_has_reason pec_is_byte profile bus events alone))
       (follows_alone pec_is_byte profile bus events Ack)
 
   some_kinds : (events : List Event) → (kinds : Kinds) × AreKindsOf (MayFollow profile events) kinds
   some_kinds events =
       let follows = may_follow pec_is_byte profile bus events in
-      set_of_kinds (MayFollow profile events) (follows Start) (some_byte pec_is_byte profile bus events) (follows Ack) (follows Nack) (follows Stop)
+      set_of_kinds (MayFollow profile events) (follows Start) (some_byte pec_is_byte profile bus events) (follows Ack)
+      (follows Nack) (follows Stop)
 
   -- ---- packets under way
 
@@ -61,13 +67,15 @@ module _ (pec_is_byte : (bytes : List ℕ) → pec bytes < 256) (profile : List 
   -- after the events of a packet under way, and while events are passed over
   abbrev ReadsOn : List Event → Type 0
   ReadsOn rest =
-      (n : ℕ) (front : List Event) → IsUnderWay profile front → (outcomes : List Outcome) × ReadsFrom profile n (front ++ rest) outcomes
+      (n : ℕ) (front : List Event) → IsUnderWay profile front
+      → (outcomes : List Outcome) × ReadsFrom profile n (front ++ rest) outcomes
 
   abbrev PassesOn : List Event → Type 0
   PassesOn rest = (n : ℕ) → (outcomes : List Outcome) × ReadsAfterStop profile n rest outcomes
 
   -- the refusal of events that end inside a packet
-  pub truncation : (n : ℕ) (front : List Event) → front ≢ [] → IsUnderWay profile front → (refusal : RefusalData) × TruncatedAt profile n front refusal
+  pub truncation : (n : ℕ) (front : List Event) → front ≢ [] → IsUnderWay profile front
+      → (refusal : RefusalData) × TruncatedAt profile n front refusal
   truncation n front some going =
       let kinds = some_kinds front in (
         record { at = capped (n + length front); reason = Truncated; expected = kinds.0 },
@@ -80,16 +88,21 @@ module _ (pec_is_byte : (bytes : List ℕ) → pec bytes < 256) (profile : List 
       let front = event ∷ events in
       let end = truncation n front (λ none. cc none) going in (
         Refusal end.0 ∷ [],
-        subst (λ (es : List Event). ReadsFrom profile n es (Refusal end.0 ∷ [])) (sym (append-nil front)) (inr (end.1, refl)),
+        subst (λ (es : List Event). ReadsFrom profile n es (Refusal end.0 ∷ [])) (sym (append-nil front))
+            (inr (end.1, refl)),
       )
 
   passes_end : PassesOn []
   passes_end n = ([], ([], [], none_passed, refl))
 
-  passes_one : (event : Event) (rest : List Event) → ReadsOn rest → PassesOn rest → Decided (event ≡ Stop) → PassesOn (event ∷ rest)
+  passes_one : (event : Event) (rest : List Event) → ReadsOn rest → PassesOn rest → Decided (event ≡ Stop)
+      → PassesOn (event ∷ rest)
   passes_one event rest reads passes (inl stop) n =
-      let later = reads (n + length (Stop ∷ [])) [] nothing_under_way in
-      (later.0, subst (λ e. ReadsAfterStop profile n (e ∷ rest) later.0) (sym stop) (Stop ∷ [], rest, stop_passed rest, later.1))
+      let later = reads (n + length (Stop ∷ [])) [] nothing_under_way in (
+        later.0,
+        subst (λ e. ReadsAfterStop profile n (e ∷ rest) later.0) (sym stop)
+            (Stop ∷ [], rest, stop_passed rest, later.1),
+      )
   passes_one event rest reads passes (inr other) n =
       let later = passes (n + 1) in
       let over = later.1 in
@@ -112,14 +125,17 @@ module _ (pec_is_byte : (bytes : List ℕ) → pec bytes < 256) (profile : List 
       let behind = reads (n + length all) [] nothing_under_way in
       (Accepted packet.0 ∷ behind.0, (all, rest, sym (append_assoc front (Stop ∷ []) rest), packet.1, behind.1))
 
-  goes_on : (event : Event) (rest : List Event) → ReadsOn rest → (event ≡ Stop → ⊥) → (n : ℕ) (front : List Event) → MayFollow profile front event
+  goes_on : (event : Event) (rest : List Event) → ReadsOn rest → (event ≡ Stop → ⊥) → (n : ℕ) (front : List Event)
+      → MayFollow profile front event
       → (outcomes : List Outcome) × ReadsFrom profile n (front ++ event ∷ rest) outcomes
   goes_on event rest reads other n front follows =
       let later = reads n (front ++ event ∷ []) (packets_go_on profile front event follows other) in
       (later.0, subst (λ es. ReadsFrom profile n es later.0) (append_assoc front (event ∷ []) rest) later.1)
 
-  refuses : (event : Event) (rest : List Event) → PassesOn (event ∷ rest) → (n : ℕ) (front : List Event) → IsUnderWay profile front
-      → (MayFollow profile front event → ⊥) → (outcomes : List Outcome) × ReadsFrom profile n (front ++ event ∷ rest) outcomes
+  refuses : (event : Event) (rest : List Event) → PassesOn (event ∷ rest) → (n : ℕ) (front : List Event)
+      → IsUnderWay profile front
+      → (MayFollow profile front event → ⊥) → (outcomes : List Outcome)
+      × ReadsFrom profile n (front ++ event ∷ rest) outcomes
   refuses event rest passes n front going refused =
       let kinds = some_kinds front in
       let reason = some_reason front event in
@@ -130,11 +146,13 @@ module _ (pec_is_byte : (bytes : List ℕ) → pec bytes < 256) (profile : List 
       let over = later.1 in
       (Refusal refusal ∷ later.0, inl (front, event, rest, refl, at_event, over.0, over.1, over.2, over.3))
 
-  reads_one : (event : Event) (rest : List Event) → ReadsOn rest → PassesOn (event ∷ rest) → Decided (event ≡ Stop) → (n : ℕ) (front : List Event)
+  reads_one : (event : Event) (rest : List Event) → ReadsOn rest → PassesOn (event ∷ rest) → Decided (event ≡ Stop)
+      → (n : ℕ) (front : List Event)
       → IsUnderWay profile front → Decided (MayFollow profile front event)
       → (outcomes : List Outcome) × ReadsFrom profile n (front ++ event ∷ rest) outcomes
   reads_one event rest reads passes stop n front going (inr refused) = refuses event rest passes n front going refused
-  reads_one event rest reads passes (inr other) n front going (inl follows) = goes_on event rest reads other n front follows
+  reads_one event rest reads passes (inr other) n front going (inl follows) =
+      goes_on event rest reads other n front follows
   reads_one event rest reads passes (inl stop) n front going (inl follows) =
       let read = accepts rest reads n front (subst (MayFollow profile front) stop follows) in
       (read.0, subst (λ e. ReadsFrom profile n (front ++ e ∷ rest) read.0) (sym stop) read.1)
@@ -145,9 +163,11 @@ module _ (pec_is_byte : (bytes : List ℕ) → pec bytes < 256) (profile : List 
       let later = some_of_both rest in
       let stop = same_event event Stop in
       let passes = passes_one event rest later.0 later.1 stop in (
-        λ n front going. reads_one event rest later.0 passes stop n front going (may_follow pec_is_byte profile bus front event),
+        λ n front going. reads_one event rest later.0 passes stop n front going
+            (may_follow pec_is_byte profile bus front event),
         passes,
       )
 
-  pub each_list_has_a_reading : (n : ℕ) (events : List Event) → (outcomes : List Outcome) × ReadsFrom profile n events outcomes
+  pub each_list_has_a_reading : (n : ℕ) (events : List Event)
+      → (outcomes : List Outcome) × ReadsFrom profile n events outcomes
   each_list_has_a_reading n events = (some_of_both events).0 n [] nothing_under_way

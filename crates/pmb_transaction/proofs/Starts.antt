@@ -31,7 +31,8 @@ no_start : (events a b : List Event) → has_start events ≡ false → events �
 no_start events a b none split = cc (none, sym (starts a b), ap has_start split)
 
 -- Events can be cut at their last START in one way.
-pub same_last_start : (a b x y : List Event) → has_start x ≡ false → has_start y ≡ false → a ++ Start ∷ x ≡ b ++ Start ∷ y → (a ≡ b) × (x ≡ y)
+pub same_last_start : (a b x y : List Event) → has_start x ≡ false → has_start y ≡ false
+    → a ++ Start ∷ x ≡ b ++ Start ∷ y → (a ≡ b) × (x ≡ y)
 same_last_start [] [] x y none_x none_y same = (refl, cc same)
 same_last_start [] (e ∷ b) x y none_x none_y same =
     let rest : x ≡ b ++ Start ∷ y = cc same in
@@ -109,7 +110,8 @@ same_half a b same =
 -- what an answer begins with has no further START
 pub no_start-answer : (address : ℕ) (answer : List ℕ) (last : List Event) → AnswerBegins address answer last
     → (tail : List Event) × (last ≡ Start ∷ Byte address ∷ tail) × (has_start tail ≡ false)
-no_start-answer address answer last (answer_taken bytes fewer spelled) = (Ack ∷ acked bytes, spelled, no_start-acked bytes)
+no_start-answer address answer last (answer_taken bytes fewer spelled) =
+    (Ack ∷ acked bytes, spelled, no_start-acked bytes)
 no_start-answer address answer last (answer_sent bytes byte rest split spelled) =
     (Ack ∷ (acked bytes ++ Byte byte ∷ []), spelled, no_start-sent bytes byte)
 

@@ -74,7 +74,8 @@ ends : (events front : List Event) → has_no_stop front ≡ true → events ≡
 ends events front none split = record { front = front; no_stop = HasNoStop-from front none; split = split }
 
 -- the packet of a read or a call
-ends-answered : (events : List Event) (addr : ℕ) (body reply : List ℕ) (with_pec : Bool) → events ≡ answered addr body reply with_pec → EndsAtFirstStop events
+ends-answered : (events : List Event) (addr : ℕ) (body reply : List ℕ) (with_pec : Bool)
+    → events ≡ answered addr body reply with_pec → EndsAtFirstStop events
 ends-answered events addr body reply with_pec spelled =
     let written = leg (write_address addr ∷ body) in
     let bytes = checked with_pec (write_address addr ∷ body ++ read_address addr ∷ []) reply in
@@ -84,7 +85,8 @@ ends-answered events addr body reply with_pec spelled =
     spelled
 
 module _ (profile : List DeviceParts) where
-  no_stop-parts : (parts : List PartData) (events : List Event) → PartsEvents profile parts events → has_no_stop events ≡ true
+  no_stop-parts : (parts : List PartData) (events : List Event) → PartsEvents profile parts events
+      → has_no_stop events ≡ true
   no_stop-parts [] events each = ap has_no_stop each
   no_stop-parts (part ∷ parts) events each =
       let body = each.3.body in
@@ -94,14 +96,18 @@ module _ (profile : List DeviceParts) where
   no_stop-refused : (parts : List PartData) (addr : ℕ) (sent : List ℕ) (at_read : Bool) (last : List Event)
       → RefusedLeg profile parts addr sent at_read last → has_no_stop last ≡ true
   no_stop-refused parts addr [] false last refused = ap has_no_stop refused.spelled
-  no_stop-refused parts addr (b ∷ bytes) false last refused = ap has_no_stop refused.spelled ∙ no_stop-nacked (b ∷ bytes)
+  no_stop-refused parts addr (b ∷ bytes) false last refused = ap has_no_stop refused.spelled
+      ∙ no_stop-nacked (b ∷ bytes)
   no_stop-refused parts addr [] true last refused = ap has_no_stop refused.spelled
   no_stop-refused parts addr (b ∷ bytes) true last refused =
       ap has_no_stop refused.spelled
-      ∙ no_stop-append (leg (write_address addr ∷ b ∷ bytes)) (Start ∷ Byte (read_address addr) ∷ Nack ∷ []) (no_stop-acked bytes) refl
+      ∙ no_stop-append (leg (write_address addr ∷ b ∷ bytes)) (Start ∷ Byte (read_address addr) ∷ Nack ∷ [])
+      (no_stop-acked bytes) refl
 
-  pub packet_ends_with_stop : (t : TransactionData) (events : List Event) → Packet profile t events → EndsAtFirstStop events
-  packet_ends_with_stop (Write parts) events packet = ends events packet.legs (no_stop-parts parts packet.legs packet.each) packet.spelled
+  pub packet_ends_with_stop : (t : TransactionData) (events : List Event) → Packet profile t events
+      → EndsAtFirstStop events
+  packet_ends_with_stop (Write parts) events packet =
+      ends events packet.legs (no_stop-parts parts packet.legs packet.each) packet.spelled
   packet_ends_with_stop (Read t) events packet =
       ends-answered events t.addr (t.code ∷ []) (wire packet.form t.reply) t.pec packet.spelled
   packet_ends_with_stop (Call t) events packet =
@@ -116,7 +122,8 @@ module _ (profile : List DeviceParts) where
       let bytes = checked t.pec (read_address alert_address ∷ []) (t.byte ∷ []) in
       let address = leg (read_address alert_address ∷ []) in
       ends events (address ++ nacked bytes) (no_stop-nacked bytes) packet.spelled
-  packet_ends_with_stop NoAlert events packet = ends events (Start ∷ Byte (read_address alert_address) ∷ Nack ∷ []) refl packet
+  packet_ends_with_stop NoAlert events packet = ends events (Start ∷ Byte (read_address alert_address) ∷ Nack ∷ []) refl
+      packet
 
   pub packet_is_not_empty : (t : TransactionData) (events : List Event) → Packet profile t events → events ≡ [] → ⊥
   packet_is_not_empty t events packet none =
@@ -130,5 +137,6 @@ module _ (profile : List DeviceParts) where
       let first = packet_ends_with_stop t events packet in
       let second = packet_ends_with_stop u (events ++ more) longer in
       let cut : first.front ++ Stop ∷ more ≡ second.front ++ Stop ∷ [] =
-      sym (append_assoc first.front (Stop ∷ []) more) ∙ ap (λ (front : List Event). front ++ more) (sym first.split) ∙ second.split in
+      sym (append_assoc first.front (Stop ∷ []) more) ∙ ap (λ (front : List Event). front ++ more) (sym first.split)
+      ∙ second.split in
       (same_cut first.front second.front more [] first.no_stop second.no_stop cut).1

@@ -1,5 +1,6 @@
 -- The transaction of a packet, read back from its legs.
-use Rattle.std.proofs.Common.{◌≡◌, ℕ, ◌+◌, ◌*◌, ◌/◌, ◌%◌, Bool, true, false, ◌&&◌, cond, Option, Some, None, map, nat_eq, List, [], ◌∷◌, ◌++◌, refl, ap, ◌∙◌, arith}
+use Rattle.std.proofs.Common.{◌≡◌, ℕ, ◌+◌, ◌*◌, ◌/◌, ◌%◌, Bool, true, false, ◌&&◌, cond, Option, Some, None, map}
+use Rattle.std.proofs.Common.{nat_eq, List, [], ◌∷◌, ◌++◌, refl, ap, ◌∙◌, arith}
 use Rattle.std.specs.List.{list_all}
 use Rattle.std.proofs.lemmas.Bool.{eq-eqb}
 use Rattle.pmb_bus.specs.Address.{read_address, write_address}
@@ -50,7 +51,8 @@ all_taken legs = list_all (λ leg. leg.taken) legs
 all_but_last-push : (legs : List Leg) (last : Leg) → all_but_last (legs ++ last ∷ []) ≡ legs
 all_but_last-push [] last = refl
 all_but_last-push (leg ∷ []) last = refl
-all_but_last-push (leg ∷ next ∷ legs) last = ap (λ (front : List Leg). leg ∷ front) (all_but_last-push (next ∷ legs) last)
+all_but_last-push (leg ∷ next ∷ legs) last = ap (λ (front : List Leg). leg ∷ front)
+    (all_but_last-push (next ∷ legs) last)
 
 last_leg-push : (legs : List Leg) (last : Leg) → last_leg (legs ++ last ∷ []) ≡ last
 last_leg-push [] last = refl
@@ -62,7 +64,8 @@ and_false true = refl
 and_false false = refl
 
 -- where the last byte of the last leg was refused, not all was taken
-not_all_taken : (legs : List Leg) (bytes : List ℕ) → all_taken (legs ++ record { bytes = bytes; taken = false } ∷ []) ≡ false
+not_all_taken : (legs : List Leg) (bytes : List ℕ) → all_taken (legs ++ record { bytes = bytes; taken = false } ∷ [])
+    ≡ false
 not_all_taken [] bytes = refl
 not_all_taken (leg ∷ legs) bytes = ap (λ (b : Bool). leg.taken && b) (not_all_taken legs bytes) ∙ and_false leg.taken
 
@@ -87,18 +90,27 @@ module _ (profile : List DeviceParts) where
   abbrev pub part_told : List ℕ → PartData
   part_told [] = record { addr = 0; code = 0; bytes = []; pec = false }
   part_told (b ∷ []) = record { addr = 0; code = 0; bytes = []; pec = false }
-  part_told (b ∷ code ∷ rest) = part_with (b / 2) code (data_of (forms_at (device_with (b / 2) profile) code).write rest)
+  part_told (b ∷ code ∷ rest) = part_with (b / 2) code
+      (data_of (forms_at (device_with (b / 2) profile) code).write rest)
 
   abbrev pub read_with : ℕ → ℕ → Data → TransactionData
   read_with addr code d = Read (record { addr = addr; code = code; reply = d.bytes; pec = d.pec })
 
   abbrev pub call_with : ℕ → ℕ → Data → Data → TransactionData
-  call_with addr code sent d = Call (record { addr = addr; code = code; bytes = sent.bytes; reply = d.bytes; pec = d.pec })
+  call_with addr code sent d = Call (record {
+    addr = addr;
+    code = code;
+    bytes = sent.bytes;
+    reply = d.bytes;
+    pec =
+        d.pec;
+  })
 
   -- the read or call of a body and a reply
   abbrev pub answer_told : ℕ → List ℕ → List ℕ → TransactionData
   answer_told addr [] reply = NoAlert
-  answer_told addr (code ∷ []) reply = read_with addr code (data_of (forms_at (device_with addr profile) code).read reply)
+  answer_told addr (code ∷ []) reply = read_with addr code
+      (data_of (forms_at (device_with addr profile) code).read reply)
   answer_told addr (code ∷ b ∷ bytes) reply =
       call_with addr code
       (data_of (forms_at (device_with addr profile) code).call (b ∷ bytes))
@@ -129,31 +141,48 @@ module _ (profile : List DeviceParts) where
       (last_told (all_but_last legs) (last_leg legs).bytes)
 
   -- where all is taken, a write
-  pub told_write : (legs : List Leg) (parts : List PartData) → all_taken legs ≡ true → map (λ leg. part_told leg.bytes) legs ≡ parts
+  pub told_write : (legs : List Leg) (parts : List PartData) → all_taken legs ≡ true
+      → map (λ leg. part_told leg.bytes) legs ≡ parts
       → told legs ≡ Write parts
   told_write legs parts taken same =
-      ap (λ (b : Bool). cond b (Write (map (λ leg. part_told leg.bytes) legs)) (last_told (all_but_last legs) (last_leg legs).bytes)) taken
+      ap (λ (b : Bool). cond b (Write (map (λ leg. part_told leg.bytes) legs))
+      (last_told (all_but_last legs) (last_leg legs).bytes)) taken
       ∙ ap Write same
 
   -- else what the last leg tells
-  pub told_last : (front : List Leg) (bytes : List ℕ) → told (front ++ record { bytes = bytes; taken = false } ∷ []) ≡ last_told front bytes
+  pub told_last : (front : List Leg) (bytes : List ℕ) → told (front ++ record { bytes = bytes; taken = false } ∷ [])
+      ≡ last_told front bytes
   told_last front bytes =
       let last : Leg = record { bytes = bytes; taken = false } in
       let legs = front ++ last ∷ [] in
-      ap (λ (b : Bool). cond b (Write (map (λ leg. part_told leg.bytes) legs)) (last_told (all_but_last legs) (last_leg legs).bytes)) (not_all_taken front bytes)
+      ap (λ (b : Bool). cond b (Write (map (λ leg. part_told leg.bytes) legs))
+      (last_told (all_but_last legs) (last_leg legs).bytes)) (not_all_taken front bytes)
       ∙ ap (λ (l : Leg). last_told (all_but_last legs) l.bytes) (last_leg-push front last)
       ∙ ap (λ (before : List Leg). last_told before bytes) (all_but_last-push front last)
 
   -- a refused byte of a written leg
   pub told_refused : (front : List Leg) (addr : ℕ) (sent : List ℕ)
-      → last_told front (write_address addr ∷ sent) ≡ Refused (record { parts = map (λ leg. part_told leg.bytes) front; addr = addr; sent = sent; at_read = false })
+      → last_told front (write_address addr ∷ sent)
+      ≡ Refused (record { parts = map (λ leg. part_told leg.bytes) front; addr = addr; sent = sent; at_read = false })
   told_refused front addr sent =
       ap
       (λ (b : Bool). cond b
-      (Refused (record { parts = map (λ leg. part_told leg.bytes) front; addr = write_address addr / 2; sent = sent; at_read = false }))
+      (Refused (record {
+        parts = map (λ leg. part_told leg.bytes) front;
+        addr = write_address addr / 2;
+        sent =
+            sent;
+        at_read = false;
+      }))
       (odd_told front (write_address addr) sent))
       (is_write-write addr)
-      ∙ ap (λ (a : ℕ). Refused (record { parts = map (λ leg. part_told leg.bytes) front; addr = a; sent = sent; at_read = false })) (half-write addr)
+      ∙ ap (λ (a : ℕ). Refused (record {
+        parts = map (λ leg. part_told leg.bytes) front;
+        addr = a;
+        sent =
+            sent;
+        at_read = false;
+      })) (half-write addr)
 
   -- what follows a read address
   pub told_read : (first : Leg) (addr : ℕ) (rest : List ℕ)
@@ -161,7 +190,13 @@ module _ (profile : List DeviceParts) where
   told_read first addr rest =
       ap
       (λ (b : Bool). cond b
-      (Refused (record { parts = map (λ leg. part_told leg.bytes) (first ∷ []); addr = read_address addr / 2; sent = rest; at_read = false }))
+      (Refused (record {
+        parts = map (λ leg. part_told leg.bytes) (first ∷ []);
+        addr = read_address addr / 2;
+        sent =
+            rest;
+        at_read = false;
+      }))
       (read_told (read_address addr / 2) (behind_first first.bytes) rest))
       (is_write-read addr)
       ∙ ap (λ (a : ℕ). read_told a (behind_first first.bytes) rest) (half-read addr)

@@ -1,5 +1,6 @@
 -- Events take turns in a packet.
-use Rattle.std.proofs.Common.{◌≡◌, ℕ, inl, inr, Bool, true, false, ◌&&◌, List, [], ◌∷◌, ◌++◌, refl, sym, ap, ◌∙◌, subst, append_assoc}
+use Rattle.std.proofs.Common.{◌≡◌, ℕ, inl, inr, Bool, true, false, ◌&&◌, List, [], ◌∷◌, ◌++◌, refl, sym, ap, ◌∙◌, subst}
+use Rattle.std.proofs.Common.{append_assoc}
 use Rattle.std.proofs.lemmas.Bool.{and_parts}
 use Rattle.pmb_bus.specs.declared.event.Event.{Event}
 use Rattle.pmb_bus.specs.declared.event.Event.TheVariants.{Start, Byte, Ack, Nack, Stop}
@@ -20,7 +21,8 @@ take_turns before [] = true
 take_turns before (event ∷ events) = follows_in_turn before event && take_turns event events
 
 -- two of them that stand side by side
-side_by_side : (before : Event) (front : List Event) (d e : Event) (rest : List Event) → take_turns before (front ++ d ∷ e ∷ rest) ≡ true
+side_by_side : (before : Event) (front : List Event) (d e : Event) (rest : List Event)
+    → take_turns before (front ++ d ∷ e ∷ rest) ≡ true
     → follows_in_turn d e ≡ true
 side_by_side before [] d e rest turns =
     let later = (and_parts (follows_in_turn before d) (take_turns d (e ∷ rest)) turns).1 in
@@ -29,12 +31,14 @@ side_by_side before (f ∷ front) d e rest turns =
     side_by_side f front d e rest (and_parts (follows_in_turn before f) (take_turns f (front ++ d ∷ e ∷ rest)) turns).1
 
 -- the first of them
-first_stands : (before event : Event) (events : List Event) → take_turns before (event ∷ events) ≡ true → follows_in_turn before event ≡ true
+first_stands : (before event : Event) (events : List Event) → take_turns before (event ∷ events) ≡ true
+    → follows_in_turn before event ≡ true
 first_stands before event events turns = (and_parts (follows_in_turn before event) (take_turns event events) turns).0
 
 -- ---- the parts of packets, each after an ACK or at the front
 
-turns-acked : (bytes : List ℕ) (tail : List Event) → take_turns Ack tail ≡ true → take_turns Ack (acked bytes ++ tail) ≡ true
+turns-acked : (bytes : List ℕ) (tail : List Event) → take_turns Ack tail ≡ true → take_turns Ack (acked bytes ++ tail)
+    ≡ true
 turns-acked [] tail turns = turns
 turns-acked (b ∷ bytes) tail turns = turns-acked bytes tail turns
 
@@ -43,7 +47,8 @@ turns-nacked [] = refl
 turns-nacked (b ∷ []) = refl
 turns-nacked (b ∷ c ∷ bytes) = turns-nacked (c ∷ bytes)
 
-turns-answered : (events : List Event) (addr : ℕ) (body reply : List ℕ) (with_pec : Bool) → events ≡ answered addr body reply with_pec
+turns-answered : (events : List Event) (addr : ℕ) (body reply : List ℕ) (with_pec : Bool)
+    → events ≡ answered addr body reply with_pec
     → take_turns Ack events ≡ true
 turns-answered events addr body reply with_pec spelled =
     let written = leg (write_address addr ∷ body) in
@@ -53,7 +58,8 @@ turns-answered events addr body reply with_pec spelled =
     ap (take_turns Ack) (spelled ∙ append_assoc written read (Stop ∷ [])) ∙ turns-acked body (read ++ Stop ∷ []) tail
 
 module _ (profile : List DeviceParts) where
-  turns-parts : (parts : List PartData) (legs tail : List Event) → PartsEvents profile parts legs → take_turns Ack tail ≡ true
+  turns-parts : (parts : List PartData) (legs tail : List Event) → PartsEvents profile parts legs
+      → take_turns Ack tail ≡ true
       → take_turns Ack (legs ++ tail) ≡ true
   turns-parts [] legs tail each turns = ap (λ (es : List Event). take_turns Ack (es ++ tail)) each ∙ turns
   turns-parts (part ∷ parts) legs tail each turns =
@@ -65,7 +71,8 @@ module _ (profile : List DeviceParts) where
       ap (take_turns Ack) same ∙ turns-acked each.3.body (each.1 ++ tail) later
 
   turns-at_read : (addr : ℕ) (sent : List ℕ) (last : List Event)
-      → last ≡ leg (write_address addr ∷ sent) ++ Start ∷ Byte (read_address addr) ∷ Nack ∷ [] → take_turns Ack (last ++ Stop ∷ []) ≡ true
+      → last ≡ leg (write_address addr ∷ sent) ++ Start ∷ Byte (read_address addr) ∷ Nack ∷ []
+      → take_turns Ack (last ++ Stop ∷ []) ≡ true
   turns-at_read addr sent last spelled =
       let written = leg (write_address addr ∷ sent) in
       let read = Start ∷ Byte (read_address addr) ∷ Nack ∷ [] in
@@ -75,7 +82,8 @@ module _ (profile : List DeviceParts) where
 
   turns-refused : (parts : List PartData) (addr : ℕ) (sent : List ℕ) (at_read : Bool) (last : List Event)
       → RefusedLeg profile parts addr sent at_read last → take_turns Ack (last ++ Stop ∷ []) ≡ true
-  turns-refused parts addr [] false last refused = ap (λ (es : List Event). take_turns Ack (es ++ Stop ∷ [])) refused.spelled
+  turns-refused parts addr [] false last refused =
+      ap (λ (es : List Event). take_turns Ack (es ++ Stop ∷ [])) refused.spelled
   turns-refused parts addr (b ∷ bytes) false last refused =
       ap (λ (es : List Event). take_turns Ack (es ++ Stop ∷ [])) refused.spelled ∙ turns-nacked (b ∷ bytes)
   turns-refused parts addr [] true last refused = turns-at_read addr [] last refused.spelled
@@ -85,7 +93,8 @@ module _ (profile : List DeviceParts) where
   turns-packet : (t : TransactionData) (events : List Event) → Packet profile t events → take_turns Ack events ≡ true
   turns-packet (Write parts) events packet =
       ap (take_turns Ack) packet.spelled ∙ turns-parts parts packet.legs (Stop ∷ []) packet.each refl
-  turns-packet (Read t) events packet = turns-answered events t.addr (t.code ∷ []) (wire packet.form t.reply) t.pec packet.spelled
+  turns-packet (Read t) events packet = turns-answered events t.addr (t.code ∷ [])
+      (wire packet.form t.reply) t.pec packet.spelled
   turns-packet (Call t) events packet =
       turns-answered events t.addr (t.code ∷ wire packet.form t.bytes) (wire packet.form t.reply) t.pec packet.spelled
   turns-packet (Refused t) events packet =
@@ -109,10 +118,12 @@ module _ (profile : List DeviceParts) where
       (ap (take_turns Ack) (sym same) ∙ turns-packet w.1.0 (((events ++ before ∷ []) ++ event ∷ []) ++ w.0) w.1.1)
 
   -- nothing follows a packet
-  pub packets_go_no_further : (events : List Event) (event : Event) → IsPacket profile events → MayFollow profile events event → ⊥
+  pub packets_go_no_further : (events : List Event) (event : Event) → IsPacket profile events
+      → MayFollow profile events event → ⊥
   packets_go_no_further events event packet (inl none) = no_end events event [] none
   packets_go_no_further events event packet (inr w) =
       let same : (events ++ event ∷ []) ++ w.0 ≡ events ++ event ∷ w.0 = append_assoc events (event ∷ []) w.0 in
       let none : event ∷ w.0 ≡ [] =
-      no_packet_begins_another profile packet.0 w.1.0 events (event ∷ w.0) packet.1 (subst (Packet profile w.1.0) same w.1.1) in
+      no_packet_begins_another profile packet.0 w.1.0 events (event ∷ w.0) packet.1
+      (subst (Packet profile w.1.0) same w.1.1) in
       cc none

@@ -1,5 +1,6 @@
 -- Reasons worked by hand: what may follow in each row.
-use Rattle.std.proofs.Common.{◌≡◌, ℕ, ◌<◌, ◌≤◌, ◌⊎◌, inl, inr, Bool, true, false, codes, cond, Some, None, List, [], ◌∷◌, ◌++◌, length, nat_eq, refl, sym, ap, ◌∙◌, subst, append_assoc, arith}
+use Rattle.std.proofs.Common.{◌≡◌, ℕ, ◌<◌, ◌≤◌, ◌⊎◌, inl, inr, Bool, true, false, codes, cond, Some, None, List, []}
+use Rattle.std.proofs.Common.{◌∷◌, ◌++◌, length, nat_eq, refl, sym, ap, ◌∙◌, subst, append_assoc, arith}
 use Rattle.std.specs.List.{IsDistinct}
 use Rattle.std.proofs.lemmas.Bool.{eqb-true, eqb-false}
 use Rattle.std.proofs.lemmas.Option.{none-some}
@@ -15,14 +16,18 @@ use Rattle.pmb_command.specs.declared.form.Form.TheVariants.{Zero, One, Two}
 use Rattle.pmb_command.specs.declared.form.Shape.{Shape}
 use Rattle.pmb_command.specs.Wire.{Takes, wire}
 use Rattle.pmb_command.specs.Parts.{DeviceParts, IsNew}
-use Rattle.pmb_transaction.specs.Body.{Allowed, IsReadBody, IsWriteBody, WriteBody, checked, forms, shape_of, IsFormOfRequest}
+use Rattle.pmb_transaction.specs.Body.{Allowed, IsReadBody, IsWriteBody, WriteBody, checked, forms, shape_of}
+use Rattle.pmb_transaction.specs.Body.{IsFormOfRequest}
 use Rattle.pmb_transaction.specs.Capture.{MayFollow}
-use Rattle.pmb_transaction.specs.declared.reason.Reason.TheVariants.{ReadFirst, BadRestart, BadPec, UnknownDevice, UnknownCommand, TooLong, TooShort}
-use Rattle.pmb_transaction.specs.Following.{BeginsAnswer, IsFirstAddress, IsInsideAnswer, IsNextAddress, IsAlertAnswer, alert_first, next_leg, reply_leg, written_first}
+use Rattle.pmb_transaction.specs.declared.reason.Reason.TheVariants.{ReadFirst, BadRestart, BadPec, UnknownDevice}
+use Rattle.pmb_transaction.specs.declared.reason.Reason.TheVariants.{UnknownCommand, TooLong, TooShort}
+use Rattle.pmb_transaction.specs.Following.{BeginsAnswer, IsFirstAddress, IsInsideAnswer, IsNextAddress, IsAlertAnswer}
+use Rattle.pmb_transaction.specs.Following.{alert_first, next_leg, reply_leg, written_first}
 use Rattle.pmb_transaction.specs.Packet.{PartsEvents, addresses, leg}
 use Rattle.pmb_transaction.specs.Reason.{FollowsAlone, SomeByteMayFollow}
 use Rattle.pmb_transaction.specs.Reason as reasons
-use Rattle.pmb_transaction.specs.Rows.{AckAloneFollows, IsOutOfPlace, NackAloneFollows, OtherByteFollows, capability, clear_faults, command, device_58h, device_59h, read_vin, worked_bus}
+use Rattle.pmb_transaction.specs.Rows.{AckAloneFollows, IsOutOfPlace, NackAloneFollows, OtherByteFollows, capability}
+use Rattle.pmb_transaction.specs.Rows.{clear_faults, command, device_58h, device_59h, read_vin, worked_bus}
 use Rattle.pmb_transaction.specs.Transaction.{PartData}
 use Rattle.pmb_transaction.specs.Turns.{follows_in_turn}
 use Rattle.pmb_transaction.specs.Viable.{BeginsBody, IsAnswer, IsInsideBody}
@@ -65,17 +70,20 @@ may_be code name shape byte named some_form one_form read_data call_form fixed =
 command_03h : IsCommand clear_faults
 unfolding standard_entry standard_entries standard_rows
 command_03h =
-    may_be 0x03 (codes "CLEAR_FAULTS") (written Zero) (omega arith) (record { some = omega arith; most = omega arith; spelled = inl refl }) refl
+    may_be 0x03 (codes "CLEAR_FAULTS") (written Zero) (omega arith)
+    (record { some = omega arith; most = omega arith; spelled = inl refl }) refl
     refl refl refl (λ is. refl)
 
 command_88h : IsCommand read_vin
 command_88h =
-    may_be 0x88 (codes "READ_VIN") (read Two) (omega arith) (record { some = omega arith; most = omega arith; spelled = inl refl }) refl refl
+    may_be 0x88 (codes "READ_VIN") (read Two) (omega arith)
+    (record { some = omega arith; most = omega arith; spelled = inl refl }) refl refl
     refl refl (λ is. absurd (cc is))
 
 command_19h : IsCommand capability
 command_19h =
-    may_be 0x19 (codes "CAPABILITY") (read One) (omega arith) (record { some = omega arith; most = omega arith; spelled = inl refl }) refl refl
+    may_be 0x19 (codes "CAPABILITY") (read One) (omega arith)
+    (record { some = omega arith; most = omega arith; spelled = inl refl }) refl refl
     refl refl (λ is. absurd (cc is))
 
 -- the devices may be on a bus
@@ -120,7 +128,8 @@ pub data Clears (body : List ℕ) : Type 0 where
   clears_coded : body ≡ 0x03 ∷ pec_of_clear ∷ [] → Clears body
 
 written_at : (a b : Bool) (code : ℕ) (form : Form) → nat_eq 0x03 code ≡ a
-    → (shape_of (cond a (Some clear_faults) (cond b (Some read_vin) None))).write ≡ Some form → (code ≡ 0x03) × (form ≡ Zero)
+    → (shape_of (cond a (Some clear_faults) (cond b (Some read_vin) None))).write ≡ Some form
+    → (code ≡ 0x03) × (form ≡ Zero)
 written_at true b code form is has = (sym (eqb-true 0x03 code is), cc has)
 written_at false true code form is has = absurd (cc has)
 written_at false false code form is has = absurd (cc has)
@@ -130,7 +139,8 @@ written_is : (code : ℕ) (form : Form) → (forms device_58h code).write ≡ So
 written_is code form has = written_at (nat_eq 0x03 code) (nat_eq 0x88 code) code form refl has
 
 read_at : (a b : Bool) (code : ℕ) (form : Form) → nat_eq 0x88 code ≡ b
-    → (shape_of (cond a (Some clear_faults) (cond b (Some read_vin) None))).read ≡ Some form → (code ≡ 0x88) × (form ≡ Two)
+    → (shape_of (cond a (Some clear_faults) (cond b (Some read_vin) None))).read ≡ Some form
+    → (code ≡ 0x88) × (form ≡ Two)
 read_at true b code form is has = absurd (cc has)
 read_at false true code form is has = (sym (eqb-true 0x88 code is), cc has)
 read_at false false code form is has = absurd (cc has)
@@ -139,7 +149,8 @@ read_at false false code form is has = absurd (cc has)
 read_is : (code : ℕ) (form : Form) → (forms device_58h code).read ≡ Some form → (code ≡ 0x88) × (form ≡ Two)
 read_is code form has = read_at (nat_eq 0x03 code) (nat_eq 0x88 code) code form refl has
 
-called_at : (a b : Bool) (form : Form) → (shape_of (cond a (Some clear_faults) (cond b (Some read_vin) None))).call ≡ Some form → ⊥
+called_at : (a b : Bool) (form : Form) → (shape_of (cond a (Some clear_faults) (cond b (Some read_vin) None))).call
+    ≡ Some form → ⊥
 called_at true b form has = cc has
 called_at false true form has = cc has
 called_at false false form has = cc has
@@ -154,7 +165,8 @@ written_body [] true body taken is = clears_coded is
 written_body [] false body taken is = clears is
 written_body (b ∷ bytes) with_pec body taken is = absurd (cc taken)
 
-write_body : (code : ℕ) (bytes : List ℕ) (with_pec : Bool) (body : List ℕ) → WriteBody device_58h code bytes with_pec body → Clears body
+write_body : (code : ℕ) (bytes : List ℕ) (with_pec : Bool) (body : List ℕ)
+    → WriteBody device_58h code bytes with_pec body → Clears body
 write_body code bytes with_pec body w =
     let is = written_is code w.form w.written in
     let taken = subst (λ (f : Form). Takes f (length bytes)) (is.1) w.fits.taken in
@@ -171,7 +183,8 @@ one_body body (inr (inr (code, form, bytes, c))) = absurd (not_called code form 
 -- ---- the answers of both devices
 
 -- the form of what is asked for by a code that is read and not called
-asked_form : (device : DeviceParts) (code : ℕ) (form : Form) → ((other : Form) → (forms device code).call ≡ Some other → ⊥)
+asked_form : (device : DeviceParts) (code : ℕ) (form : Form)
+    → ((other : Form) → (forms device code).call ≡ Some other → ⊥)
     → IsFormOfRequest device form (code ∷ [])
     → (forms device code).read ≡ Some form
 asked_form device code form none (inl (asked, r)) =
@@ -198,7 +211,8 @@ one_word : (answer : List ℕ) → IsAnswer device_58h 0x58 (0x88 ∷ []) answer
 one_word answer is =
     let reply = is.0 in
     let says = is.2 in
-    let has : Some Two ≡ Some says.form = asked_form device_58h 0x88 says.form (λ other called. absurd (none-some other called)) says.asked in
+    let has : Some Two ≡ Some says.form = asked_form device_58h 0x88 says.form
+    (λ other called. absurd (none-some other called)) says.asked in
     let form : says.form ≡ Two = sym (cc has) in
     let taken = subst (λ (f : Form). Takes f (length reply)) form says.fits.taken in
     word_read reply is.1 answer taken
@@ -216,7 +230,8 @@ one_byte : (answer : List ℕ) → IsAnswer device_59h 0x59 (0x19 ∷ []) answer
 one_byte answer is =
     let reply = is.0 in
     let says = is.2 in
-    let has : Some One ≡ Some says.form = asked_form device_59h 0x19 says.form (λ other called. absurd (none-some other called)) says.asked in
+    let has : Some One ≡ Some says.form = asked_form device_59h 0x19 says.form
+    (λ other called. absurd (none-some other called)) says.asked in
     let form : says.form ≡ One = sym (cc has) in
     let taken = subst (λ (f : Form). Takes f (length reply)) form says.fits.taken in
     byte_read reply is.1 answer taken says.mode
@@ -232,7 +247,8 @@ answers_alone Nack turns = inr refl
 answers_alone Stop turns = absurd (cc turns)
 
 -- After a byte NACK follows alone where ACK doesn't follow,
-nack_alone : (events : List Event) (byte : ℕ) → MayFollow worked_bus (events ++ Byte byte ∷ []) Nack → ¬ (MayFollow worked_bus (events ++ Byte byte ∷ []) Ack)
+nack_alone : (events : List Event) (byte : ℕ) → MayFollow worked_bus (events ++ Byte byte ∷ []) Nack
+    → ¬ (MayFollow worked_bus (events ++ Byte byte ∷ []) Ack)
     → FollowsAlone worked_bus (events ++ Byte byte ∷ []) Nack
 nack_alone events byte follows not = record {
   follows = follows;
@@ -243,7 +259,8 @@ nack_alone events byte follows not = record {
 }
 
 -- and ACK where NACK doesn't.
-ack_alone : (events : List Event) (byte : ℕ) → MayFollow worked_bus (events ++ Byte byte ∷ []) Ack → ¬ (MayFollow worked_bus (events ++ Byte byte ∷ []) Nack)
+ack_alone : (events : List Event) (byte : ℕ) → MayFollow worked_bus (events ++ Byte byte ∷ []) Ack
+    → ¬ (MayFollow worked_bus (events ++ Byte byte ∷ []) Nack)
     → FollowsAlone worked_bus (events ++ Byte byte ∷ []) Ack
 ack_alone events byte follows not = record {
   follows = follows;
@@ -260,7 +277,14 @@ clear_part : PartData
 clear_part = record { addr = 0x58; code = 0x03; bytes = []; pec = false }
 
 clear_written : WriteBody device_58h 0x03 [] false (0x03 ∷ [])
-clear_written = record { form = Zero; written = refl; fits = record { small = tt; taken = refl }; mode = tt; spelled = refl }
+clear_written = record {
+  form = Zero;
+  written = refl;
+  fits = record { small = tt; taken = refl };
+  mode = tt;
+  spelled =
+      refl;
+}
 
 abbrev clear_leg : List Event
 clear_leg = leg (0xb0 ∷ 0x03 ∷ [])
@@ -283,7 +307,8 @@ vin_read : IsReadBody device_58h (0x88 ∷ [])
 vin_read = (0x88, Two, record { read = refl; spelled = refl })
 
 -- the answer d3 00 to READ_VIN, with and without a packet error code
-vin_answer : (with_pec : Bool) → IsAnswer device_58h 0x58 (0x88 ∷ []) (checked with_pec (0xb0 ∷ 0x88 ∷ 0xb1 ∷ []) (0x00 ∷ 0xd3 ∷ []))
+vin_answer : (with_pec : Bool) → IsAnswer device_58h 0x58 (0x88 ∷ [])
+    (checked with_pec (0xb0 ∷ 0x88 ∷ 0xb1 ∷ []) (0x00 ∷ 0xd3 ∷ []))
 vin_answer with_pec = (
   0x00 ∷ 0xd3 ∷ [],
   with_pec,
@@ -311,7 +336,8 @@ first_byte a b x y body is also =
 
 not_cleared_c8 : (rest body : List ℕ) → Clears body → body ≡ 0xc8 ∷ rest → ⊥
 not_cleared_c8 rest body (clears spelled) is = eqb-false 0x03 0xc8 refl (first_byte 0x03 0xc8 [] rest body spelled is)
-not_cleared_c8 rest body (clears_coded spelled) is = eqb-false 0x03 0xc8 refl (first_byte 0x03 0xc8 (pec_of_clear ∷ []) rest body spelled is)
+not_cleared_c8 rest body (clears_coded spelled) is =
+    eqb-false 0x03 0xc8 refl (first_byte 0x03 0xc8 (pec_of_clear ∷ []) rest body spelled is)
 
 -- no body begins with this code
 no_c8 : (rest body : List ℕ) → Clears body ⊎ (body ≡ 0x88 ∷ []) → body ≡ 0xc8 ∷ rest → ⊥
@@ -333,7 +359,8 @@ no_47 rest body (inr spelled) is = eqb-false 0x88 0x03 refl (first_byte 0x88 0x0
 
 not_cleared_88 : (rest body : List ℕ) → Clears body → body ≡ 0x88 ∷ rest → ⊥
 not_cleared_88 rest body (clears spelled) is = eqb-false 0x03 0x88 refl (first_byte 0x03 0x88 [] rest body spelled is)
-not_cleared_88 rest body (clears_coded spelled) is = eqb-false 0x03 0x88 refl (first_byte 0x03 0x88 (pec_of_clear ∷ []) rest body spelled is)
+not_cleared_88 rest body (clears_coded spelled) is =
+    eqb-false 0x03 0x88 refl (first_byte 0x03 0x88 (pec_of_clear ∷ []) rest body spelled is)
 
 no_more_88 : (next : ℕ) (rest body : List ℕ) → Clears body ⊎ (body ≡ 0x88 ∷ []) → body ≡ 0x88 ∷ next ∷ rest → ⊥
 no_more_88 next rest body (inl written) is = not_cleared_88 (next ∷ rest) body written is
@@ -355,7 +382,8 @@ not_again (next_leg other body few seven new same) =
 not_again (reply_leg alone is same) = eqb-false 0xb0 0xb1 refl same
 
 no_write_88 : IsWriteBody device_58h (0x88 ∷ []) → ⊥
-no_write_88 (code, bytes, with_pec, w) = not_cleared_88 [] (0x88 ∷ []) (write_body code bytes with_pec (0x88 ∷ []) w) refl
+no_write_88 (code, bytes, with_pec, w) = not_cleared_88 [] (0x88 ∷ []) (write_body code bytes with_pec (0x88 ∷ []) w)
+    refl
 
 -- no other device is addressed where one was asked
 not_another : IsNextAddress device_58h [] 0x58 (0x88 ∷ []) 0x40 → ⊥
@@ -365,7 +393,8 @@ not_another (reply_leg alone is same) = eqb-false 0x40 0xb1 refl same
 wrong_word : (rest answer : List ℕ) → OneWord answer → answer ≡ 0x00 ∷ 0xd3 ∷ 0xf7 ∷ rest → ⊥
 wrong_word rest answer (word low high is) same = cc (sym is ∙ same)
 wrong_word rest answer (word_coded low high is) same =
-    let spelled : low ∷ high ∷ pec (0xb0 ∷ 0x88 ∷ 0xb1 ∷ low ∷ high ∷ []) ∷ [] ≡ 0x00 ∷ 0xd3 ∷ 0xf7 ∷ rest = sym is ∙ same in
+    let spelled : low ∷ high ∷ pec (0xb0 ∷ 0x88 ∷ 0xb1 ∷ low ∷ high ∷ []) ∷ [] ≡ 0x00 ∷ 0xd3 ∷ 0xf7 ∷ rest = sym is
+    ∙ same in
     let low_is : low ≡ 0x00 = cc spelled in
     let high_is : high ≡ 0xd3 = cc spelled in
     let code : pec (0xb0 ∷ 0x88 ∷ 0xb1 ∷ low ∷ high ∷ []) ≡ 0xf7 = cc spelled in
@@ -388,16 +417,25 @@ wrong_alert true byte rest is =
     eqb-false 0xf3 0xf2 refl (sym alert_code ∙ subst (λ (b : ℕ). pec (0x19 ∷ b ∷ []) ≡ 0xf2) byte_is code)
 wrong_alert false byte rest is = cc is
 
-long_alert : (with_pec : Bool) (byte next : ℕ) (rest : List ℕ) → alert_bytes with_pec byte ≡ 0xb0 ∷ 0xf3 ∷ next ∷ rest → ⊥
+long_alert : (with_pec : Bool) (byte next : ℕ) (rest : List ℕ) → alert_bytes with_pec byte ≡ 0xb0 ∷ 0xf3 ∷ next ∷ rest
+    → ⊥
 long_alert true byte next rest is = cc is
 long_alert false byte next rest is = cc is
 
 not_inside_88 : IsInsideBody device_58h [] (0x88 ∷ []) → ⊥
 not_inside_88 (inl none) = cc none
-not_inside_88 (inr (body, allowed, prefix)) = no_more_88 prefix.next prefix.rest body (one_body body allowed) prefix.split
+not_inside_88 (inr (body, allowed, prefix)) = no_more_88 prefix.next prefix.rest body
+    (one_body body allowed) prefix.split
 
 clear_coded : WriteBody device_58h 0x03 [] true (0x03 ∷ pec_of_clear ∷ [])
-clear_coded = record { form = Zero; written = refl; fits = record { small = tt; taken = refl }; mode = tt; spelled = refl }
+clear_coded = record {
+  form = Zero;
+  written = refl;
+  fits = record { small = tt; taken = refl };
+  mode = tt;
+  spelled =
+      refl;
+}
 
 module _ (pec_is_byte : (bytes : List ℕ) → pec bytes < 256) where
   abbrev bus : IsBus worked_bus
@@ -409,27 +447,46 @@ module _ (pec_is_byte : (bytes : List ℕ) → pec bytes < 256) where
   read_first =
       let other : SomeByteMayFollow worked_bus (Start ∷ []) =
       (0xb0, (first_follows pec_is_byte worked_bus bus 0xb0).1 (written_first 0x58 (omega arith) refl)) in
-      record { other = other; refused = λ follows. not_first ((first_follows pec_is_byte worked_bus bus 0xb1).0 follows); told = inl (other, reasons.read_first refl) }
+      record {
+        other = other;
+        refused = λ follows. not_first
+            ((first_follows pec_is_byte worked_bus bus 0xb1).0 follows);
+        told = inl (other, reasons.read_first refl);
+      }
 
   -- which address byte may follow the START after the first leg
   address_follows : (bytes : List ℕ) (byte : ℕ)
-      → (MayFollow worked_bus (leg (0xb0 ∷ bytes) ++ Start ∷ []) (Byte byte) → IsNextAddress device_58h [] 0x58 bytes byte)
-      × (IsNextAddress device_58h [] 0x58 bytes byte → MayFollow worked_bus (leg (0xb0 ∷ bytes) ++ Start ∷ []) (Byte byte))
-  address_follows bytes byte = address_byte_follows pec_is_byte worked_bus bus [] (omega arith) distinct_none [] refl 0x58 refl device_58h refl bytes byte
+      → (MayFollow worked_bus (leg (0xb0 ∷ bytes) ++ Start ∷ []) (Byte byte)
+      → IsNextAddress device_58h [] 0x58 bytes byte)
+      × (IsNextAddress device_58h [] 0x58 bytes byte
+      → MayFollow worked_bus (leg (0xb0 ∷ bytes) ++ Start ∷ []) (Byte byte))
+  address_follows bytes byte = address_byte_follows pec_is_byte worked_bus bus [] (omega arith) distinct_none [] refl
+      0x58 refl device_58h refl bytes byte
 
   pub written_again : OtherByteFollows (leg (0xb0 ∷ 0x03 ∷ []) ++ Start ∷ []) 0xb0 BadRestart
   written_again =
       let other : SomeByteMayFollow worked_bus (leg (0xb0 ∷ 0x03 ∷ []) ++ Start ∷ []) = (
         0x40,
-        (address_follows (0x03 ∷ []) 0x40).1 (next_leg 0x20 (0x03, [], false, clear_written) (omega arith) (omega arith) refl refl),
+        (address_follows (0x03 ∷ []) 0x40).1 (next_leg 0x20 (0x03, [], false, clear_written) (omega arith)
+            (omega arith) refl refl),
       ) in
-      record { other = other; refused = λ follows. not_again ((address_follows (0x03 ∷ []) 0xb0).0 follows); told = inl (other, reasons.bad_restart (leg (0xb0 ∷ 0x03 ∷ [])) (λ none. cc none) refl) }
+      record {
+        other = other;
+        refused = λ follows. not_again ((address_follows (0x03 ∷ []) 0xb0).0 follows);
+        told =
+            inl (other, reasons.bad_restart (leg (0xb0 ∷ 0x03 ∷ [])) (λ none. cc none) refl);
+      }
 
   pub another_is_read : OtherByteFollows (leg (0xb0 ∷ 0x88 ∷ []) ++ Start ∷ []) 0x40 BadRestart
   another_is_read =
       let other : SomeByteMayFollow worked_bus (leg (0xb0 ∷ 0x88 ∷ []) ++ Start ∷ []) =
       (0xb1, (address_follows (0x88 ∷ []) 0xb1).1 (reply_leg refl (inl vin_read) refl)) in
-      record { other = other; refused = λ follows. not_another ((address_follows (0x88 ∷ []) 0x40).0 follows); told = inl (other, reasons.bad_restart (leg (0xb0 ∷ 0x88 ∷ [])) (λ none. cc none) refl) }
+      record {
+        other = other;
+        refused = λ follows. not_another ((address_follows (0x88 ∷ []) 0x40).0 follows);
+        told =
+            inl (other, reasons.bad_restart (leg (0xb0 ∷ 0x88 ∷ [])) (λ none. cc none) refl);
+      }
 
   abbrev vin_leg : List Event
   vin_leg = leg (0xb0 ∷ 0x88 ∷ [])
@@ -441,9 +498,12 @@ module _ (pec_is_byte : (bytes : List ℕ) → pec bytes < 256) where
   vin_is_read = reply_is_read pec_is_byte worked_bus bus 0x58 device_58h refl (0x88 ∷ [])
 
   reply_follows : (byte : ℕ)
-      → (MayFollow worked_bus (vin_leg ++ leg (0xb1 ∷ 0x00 ∷ 0xd3 ∷ [])) (Byte byte) → BeginsAnswer VinAnswer (0x00 ∷ 0xd3 ∷ byte ∷ []))
-      × (BeginsAnswer VinAnswer (0x00 ∷ 0xd3 ∷ byte ∷ []) → MayFollow worked_bus (vin_leg ++ leg (0xb1 ∷ 0x00 ∷ 0xd3 ∷ [])) (Byte byte))
-  reply_follows byte = answer_byte_follows pec_is_byte worked_bus bus vin_leg 0x58 VinAnswer vin_is_read (0x00 ∷ 0xd3 ∷ []) byte
+      → (MayFollow worked_bus (vin_leg ++ leg (0xb1 ∷ 0x00 ∷ 0xd3 ∷ [])) (Byte byte)
+      → BeginsAnswer VinAnswer (0x00 ∷ 0xd3 ∷ byte ∷ []))
+      × (BeginsAnswer VinAnswer (0x00 ∷ 0xd3 ∷ byte ∷ [])
+      → MayFollow worked_bus (vin_leg ++ leg (0xb1 ∷ 0x00 ∷ 0xd3 ∷ [])) (Byte byte))
+  reply_follows byte = answer_byte_follows pec_is_byte worked_bus bus vin_leg 0x58 VinAnswer vin_is_read
+      (0x00 ∷ 0xd3 ∷ []) byte
 
   pub reply_with_wrong_code : OtherByteFollows (vin_leg ++ leg (0xb1 ∷ 0x00 ∷ 0xd3 ∷ [])) 0xf7 BadPec
   reply_with_wrong_code =
@@ -458,14 +518,20 @@ module _ (pec_is_byte : (bytes : List ℕ) → pec bytes < 256) where
       ) in
       record {
         other = other;
-        refused = λ follows. let begins = (reply_follows 0xf7).0 follows in wrong_word begins.1 begins.0 (one_word begins.0 begins.2) begins.3;
-        told = inl (other, reasons.bad_pec_sent (vin_leg ++ Start ∷ Byte 0xb1 ∷ Ack ∷ Byte 0x00 ∷ Ack ∷ Byte 0xd3 ∷ []) refl);
+        refused = λ follows. let begins = (reply_follows 0xf7).0 follows in
+            wrong_word begins.1 begins.0 (one_word begins.0 begins.2) begins.3;
+        told = inl (
+          other,
+          reasons.bad_pec_sent (vin_leg ++ Start ∷ Byte 0xb1 ∷ Ack ∷ Byte 0x00 ∷ Ack ∷ Byte 0xd3 ∷ [])
+              refl,
+        );
       }
 
   alert_follows : (byte : ℕ)
       → (MayFollow worked_bus (leg (0x19 ∷ 0xb0 ∷ [])) (Byte byte) → BeginsAnswer IsAlertAnswer (0xb0 ∷ byte ∷ []))
       × (BeginsAnswer IsAlertAnswer (0xb0 ∷ byte ∷ []) → MayFollow worked_bus (leg (0x19 ∷ 0xb0 ∷ [])) (Byte byte))
-  alert_follows byte = answer_byte_follows pec_is_byte worked_bus bus [] 0x0c IsAlertAnswer (alert_is_read worked_bus) (0xb0 ∷ []) byte
+  alert_follows byte = answer_byte_follows pec_is_byte worked_bus bus [] 0x0c IsAlertAnswer (alert_is_read worked_bus)
+      (0xb0 ∷ []) byte
 
   abbrev coded_alert : IsAlertAnswer (0xb0 ∷ pec (0x19 ∷ 0xb0 ∷ []) ∷ [])
   coded_alert = record { byte = 0xb0; small = omega arith; with_pec = true; spelled = refl }
@@ -474,7 +540,12 @@ module _ (pec_is_byte : (bytes : List ℕ) → pec bytes < 256) where
   alert_with_wrong_code =
       let other : SomeByteMayFollow worked_bus (leg (0x19 ∷ 0xb0 ∷ [])) = (
         0xf3,
-        (alert_follows 0xf3).1 (0xb0 ∷ pec (0x19 ∷ 0xb0 ∷ []) ∷ [], [], coded_alert, ap (λ (code : ℕ). 0xb0 ∷ code ∷ []) alert_code),
+        (alert_follows 0xf3).1 (
+          0xb0 ∷ pec (0x19 ∷ 0xb0 ∷ []) ∷ [],
+          [],
+          coded_alert,
+          ap (λ (code : ℕ). 0xb0 ∷ code ∷ []) alert_code,
+        ),
       ) in
       record {
         other = other;
@@ -489,7 +560,8 @@ module _ (pec_is_byte : (bytes : List ℕ) → pec bytes < 256) where
   -- ---- NACK alone
 
   -- where no device has an address
-  nobody : (parts : List PartData) (legs : List Event) → length parts ≤ 15 → IsDistinct nat_eq (addresses parts) → PartsEvents worked_bus parts legs
+  nobody : (parts : List PartData) (legs : List Event) → length parts ≤ 15 → IsDistinct nat_eq (addresses parts)
+      → PartsEvents worked_bus parts legs
       → IsNew 0x20 (addresses parts) → FollowsAlone worked_bus (legs ++ Start ∷ Byte 0x40 ∷ []) Nack
   nobody parts legs few own each new =
       let events = legs ++ Start ∷ Byte 0x40 ∷ [] in
@@ -518,14 +590,17 @@ module _ (pec_is_byte : (bytes : List ℕ) → pec bytes < 256) where
       record { alone = alone; told = inl (alone, reasons.unknown_device (leg (0xb0 ∷ 0x03 ∷ [])) 0x20 refl) }
 
   -- a byte after others in the first leg, that is refused and not taken
-  wrong_byte : (bytes : List ℕ) (byte : ℕ) → IsInsideBody device_58h [] bytes → byte < 256 → ¬ (BeginsBody device_58h [] (bytes ++ byte ∷ []))
+  wrong_byte : (bytes : List ℕ) (byte : ℕ) → IsInsideBody device_58h [] bytes → byte < 256
+      → ¬ (BeginsBody device_58h [] (bytes ++ byte ∷ []))
       → FollowsAlone worked_bus (leg (0xb0 ∷ bytes) ++ Byte byte ∷ []) Nack
   wrong_byte bytes byte inside small not =
       nack_alone (leg (0xb0 ∷ bytes)) byte
-      ((refusal_follows pec_is_byte worked_bus bus [] (omega arith) distinct_none [] refl 0x58 refl device_58h refl bytes byte).1 (inside, small))
+      ((refusal_follows pec_is_byte worked_bus bus [] (omega arith) distinct_none [] refl 0x58 refl device_58h refl
+      bytes byte).1 (inside, small))
       (
       λ follows.
-      not ((taken_follows pec_is_byte worked_bus bus [] (omega arith) distinct_none [] refl 0x58 refl device_58h refl bytes byte).0 follows)
+      not ((taken_follows pec_is_byte worked_bus bus [] (omega arith) distinct_none [] refl 0x58 refl device_58h refl
+      bytes byte).0 follows)
       )
 
   not_c8 : ¬ (BeginsBody device_58h [] (0xc8 ∷ []))
@@ -544,7 +619,11 @@ module _ (pec_is_byte : (bytes : List ℕ) → pec bytes < 256) where
   pub written_with_wrong_code : NackAloneFollows (leg (0xb0 ∷ 0x03 ∷ []) ++ Byte 0x47 ∷ []) BadPec
   written_with_wrong_code =
       let inside : IsInsideBody device_58h [] (0x03 ∷ []) =
-      inr (0x03 ∷ pec_of_clear ∷ [], inl (0x03, [], true, clear_coded), record { next = pec_of_clear; rest = []; split = refl }) in
+      inr (
+        0x03 ∷ pec_of_clear ∷ [],
+        inl (0x03, [], true, clear_coded),
+        record { next = pec_of_clear; rest = []; split = refl },
+      ) in
       let alone = wrong_byte (0x03 ∷ []) 0x47 inside (omega arith) not_47 in
       record { alone = alone; told = inl (alone, reasons.bad_pec_taken [] 0x58 0x03 [] 0x47 refl) }
 
@@ -574,10 +653,12 @@ module _ (pec_is_byte : (bytes : List ℕ) → pec bytes < 256) where
   reply_too_long =
       let alone =
       nack_alone (capability_leg ++ leg (0xb3 ∷ [])) 0xb0
-      ((byte_refused pec_is_byte worked_bus bus capability_leg 0x59 CapabilityAnswer capability_is_read [] 0xb0).1 capability_answer)
+      ((byte_refused pec_is_byte worked_bus bus capability_leg 0x59 CapabilityAnswer capability_is_read [] 0xb0).1
+      capability_answer)
       (
       λ follows.
-      let inside = (byte_taken pec_is_byte worked_bus bus capability_leg 0x59 CapabilityAnswer capability_is_read [] 0xb0).0 follows in
+      let inside = (byte_taken pec_is_byte worked_bus bus capability_leg 0x59 CapabilityAnswer capability_is_read []
+      0xb0).0 follows in
       let only = one_byte inside.0 inside.1 in
       cc (sym only.1 ∙ inside.2.split)
       ) in
@@ -585,13 +666,16 @@ module _ (pec_is_byte : (bytes : List ℕ) → pec bytes < 256) where
 
   pub alert_too_long : NackAloneFollows (leg (0x19 ∷ 0xb0 ∷ []) ++ Byte 0xf3 ∷ []) TooLong
   alert_too_long =
-      let answer : IsAlertAnswer (0xb0 ∷ 0xf3 ∷ []) = subst (λ (code : ℕ). IsAlertAnswer (0xb0 ∷ code ∷ [])) alert_code coded_alert in
+      let answer : IsAlertAnswer (0xb0 ∷ 0xf3 ∷ []) =
+      subst (λ (code : ℕ). IsAlertAnswer (0xb0 ∷ code ∷ [])) alert_code coded_alert in
       let alone =
       nack_alone (leg (0x19 ∷ 0xb0 ∷ [])) 0xf3
-      ((byte_refused pec_is_byte worked_bus bus [] 0x0c IsAlertAnswer (alert_is_read worked_bus) (0xb0 ∷ []) 0xf3).1 answer)
+      ((byte_refused pec_is_byte worked_bus bus [] 0x0c IsAlertAnswer (alert_is_read worked_bus) (0xb0 ∷ []) 0xf3).1
+      answer)
       (
       λ follows.
-      let inside = (byte_taken pec_is_byte worked_bus bus [] 0x0c IsAlertAnswer (alert_is_read worked_bus) (0xb0 ∷ []) 0xf3).0 follows in
+      let inside = (byte_taken pec_is_byte worked_bus bus [] 0x0c IsAlertAnswer (alert_is_read worked_bus)
+      (0xb0 ∷ []) 0xf3).0 follows in
       let is = inside.1 in
       long_alert is.with_pec is.byte inside.2.next inside.2.rest (sym is.spelled ∙ inside.2.split)
       ) in
@@ -601,14 +685,16 @@ module _ (pec_is_byte : (bytes : List ℕ) → pec bytes < 256) where
 
   pub reply_too_short : AckAloneFollows (vin_leg ++ leg (0xb1 ∷ []) ++ Byte 0x00 ∷ []) TooShort
   reply_too_short =
-      let inside : IsInsideAnswer VinAnswer (0x00 ∷ []) = (0x00 ∷ 0xd3 ∷ [], vin_answer false, record { next = 0xd3; rest = []; split = refl }) in
+      let inside : IsInsideAnswer VinAnswer (0x00 ∷ []) =
+      (0x00 ∷ 0xd3 ∷ [], vin_answer false, record { next = 0xd3; rest = []; split = refl }) in
       let alone =
       ack_alone (vin_leg ++ leg (0xb1 ∷ [])) 0x00
       ((byte_taken pec_is_byte worked_bus bus vin_leg 0x58 VinAnswer vin_is_read [] 0x00).1 inside)
       (
       λ follows.
       short_word
-      (one_word (0x00 ∷ []) ((byte_refused pec_is_byte worked_bus bus vin_leg 0x58 VinAnswer vin_is_read [] 0x00).0 follows))
+      (one_word (0x00 ∷ []) ((byte_refused pec_is_byte worked_bus bus vin_leg 0x58 VinAnswer vin_is_read [] 0x00).0
+      follows))
       ) in
       record { alone = alone; told = inl (alone, reasons.too_short vin_leg 0x58 [] 0x00 refl) }
 
@@ -625,6 +711,7 @@ module _ (pec_is_byte : (bytes : List ℕ) → pec bytes < 256) where
   behind_whole_body =
       let no_byte = λ (byte : ℕ) (follows : MayFollow worked_bus vin_leg (Byte byte)).
       let inside =
-      (written_byte_follows pec_is_byte worked_bus bus [] (omega arith) distinct_none [] refl 0x58 refl device_58h refl (0x88 ∷ []) byte).0 follows in
+      (written_byte_follows pec_is_byte worked_bus bus [] (omega arith) distinct_none [] refl 0x58 refl device_58h refl
+      (0x88 ∷ []) byte).0 follows in
       not_inside_88 inside.0 in
       record { refused = no_byte 0x00; told = inr (λ some. no_byte some.0 some.1, refl) }

@@ -67,7 +67,8 @@ module _ (device : DeviceParts) where
 
   -- the form of the reply for which it asks
   abbrev pub IsFormOfRequest : Form → List ℕ → Type 0
-  IsFormOfRequest form body = ((code : ℕ) × ReadBody code form body) ⊎ ((code : ℕ) × (bytes : List ℕ) × CallBody code form bytes body)
+  IsFormOfRequest form body = ((code : ℕ) × ReadBody code form body)
+      ⊎ ((code : ℕ) × (bytes : List ℕ) × CallBody code form bytes body)
 
   -- A body that is allowed in a leg after some parts: in the first leg one of any sort, in a later
   -- one a write body.
@@ -77,7 +78,8 @@ module _ (device : DeviceParts) where
 
   -- bytes that begin a body allowed after some parts: none of them, or some, or all
   abbrev pub BeginsBody : List PartData → List ℕ → Type 0
-  BeginsBody parts bytes = (bytes ≡ []) ⊎ ((body : List ℕ) × (rest : List ℕ) × Allowed parts body × (body ≡ bytes ++ rest))
+  BeginsBody parts bytes = (bytes ≡ []) ⊎ ((body : List ℕ) × (rest : List ℕ) × Allowed parts body
+      × (body ≡ bytes ++ rest))
 
   -- and that are not all of it
   abbrev pub IsInsideBody : List PartData → List ℕ → Type 0

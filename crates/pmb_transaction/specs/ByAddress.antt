@@ -4,7 +4,9 @@ use Rattle.pmb_command.specs.Bus.{IsBus}
 use Rattle.pmb_command.specs.Parts.{DeviceParts, device_with}
 
 -- At the address of each device of an accepted profile this is kept of it.
-pub record KeptByAddress {A : Type 0} (kept : List A) (profile : List DeviceParts) (now : DeviceParts → A) : Type 0 where
+pub record KeptByAddress {A : Type 0} (kept : List A) (profile : List DeviceParts)
+    (now : DeviceParts → A) : Type 0 where
   pub bus : IsBus profile
   pub long : length kept ≡ 128
-  pub each : (addr : ℕ) (device : DeviceParts) → device_with addr profile ≡ Some device → slice_get kept addr ≡ Some (now device)
+  pub each : (addr : ℕ) (device : DeviceParts) → device_with addr profile ≡ Some device
+      → slice_get kept addr ≡ Some (now device)

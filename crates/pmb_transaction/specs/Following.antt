@@ -19,11 +19,13 @@ pub data IsFirstAddress (byte : ℕ) : Type 0 where
 
 -- The byte that may follow the START after some complete parts and a leg in which bytes were
 -- written to a device.
-pub data IsNextAddress (device : DeviceParts) (parts : List PartData) (addr : ℕ) (bytes : List ℕ) (byte : ℕ) : Type 0 where
+pub data IsNextAddress (device : DeviceParts) (parts : List PartData) (addr : ℕ) (bytes : List ℕ)
+    (byte : ℕ) : Type 0 where
   -- The leg was one more part, and a leg to another address begins.
   --
   -- S addr+W A body A .. S other+W
-  next_leg : (other : ℕ) → IsWriteBody device bytes → length parts < 15 → other < 128 → IsNew other (addr ∷ addresses parts)
+  next_leg : (other : ℕ) → IsWriteBody device bytes → length parts < 15 → other < 128
+      → IsNew other (addr ∷ addresses parts)
       → byte ≡ write_address other → IsNextAddress device parts addr bytes byte
   -- The device was asked, in the packet's first leg, and is read.
   --

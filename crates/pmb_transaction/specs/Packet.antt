@@ -13,7 +13,8 @@ use Rattle.pmb_command.specs.declared.form.Form.{Form}
 use Rattle.pmb_command.specs.Parts.{DeviceParts, IsNew, device_with}
 use Rattle.pmb_command.specs.PecMode.{AllowsPec}
 use Rattle.pmb_command.specs.Wire.{IsByte, AreByteValues, Fits, wire}
-use Rattle.pmb_transaction.specs.Transaction.{PartData, ReadData, CallData, RefusedData, AlertData, TransactionData, Write, Read, Call, Refused, Alert, NoAlert}
+use Rattle.pmb_transaction.specs.Transaction.{PartData, ReadData, CallData, RefusedData, AlertData, TransactionData}
+use Rattle.pmb_transaction.specs.Transaction.{Write, Read, Call, Refused, Alert, NoAlert}
 use Rattle.pmb_transaction.specs.Body.{forms, checked, WriteBody, IsRequest, IsInsideBody}
 
 -- each byte, followed by ACK
@@ -42,7 +43,8 @@ addresses parts = map (λ part. part.addr) parts
 abbrev pub answered : ℕ → List ℕ → List ℕ → Bool → List Event
 answered addr body reply with_pec =
     leg (write_address addr ∷ body)
-    ++ (leg (read_address addr ∷ []) ++ nacked (checked with_pec (write_address addr ∷ body ++ read_address addr ∷ []) reply))
+    ++ (leg (read_address addr ∷ []) ++ nacked
+    (checked with_pec (write_address addr ∷ body ++ read_address addr ∷ []) reply))
     ++ Stop ∷ []
 
 module _ (profile : List DeviceParts) where
@@ -60,7 +62,8 @@ module _ (profile : List DeviceParts) where
   abbrev pub PartsEvents : List PartData → List Event → Type 0
   PartsEvents [] events = events ≡ []
   PartsEvents (part ∷ parts) events =
-      (first : List Event) × (rest : List Event) × (events ≡ first ++ rest) × PartEvents part first × PartsEvents parts rest
+      (first : List Event) × (rest : List Event) × (events ≡ first ++ rest) × PartEvents part first
+      × PartsEvents parts rest
 
   -- A write, to one device or to a group of up to 16, each with its own packet error code. The
   -- devices act at the STOP (PMBus Part I section 5.2.3).
@@ -163,7 +166,8 @@ module _ (profile : List DeviceParts) where
 -- S 19 A byte A pec N P
 pub record AlertPacket (t : AlertData) (events : List Event) : Type 0 where
   pub byte : IsByte t.byte
-  pub spelled : events ≡ leg (read_address alert_address ∷ []) ++ nacked (checked t.pec (read_address alert_address ∷ []) (t.byte ∷ [])) ++ Stop ∷ []
+  pub spelled : events ≡ leg (read_address alert_address ∷ [])
+      ++ nacked (checked t.pec (read_address alert_address ∷ []) (t.byte ∷ [])) ++ Stop ∷ []
 
 -- No device answers there.
 --

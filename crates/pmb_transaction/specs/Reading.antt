@@ -63,9 +63,11 @@ module _ (profile : List DeviceParts) where
   abbrev pub ReadsFrom : ℕ → List Event → List Outcome → Type 0
   ReadsFrom n events [] = events ≡ []
   ReadsFrom n events (Accepted t ∷ more) =
-      (front : List Event) × (rest : List Event) × (events ≡ front ++ rest) × Packet profile t front × ReadsFrom (n + length front) rest more
+      (front : List Event) × (rest : List Event) × (events ≡ front ++ rest) × Packet profile t front
+      × ReadsFrom (n + length front) rest more
   ReadsFrom n events (Refusal refusal ∷ more) =
-      ((front : List Event) × (event : Event) × (rest : List Event) × (events ≡ front ++ event ∷ rest) × RefusedAt n front event refusal
+      ((front : List Event) × (event : Event) × (rest : List Event) × (events ≡ front ++ event ∷ rest)
+      × RefusedAt n front event refusal
       × (passed : List Event) × (left : List Event) × PassedOver (event ∷ rest) passed left
       × ReadsFrom (n + length front + length passed) left more)
       ⊎ (TruncatedAt n events refusal × (more ≡ []))
@@ -74,7 +76,8 @@ module _ (profile : List DeviceParts) where
   -- Without a STOP none are left, and there is no outcome.
   abbrev pub ReadsAfterStop : ℕ → List Event → List Outcome → Type 0
   ReadsAfterStop n events outcomes =
-      (passed : List Event) × (left : List Event) × PassedOver events passed left × ReadsFrom (n + length passed) left outcomes
+      (passed : List Event) × (left : List Event) × PassedOver events passed left
+      × ReadsFrom (n + length passed) left outcomes
 
   -- the reading of a whole list of events
   abbrev pub Reading : List Event → List Outcome → Type 0
@@ -82,7 +85,8 @@ module _ (profile : List DeviceParts) where
 
   -- The reading of events, before which n came, as the first of some transactions: the capture of
   -- these, and after it nothing, or events that end inside one more packet, and are truncated.
-  pub record ReadsAsFront (n : ℕ) (ts : List TransactionData) (events : List Event) (outcomes : List Outcome) : Type 0 where
+  pub record ReadsAsFront (n : ℕ) (ts : List TransactionData) (events : List Event)
+      (outcomes : List Outcome) : Type 0 where
     pub done : List TransactionData
     pub others : List TransactionData
     pub split : ts ≡ done ++ others
@@ -91,4 +95,5 @@ module _ (profile : List DeviceParts) where
     pub cut : events ≡ whole ++ begun
     pub read : Capture profile done whole
     pub end : ((begun ≡ []) × (outcomes ≡ map Accepted done))
-        ⊎ ((refusal : RefusalData) × TruncatedAt (n + length whole) begun refusal × (outcomes ≡ map Accepted done ++ Refusal refusal ∷ []))
+        ⊎ ((refusal : RefusalData) × TruncatedAt (n + length whole) begun refusal
+        × (outcomes ≡ map Accepted done ++ Refusal refusal ∷ []))

@@ -8,7 +8,8 @@ use Rattle.pmb_bus.specs.declared.event.Event.TheVariants.{Start, Byte, Ack, Nac
 use Rattle.pmb_bus.specs.Address.{write_address, read_address}
 use Rattle.pmb_command.specs.Parts.{DeviceParts}
 use Rattle.pmb_transaction.specs.declared.reason.Reason.{Reason}
-use Rattle.pmb_transaction.specs.declared.reason.Reason.TheVariants.{ReadFirst, BadRestart, BadPec, UnknownDevice, UnknownCommand, TooLong, TooShort, WrongEvent}
+use Rattle.pmb_transaction.specs.declared.reason.Reason.TheVariants.{ReadFirst, BadRestart, BadPec, UnknownDevice}
+use Rattle.pmb_transaction.specs.declared.reason.Reason.TheVariants.{UnknownCommand, TooLong, TooShort, WrongEvent}
 use Rattle.pmb_transaction.specs.Packet.{leg}
 use Rattle.pmb_transaction.specs.Capture.{MayFollow}
 
@@ -35,11 +36,13 @@ pub data AckReason (events : List Event) : Reason → Type 0 where
   -- It takes an address for writing: no device has it.
   --
   -- .. S addr+W A
-  unknown_device : (front : List Event) → (addr : ℕ) → events ≡ front ++ Start ∷ Byte (write_address addr) ∷ [] → AckReason events UnknownDevice
+  unknown_device : (front : List Event) → (addr : ℕ) → events ≡ front ++ Start ∷ Byte (write_address addr) ∷ []
+      → AckReason events UnknownDevice
   -- It takes the first byte of a body: no body that is allowed there begins with it.
   --
   -- .. S addr+W A code A
-  unknown_command : (front : List Event) → (addr : ℕ) → (code : ℕ) → events ≡ front ++ leg (write_address addr ∷ []) ++ Byte code ∷ []
+  unknown_command : (front : List Event) → (addr : ℕ) → (code : ℕ) → events ≡ front ++ leg (write_address addr ∷ [])
+      ++ Byte code ∷ []
       → AckReason events UnknownCommand
   -- It takes a later byte of a body.
   --
@@ -49,7 +52,8 @@ pub data AckReason (events : List Event) : Reason → Type 0 where
   -- It takes a byte of a reply: that was the last.
   --
   -- .. S addr+R A bytes A .. byte A
-  too_long : (front : List Event) → (addr : ℕ) → (bytes : List ℕ) → (byte : ℕ) → events ≡ front ++ leg (read_address addr ∷ bytes) ++ Byte byte ∷ []
+  too_long : (front : List Event) → (addr : ℕ) → (bytes : List ℕ) → (byte : ℕ)
+      → events ≡ front ++ leg (read_address addr ∷ bytes) ++ Byte byte ∷ []
       → AckReason events TooLong
 
 -- Why a NACK is refused after events that ACK alone may follow.
@@ -58,7 +62,8 @@ pub data NackReason (events : List Event) : Reason → Type 0 where
   -- no other case.
   --
   -- .. S addr+R A bytes A .. byte N
-  too_short : (front : List Event) → (addr : ℕ) → (bytes : List ℕ) → (byte : ℕ) → events ≡ front ++ leg (read_address addr ∷ bytes) ++ Byte byte ∷ []
+  too_short : (front : List Event) → (addr : ℕ) → (bytes : List ℕ) → (byte : ℕ)
+      → events ≡ front ++ leg (read_address addr ∷ bytes) ++ Byte byte ∷ []
       → NackReason events TooShort
 
 -- One thing is said where something holds, and another where it doesn't.

@@ -17,7 +17,11 @@ use Rattle.pmb_transaction.specs.Reason.{SomeByteMayFollow, FollowsAlone, IsReas
 
 -- a command of a code, a name and its forms
 abbrev pub command : ℕ → List ℕ → Shape → CommandParts
-command code name shape = record { entry = record { code = code; name = name; shape = shape; kind = Raw; paged = false }; initial = None }
+command code name shape = record {
+  entry =
+      record { code = code; name = name; shape = shape; kind = Raw; paged = false };
+  initial = None;
+}
 
 -- CLEAR_FAULTS is written without data, and READ_VIN is read, a word.
 abbrev pub clear_faults : CommandParts
@@ -32,11 +36,27 @@ capability = command 0x19 (codes "CAPABILITY") (read One)
 
 -- The device at 58h, whose address bytes are b0 and b1: packets with a packet error code or none.
 abbrev pub device_58h : DeviceParts
-device_58h = record { address = 0x58; pec = Optional; pages = 1; vout_mode = 0; vout_direct = None; commands = clear_faults ∷ read_vin ∷ [] }
+device_58h = record {
+  address = 0x58;
+  pec = Optional;
+  pages = 1;
+  vout_mode = 0;
+  vout_direct = None;
+  commands =
+      clear_faults ∷ read_vin ∷ [];
+}
 
 -- The device at 59h, whose address bytes are b2 and b3: no packet error codes.
 abbrev pub device_59h : DeviceParts
-device_59h = record { address = 0x59; pec = Off; pages = 1; vout_mode = 0; vout_direct = None; commands = capability ∷ [] }
+device_59h = record {
+  address = 0x59;
+  pec = Off;
+  pages = 1;
+  vout_mode = 0;
+  vout_direct = None;
+  commands = capability
+      ∷ [];
+}
 
 abbrev pub worked_bus : List DeviceParts
 worked_bus = device_58h ∷ device_59h ∷ []

@@ -54,8 +54,11 @@ part_data part = record { addr = part.addr; code = part.code; bytes = part.bytes
 
 abbrev pub transaction_data : Transaction → TransactionData
 transaction_data (declared.Write parts) = Write (map part_data parts.items)
-transaction_data (declared.Read addr code reply pec) = Read (record { addr = addr; code = code; reply = reply.items; pec = pec })
-transaction_data (declared.Call addr code bytes reply pec) = Call (record { addr = addr; code = code; bytes = bytes.items; reply = reply.items; pec = pec })
-transaction_data (declared.Refused parts addr sent at_read) = Refused (record { parts = map part_data parts.items; addr = addr; sent = sent.items; at_read = at_read })
+transaction_data (declared.Read addr code reply pec) =
+    Read (record { addr = addr; code = code; reply = reply.items; pec = pec })
+transaction_data (declared.Call addr code bytes reply pec) =
+    Call (record { addr = addr; code = code; bytes = bytes.items; reply = reply.items; pec = pec })
+transaction_data (declared.Refused parts addr sent at_read) =
+    Refused (record { parts = map part_data parts.items; addr = addr; sent = sent.items; at_read = at_read })
 transaction_data (declared.Alert byte pec) = Alert (record { byte = byte; pec = pec })
 transaction_data declared.NoAlert = NoAlert

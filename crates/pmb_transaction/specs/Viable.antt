@@ -19,7 +19,8 @@ use Rattle.pmb_transaction.specs.Capture.{IsPacket}
 
 -- The bytes with which a device answers a body that asks say a reply in the form for which it asks,
 -- and with the packet error code where there is one.
-pub record SaysAnswer (device : DeviceParts) (addr : ℕ) (body : List ℕ) (reply : List ℕ) (with_pec : Bool) (bytes : List ℕ) : Type 0 where
+pub record SaysAnswer (device : DeviceParts) (addr : ℕ) (body : List ℕ) (reply : List ℕ) (with_pec : Bool)
+    (bytes : List ℕ) : Type 0 where
   pub form : Form
   pub asked : IsFormOfRequest device form body
   pub fits : Fits form reply
@@ -28,7 +29,8 @@ pub record SaysAnswer (device : DeviceParts) (addr : ℕ) (body : List ℕ) (rep
 
 -- and they say some reply
 abbrev pub IsAnswer : DeviceParts → ℕ → List ℕ → List ℕ → Type 0
-IsAnswer device addr body bytes = (reply : List ℕ) × (with_pec : Bool) × SaysAnswer device addr body reply with_pec bytes
+IsAnswer device addr body bytes = (reply : List ℕ) × (with_pec : Bool)
+    × SaysAnswer device addr body reply with_pec bytes
 
 -- ---- legs that are read
 
@@ -36,9 +38,11 @@ IsAnswer device addr body bytes = (reply : List ℕ) × (with_pec : Bool) × Say
 -- of the answer is still to come, or NACK after it.
 pub data AnswerBegins (address : ℕ) (answer : List ℕ) (events : List Event) : Type 0 where
   -- S addr+R A bytes A ..
-  answer_taken : (bytes : List ℕ) → IsProperPrefix bytes answer → events ≡ leg (address ∷ bytes) → AnswerBegins address answer events
+  answer_taken : (bytes : List ℕ) → IsProperPrefix bytes answer → events ≡ leg (address ∷ bytes)
+      → AnswerBegins address answer events
   -- S addr+R A bytes A .. byte
-  answer_sent : (bytes : List ℕ) → (byte : ℕ) → (rest : List ℕ) → answer ≡ bytes ++ byte ∷ rest → events ≡ leg (address ∷ bytes) ++ Byte byte ∷ []
+  answer_sent : (bytes : List ℕ) → (byte : ℕ) → (rest : List ℕ) → answer ≡ bytes ++ byte ∷ rest
+      → events ≡ leg (address ∷ bytes) ++ Byte byte ∷ []
       → AnswerBegins address answer events
 
 -- The beginning of the leg at the Alert Response Address.
@@ -47,7 +51,8 @@ pub data AlertBegins (events : List Event) : Type 0 where
   at_alert : events ≡ Start ∷ Byte (read_address alert_address) ∷ [] → AlertBegins events
   -- S 19 A ..
   alert_answer : (byte : ℕ) → (with_pec : Bool) → IsByte byte
-      → AnswerBegins (read_address alert_address) (checked with_pec (read_address alert_address ∷ []) (byte ∷ [])) events → AlertBegins events
+      → AnswerBegins (read_address alert_address) (checked with_pec (read_address alert_address ∷ []) (byte ∷ []))
+      events → AlertBegins events
 
 module _ (profile : List DeviceParts) where
   -- What begins after the leg of a read body or a call body.
@@ -61,7 +66,8 @@ module _ (profile : List DeviceParts) where
         → ReadBegins events
     -- S addr+W A body A .. S addr+R A ..
     read_answer : (addr : ℕ) → (device : DeviceParts) → (body : List ℕ) → (answer : List ℕ) → (last : List Event)
-        → device_with addr profile ≡ Some device → IsAnswer device addr body answer → AnswerBegins (read_address addr) answer last
+        → device_with addr profile ≡ Some device → IsAnswer device addr body answer
+        → AnswerBegins (read_address addr) answer last
         → events ≡ leg (write_address addr ∷ body) ++ last → ReadBegins events
 
   -- ---- legs that are written
@@ -71,13 +77,17 @@ module _ (profile : List DeviceParts) where
     -- S
     leg_start : events ≡ Start ∷ [] → LegBegins parts events
     -- S addr+W
-    leg_address : (addr : ℕ) → addr < 128 → IsNew addr (addresses parts) → events ≡ Start ∷ Byte (write_address addr) ∷ [] → LegBegins parts events
+    leg_address : (addr : ℕ) → addr < 128 → IsNew addr (addresses parts) → events ≡ Start ∷ Byte (write_address addr)
+        ∷ [] → LegBegins parts events
     -- S addr+W A bytes A ..
-    leg_taken : (addr : ℕ) → (device : DeviceParts) → (bytes : List ℕ) → IsNew addr (addresses parts) → device_with addr profile ≡ Some device
+    leg_taken : (addr : ℕ) → (device : DeviceParts) → (bytes : List ℕ) → IsNew addr (addresses parts)
+        → device_with addr profile ≡ Some device
         → BeginsBody device parts bytes → events ≡ leg (write_address addr ∷ bytes) → LegBegins parts events
     -- S addr+W A bytes A .. byte
-    leg_sent : (addr : ℕ) → (device : DeviceParts) → (bytes : List ℕ) → (byte : ℕ) → IsNew addr (addresses parts) → device_with addr profile ≡ Some device
-        → IsInsideBody device parts bytes → IsByte byte → events ≡ leg (write_address addr ∷ bytes) ++ Byte byte ∷ [] → LegBegins parts events
+    leg_sent : (addr : ℕ) → (device : DeviceParts) → (bytes : List ℕ) → (byte : ℕ) → IsNew addr (addresses parts)
+        → device_with addr profile ≡ Some device
+        → IsInsideBody device parts bytes → IsByte byte → events ≡ leg (write_address addr ∷ bytes) ++ Byte byte ∷ []
+        → LegBegins parts events
 
   -- Up to 15 complete parts, and the beginning of one more leg.
   pub record PartsAndLeg (events : List Event) : Type 0 where

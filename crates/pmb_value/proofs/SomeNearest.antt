@@ -1,9 +1,11 @@
 -- Each quantity in the range of a format has a nearest code.
-use Rattle.std.proofs.Common.{◌≡◌, ◌≢◌, ℕ, zero, suc, ◌%◌, ◌^◌, ◌<◌, ◌≤◌, ◌⊎◌, inl, inr, ℤ, pos, ◌*ℤ◌, ◌-ℤ◌, ◌<ℤ◌, ◌≤ℤ◌, unsigned_abs, sym, ◌∙◌, ap, subst, arith}
+use Rattle.std.proofs.Common.{◌≡◌, ◌≢◌, ℕ, zero, suc, ◌%◌, ◌^◌, ◌<◌, ◌≤◌, ◌⊎◌, inl, inr, ℤ, pos, ◌*ℤ◌, ◌-ℤ◌, ◌<ℤ◌, ◌≤ℤ◌}
+use Rattle.std.proofs.Common.{unsigned_abs, sym, ◌∙◌, ap, subst, arith}
 use Rattle.std.proofs.lemmas.Int.{ints, by_lt_z}
 use Rattle.std.proofs.lemmas.Bool.{cases_lt, cases_eq}
 use Rattle.pmb_quantity.specs.Fraction.{Fraction}
-use Rattle.pmb_format.specs.Coding.{Coding, IsAbove, IsBelow, IsInRange, IsNearest, IsWord, distance, scaled, scaled_code}
+use Rattle.pmb_format.specs.Coding.{Coding, IsAbove, IsBelow, IsInRange, IsNearest, IsWord, distance, scaled}
+use Rattle.pmb_format.specs.Coding.{scaled_code}
 use Rattle.pmb_format.proofs.Nearest.{not_best}
 use Rattle.pmb_format.proofs.OneNearest.{IsSeparated}
 use Rattle.pmb_linear.specs.Linear.{exponent, linear11_fixed}
@@ -33,21 +35,25 @@ search P decide (suc n) =
 same_integer : (a b : ℤ) → Decided (a ≡ b)
 same_integer a b =
     by_lt_z a b (λ less. inr (λ same. omega (arith, ints, less, same))) (λ at_least.
-    by_lt_z b a (λ more. inr (λ same. omega (arith, ints, more, same))) (λ at_most. inl (omega (arith, ints, at_least, at_most))))
+    by_lt_z b a (λ more. inr (λ same. omega (arith, ints, more, same)))
+    (λ at_most. inl (omega (arith, ints, at_least, at_most))))
 
 pub decide_word : (k : ℕ) → Decided (IsWord k)
-decide_word k = elim (cases_lt k (2 ^ 16)) [ inl small ↦ inl small | inr large ↦ inr (λ word. omega (arith, large, word)) ]
+decide_word k = elim (cases_lt k (2 ^ 16))
+    [ inl small ↦ inl small | inr large ↦ inr (λ word. omega (arith, large, word)) ]
 
 pub decide_fixed : (e : ℤ) (k : ℕ) → Decided ((linear11_fixed e).IsCode k)
 decide_fixed e k =
     elim (decide_word k) [
       | inr large ↦ inr (λ code. large code.0)
-      | inl word ↦ elim (same_integer (exponent k) e) [ inl same ↦ inl (word, same) | inr other ↦ inr (λ code. other code.1) ]
+      | inl word ↦ elim (same_integer (exponent k) e)
+          [ inl same ↦ inl (word, same) | inr other ↦ inr (λ code. other code.1) ]
     ]
 
 -- ---- the nearest code
 
-module _ (f : Coding) (separated : IsSeparated f) (decide : (k : ℕ) → Decided (f.IsCode k)) (bound : ℕ) (below_bound : (k : ℕ) → f.IsCode k → k < bound) (some_code : (k : ℕ) × f.IsCode k)
+module _ (f : Coding) (separated : IsSeparated f) (decide : (k : ℕ) → Decided (f.IsCode k)) (bound : ℕ)
+    (below_bound : (k : ℕ) → f.IsCode k → k < bound) (some_code : (k : ℕ) × f.IsCode k)
     (q : Fraction) (positive : 0 < q.denominator) where
   -- a code of which none below a bound is nearer
   best : (n : ℕ) → (m : ℕ) × f.IsCode m × ((k : ℕ) → k < n → f.IsCode k → distance f q m ≤ distance f q k)
@@ -70,7 +76,8 @@ module _ (f : Coding) (separated : IsSeparated f) (decide : (k : ℕ) → Decide
                 is_code,
                 λ k less code. elim (cases_lt k n) [
                   | inl before ↦ let least = so_far.2 k before code in omega (arith, least, nearer)
-                  | inr behind ↦ let same : k ≡ n = omega (arith, less, behind) in let distances = ap (distance f q) same in omega (arith, distances)
+                  | inr behind ↦ let same : k ≡ n = omega (arith, less, behind) in
+                      let distances = ap (distance f q) same in omega (arith, distances)
                 ],
               )
               | inr farther ↦ (
@@ -78,7 +85,8 @@ module _ (f : Coding) (separated : IsSeparated f) (decide : (k : ℕ) → Decide
                 so_far.1,
                 λ k less code. elim (cases_lt k n) [
                   | inl before ↦ so_far.2 k before code
-                  | inr behind ↦ let same : k ≡ n = omega (arith, less, behind) in let distances = ap (distance f q) same in omega (arith, distances, farther)
+                  | inr behind ↦ let same : k ≡ n = omega (arith, less, behind) in
+                      let distances = ap (distance f q) same in omega (arith, distances, farther)
                 ],
               )
             ]
@@ -91,11 +99,21 @@ module _ (f : Coding) (separated : IsSeparated f) (decide : (k : ℕ) → Decide
     none_nearer : (k : ℕ) → f.IsCode k → distance f q c ≤ distance f q k
 
   -- the canonical code of one of which none is nearer
-  best_canonical : (m : ℕ) → f.IsCode m → ((k : ℕ) → f.IsCode k → distance f q m ≤ distance f q k) → (c : ℕ) × IsBest c × (f.numerator c ≡ f.numerator m)
+  best_canonical : (m : ℕ) → f.IsCode m → ((k : ℕ) → f.IsCode k → distance f q m ≤ distance f q k)
+      → (c : ℕ) × IsBest c × (f.numerator c ≡ f.numerator m)
   best_canonical m code least =
       let c = separated.canonical_codes m code in
-      let distances : distance f q c.0 ≡ distance f q m = ap (λ n. unsigned_abs (scaled f q -ℤ pos q.denominator *ℤ n)) c.3 in
-      (c.0, record { code = c.1; canonical = c.2; none_nearer = λ k is_code. let at_most = least k is_code in omega (arith, distances, at_most) }, c.3)
+      let distances : distance f q c.0 ≡ distance f q m =
+      ap (λ n. unsigned_abs (scaled f q -ℤ pos q.denominator *ℤ n)) c.3 in (
+        c.0,
+        record {
+          code = c.1;
+          canonical = c.2;
+          none_nearer = λ k is_code. let at_most = least k is_code in
+              omega (arith, distances, at_most);
+        },
+        c.3,
+      )
 
   -- another value is as near
   abbrev Ties : ℕ → ℕ → Type 0
@@ -125,20 +143,23 @@ module _ (f : Coding) (separated : IsSeparated f) (decide : (k : ℕ) → Decide
   }
 
   -- two values that are equally near are not both those of odd codes
-  not_between : (a b : ℕ) → IsBest a → IsBest b → a % 2 ≡ b % 2 → distance f q b ≡ distance f q a → f.numerator a <ℤ f.numerator b → ⊥
+  not_between : (a b : ℕ) → IsBest a → IsBest b → a % 2 ≡ b % 2 → distance f q b ≡ distance f q a
+      → f.numerator a <ℤ f.numerator b → ⊥
   not_between a b first second parity tie less =
       let middle = separated.between a b first.code second.code first.canonical second.canonical parity less in
       let nearer : distance f q middle.0 < distance f q a = not_best f q a b middle.0 positive tie middle.2 middle.3 in
       omega (arith, first.none_nearer middle.0 middle.1, nearer)
 
-  not_both_odd : (a b : ℕ) → IsBest a → IsBest b → a % 2 ≡ b % 2 → distance f q b ≡ distance f q a → f.numerator b ≢ f.numerator a → ⊥
+  not_both_odd : (a b : ℕ) → IsBest a → IsBest b → a % 2 ≡ b % 2 → distance f q b ≡ distance f q a
+      → f.numerator b ≢ f.numerator a → ⊥
   not_both_odd a b first second parity tie other =
       by_lt_z (f.numerator a) (f.numerator b) (not_between a b first second parity tie) (λ at_least.
       by_lt_z (f.numerator b) (f.numerator a) (not_between b a second first (sym parity) (sym tie)) (λ at_most.
       other (omega (arith, ints, at_least, at_most))))
 
   -- of two values that are equally near, one is that of an even code
-  of_two : (a b : ℕ) → IsBest a → IsBest b → distance f q b ≡ distance f q a → f.numerator b ≢ f.numerator a → (code : ℕ) × IsNearest f q code
+  of_two : (a b : ℕ) → IsBest a → IsBest b → distance f q b ≡ distance f q a → f.numerator b ≢ f.numerator a
+      → (code : ℕ) × IsNearest f q code
   of_two a b first second tie other =
       elim (cases_eq (a % 2) 0) [
         | inl even ↦ (a, even_nearest a first even)
@@ -163,8 +184,10 @@ module _ (f : Coding) (separated : IsSeparated f) (decide : (k : ℕ) → Decide
         )
         | inl found ↦
             let tie = found.1 in
-            let d = best_canonical found.0 tie.0 (λ k code. let least = is.none_nearer k code in omega (arith, tie.2, least)) in
-            let distances : distance f q d.0 ≡ distance f q found.0 = ap (λ n. unsigned_abs (scaled f q -ℤ pos q.denominator *ℤ n)) d.2 in
+            let d = best_canonical found.0 tie.0 (λ k code. let least = is.none_nearer k code in
+            omega (arith, tie.2, least)) in
+            let distances : distance f q d.0 ≡ distance f q found.0 =
+            ap (λ n. unsigned_abs (scaled f q -ℤ pos q.denominator *ℤ n)) d.2 in
             of_two c d.0 is d.1 (distances ∙ tie.2) (λ same. tie.1 (sym d.2 ∙ same))
       ]
 
@@ -180,21 +203,27 @@ module _ (f : Coding) (separated : IsSeparated f) (decide : (k : ℕ) → Decide
   decide_reached k =
       elim (decide k) [
         | inr no_code ↦ inr (λ reached. no_code reached.0)
-        | inl code ↦ by_lt_z (scaled f q) (scaled_code f q k) (λ less. inr (λ reached. let at_most = reached.1 in omega (arith, ints, less, at_most))) (λ at_most. inl (code, at_most))
+        | inl code ↦ by_lt_z (scaled f q) (scaled_code f q k)
+            (λ less. inr (λ reached. let at_most = reached.1 in omega (arith, ints, less, at_most)))
+            (λ at_most. inl (code, at_most))
       ]
 
   decide_reaching : (k : ℕ) → Decided (f.IsCode k × (scaled f q ≤ℤ scaled_code f q k))
   decide_reaching k =
       elim (decide k) [
         | inr no_code ↦ inr (λ reaching. no_code reaching.0)
-        | inl code ↦ by_lt_z (scaled_code f q k) (scaled f q) (λ less. inr (λ reaching. let at_most = reaching.1 in omega (arith, ints, less, at_most))) (λ at_most. inl (code, at_most))
+        | inl code ↦ by_lt_z (scaled_code f q k) (scaled f q)
+            (λ less. inr (λ reaching. let at_most = reaching.1 in omega (arith, ints, less, at_most)))
+            (λ at_most. inl (code, at_most))
       ]
 
   below_all : ((k : ℕ) → k < bound → f.IsCode k × (scaled_code f q k ≤ℤ scaled f q) → ⊥) → IsBelow f q
-  below_all none k code = by_lt_z (scaled f q) (scaled_code f q k) (λ less. less) (λ at_most. absurd (none k (below_bound k code) (code, at_most)))
+  below_all none k code = by_lt_z (scaled f q) (scaled_code f q k) (λ less. less)
+      (λ at_most. absurd (none k (below_bound k code) (code, at_most)))
 
   above_all : ((k : ℕ) → k < bound → f.IsCode k × (scaled f q ≤ℤ scaled_code f q k) → ⊥) → IsAbove f q
-  above_all none k code = by_lt_z (scaled_code f q k) (scaled f q) (λ less. less) (λ at_most. absurd (none k (below_bound k code) (code, at_most)))
+  above_all none k code = by_lt_z (scaled_code f q k) (scaled f q) (λ less. less)
+      (λ at_most. absurd (none k (below_bound k code) (code, at_most)))
 
   some_answer : (IsInRange f q × ((code : ℕ) × IsNearest f q code)) ⊎ (IsBelow f q ⊎ IsAbove f q)
   some_answer =
@@ -203,15 +232,24 @@ module _ (f : Coding) (separated : IsSeparated f) (decide : (k : ℕ) → Decide
         | inl low ↦
             elim (search (λ k. f.IsCode k × (scaled f q ≤ℤ scaled_code f q k)) decide_reaching bound) [
               | inr none ↦ inr (inr (above_all none))
-              | inl high ↦ inl (record { from_least = (low.0, low.1.0, low.1.1); to_greatest = (high.0, high.1.0, high.1.1) }, some_nearest)
+              | inl high ↦ inl (
+                record {
+                  from_least = (low.0, low.1.0, low.1.1);
+                  to_greatest =
+                      (high.0, high.1.0, high.1.1);
+                },
+                some_nearest,
+              )
             ]
       ]
 
-pub has_answers : (f : Coding) → IsSeparated f → ((k : ℕ) → Decided (f.IsCode k)) → ((k : ℕ) → f.IsCode k → IsWord k) → ((k : ℕ) × f.IsCode k) → HasAnswers f
+pub has_answers : (f : Coding) → IsSeparated f → ((k : ℕ) → Decided (f.IsCode k)) → ((k : ℕ) → f.IsCode k → IsWord k)
+    → ((k : ℕ) × f.IsCode k) → HasAnswers f
 has_answers f separated decide words some q positive = some_answer f separated decide (2 ^ 16) words some q positive
 
 -- for formats of which each word is a code
 pub words_have_answers : (f : Coding) → IsSeparated f → f.IsCode ≡ IsWord → HasAnswers f
 words_have_answers f separated all =
-    has_answers f separated (λ k. subst (λ (P : ℕ → Type 0). Decided (P k)) (sym all) (decide_word k)) (λ k code. subst (λ (P : ℕ → Type 0). P k) all code)
+    has_answers f separated (λ k. subst (λ (P : ℕ → Type 0). Decided (P k)) (sym all) (decide_word k))
+    (λ k code. subst (λ (P : ℕ → Type 0). P k) all code)
     (0, subst (λ (P : ℕ → Type 0). P 0) (sym all) (omega arith))

@@ -5,4 +5,5 @@ use Rattle.pmb_format.specs.Coding.{Coding, IsAbove, IsBelow, IsInRange, IsNeare
 
 -- Each quantity is in the range of a format and has a nearest code, or it is below or above all values.
 abbrev pub HasAnswers : Coding → Type 0
-HasAnswers f = (q : Fraction) → 0 < q.denominator → (IsInRange f q × ((code : ℕ) × IsNearest f q code)) ⊎ (IsBelow f q ⊎ IsAbove f q)
+HasAnswers f = (q : Fraction) → 0 < q.denominator → (IsInRange f q × ((code : ℕ) × IsNearest f q code))
+    ⊎ (IsBelow f q ⊎ IsAbove f q)

@@ -1,5 +1,6 @@
 -- The format that VOUT_MODE names (PMBus Part II revision 1.3, section 8).
-use Rattle.std.specs.Prelude.{ℕ, ◌/◌, ◌%◌, ◌^◌, ℤ, Bool, true, false, ◌==◌, if◌then◌else◌, Option, Some, None, Result, Ok, Err}
+use Rattle.std.specs.Prelude.{ℕ, ◌/◌, ◌%◌, ◌^◌, ℤ, Bool, true, false, ◌==◌, if◌then◌else◌, Option, Some, None, Result}
+use Rattle.std.specs.Prelude.{Ok, Err}
 use Rattle.pmb_format.specs.Coding.{Coding}
 use Rattle.pmb_format.specs.Words.{twos_complement}
 use Rattle.pmb_linear.specs.Linear.{ulinear16, slinear16}

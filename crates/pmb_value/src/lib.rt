@@ -18,6 +18,7 @@
 
 pub mod laws;
 mod number_format;
+mod sign;
 mod vout;
 
 pub use number_format::NumberFormat;
@@ -25,4 +26,5 @@ pub use pmb_coefficients::{Direct, DirectFault};
 pub use pmb_format::{Format, RangeFault, Steps};
 pub use pmb_linear::{BadExponent, Linear11, Linear11Fixed, Slinear16, Ulinear16};
 pub use pmb_quantity::{Quantity, QuantityFault, QuantityText};
+pub use sign::Sign;
 pub use vout::{ModeFault, VoutFormat, vout_format};

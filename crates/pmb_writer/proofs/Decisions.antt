@@ -1,6 +1,7 @@
 -- Each rule is kept or broken, so that a transaction which has room in its type keeps its rules or
 -- breaks a first one.
-use Rattle.std.proofs.Common.{◌≡◌, ℕ, ◌<◌, ◌≤◌, ◌⊎◌, Bool, true, false, Option, Some, None, IsSome, IfSome, is_some, List, [], ◌∷◌, ◌++◌, length, nat_eq, refl, sym, ap, subst, inl, inr, arith}
+use Rattle.std.proofs.Common.{◌≡◌, ℕ, ◌<◌, ◌≤◌, ◌⊎◌, Bool, true, false, Option, Some, None, IsSome, IfSome, is_some}
+use Rattle.std.proofs.Common.{List, [], ◌∷◌, ◌++◌, length, nat_eq, refl, sym, ap, subst, inl, inr, arith}
 use Rattle.std.specs.List.{list_any}
 use Rattle.std.proofs.lemmas.Bool.{cases_Bool, cases_eq, cases_lt}
 use Rattle.pmb_command.specs.declared.form.Form.{Form}
@@ -11,11 +12,15 @@ use Rattle.pmb_command.specs.declared.pec_mode.PecMode.TheVariants.{Off, On, Opt
 use Rattle.pmb_command.specs.Parts.{DeviceParts, device_with}
 use Rattle.pmb_command.specs.PecMode.{AllowsPec}
 use Rattle.pmb_command.specs.Wire.{AreByteValues, Fits, Takes}
-use Rattle.pmb_transaction.specs.Transaction.{PartData, ReadData, CallData, RefusedData, TransactionData, Write, Read, Call, Refused, Alert, NoAlert}
+use Rattle.pmb_transaction.specs.Transaction.{PartData, ReadData, CallData, RefusedData, TransactionData, Write, Read}
+use Rattle.pmb_transaction.specs.Transaction.{Call, Refused, Alert, NoAlert}
 use Rattle.pmb_transaction.specs.Body.{forms, IsRequest}
 use Rattle.pmb_transaction.specs.Packet.{addresses}
 use Rattle.pmb_writer.specs.declared.invalid.Invalid.{Invalid}
-use Rattle.pmb_writer.specs.Invalid.{AreKept, CanBeAsked, HasPacket, IsFirstBroken, IsFirstFault, MayBegin, MayGoOn, OfDevice, Rule, command_at, forms_at, call_rules, part_rules, parts_rules, read_rules, refused_address_rules, refused_leg_rules, refused_rules, transaction_rules, write_rules}
+use Rattle.pmb_writer.specs.Invalid.{AreKept, CanBeAsked, HasPacket, IsFirstBroken, IsFirstFault, MayBegin, MayGoOn}
+use Rattle.pmb_writer.specs.Invalid.{OfDevice, Rule, command_at, forms_at, call_rules, part_rules, parts_rules}
+use Rattle.pmb_writer.specs.Invalid.{read_rules, refused_address_rules, refused_leg_rules, refused_rules}
+use Rattle.pmb_writer.specs.Invalid.{transaction_rules, write_rules}
 use Rattle.pmb_writer.specs.Typed.{IsTyped}
 use Rattle.pmb_writer.specs.machine.Lengths.{is_request, may_begin, may_go_on}
 use Rattle.pmb_writer.proofs.Bodies.{begins, begins_not, goes_on, goes_on_not, is_first, requests, requests_not}
@@ -42,10 +47,18 @@ is_false true = inr (λ is. cc is)
 is_false false = inl refl
 
 pub is_at_most : (m n : ℕ) → IsDecided (m ≤ n)
-is_at_most m n = elim (cases_lt n m) [ inl above ↦ inr (λ (within : m ≤ n). absurd (omega (arith, above, within))) | inr within ↦ inl within ]
+is_at_most m n = elim (cases_lt n m) [
+  | inl above ↦ inr (λ (within : m ≤ n). absurd (omega (arith, above, within)))
+  | inr
+      within ↦ inl within
+]
 
 is_below : (m n : ℕ) → IsDecided (m < n)
-is_below m n = elim (cases_lt m n) [ inl below ↦ inl below | inr above ↦ inr (λ (below : m < n). absurd (omega (arith, above, below))) ]
+is_below m n = elim (cases_lt m n) [
+  | inl below ↦ inl below
+  | inr above ↦ inr
+      (λ (below : m < n). absurd (omega (arith, above, below)))
+]
 
 is_empty : {A : Type 0} (xs : List A) → IsDecided (xs ≡ [])
 is_empty [] = inl refl
@@ -80,7 +93,8 @@ takes Block n = is_at_most n 255
 
 pub fits : (form : Form) (bytes : List ℕ) → IsDecided (Fits form bytes)
 fits form bytes =
-    decided_by (λ (has : AreByteValues bytes × Takes form (length bytes)). record { small = has.0; taken = has.1 }) (λ fit. (fit.small, fit.taken))
+    decided_by (λ (has : AreByteValues bytes × Takes form (length bytes)). record { small = has.0; taken = has.1 })
+    (λ fit. (fit.small, fit.taken))
     (both (are_bytes bytes) (takes form (length bytes)))
 
 allows : (mode : PecMode) (with_pec : Bool) → IsDecided (AllowsPec mode with_pec)
@@ -99,7 +113,8 @@ begins_or_not parts code device =
       | inr fails ↦ inr (begins_not device code parts fails)
     ]
 
-goes_on_or_not : (parts : List PartData) (code : ℕ) (taken : List ℕ) (last : ℕ) → AreByteValues taken → (device : DeviceParts)
+goes_on_or_not : (parts : List PartData) (code : ℕ) (taken : List ℕ) (last : ℕ) → AreByteValues taken
+    → (device : DeviceParts)
     → IsDecided (MayGoOn parts (code ∷ taken ++ last ∷ []) device)
 goes_on_or_not parts code taken last small device =
     elim (cases_Bool (may_go_on (is_first parts) device.pec (forms device code) taken)) [
@@ -107,7 +122,8 @@ goes_on_or_not parts code taken last small device =
       | inr fails ↦ inr (goes_on_not device code parts taken fails last)
     ]
 
-requests_or_not : (code : ℕ) (bytes : List ℕ) → AreByteValues bytes → (device : DeviceParts) → IsDecided (IsRequest device (code ∷ bytes))
+requests_or_not : (code : ℕ) (bytes : List ℕ) → AreByteValues bytes → (device : DeviceParts)
+    → IsDecided (IsRequest device (code ∷ bytes))
 requests_or_not code bytes small device =
     elim (cases_Bool (is_request (forms device code) bytes)) [
       | inl passes ↦ inl (requests device code bytes small passes)
@@ -119,12 +135,14 @@ last_apart : (b : ℕ) (bytes : List ℕ) → (taken : List ℕ) × (last : ℕ)
 last_apart b [] = ([], b, refl)
 last_apart b (c ∷ bytes) = let rest = last_apart c bytes in (b ∷ rest.0, rest.1, ap (λ xs. b ∷ xs) rest.2)
 
-sent_goes_on : (parts : List PartData) (code b : ℕ) (bytes : List ℕ) → AreByteValues (b ∷ bytes) → (device : DeviceParts)
+sent_goes_on : (parts : List PartData) (code b : ℕ) (bytes : List ℕ) → AreByteValues (b ∷ bytes)
+    → (device : DeviceParts)
     → IsDecided (MayGoOn parts (code ∷ b ∷ bytes) device)
 sent_goes_on parts code b bytes small device =
     let apart = last_apart b bytes in
     let taken : AreByteValues apart.0 = small_front apart.0 apart.1 (subst AreByteValues apart.2 small) in
-    subst (λ (sent : List ℕ). IsDecided (MayGoOn parts (code ∷ sent) device)) (sym apart.2) (goes_on_or_not parts code apart.0 apart.1 taken device)
+    subst (λ (sent : List ℕ). IsDecided (MayGoOn parts (code ∷ sent) device)) (sym apart.2)
+    (goes_on_or_not parts code apart.0 apart.1 taken device)
 
 -- ---- rules in an order
 
@@ -156,7 +174,8 @@ settled (rule ∷ rules) decided = one_more rule rules decided.0 (settled rules 
 -- ---- the rules of transactions
 
 module _ (profile : List DeviceParts) where
-  found_holds : (addr : ℕ) (P : DeviceParts → Type 0) (found : Option DeviceParts) → device_with addr profile ≡ found → ((device : DeviceParts) → IsDecided (P device))
+  found_holds : (addr : ℕ) (P : DeviceParts → Type 0) (found : Option DeviceParts) → device_with addr profile ≡ found
+      → ((device : DeviceParts) → IsDecided (P device))
       → IsDecided (OfDevice profile addr P)
   found_holds addr P None is each = inr (λ of_one. cc (is, of_one.1))
   found_holds addr P (Some device) is each =
@@ -165,11 +184,14 @@ module _ (profile : List DeviceParts) where
         | inr fails ↦ inr (λ of_one. fails (subst P (cc (is, of_one.1)) of_one.2))
       ]
 
-  of_device : (addr : ℕ) (P : DeviceParts → Type 0) → ((device : DeviceParts) → IsDecided (P device)) → IsDecided (OfDevice profile addr P)
+  of_device : (addr : ℕ) (P : DeviceParts → Type 0) → ((device : DeviceParts) → IsDecided (P device))
+      → IsDecided (OfDevice profile addr P)
   of_device addr P each = found_holds addr P (device_with addr profile) refl each
 
-  pub keeps : (addr : ℕ) (with_pec : Bool) → IsDecided (IfSome (device_with addr profile) (λ device. AllowsPec device.pec with_pec))
-  keeps addr with_pec = if_there (λ device. AllowsPec device.pec with_pec) (λ device. allows device.pec with_pec) (device_with addr profile)
+  pub keeps : (addr : ℕ) (with_pec : Bool)
+      → IsDecided (IfSome (device_with addr profile) (λ device. AllowsPec device.pec with_pec))
+  keeps addr with_pec = if_there (λ device. AllowsPec device.pec with_pec) (λ device. allows device.pec with_pec)
+      (device_with addr profile)
 
   part_decided : (earlier : List ℕ) (part : PartData) → AreDecided (part_rules profile earlier part)
   part_decided earlier part = (
@@ -180,7 +202,11 @@ module _ (profile : List DeviceParts) where
         is_there (command_at profile part.addr part.code),
         (
           is_there (forms_at profile part.addr part.code).write,
-          (if_there (λ form. Fits form part.bytes) (λ form. fits form part.bytes) (forms_at profile part.addr part.code).write, (keeps part.addr part.pec, tt)),
+          (
+            if_there (λ form. Fits form part.bytes) (λ form. fits form part.bytes)
+                (forms_at profile part.addr part.code).write,
+            (keeps part.addr part.pec, tt),
+          ),
         ),
       ),
     ),
@@ -199,7 +225,10 @@ module _ (profile : List DeviceParts) where
       is_there (command_at profile t.addr t.code),
       (
         is_there (forms_at profile t.addr t.code).read,
-        (if_there (λ form. Fits form t.reply) (λ form. fits form t.reply) (forms_at profile t.addr t.code).read, (keeps t.addr t.pec, tt)),
+        (
+          if_there (λ form. Fits form t.reply) (λ form. fits form t.reply) (forms_at profile t.addr t.code).read,
+          (keeps t.addr t.pec, tt),
+        ),
       ),
     ),
   )
@@ -212,14 +241,16 @@ module _ (profile : List DeviceParts) where
       (
         is_there (forms_at profile t.addr t.code).call,
         (
-          if_there (λ form. Fits form t.bytes × Fits form t.reply) (λ form. both (fits form t.bytes) (fits form t.reply)) (forms_at profile t.addr t.code).call,
+          if_there (λ form. Fits form t.bytes × Fits form t.reply)
+              (λ form. both (fits form t.bytes) (fits form t.reply)) (forms_at profile t.addr t.code).call,
           (keeps t.addr t.pec, tt),
         ),
       ),
     ),
   )
 
-  leg_decided : (parts : List PartData) (addr : ℕ) (sent : List ℕ) (at_read : Bool) → AreByteValues sent → AreDecided (refused_leg_rules profile parts addr sent at_read)
+  leg_decided : (parts : List PartData) (addr : ℕ) (sent : List ℕ) (at_read : Bool) → AreByteValues sent
+      → AreDecided (refused_leg_rules profile parts addr sent at_read)
   leg_decided parts addr [] false small = tt
   leg_decided parts addr (b ∷ []) false small = (is_there (device_with addr profile), tt)
   leg_decided parts addr (code ∷ b ∷ bytes) false small = (
@@ -232,7 +263,10 @@ module _ (profile : List DeviceParts) where
       ),
     ),
   )
-  leg_decided parts addr [] true small = (is_there (device_with addr profile), (is_empty parts, (inr (λ none. none), tt)))
+  leg_decided parts addr [] true small = (
+    is_there (device_with addr profile),
+    (is_empty parts, (inr (λ none. none), tt)),
+  )
   leg_decided parts addr (code ∷ bytes) true small = (
     is_there (device_with addr profile),
     (
@@ -249,8 +283,14 @@ module _ (profile : List DeviceParts) where
 
   refused_decided : (t : RefusedData) → AreByteValues t.sent → AreDecided (refused_rules profile t)
   refused_decided t small =
-      joined (parts_rules profile [] t.parts) (refused_address_rules profile t.parts t.addr t.sent t.at_read) (parts_decided [] t.parts)
-      (is_below t.addr 128, (is_false (list_any (nat_eq t.addr) (addresses t.parts)), leg_decided t.parts t.addr t.sent t.at_read small))
+      joined (parts_rules profile [] t.parts) (refused_address_rules profile t.parts t.addr t.sent t.at_read)
+      (parts_decided [] t.parts) (
+        is_below t.addr 128,
+        (
+          is_false (list_any (nat_eq t.addr) (addresses t.parts)),
+          leg_decided t.parts t.addr t.sent t.at_read small,
+        ),
+      )
 
   rules_decided : (t : TransactionData) → IsTyped t → AreDecided (transaction_rules profile t)
   rules_decided (Write parts) typed = (is_at_most 1 (length parts), parts_decided [] parts)
@@ -261,5 +301,7 @@ module _ (profile : List DeviceParts) where
   rules_decided NoAlert typed = tt
 
   -- a packet, or a first fault
-  pub packet_or_fault : (t : TransactionData) → IsTyped t → HasPacket profile t ⊎ ((fault : Invalid) × IsFirstFault profile t fault)
-  packet_or_fault t typed = elim (settled (transaction_rules profile t) (rules_decided t typed)) [ inl kept ↦ inl (kept_has_packet profile t typed kept) | inr first ↦ inr first ]
+  pub packet_or_fault : (t : TransactionData) → IsTyped t
+      → HasPacket profile t ⊎ ((fault : Invalid) × IsFirstFault profile t fault)
+  packet_or_fault t typed = elim (settled (transaction_rules profile t) (rules_decided t typed))
+      [ inl kept ↦ inl (kept_has_packet profile t typed kept) | inr first ↦ inr first ]

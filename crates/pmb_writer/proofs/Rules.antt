@@ -17,12 +17,14 @@ kept_parts (rule ∷ front) back kept =
     let rest : AreKept front × AreKept back = kept_parts front back kept.1 in
     ((kept.0, rest.0), rest.1)
 
-pub broken_in_front : (front back : List Rule) (fault : Invalid) → IsFirstBroken front fault → IsFirstBroken (front ++ back) fault
+pub broken_in_front : (front back : List Rule) (fault : Invalid) → IsFirstBroken front fault
+    → IsFirstBroken (front ++ back) fault
 broken_in_front [] back fault broken = absurd broken
 broken_in_front (rule ∷ front) back fault (inl here) = inl here
 broken_in_front (rule ∷ front) back fault (inr later) = inr (later.0, broken_in_front front back fault later.1)
 
-pub broken_behind : (front back : List Rule) (fault : Invalid) → AreKept front → IsFirstBroken back fault → IsFirstBroken (front ++ back) fault
+pub broken_behind : (front back : List Rule) (fault : Invalid) → AreKept front → IsFirstBroken back fault
+    → IsFirstBroken (front ++ back) fault
 broken_behind [] back fault kept broken = broken
 broken_behind (rule ∷ front) back fault kept broken = inr (kept.0, broken_behind front back fault kept.1 broken)
 
@@ -38,7 +40,8 @@ pub record Lead (left : List Rule) (all : List Rule) : Type 0 where
 
 -- the rules of the parts from one on
 abbrev pub rules_from : List DeviceParts → List Part → ℕ → List Rule
-rules_from profile parts n = parts_rules profile (addresses (map part_data (take n parts))) (map part_data (drop n parts))
+rules_from profile parts n = parts_rules profile (addresses (map part_data (take n parts)))
+    (map part_data (drop n parts))
 
 -- the first rule that is broken is one
 pub one_broken : (rules : List Rule) (a b : Invalid) → IsFirstBroken rules a → IsFirstBroken rules b → a ≡ b

@@ -1,6 +1,7 @@
 -- Which transactions have no packet, and what they are said to be: the rules that a transaction has
 -- to keep, in their order, and the first one that it breaks.
-use Rattle.std.specs.Prelude.{Result, MatchResult, ◌≡◌, ℕ, ◌<◌, ◌≤◌, ◌⊎◌, Bool, true, false, Option, Some, IsSome, IfSome, List, [], ◌∷◌, ◌++◌, length}
+use Rattle.std.specs.Prelude.{Result, MatchResult, ◌≡◌, ℕ, ◌<◌, ◌≤◌, ◌⊎◌, Bool, true, false, Option, Some, IsSome}
+use Rattle.std.specs.Prelude.{IfSome, List, [], ◌∷◌, ◌++◌, length}
 use Rattle.std.specs.Option.{option_and_then}
 use Rattle.pmb_bus.specs.declared.event.Event.{Event}
 use Rattle.pmb_command.specs.declared.form.Form.{Form}
@@ -8,11 +9,13 @@ use Rattle.pmb_command.specs.declared.form.Shape.{Shape}
 use Rattle.pmb_command.specs.Parts.{CommandParts, DeviceParts, IsNew, command_with, device_with}
 use Rattle.pmb_command.specs.PecMode.{AllowsPec}
 use Rattle.pmb_command.specs.Wire.{Fits}
-use Rattle.pmb_transaction.specs.Transaction.{PartData, ReadData, CallData, RefusedData, TransactionData, Write, Read, Call, Refused, Alert, NoAlert}
+use Rattle.pmb_transaction.specs.Transaction.{PartData, ReadData, CallData, RefusedData, TransactionData, Write, Read}
+use Rattle.pmb_transaction.specs.Transaction.{Call, Refused, Alert, NoAlert}
 use Rattle.pmb_transaction.specs.Body.{shape_of, IsProperPrefix, Allowed, IsRequest}
 use Rattle.pmb_transaction.specs.Packet.{addresses, Packet}
 use Rattle.pmb_writer.specs.declared.invalid.Invalid.{Invalid}
-use Rattle.pmb_writer.specs.declared.invalid.Invalid.TheVariants.{NoParts, UnknownDevice, AddressTwice, UnknownCommand, NotAllowed, WrongLength, PecMode}
+use Rattle.pmb_writer.specs.declared.invalid.Invalid.TheVariants.{NoParts, UnknownDevice, AddressTwice, UnknownCommand}
+use Rattle.pmb_writer.specs.declared.invalid.Invalid.TheVariants.{NotAllowed, WrongLength, PecMode}
 
 -- some events are the transaction's packet
 abbrev pub HasPacket : List DeviceParts → TransactionData → Type 0
@@ -88,7 +91,8 @@ module _ (profile : List DeviceParts) where
 
   -- The device's mode allows a packet error code, or to leave it out.
   abbrev pub keeps_mode : ℕ → Bool → Rule
-  keeps_mode addr with_pec = rule_unless PecMode (IfSome (device_with addr profile) (λ device. AllowsPec device.pec with_pec))
+  keeps_mode addr with_pec = rule_unless PecMode
+      (IfSome (device_with addr profile) (λ device. AllowsPec device.pec with_pec))
 
   -- the rules of a part after parts with some addresses
   abbrev pub part_rules : List ℕ → PartData → List Rule

@@ -8,7 +8,7 @@ ghost use Rattle.pmb_transaction.specs.Transaction.{transaction_data};
 ghost use Rattle.pmb_writer.specs.machine.Legs.{course_events, legs_data, legs_events, legs_of, packet_events};
 
 use crate::leg::Leg;
-use crate::legs::Legs;
+use crate::legs::LegsToCome;
 use pmb_bus::Event;
 
 /// What is left of a packet.
@@ -19,14 +19,14 @@ pub(crate) struct Course<'a> {
     pub leg: Leg<'a>,
     /// The packet error code of the bytes so far.
     pub crc: u8,
-    pub legs: Legs<'a>,
+    pub legs: LegsToCome<'a>,
     /// Whether STOP is to come.
     pub stop: bool,
 }
 
 impl<'a> Course<'a> {
     /// The packet of these legs.
-    pub fn new(legs: Legs<'a>) -> Self
+    pub fn new(legs: LegsToCome<'a>) -> Self
         ensures { course_events result ≡ legs_events true 0 (legs_data legs.entry) }
     {
         Course {

@@ -45,7 +45,7 @@ fn count_of(form: Option<Form>, bytes: &[u8]) -> Option<u8>
 
 /// The legs of a packet that are to come: those of parts, and then up to two others.
 #[derive(Clone, Copy, Debug)]
-pub(crate) struct Legs<'a> {
+pub(crate) struct LegsToCome<'a> {
     pub profile: &'a Profile,
     pub parts: &'a [Part],
     pub first: Option<Leg<'a>>,
@@ -70,7 +70,7 @@ fn part_leg<'a>(profile: &Profile, part: &'a Part) -> Leg<'a>
     }
 }
 
-impl<'a> Legs<'a> {
+impl<'a> LegsToCome<'a> {
     /// Takes the next leg.
     pub fn take_leg(&mut self) -> Option<Leg<'a>>
         ensures { MatchOption result ((legs_data self.old ≡ []) × (legs_data self.new ≡ [])) (λ leg. legs_data self.old ≡ leg_data leg ∷ legs_data self.new) }
@@ -168,11 +168,11 @@ fn refused_leg<'a>(address: u8, bytes: &'a [u8], pec: bool) -> Leg<'a>
 
 /// The legs of a write.
 #[inline]
-pub(crate) fn write_legs<'a>(profile: &'a Profile, parts: &'a [Part]) -> Legs<'a>
+pub(crate) fn write_legs<'a>(profile: &'a Profile, parts: &'a [Part]) -> LegsToCome<'a>
     ensures legs { legs_data result ≡ legs_of profile.now (Write (map part_data parts.now)) }
     ensures whole { AreWhole result }
 {
-    Legs {
+    LegsToCome {
         profile,
         parts,
         first: None,
@@ -188,13 +188,13 @@ pub(crate) fn read_legs<'a>(
     code: u8,
     reply: &'a [u8],
     pec: bool,
-) -> Legs<'a>
+) -> LegsToCome<'a>
     requires { length reply.now ≤ 255 }
     ensures legs { legs_data result ≡ legs_of profile.now (Read (record { addr = addr; code = code; reply = reply.now; pec = pec })) }
     ensures whole { AreWhole result }
 {
     let forms = forms_at(profile, addr, code);
-    Legs {
+    LegsToCome {
         profile,
         parts: &[],
         first: Some(asked_leg(addr, code, None, &[])),
@@ -210,14 +210,14 @@ fn call_legs<'a>(
     bytes: &'a [u8],
     reply: &'a [u8],
     pec: bool,
-) -> Legs<'a>
+) -> LegsToCome<'a>
     requires sent { length bytes.now ≤ 255 }
     requires replied { length reply.now ≤ 255 }
     ensures legs { legs_data result ≡ legs_of profile.now (Call (record { addr = addr; code = code; bytes = bytes.now; reply = reply.now; pec = pec })) }
     ensures whole { AreWhole result }
 {
     let forms = forms_at(profile, addr, code);
-    Legs {
+    LegsToCome {
         profile,
         parts: &[],
         first: Some(asked_leg(addr, code, count_of(forms.call, bytes), bytes)),
@@ -232,13 +232,13 @@ fn refused_legs<'a>(
     addr: u8,
     sent: &'a [u8],
     at_read: bool,
-) -> Legs<'a>
+) -> LegsToCome<'a>
     requires { length sent.now ≤ 258 }
     ensures legs { legs_data result ≡ legs_of profile.now (Refused (record { parts = map part_data parts.now; addr = addr; sent = sent.now; at_read = at_read })) }
     ensures whole { AreWhole result }
 {
     if at_read {
-        Legs {
+        LegsToCome {
             profile,
             parts,
             first: Some(Leg {
@@ -249,7 +249,7 @@ fn refused_legs<'a>(
             second: Some(reply_leg(addr, None, &[], false)),
         }
     } else {
-        Legs {
+        LegsToCome {
             profile,
             parts,
             first: Some(refused_leg(write_address(addr), sent, false)),
@@ -259,12 +259,12 @@ fn refused_legs<'a>(
 }
 
 /// The one leg at the Alert Response Address, with what is read there.
-fn alert_legs<'a>(profile: &'a Profile, reply: &'a [u8], pec: bool) -> Legs<'a>
+fn alert_legs<'a>(profile: &'a Profile, reply: &'a [u8], pec: bool) -> LegsToCome<'a>
     requires { length reply.now ≤ 258 }
     ensures legs { legs_data result ≡ record { bytes = 0x19 ∷ reply.now; pec = pec; last = Event.Nack; goes_on = false } ∷ [] }
     ensures whole { AreWhole result }
 {
-    Legs {
+    LegsToCome {
         profile,
         parts: &[],
         first: Some(refused_leg(read_address(ALERT_ADDRESS), reply, pec)),
@@ -273,7 +273,7 @@ fn alert_legs<'a>(profile: &'a Profile, reply: &'a [u8], pec: bool) -> Legs<'a>
 }
 
 /// The legs of a transaction's packet.
-pub(crate) fn legs_of<'a>(profile: &'a Profile, transaction: &'a Transaction) -> Legs<'a>
+pub(crate) fn legs_of<'a>(profile: &'a Profile, transaction: &'a Transaction) -> LegsToCome<'a>
     ensures legs { legs_data result ≡ legs_of profile.now (transaction_data transaction.now) }
     ensures whole { AreWhole result }
 {

@@ -50,7 +50,7 @@ pub fn append_packet<const N: usize>(
     accepted_bus(profile);
     pec_goes_on();
     worked_pecs();
-    // Legs whose kind is known where they are made are not kept in memory.
+    // LegsToCome whose kind is known where they are made are not kept in memory.
     match transaction {
         Transaction::Write { parts } => write_legs(profile, parts.as_slice()).append(text),
         Transaction::Read {

@@ -1,4 +1,4 @@
 //! Tests of what is known where a capture begins in the middle, over the public names of
-//! `pmb_late`: a table of lines, each row with what is known after them, told by hand.
+//! `pmb_unknown_start`: a table of lines, each row with what is known after them, told by hand.
 
 mod starts;

@@ -1,5 +1,5 @@
 //! Tests of lines: of transactions (`pmb_line`), of requests (`pmb_request`), their notes (`pmb_note`),
-//! what is known where a capture begins in the middle (`pmb_late`), and each name of `pmb_packet`.
+//! what is known where a capture begins in the middle (`pmb_unknown_start`), and each name of `pmb_packet`.
 #![tactic(auto)]
 
 #[cfg(test)]

@@ -1,4 +1,4 @@
-//! Tests of `pmb_said`: what packets under way had said, told by hand, where an event is refused.
+//! Tests of `pmb_partial_packet`: what packets under way had said, told by hand, where an event is refused.
 
 mod example;
 mod rows;

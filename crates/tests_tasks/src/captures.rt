@@ -1,7 +1,7 @@
 //! `show`, `check_capture` and `json`, the profile in front, and their laws.
 
 use pmb_capture::{check_capture, show};
-use pmb_cli::{BadWords, Choice, Digits, Start, front, json};
+use pmb_cli::{AfterBadToken, Choice, Digits, Start, front, json};
 use pmb_io::{Io, Sink, Source, Tally, ToolFault};
 use pmb_table::{Profile, SAMPLE};
 use std::test::Fail;
@@ -56,7 +56,7 @@ fn late_objects<'p, R: Source, W: Sink>(
         start: Start::Late,
         devices,
     };
-    json(profile, choice, BadWords::End, first, reader, writer)
+    json(profile, choice, AfterBadToken::End, first, reader, writer)
 }
 
 #[test]
@@ -95,8 +95,8 @@ fn each_law_holds() {
     pmb_capture::laws::one_check();
     pmb_capture::laws::captures_are_shown();
     pmb_capture::laws::counts_add_up();
-    pmb_front::laws::one_front();
-    pmb_front::laws::one_limit();
+    pmb_preamble::laws::one_front();
+    pmb_preamble::laws::one_limit();
     pmb_convert::laws::one_format();
     pmb_convert::laws::one_text();
     pmb_cli::laws::words_ask();

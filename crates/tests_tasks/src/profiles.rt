@@ -1,9 +1,9 @@
 //! Profiles, their keys, the bus that one makes, and what helps with a fault.
 
-use pmb_describe::describe;
 use pmb_hints::hints;
 use pmb_io::Io;
 use pmb_keys::{array_of, only, present, read_command, read_device_keys};
+use pmb_profile_text::describe;
 use pmb_table::{
     FaultKind, Form, PecMode, Profile, ProfileFault, SAMPLE, bit_name, by_name, standard,
 };

@@ -1,9 +1,9 @@
 //! Whole inputs, into a writer and into rooms.
 
-use pmb_cli::{BadWords, Choice, Digits, Io, Start};
+use pmb_cli::{AfterBadToken, Choice, Digits, Io, Start};
+use pmb_in_memory::{MemoryTask, Put, WholeFault, put_json, put_whole, write_json, write_whole};
 use pmb_io::Tally;
 use pmb_table::{FaultKind, ProfileFault, SAMPLE};
-use pmb_whole::{Put, WholeFault, Work, put_json, put_whole, write_json, write_whole};
 use std::test::Fail;
 
 const END: &str = "{\"kind\":\"end\",\"packets\":0,\"refusals\":0,\"bad_tokens\":0}\n";
@@ -24,7 +24,13 @@ fn texts_are_written_and_put(rt: HostRuntime) -> Result<(), Fail> {
         refusals: 0,
     };
     let mut room = [0; 16];
-    let put = put_whole(Work::Build, rt.alloc(), sample, b"write 58 03", &mut room);
+    let put = put_whole(
+        MemoryTask::Build,
+        rt.alloc(),
+        sample,
+        b"write 58 03",
+        &mut room,
+    );
     assert!(rt;
         put == Ok(Put {
             tally: one,
@@ -33,7 +39,13 @@ fn texts_are_written_and_put(rt: HostRuntime) -> Result<(), Fail> {
     );
     assert!(rt; room == *b"S b0 A 03 A P\n\0\0");
     let mut writer = Io::new(Vec::new(rt.alloc()));
-    let written = write_whole(Work::Build, rt.alloc(), sample, b"write 58 03", &mut writer);
+    let written = write_whole(
+        MemoryTask::Build,
+        rt.alloc(),
+        sample,
+        b"write 58 03",
+        &mut writer,
+    );
     assert!(rt; written == Ok(one));
     assert!(rt; writer.into_inner().as_slice() == b"S b0 A 03 A P\n".as_slice());
     Ok(())
@@ -43,11 +55,25 @@ fn texts_are_written_and_put(rt: HostRuntime) -> Result<(), Fail> {
 fn objects_are_written_and_put(rt: HostRuntime) -> Result<(), Fail> {
     let sample = SAMPLE.as_bytes();
     let mut writer = Io::new(Vec::new(rt.alloc()));
-    let written = write_json(all(), BadWords::End, rt.alloc(), sample, b"", &mut writer);
+    let written = write_json(
+        all(),
+        AfterBadToken::End,
+        rt.alloc(),
+        sample,
+        b"",
+        &mut writer,
+    );
     assert!(rt; written == Ok(Tally::new()));
     assert!(rt; writer.into_inner().as_slice() == END.as_bytes());
     let mut room = [b'~'; 8];
-    let put = put_json(all(), BadWords::End, rt.alloc(), sample, b"", &mut room);
+    let put = put_json(
+        all(),
+        AfterBadToken::End,
+        rt.alloc(),
+        sample,
+        b"",
+        &mut room,
+    );
     let length = END.len();
     assert!(rt;
         put == Ok(Put {
@@ -64,7 +90,7 @@ fn objects_are_written_and_put(rt: HostRuntime) -> Result<(), Fail> {
 fn a_bad_profile_leaves_the_room(rt: HostRuntime) {
     let profile = b"[[device]]\naddress = 0x10\npec = \"off\"\npages = 33";
     let mut room = [b'~'; 32];
-    let put = put_whole(Work::Show, rt.alloc(), profile, b"S P", &mut room);
+    let put = put_whole(MemoryTask::Show, rt.alloc(), profile, b"S P", &mut room);
     let fault = ProfileFault {
         what: FaultKind::BadPages,
         device: Some(0),

@@ -22,7 +22,8 @@ pub record BuilderStands (start now : Builder) (lines : List TextLine) (text : L
   pub number : now.lines ≡ capped (length answered.given.answers)
 
 -- A line that was counted is answered, and the answer is put out and counted.
-pub record BuilderTakes (before after : Builder) (line : List ℕ) (held_old : Option (List ℕ)) (waiting_old : List ℕ) (held_new : Option (List ℕ)) (waiting_new : List ℕ) : Type 0 where
+pub record BuilderTakes (before after : Builder) (line : List ℕ) (held_old : Option (List ℕ)) (waiting_old : List ℕ)
+    (held_new : Option (List ℕ)) (waiting_new : List ℕ) : Type 0 where
   pub answer : BuildAnswer
   pub answers : BuildsText before.profile.now line answer
   pub writes : PutsText held_old waiting_old held_new waiting_new (answer_text before.lines answer)

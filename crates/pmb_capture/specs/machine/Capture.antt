@@ -38,14 +38,19 @@ module _ {O : Type 0} (TextOf : O → OutputText) (StandsBehind : O → List Tra
     pub written : AccountStands TextOf StandsBehind start.account now.account (map outcome reached.spans) text
 
   abbrev pub HasStopped : Capture O → Capture O → List ℕ → List ℕ → Type 0
-  HasStopped start now bytes text = WritesUpToStop (TextOf start.account.output) (capture_profile start) bytes text now.account.tally
+  HasStopped start now bytes text = WritesUpToStop (TextOf start.account.output)
+      (capture_profile start) bytes text now.account.tally
 
   abbrev pub HasEnded : Capture O → Capture O → List ℕ → List ℕ → Type 0
-  HasEnded start now bytes text = WritesAtEnd (TextOf start.account.output) (capture_profile start) bytes text now.account.tally
+  HasEnded start now bytes text = WritesAtEnd (TextOf start.account.output)
+      (capture_profile start) bytes text now.account.tally
 
   -- what stops it holds whatever follows
-  pub stops_for_good : (start now : Capture O) (bytes text more : List ℕ) → HasStopped start now bytes text → HasStopped start now (bytes ++ more) text
+  pub stops_for_good : (start now : Capture O) (bytes text more : List ℕ) → HasStopped start now bytes text
+      → HasStopped start now (bytes ++ more) text
   stops_for_good start now bytes text more stops = record {
     writes = stops.whatever_follows more;
-    whatever_follows = λ others. subst (λ (b : List ℕ). WritesUpToBadWord (TextOf start.account.output) (capture_profile start) b text now.account.tally) (sym (append_assoc bytes more others)) (stops.whatever_follows (more ++ others));
+    whatever_follows = λ others. subst (λ (b : List ℕ). WritesUpToBadWord (TextOf start.account.output)
+        (capture_profile start) b text now.account.tally) (sym (append_assoc bytes more others))
+        (stops.whatever_follows (more ++ others));
   }

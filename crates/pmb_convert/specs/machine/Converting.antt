@@ -4,7 +4,7 @@ use Rattle.pmb_io.specs.Lines.{TextLine}
 use Rattle.pmb_io.specs.Tally.{with_packet, with_refusal}
 use Rattle.pmb_convert.specs.declared.conversion.Conversion.{Conversion}
 use Rattle.pmb_convert.specs.declared.converter.Converter.{Converter}
-use Rattle.pmb_convert.specs.declared.line_fault.LineFault.{LineFault}
+use Rattle.pmb_convert.specs.declared.convert_fault.ConvertFault.{ConvertFault}
 use Rattle.pmb_convert.specs.declared.answer.Converted.{Converted}
 use Rattle.pmb_convert.specs.declared.answer.Converted.TheVariants.{Code, Value}
 use Rattle.pmb_value.specs.QuantityText.{spelling}
@@ -17,7 +17,7 @@ converted_text (Code code) = code_text code
 converted_text (Value quantity) = spelling quantity
 
 -- the answer that it gives
-abbrev pub answer_of : Result Converted LineFault → Answer
+abbrev pub answer_of : Result Converted ConvertFault → Answer
 answer_of (Ok converted) = Ok (converted_text converted)
 answer_of (Err fault) = Err fault
 

@@ -2,7 +2,8 @@
 use Rattle.std.specs.Prelude.{◌≡◌, ◌≢◌, ℕ, Option, MatchOption, ℤ, List, [], ◌∷◌, ◌++◌, codes, slice_index, FitsSigned}
 use mir.Syntax.{Width}
 use Rattle.std.specs.Borrow.{Bor}
-use Rattle.pmb_convert.specs.Spelling.{Saying, linear11_fixed, ulinear16, slinear16, vout, direct, WritesInteger, WritesByte, WritesWord, WritesMode}
+use Rattle.pmb_convert.specs.Spelling.{Saying, linear11_fixed, ulinear16, slinear16, vout, direct, WritesInteger}
+use Rattle.pmb_convert.specs.Spelling.{WritesByte, WritesWord, WritesMode}
 
 -- what a text has after a prefix; nothing where it begins otherwise
 abbrev pub StripsPrefix : List ℕ → List ℕ → Option (Bor (List ℕ)) → Type 0
@@ -26,7 +27,8 @@ SplitsAtComma text parts =
 -- the number that a text writes; nothing where it writes none that fits
 abbrev pub ReadsInteger : Width → List ℕ → Option ℤ → Type 0
 ReadsInteger w text number =
-    MatchOption number ((n : ℤ) → WritesInteger text n → ¬ (FitsSigned w n)) (λ n. WritesInteger text n × FitsSigned w n)
+    MatchOption number ((n : ℤ) → WritesInteger text n → ¬ (FitsSigned w n))
+    (λ n. WritesInteger text n × FitsSigned w n)
 
 -- the VOUT_MODE that a text writes; nothing where it writes none
 abbrev pub ReadsMode : List ℕ → Option ℕ → Type 0

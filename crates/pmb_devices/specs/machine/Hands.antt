@@ -33,14 +33,16 @@ AllMoved legs signal (d ∷ devices) (member ∷ members) (result ∷ results) =
     × AllMoved legs signal devices members results
 
 -- The devices took the signal, and this is the last answer that is not silence.
-pub record HandsOn (legs : Legs) (signal : HostSignal) (members : List InState) (result : DeviceSignal) (devices : List Device) : Type 0 where
+pub record HandsOn (legs : Legs) (signal : HostSignal) (members : List InState) (result : DeviceSignal)
+    (devices : List Device) : Type 0 where
   pub results : List DeviceSignal
   pub moved : AllMoved legs signal devices members results
   pub last : result ≡ last_loud results
 
 -- The first `count` devices took the signal, and the others have still to take it. This is the last
 -- answer that is not silence.
-pub record HandsSoFar (legs : Legs) (signal : HostSignal) (members : List InState) (devices : List Device) (count : ℕ) (result : DeviceSignal) : Type 0 where
+pub record HandsSoFar (legs : Legs) (signal : HostSignal) (members : List InState) (devices : List Device) (count : ℕ)
+    (result : DeviceSignal) : Type 0 where
   pub done : List Device
   pub rest : List Device
   pub took : List InState

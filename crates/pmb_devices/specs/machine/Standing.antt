@@ -22,7 +22,8 @@ AllStand legs [] [] = Unit {0}
 AllStand legs [] (member ∷ members) = ⊥
 AllStand legs (d ∷ devices) [] = ⊥
 AllStand legs (d ∷ devices) (member ∷ members) =
-    DeviceStandsAt d (record { device = member.device; state = member.state; legs = legs }) × AllStand legs devices members
+    DeviceStandsAt d (record { device = member.device; state = member.state; legs = legs })
+    × AllStand legs devices members
 
 -- A bus stands there.
 pub record BusStandsAt (bus : Bus) (standing : BusStanding) : Type 0 where

@@ -39,7 +39,12 @@ pub record IsOver (standing : ExchangeStanding) (step : HostStep) (bus : Bus) : 
   pub packet : Packet standing.job.profile done standing.events
   pub told : EndsWith standing.job.number done step
   pub stretch : List AnsweredSignal
-  pub stands : BusStandsAt bus (record { past = standing.past ++ stretch ∷ []; members = all_applied done standing.members; history = [] })
+  pub stands : BusStandsAt bus (record {
+    past = standing.past ++ stretch ∷ [];
+    members =
+        all_applied done standing.members;
+    history = [];
+  })
 
 -- what is so of the signals up to STOP
 pub record HasHeard (standing : ExchangeStanding) (history : List AnsweredSignal) : Type 0 where
@@ -61,7 +66,8 @@ pub record IsStopped (standing : ExchangeStanding) (history : List AnsweredSigna
   pub in_turn : (result : DeviceSignal) → AreSentInTurn standing.job (stopped history result)
   pub after : List InState
   pub stands : BusStandsAt bus (record { past = standing.past ++ history ∷ []; members = after; history = [] })
-  pub applied : (t : TransactionData) → Packet (map (λ member. member.device) standing.members) t (recorded_events history ++ events.Stop ∷ [])
+  pub applied : (t : TransactionData) → Packet (map (λ member. member.device) standing.members) t
+      (recorded_events history ++ events.Stop ∷ [])
       → after ≡ all_applied t standing.members
   pub events_are : standing.events ≡ recorded_events history ++ events.Stop ∷ []
 

@@ -27,6 +27,7 @@ pub record HasReply (rules : List Rule) (reply : Option Form) (form : Form) : Ty
   pub form_is : reply ≡ Some form
 
 -- A quantity can be read: in this number format, from a reply of this form.
-pub record CanGet (profile : List DeviceParts) (c : Command) (mode : Option ℕ) (number : NumberFormat) (form : Form) : Type 0 where
+pub record CanGet (profile : List DeviceParts) (c : Command) (mode : Option ℕ) (number : NumberFormat)
+    (form : Form) : Type 0 where
   pub reply : HasReply (get_rules profile c) (forms_at profile c.addr c.code).read form
   pub has : HasNumber profile c mode number

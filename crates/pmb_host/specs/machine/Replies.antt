@@ -1,5 +1,6 @@
 -- How far a reply is after a byte of it, and what is told of its data.
-use Rattle.std.specs.Prelude.{◌≡◌, ◌≢◌, ℕ, ◌+◌, ◌*◌, ◌<◌, ◌≤◌, Bool, true, if◌then◌else◌, Option, Some, None, List, [], ◌∷◌, ◌++◌, length}
+use Rattle.std.specs.Prelude.{◌≡◌, ◌≢◌, ℕ, ◌+◌, ◌*◌, ◌<◌, ◌≤◌, Bool, true, if◌then◌else◌, Option, Some, None, List, []}
+use Rattle.std.specs.Prelude.{◌∷◌, ◌++◌, length}
 use Rattle.pmb_command.specs.declared.form.Form.{Form}
 use Rattle.pmb_command.specs.Wire.{Fits, wire, wire_length}
 use Rattle.pmb_format.specs.Coding.{value_of}
@@ -17,8 +18,10 @@ whole_length form with_pec bytes = wire_length form bytes + (if with_pec then 1 
 -- error code of all before it.
 abbrev pub IsState : ReplyState → Form → Bool → List ℕ → ℕ → ℕ → Type 0
 IsState Short form with_pec bytes byte crc = length bytes < whole_length form with_pec bytes
-IsState Whole form with_pec bytes byte crc = (whole_length form with_pec bytes ≤ length bytes) × (with_pec ≡ true → byte ≡ crc)
-IsState BadPec form with_pec bytes byte crc = (whole_length form with_pec bytes ≤ length bytes) × (with_pec ≡ true) × (byte ≢ crc)
+IsState Whole form with_pec bytes byte crc = (whole_length form with_pec bytes ≤ length bytes)
+    × (with_pec ≡ true → byte ≡ crc)
+IsState BadPec form with_pec bytes byte crc = (whole_length form with_pec bytes ≤ length bytes) × (with_pec ≡ true)
+    × (byte ≢ crc)
 
 -- The bytes begin with the wire of data.
 pub record Holds (form : Form) (content bytes : List ℕ) : Type 0 where

@@ -5,21 +5,23 @@
 -- says what was sent, and the answer decides. So each step is one signal more at the end of `heard`:
 -- `AtLeg` (START comes next), `InLeg` (a byte), `InReply` (an Ask), `IsRead` (NACK), `AtStop` (STOP),
 -- `EndsSo` (the end).
-use Rattle.std.specs.Prelude.{◌≡◌, ◌≢◌, ℕ, ◌+◌, ◌<◌, ◌≤◌, ◌⊎◌, Bool, true, if◌then◌else◌, Option, Some, None, is_some, IfSome, List, [], ◌∷◌, ◌++◌, length, flat_map}
+use Rattle.std.specs.Prelude.{◌≡◌, ◌≢◌, ℕ, ◌+◌, ◌<◌, ◌≤◌, ◌⊎◌, Bool, true, if◌then◌else◌, Option, Some, None, is_some}
+use Rattle.std.specs.Prelude.{IfSome, List, [], ◌∷◌, ◌++◌, length, flat_map}
 use Rattle.std.specs.List.{AllByRecursion}
 use Rattle.pmb_bus.specs.Pec.{pec}
 use Rattle.pmb_command.specs.declared.form.Form.{Form}
 use Rattle.pmb_command.specs.Bus.{IsBus}
 use Rattle.pmb_command.specs.Wire.{AreByteValues, wire_length}
-use Rattle.pmb_transaction.specs.Transaction.{TransactionData, Write, Read, Call, Refused, Alert, NoAlert, transaction_data}
+use Rattle.pmb_transaction.specs.Transaction.{TransactionData, Write, Read, Call, Refused, Alert, NoAlert}
+use Rattle.pmb_transaction.specs.Transaction.{transaction_data}
 use Rattle.pmb_device.specs.declared.signal.HostSignal.{HostSignal}
 use Rattle.pmb_device.specs.declared.signal.HostSignal.TheVariants.{Byte, Ask, Ack, Nack, Stop}
 use Rattle.pmb_device.specs.declared.signal.DeviceSignal.{DeviceSignal}
 use Rattle.pmb_device.specs.declared.signal.DeviceSignal.TheVariants as answers
 use Rattle.pmb_devices.specs.Bus.{AnsweredSignal}
 use Rattle.pmb_host.specs.declared.host.Host.{Host}
-use Rattle.pmb_host.specs.declared.host.Phase.{Phase}
-use Rattle.pmb_host.specs.declared.host.Phase.TheVariants as phases
+use Rattle.pmb_host.specs.declared.host.HostPhase.{HostPhase}
+use Rattle.pmb_host.specs.declared.host.HostPhase.TheVariants as phases
 use Rattle.pmb_value.specs.declared.number_format.NumberFormat.{NumberFormat}
 use Rattle.pmb_host.specs.declared.step.HostFault.{HostFault}
 use Rattle.pmb_host.specs.declared.step.HostFault.TheVariants.{BadPec}
@@ -29,7 +31,8 @@ use Rattle.pmb_host.specs.declared.step.Reply.{Reply}
 use Rattle.pmb_host.specs.declared.step.Reply.TheVariants.{Written}
 use Rattle.pmb_host.specs.declared.reply.Incoming.{Incoming}
 use Rattle.pmb_host.specs.Signals.{AreRead, leg_form, leg_signals, legs_of, reply_form, reply_has_pec, signals}
-use Rattle.pmb_host.specs.Steps.{Completes, Fails, GivesUp, GoWell, GoesOn, SaysReply, bytes_read, reply_data, sent_signals}
+use Rattle.pmb_host.specs.Steps.{Completes, Fails, GivesUp, GoWell, GoesOn, SaysReply, bytes_read, reply_data}
+use Rattle.pmb_host.specs.Steps.{sent_signals}
 use Rattle.pmb_host.specs.machine.Replies.{Holds, told_data}
 pub use Rattle.pmb_host.specs.Standing.{HostStanding, IsAsked, Job, answered}
 
@@ -70,7 +73,8 @@ abbrev pub IsIncoming : Option Incoming → Option Form → Bool → List ℕ �
 IsIncoming None None with_pec bytes = Unit {0}
 IsIncoming None (Some form) with_pec bytes = ⊥
 IsIncoming (Some reply) None with_pec bytes = ⊥
-IsIncoming (Some reply) (Some form) with_pec bytes = (reply.form ≡ form) × (reply.pec ≡ with_pec) × (reply.bytes.items ≡ bytes)
+IsIncoming (Some reply) (Some form) with_pec bytes = (reply.form ≡ form) × (reply.pec ≡ with_pec)
+    × (reply.bytes.items ≡ bytes)
 
 abbrev pub HasRead : Host → Job → List ℕ → Type 0
 HasRead host job bytes = IsIncoming host.reply (reply_form job.profile job.task) (reply_has_pec job.task) bytes
@@ -165,7 +169,8 @@ pub record InReply (host : Host) (job : Job) (heard : List AnsweredSignal) : Typ
 -- By the fault that is kept the bytes say a reply, or none for a wrong packet error code.
 abbrev pub IsSaid : Option HostFault → Job → List ℕ → Type 0
 IsSaid None job bytes = (content : List ℕ) × SaysReply job.profile job.task content bytes
-IsSaid (Some fault) job bytes = (fault ≡ BadPec) × ((content : List ℕ) → SaysReply job.profile job.task content bytes → ⊥)
+IsSaid (Some fault) job bytes = (fault ≡ BadPec) × ((content : List ℕ) → SaysReply job.profile job.task content bytes
+    → ⊥)
 
 -- All was read, and NACK comes next.
 pub record IsRead (host : Host) (job : Job) (heard : List AnsweredSignal) : Type 0 where
@@ -225,7 +230,7 @@ module _ (host : Host) (standing : HostStanding) where
   InEnd None = Behind AtEnd
   InEnd (Some step) = AtEnd host standing.job standing.heard × Tells host step
 
-  abbrev pub InPhase : Phase → Type 0
+  abbrev pub InPhase : HostPhase → Type 0
   InPhase phases.Start = (standing.ended ≡ None) × Behind AtLeg
   InPhase phases.Address = (standing.ended ≡ None) × Behind InLeg
   InPhase phases.Byte = (standing.ended ≡ None) × IsSent host standing.job standing.heard standing.last

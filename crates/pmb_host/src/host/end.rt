@@ -7,7 +7,7 @@ ghost use Rattle.pmb_host.specs.machine.Replies.{told_data};
 ghost use Rattle.pmb_host.specs.machine.Standing.{AtStop, Tells};
 ghost use Rattle.pmb_devices.specs.Bus.{AnsweredSignal};
 
-use super::{Host, Phase};
+use super::{Host, HostPhase};
 use crate::step::{HostStep, Reply};
 use arrayvec::ArrayVec;
 use pmb_device::HostSignal;
@@ -18,7 +18,7 @@ impl Host<'_> {
     pub(super) fn stop(&mut self) -> HostStep
         ensures { (standing : HostStanding) (heard : List AnsweredSignal) → AtStop self.old standing.job heard → FirstSteps standing heard result self.new }
     {
-        self.phase = Phase::End;
+        self.phase = HostPhase::End;
         HostStep::Send(HostSignal::Stop)
     }
 

@@ -10,8 +10,8 @@ ghost use Rattle.pmb_host.specs.Host.{HostStanding, FirstSteps, heard_with};
 ghost use Rattle.pmb_host.specs.machine.Standing.{AreAddresses, AtLeg, InLeg, IsSent, BehindByte, IsLegSent, Job};
 ghost use Rattle.pmb_devices.specs.Bus.{AnsweredSignal};
 
-use super::{Host, Phase};
-use crate::leg::Leg;
+use super::{Host, HostPhase};
+use crate::host_leg::HostLeg;
 use crate::step::{HostFault, HostStep};
 use pmb_bus::{pec_next, read_address, write_address};
 use pmb_command::Form;
@@ -20,7 +20,7 @@ use pmb_transaction::Transaction;
 
 impl Host<'_> {
     /// The leg that began last, or none where there is no such.
-    fn leg_under_way(&self) -> Option<Leg<'_>>
+    fn leg_under_way(&self) -> Option<HostLeg<'_>>
         ensures bytes { AreAddresses (transaction_data self.now.transaction) → 1 ≤ self.now.leg
             → self.now.form ≡ leg_form self.now.profile.now (transaction_data self.now.transaction) (self.now.leg - 1)
             → option_map leg_bytes result ≡ slice_get (legs_of self.now.profile.now (transaction_data self.now.transaction)) (self.now.leg - 1) }
@@ -30,7 +30,7 @@ impl Host<'_> {
             Transaction::Write { parts } => {
                 let part = parts.as_slice().get(usize::from(self.leg).checked_sub(1)?)?;
                 let data = part.bytes.as_slice();
-                Some(Leg {
+                Some(HostLeg {
                     address: write_address(part.addr),
                     code: Some(part.code),
                     count: count_of(self.form, data),
@@ -50,21 +50,21 @@ impl Host<'_> {
     }
 
     /// The same of a read or a call.
-    fn asking_leg<'a>(&self, addr: u8, code: u8, data: &'a [u8]) -> Option<Leg<'a>>
+    fn asking_leg<'a>(&self, addr: u8, code: u8, data: &'a [u8]) -> Option<HostLeg<'a>>
         requires { length «data».now ≤ 255 }
         ensures bytes { addr < 128 → 1 ≤ self.now.leg → option_map leg_bytes result
             ≡ slice_get ((write_address addr ∷ code ∷ wire_in self.now.form «data».now) ∷ (read_address addr ∷ []) ∷ []) (self.now.leg - 1) }
         ensures code { IfSome result (λ leg. leg.pec ≡ false) }
     {
         match self.leg {
-            1 => Some(Leg {
+            1 => Some(HostLeg {
                 address: write_address(addr),
                 code: Some(code),
                 count: count_of(self.form, data),
                 data,
                 pec: false,
             }),
-            2 => Some(Leg {
+            2 => Some(HostLeg {
                 address: read_address(addr),
                 code: None,
                 count: None,
@@ -125,7 +125,7 @@ impl Host<'_> {
         self.place = 0;
         self.form = self.form_under_way();
         self.crc = self.crc_before_leg();
-        self.phase = Phase::Address;
+        self.phase = HostPhase::Address;
         HostStep::Send(HostSignal::Start)
     }
 
@@ -155,7 +155,7 @@ impl Host<'_> {
     {
         self.place = self.place.saturating_add(1);
         self.crc = pec_next(self.crc, byte);
-        self.phase = Phase::Byte;
+        self.phase = HostPhase::Byte;
         HostStep::Send(HostSignal::Byte(byte))
     }
 

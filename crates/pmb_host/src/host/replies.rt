@@ -9,7 +9,7 @@ ghost use Rattle.pmb_device.specs.declared.signal.HostSignal.TheVariants as sign
 ghost use Rattle.pmb_device.specs.declared.signal.DeviceSignal.TheVariants as answers;
 ghost use Rattle.pmb_devices.specs.Bus.{AnsweredSignal};
 
-use super::{Host, Phase};
+use super::{Host, HostPhase};
 use crate::reply::{Incoming, ReplyState};
 use crate::step::{HostFault, HostStep};
 use pmb_bus::pec_next;
@@ -20,7 +20,7 @@ impl Host<'_> {
     pub(super) fn ask(&mut self) -> HostStep
         ensures { (standing : HostStanding) (heard : List AnsweredSignal) → InReply self.old standing.job heard → FirstSteps standing heard result self.new }
     {
-        self.phase = Phase::Given;
+        self.phase = HostPhase::Given;
         HostStep::Send(HostSignal::Ask)
     }
 
@@ -45,7 +45,7 @@ impl Host<'_> {
         self.crc = pec_next(self.crc, byte);
         match state {
             ReplyState::Short => {
-                self.phase = Phase::Ask;
+                self.phase = HostPhase::Ask;
                 HostStep::Send(HostSignal::Ack)
             }
             ReplyState::Whole => self.end_reply(),
@@ -60,7 +60,7 @@ impl Host<'_> {
     fn end_reply(&mut self) -> HostStep
         ensures { (standing : HostStanding) (heard : List AnsweredSignal) → IsRead self.old standing.job heard → FirstSteps standing heard result self.new }
     {
-        self.phase = Phase::Stop;
+        self.phase = HostPhase::Stop;
         HostStep::Send(HostSignal::Nack)
     }
 }

@@ -5,30 +5,32 @@ use Rattle.pmb_bus.specs.Text.{EndsBetween, FirstBadWord, front_word, open_word}
 use Rattle.pmb_command.specs.Parts.{DeviceParts}
 use Rattle.pmb_io.specs.Lines.{HasNoLf}
 use Rattle.pmb_io.specs.declared.tally.Tally.{Tally}
-use Rattle.pmb_json.specs.declared.bad_words.BadWords.{BadWords}
-use Rattle.pmb_json.specs.declared.bad_words.BadWords.TheVariants.{GoOn}
-use Rattle.pmb_json.specs.declared.engine.Inside.{Inside}
-use Rattle.pmb_json.specs.declared.engine.Inside.TheVariants as inside
+use Rattle.pmb_json.specs.declared.after_bad_token.AfterBadToken.{AfterBadToken}
+use Rattle.pmb_json.specs.declared.after_bad_token.AfterBadToken.TheVariants.{GoOn}
+use Rattle.pmb_json.specs.declared.engine.EngineState.{EngineState}
+use Rattle.pmb_json.specs.declared.engine.EngineState.TheVariants as inside
 use Rattle.pmb_json.specs.declared.engine.Json.{Json}
-use Rattle.pmb_json.specs.declared.engine.Left.{Left}
-use Rattle.pmb_json.specs.declared.engine.Left.TheVariants as left
+use Rattle.pmb_json.specs.declared.engine.PieceRest.{PieceRest}
+use Rattle.pmb_json.specs.declared.engine.PieceRest.TheVariants as left
 use Rattle.pmb_json.specs.Json.{StopsJson}
 use Rattle.pmb_json.specs.SoFar.{SoFarFrom}
 use Rattle.pmb_json.specs.machine.Ends.{IsOver}
-use Rattle.pmb_json.specs.Text.{BadLine, IsBehindLine, ObjectsFrom, WritesJson, at_word, bad_line_objects, front_objects}
-use Rattle.pmb_objects.specs.BadToken.{bad_token_object}
-use Rattle.pmb_objects.specs.Counts.{CountsData, after_bad_token, end_objects}
-use Rattle.pmb_objects.specs.Object.{Object, object_lines}
+use Rattle.pmb_json.specs.Text.{BadLine, IsBehindLine, ObjectsFrom, WritesJson, at_word, bad_line_objects}
+use Rattle.pmb_json.specs.Text.{front_objects}
+use Rattle.pmb_json_objects.specs.BadToken.{bad_token_object}
+use Rattle.pmb_json_objects.specs.Counts.{CountsData, after_bad_token, end_objects}
+use Rattle.pmb_json_objects.specs.Object.{Object, object_lines}
 use Rattle.pmb_places.specs.Places.{place_of_last_word}
 use Rattle.pmb_io.specs.Count.{capped}
 use Rattle.pmb_scan.specs.declared.scan.Scan.{Scan}
 use Rattle.pmb_scan.specs.Reached.{Reached}
 use Rattle.pmb_scan.specs.Scan.{ScanStandsAt}
 use Rattle.pmb_spans.specs.Spans.{Span, SpansFrom, is_whole}
-use Rattle.pmb_stream.specs.declared.stream.Stream.{Stream}
-use Rattle.pmb_stream.specs.Before.{Before, at_first, with_bytes}
-use Rattle.pmb_stream.specs.Choice.{ChoiceData}
-use Rattle.pmb_stream.specs.Stream.{StreamBegins, StreamKnows, StreamStands, stream_choice, stream_profile, stream_tally}
+use Rattle.pmb_json_stream.specs.declared.stream.Stream.{Stream}
+use Rattle.pmb_json_stream.specs.Before.{Before, at_first, with_bytes}
+use Rattle.pmb_json_stream.specs.Choice.{ChoiceData}
+use Rattle.pmb_json_stream.specs.Stream.{StreamBegins, StreamKnows, StreamStands, stream_choice, stream_profile}
+use Rattle.pmb_json_stream.specs.Stream.{stream_tally}
 
 -- ---- what it was made with
 
@@ -38,7 +40,7 @@ json_profile json = json.profile.now
 abbrev pub json_choice : Json → ChoiceData
 json_choice json = stream_choice json.stream
 
-abbrev pub json_bad_words : Json → BadWords
+abbrev pub json_bad_words : Json → AfterBadToken
 json_bad_words json = json.bad_words
 
 -- how many packets it counted, and how many refusals and words that are no token
@@ -67,12 +69,14 @@ behind_object b bad = record (behind_bytes b bad) { counts = after_bad_token (at
 
 -- what is put out of a word that is no token where reading ends there
 abbrev pub last_word_objects : Before → List Object
-last_word_objects b = bad_token_object (capped b.n) (place_of_last_word b.read) (open_word b.read) ∷ end_objects (after_bad_token b.counts)
+last_word_objects b = bad_token_object (capped b.n) (place_of_last_word b.read) (open_word b.read)
+    ∷ end_objects (after_bad_token b.counts)
 
 module _ (choice : ChoiceData) (profile : List DeviceParts) where
   -- Its word is no token, whatever follows after the bytes at hand.
   pub record IsBadSoFar (b : Before) (bad : BadLine) (at_hand : List ℕ) : Type 0 where
-    pub word : (more : List ℕ) → FirstBadWord (bad.front ++ (bad.line ++ (at_hand ++ more))) bad.events (length bad.front)
+    pub word : (more : List ℕ) → FirstBadWord (bad.front ++ (bad.line ++ (at_hand ++ more))) bad.events
+        (length bad.front)
     pub all : List Span
     pub reads : SpansFrom profile b.n bad.events all
     pub reported : bad.spans ≡ filter is_whole all
@@ -97,7 +101,8 @@ module _ (choice : ChoiceData) (profile : List DeviceParts) where
     pub is_text : bytes ≡ bad.front ++ bad.line
     pub under_way : front_word bad.line ≡ bad.line
     pub knows : StreamKnows (behind_bytes b bad) stream
-    pub lines : (more : List ℕ) → text ≡ object_lines choice.devices (front_objects choice profile b (longer_line bad more))
+    pub lines : (more : List ℕ) → text ≡ object_lines choice.devices
+        (front_objects choice profile b (longer_line bad more))
 
   -- More of it may come: fewer than 32 bytes came where none are at hand.
   pub record InBadWord (at_hand : List ℕ) (stream : Stream) (b : Before) (bytes text : List ℕ) : Type 0 where
@@ -116,19 +121,22 @@ module _ (choice : ChoiceData) (profile : List DeviceParts) where
     pub is_text : bytes ≡ bad.front ++ bad.line
     pub in_line : HasNoLf bad.line
     -- whatever follows, more is told of no word under way
-    pub over : (whole more : List ℕ) → whole ≡ bad.line ++ (at_hand ++ more) → front_word whole ≡ whole → length whole < 32 → ⊥
+    pub over : (whole more : List ℕ) → whole ≡ bad.line ++ (at_hand ++ more) → front_word whole ≡ whole
+        → length whole < 32 → ⊥
     pub knows : StreamKnows (behind_object b bad) stream
     -- whatever follows, up to the end of the line
     pub lines : (more line rest : List ℕ) → at_hand ++ more ≡ line ++ rest → IsBehindLine rest
         → text ≡ object_lines choice.devices (bad_line_objects choice profile b (longer_line bad line))
 
-  module _ (after : BadWords) where
+  module _ (after : AfterBadToken) where
     -- After these bad lines, which gave these objects, reading began anew at `b`: what follows
     -- there follows from the first byte too.
     pub record LeadsTo (b : Before) (bads : List BadLine) (objects : List Object) : Type 0 where
-      pub whole : (rest : List ℕ) (more : List BadLine) (others : List Object) (counts : CountsData) → ObjectsFrom choice profile after b rest more others counts
+      pub whole : (rest : List ℕ) (more : List BadLine) (others : List Object) (counts : CountsData)
+          → ObjectsFrom choice profile after b rest more others counts
           → ObjectsFrom choice profile after at_first (b.read ++ rest) (bads ++ more) (objects ++ others) counts
-      pub so_far : (rest : List ℕ) (more : List BadLine) (others : List Object) → SoFarFrom choice profile after b rest more others
+      pub so_far : (rest : List ℕ) (more : List BadLine) (others : List Object)
+          → SoFarFrom choice profile after b rest more others
           → SoFarFrom choice profile after at_first (b.read ++ rest) (bads ++ more) (objects ++ others)
 
     -- All bytes, and all text: those up to there, and those after it, of which this holds.
@@ -157,16 +165,19 @@ StandsInWords start now = Standing (InWords (json_choice start) (json_profile st
 
 -- with these bytes at hand
 abbrev pub StandsInBadWord : List ℕ → Json → Json → List ℕ → List ℕ → Type 0
-StandsInBadWord at_hand start now = Standing (InBadWord (json_choice start) (json_profile start) at_hand now.stream) start now
+StandsInBadWord at_hand start now = Standing (InBadWord (json_choice start) (json_profile start) at_hand now.stream)
+    start now
 
 abbrev pub StandsBehindBadWord : List ℕ → Json → Json → List ℕ → List ℕ → Type 0
-StandsBehindBadWord at_hand start now = Standing (BehindBadWord (json_choice start) (json_profile start) at_hand now.stream) start now
+StandsBehindBadWord at_hand start now = Standing
+    (BehindBadWord (json_choice start) (json_profile start) at_hand now.stream) start now
 
 abbrev pub StandsInBadLine : List ℕ → Json → Json → List ℕ → List ℕ → Type 0
 StandsInBadLine at_hand start now bytes text =
-    (json_bad_words start ≡ GoOn) × Standing (InBadLine (json_choice start) (json_profile start) at_hand now.stream) start now bytes text
+    (json_bad_words start ≡ GoOn) × Standing (InBadLine (json_choice start) (json_profile start) at_hand now.stream)
+    start now bytes text
 
-abbrev pub StandsIn : Inside → Json → Json → List ℕ → List ℕ → Type 0
+abbrev pub StandsIn : EngineState → Json → Json → List ℕ → List ℕ → Type 0
 StandsIn inside.Words start now bytes text = StandsInWords start now bytes text
 StandsIn inside.BadWord start now bytes text = StandsInBadWord [] start now bytes text
 StandsIn inside.BadLine start now bytes text = StandsInBadLine [] start now bytes text
@@ -175,17 +186,22 @@ abbrev pub HasPutOut : Json → Json → List ℕ → List ℕ → Type 0
 HasPutOut start now bytes text = StandsIn now.inside start now bytes text
 
 abbrev pub HasStopped : Json → Json → List ℕ → List ℕ → Type 0
-HasStopped start now bytes text = StopsJson (json_choice start) (json_profile start) (json_bad_words start) bytes text (json_tally now)
+HasStopped start now bytes text = StopsJson (json_choice start) (json_profile start) (json_bad_words start) bytes text
+    (json_tally now)
 
 abbrev pub HasEnded : Json → Json → List ℕ → List ℕ → Type 0
-HasEnded start now bytes text = WritesJson (json_choice start) (json_profile start) (json_bad_words start) bytes text (json_tally now)
+HasEnded start now bytes text = WritesJson (json_choice start) (json_profile start) (json_bad_words start) bytes text
+    (json_tally now)
 
 -- what stops it holds whatever follows
-pub stops_for_good : (start now : Json) (bytes text more : List ℕ) → HasStopped start now bytes text → HasStopped start now (bytes ++ more) text
+pub stops_for_good : (start now : Json) (bytes text more : List ℕ) → HasStopped start now bytes text
+    → HasStopped start now (bytes ++ more) text
 stops_for_good start now bytes text more stops = record {
   ends = stops.ends;
   writes = stops.whatever_follows more;
-  whatever_follows = λ others. subst (λ (b : List ℕ). WritesJson (json_choice start) (json_profile start) (json_bad_words start) b text (json_tally now)) (sym (append_assoc bytes more others)) (stops.whatever_follows (more ++ others));
+  whatever_follows = λ others. subst (λ (b : List ℕ). WritesJson (json_choice start) (json_profile start)
+      (json_bad_words start) b text (json_tally now)) (sym (append_assoc bytes more others))
+      (stops.whatever_follows (more ++ others));
 }
 
 -- ---- what a piece comes to, up to the end of a bad line
@@ -195,13 +211,13 @@ pub record TakesFront (start now : Json) (bytes piece rest text : List ℕ) : Ty
   pub split : piece ≡ front ++ rest
   pub stands : HasPutOut start now (bytes ++ front) text
 
-abbrev pub TakesLine : Json → Json → List ℕ → List ℕ → Left → List ℕ → Type 0
+abbrev pub TakesLine : Json → Json → List ℕ → List ℕ → PieceRest → List ℕ → Type 0
 TakesLine start now bytes piece left.Nothing text = HasPutOut start now (bytes ++ piece) text
 TakesLine start now bytes piece left.Stop text = HasStopped start now (bytes ++ piece) text
 TakesLine start now bytes piece (left.Bytes rest) text = TakesFront start now bytes piece rest.now text
 
 -- what is left is less than there was
-abbrev pub IsLess : Left → ℕ → Type 0
+abbrev pub IsLess : PieceRest → ℕ → Type 0
 IsLess left.Nothing count = Unit {0}
 IsLess left.Stop count = Unit {0}
 IsLess (left.Bytes rest) count = length rest.now < count

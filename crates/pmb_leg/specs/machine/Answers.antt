@@ -3,7 +3,7 @@ use Rattle.std.specs.Prelude.{◌≡◌, ℕ, List, ◌++◌}
 use Rattle.pmb_bus.specs.Pec.{pec}
 use Rattle.pmb_leg.specs.Reply.{Answered}
 use Rattle.pmb_leg.specs.declared.answer.Answer.TheInside.{Inside}
-use Rattle.pmb_leg.specs.machine.Left.{Leaves}
+use Rattle.pmb_leg.specs.machine.DataLeft.{Leaves}
 
 abbrev pub answered_so_far : Inside → Answered
 answered_so_far a = record { expected = record { form = a.form; mode = a.mode; code = a.code }; bytes = a.bytes.items }

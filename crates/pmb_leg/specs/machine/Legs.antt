@@ -8,10 +8,10 @@ use Rattle.pmb_command.specs.Fitting.{calls_fit}
 use Rattle.pmb_command.specs.Parts.{DeviceParts}
 use Rattle.pmb_transaction.specs.Body.{forms}
 use Rattle.pmb_leg.specs.declared.place.LegPlace.{LegPlace}
-use Rattle.pmb_leg.specs.declared.left.Left.{Left}
+use Rattle.pmb_leg.specs.declared.left.DataLeft.{DataLeft}
 use Rattle.pmb_leg.specs.declared.written_leg.WrittenLeg.TheInside.{Inside}
 use Rattle.pmb_leg.specs.Leg.{Written, call_form}
-use Rattle.pmb_leg.specs.machine.Left.{LeavesOf}
+use Rattle.pmb_leg.specs.machine.DataLeft.{LeavesOf}
 
 abbrev pub written_so_far : Inside → Written
 written_so_far leg = record { device = leg.device.now; place = leg.place; bytes = leg.bytes.items }
@@ -22,12 +22,20 @@ pub record Kept : Type 0 where
   pub device : DeviceParts
   pub place : LegPlace
   pub shape : Shape
-  pub write : Left
-  pub call : Left
+  pub write : DataLeft
+  pub call : DataLeft
   pub crc : ℕ
 
 abbrev pub kept : Inside → Kept
-kept leg = record { device = leg.device.now; place = leg.place; shape = leg.forms; write = leg.write; call = leg.call; crc = leg.crc }
+kept leg = record {
+  device = leg.device.now;
+  place = leg.place;
+  shape = leg.forms;
+  write = leg.write;
+  call =
+      leg.call;
+  crc = leg.crc;
+}
 
 -- It is that of the bytes after a code.
 pub record IsBehindCode (leg : Kept) (code : ℕ) (behind : List ℕ) : Type 0 where

@@ -13,7 +13,8 @@ EndsWord text = 0 < length text → ends_line_word (slice_index text 0) ≡ true
 pub record IsFront (text : List ℕ) (front : FrontWord) : Type 0 where
   pub ordered : front.start ≤ front.end
   pub within : front.end ≤ length text
-  pub first : (at : ℕ) → map located (words_from at text) ≡ record { at = at + front.start; token = Some front.token } ∷ map located (words_from (at + front.end) (drop front.end text))
+  pub first : (at : ℕ) → map located (words_from at text) ≡ record { at = at + front.start; token = Some front.token }
+      ∷ map located (words_from (at + front.end) (drop front.end text))
 
 -- a byte of two digits after a space
 abbrev pub common_byte : ℕ → FrontWord

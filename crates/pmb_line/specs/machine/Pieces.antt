@@ -1,5 +1,6 @@
 -- What taking a piece of a line leaves of its words.
-use Rattle.std.specs.Prelude.{◌≡◌, ℕ, ◌+◌, ◌≤◌, Option, Some, Result, Ok, Err, Bool, true, false, List, [], ◌∷◌, ◌++◌, length, map}
+use Rattle.std.specs.Prelude.{◌≡◌, ℕ, ◌+◌, ◌≤◌, Option, Some, Result, Ok, Err, Bool, true, false, List, [], ◌∷◌, ◌++◌}
+use Rattle.std.specs.Prelude.{length, map}
 use Rattle.pmb_transaction.specs.Transaction.{PartData, TransactionData}
 use Rattle.pmb_transaction.specs.Transaction as says
 use Rattle.pmb_line.specs.declared.token.Token.{Token}
@@ -8,7 +9,9 @@ use Rattle.pmb_line.specs.declared.word_fault.WordFault.{WordFault}
 use Rattle.pmb_line.specs.declared.word_fault.WordFault.TheVariants.{BadWord, TooLong}
 use Rattle.pmb_line.specs.declared.words.Located.{Located}
 use Rattle.pmb_line.specs.declared.pieces.ByteWord.{ByteWord}
-use Rattle.pmb_line.specs.machine.Reading.{Partial, LineStandsAt, SaysTransaction, IsWordFaultOf, tokens_said, part_with, write_next, read_colon, read_reply, read_pec, call_data, call_reply, call_pec, refused_next}
+use Rattle.pmb_line.specs.machine.Reading.{Partial, LineStandsAt, SaysTransaction, IsWordFaultOf, tokens_said}
+use Rattle.pmb_line.specs.machine.Reading.{part_with, write_next, read_colon, read_reply, read_pec, call_data}
+use Rattle.pmb_line.specs.machine.Reading.{call_reply, call_pec, refused_next}
 
 -- The next word is not this one.
 abbrev pub IsNotNext : Token → List Located → Type 0
@@ -22,7 +25,8 @@ IsNoByteNext left = (word : Located) (rest : List Located) (b : ℕ) → left �
 -- another word comes.
 pub data Misses (Is : Option Token → Type 0) (left : List Located) (length : ℕ) (fault : WordFault) : Type 0 where
   short : left ≡ [] → fault ≡ BadWord length → Misses Is left length fault
-  other : (word : Located) (rest : List Located) → left ≡ word ∷ rest → (Is word.token → ⊥) → fault ≡ BadWord word.at → Misses Is left length fault
+  other : (word : Located) (rest : List Located) → left ≡ word ∷ rest → (Is word.token → ⊥) → fault ≡ BadWord word.at
+      → Misses Is left length fault
 
 -- a byte is said
 abbrev pub IsByteToken : Option Token → Type 0
@@ -68,12 +72,14 @@ TakesBytes most before old (Err fault) new after = AddsTooMany most before old n
 abbrev pub TakesPlus : List Located → Result Bool WordFault → List Located → Type 0
 TakesPlus before (Ok true) after = (at : ℕ) × (before ≡ record { at = at; token = Some Plus } ∷ after)
 TakesPlus before (Ok false) after = (before ≡ []) × (after ≡ [])
-TakesPlus before (Err fault) after = (word : Located) × (rest : List Located) × (before ≡ word ∷ rest) × (word.token ≡ Some Plus → ⊥) × (fault ≡ BadWord word.at)
+TakesPlus before (Err fault) after = (word : Located) × (rest : List Located) × (before ≡ word ∷ rest)
+    × (word.token ≡ Some Plus → ⊥) × (fault ≡ BadWord word.at)
 
 -- no word is left
 abbrev pub TakesEnd : List Located → Result Unit WordFault → Type 0
 TakesEnd before (Ok done) = before ≡ []
-TakesEnd before (Err fault) = (word : Located) × (rest : List Located) × (before ≡ word ∷ rest) × (fault ≡ BadWord word.at)
+TakesEnd before (Err fault) = (word : Located) × (rest : List Located) × (before ≡ word ∷ rest)
+    × (fault ≡ BadWord word.at)
 
 -- ---- what a reader answers that stood before the piece
 
@@ -135,16 +141,19 @@ pub record Pushed (ps : List PartData) (addr : ℕ) (sent : List ℕ) (pec : Boo
 -- There is no code, or no room.
 pub data NotPushed (ps : List PartData) (sent : List ℕ) (at : ℕ) (fault : WordFault) : Type 0 where
   codeless : sent ≡ [] → fault ≡ BadWord at → NotPushed ps sent at fault
-  full : (code : ℕ) (bs : List ℕ) → sent ≡ code ∷ bs → (length ps + 1 ≤ 15 → length bs ≤ 255 → ⊥) → fault ≡ TooLong at → NotPushed ps sent at fault
+  full : (code : ℕ) (bs : List ℕ) → sent ≡ code ∷ bs → (length ps + 1 ≤ 15 → length bs ≤ 255 → ⊥) → fault ≡ TooLong at
+      → NotPushed ps sent at fault
 
 abbrev pub PushesPart : List PartData → ℕ → List ℕ → Bool → ℕ → Result Unit WordFault → List PartData → Type 0
 PushesPart ps addr sent pec at (Ok done) after = Pushed ps addr sent pec after
 PushesPart ps addr sent pec at (Err fault) after = NotPushed ps sent at fault
 
 -- an address of a refused packet and the bytes after it: a part, or what was refused
-abbrev pub ReadsLeg : List Located → ℕ → List PartData → ℕ → List ℕ → Bool → Result Bool WordFault → List Located → Type 0
+abbrev pub ReadsLeg : List Located → ℕ → List PartData → ℕ → List ℕ → Bool → Result Bool WordFault → List Located
+    → Type 0
 ReadsLeg all length ps addr sent at_read (Ok true) after = LineStandsAt all (refused_next ps) after
-ReadsLeg all length ps addr sent at_read (Ok false) after = SaysTransaction all (says.Refused (record { parts = ps; addr = addr; sent = sent; at_read = at_read }))
+ReadsLeg all length ps addr sent at_read (Ok false) after =
+    SaysTransaction all (says.Refused (record { parts = ps; addr = addr; sent = sent; at_read = at_read }))
 ReadsLeg all length ps addr sent at_read (Err fault) after = IsWordFaultOf all length fault
 
 -- a part of a refused packet comes, or all has come

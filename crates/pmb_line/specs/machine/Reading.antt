@@ -1,5 +1,6 @@
 -- Where a reader of a line stands between two words: what the words so far say.
-use Rattle.std.specs.Prelude.{◌≡◌, ℕ, ◌≤◌, ◌+◌, ◌⊎◌, Bool, true, false, Option, Some, None, ◌||◌, List, [], ◌∷◌, ◌++◌, length, map}
+use Rattle.std.specs.Prelude.{◌≡◌, ℕ, ◌≤◌, ◌+◌, ◌⊎◌, Bool, true, false, Option, Some, None, ◌||◌, List, [], ◌∷◌, ◌++◌}
+use Rattle.std.specs.Prelude.{length, map}
 use Rattle.pmb_transaction.specs.Transaction.{PartData, TransactionData}
 use Rattle.pmb_transaction.specs.Transaction as says
 use Rattle.pmb_line.specs.declared.token.Token.{Token}
@@ -47,11 +48,19 @@ pub data Partial : Type 0 where
 -- the first word
 abbrev pub on_keyword : Option Token → Option Partial
 on_keyword token =
-    after_word (record no_word { write = Some (write_next []); read = Some read_next; call = Some call_next; refused = Some (refused_next []); alert = Some alert_next }) token
+    after_word (record no_word {
+      write = Some (write_next []);
+      read = Some read_next;
+      call = Some call_next;
+      refused =
+          Some (refused_next []);
+      alert = Some alert_next;
+    }) token
 
 -- after a part, where there may be data more, `pec` and `+`
 abbrev pub on_data : Option Token → (ℕ → Partial) → Partial → Partial → Option Partial
-on_data token more pec plus = after_word (record no_word { byte = λ b. Some (more b); pec = Some pec; plus = Some plus }) token
+on_data token more pec plus = after_word
+    (record no_word { byte = λ b. Some (more b); pec = Some pec; plus = Some plus }) token
 
 -- after `pec`, where a `+` may come
 abbrev pub on_plus : Option Token → Partial → Option Partial
@@ -88,7 +97,8 @@ abbrev pub step : Partial → Option Token → Option Partial
 step nothing token = on_keyword token
 step (write_next ps) token = on_byte token (λ b. write_code ps b)
 step (write_code ps a) token = on_byte token (λ b. write_data ps a b [])
-step (write_data ps a c bs) token = on_data token (λ b. write_data ps a c (bs ++ b ∷ [])) (write_pec ps a c bs) (write_next (ps ++ part_with a c bs false ∷ []))
+step (write_data ps a c bs) token = on_data token (λ b. write_data ps a c (bs ++ b ∷ [])) (write_pec ps a c bs)
+    (write_next (ps ++ part_with a c bs false ∷ []))
 step (write_pec ps a c bs) token = on_plus token (write_next (ps ++ part_with a c bs true ∷ []))
 step read_next token = on_byte token (λ b. read_code b)
 step (read_code a) token = on_byte token (λ b. read_colon a b)
@@ -201,7 +211,8 @@ pub record LineStandsAt (all : List Located) (s : Partial) (left : List Located)
 
 -- a word does not fit
 abbrev pub IsUnfit : List Located → ℕ → Type 0
-IsUnfit all place = stop.IsUnfit (LineStandsAt all) (λ (s : Partial) (word : Located). step s word.token) (λ (word : Located). word.at) place
+IsUnfit all place = stop.IsUnfit (LineStandsAt all) (λ (s : Partial) (word : Located). step s word.token)
+    (λ (word : Located). word.at) place
 
 -- a word is missing at the end
 abbrev pub IsShort : List Located → ℕ → ℕ → Type 0
@@ -209,7 +220,8 @@ IsShort all length place = stop.IsShort (LineStandsAt all) nothing finish length
 
 -- a word fits, but there is no room
 abbrev pub IsFull : List Located → ℕ → Type 0
-IsFull all place = stop.IsFull (LineStandsAt all) (λ (s : Partial) (word : Located). step s word.token) Room (λ (word : Located). word.at) place
+IsFull all place = stop.IsFull (LineStandsAt all) (λ (s : Partial) (word : Located). step s word.token) Room
+    (λ (word : Located). word.at) place
 
 -- what is wrong with a line of these words that ends at `length`
 abbrev pub IsWordFaultOf : List Located → ℕ → WordFault → Type 0

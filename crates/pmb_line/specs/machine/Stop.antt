@@ -3,7 +3,8 @@
 use Rattle.std.specs.Prelude.{◌≡◌, ◌≢◌, ℕ, Option, Some, None, List, [], ◌∷◌}
 
 -- A word does not fit.
-pub record IsUnfit {S W : Type 0} (Stands : S → List W → Type 0) (step : S → W → Option S) (at : W → ℕ) (place : ℕ) : Type 0 where
+pub record IsUnfit {S W : Type 0} (Stands : S → List W → Type 0) (step : S → W → Option S) (at : W → ℕ)
+    (place : ℕ) : Type 0 where
   pub s : S
   pub word : W
   pub left : List W
@@ -12,7 +13,8 @@ pub record IsUnfit {S W : Type 0} (Stands : S → List W → Type 0) (step : S �
   pub place_is : place ≡ at word
 
 -- A word is missing at the end.
-pub record IsShort {S W R : Type 0} (Stands : S → List W → Type 0) (nothing : S) (finish : S → Option R) (length : ℕ) (place : ℕ) : Type 0 where
+pub record IsShort {S W R : Type 0} (Stands : S → List W → Type 0) (nothing : S) (finish : S → Option R) (length : ℕ)
+    (place : ℕ) : Type 0 where
   pub s : S
   pub stands : Stands s []
   pub begun : nothing ≢ s
@@ -20,7 +22,8 @@ pub record IsShort {S W R : Type 0} (Stands : S → List W → Type 0) (nothing 
   pub place_is : place ≡ length
 
 -- A word fits, but there is no room.
-pub record IsFull {S W : Type 0} (Stands : S → List W → Type 0) (step : S → W → Option S) (Room : S → Type 0) (at : W → ℕ) (place : ℕ) : Type 0 where
+pub record IsFull {S W : Type 0} (Stands : S → List W → Type 0) (step : S → W → Option S) (Room : S → Type 0)
+    (at : W → ℕ) (place : ℕ) : Type 0 where
   pub s : S
   pub word : W
   pub left : List W

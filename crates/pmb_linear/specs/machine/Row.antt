@@ -5,7 +5,13 @@ use Rattle.pmb_linear.specs.Linear.{power}
 use Rattle.pmb_linear.specs.machine.Fields.{word_at}
 
 abbrev pub linear16_row : (ℕ → ℕ) → ℤ → ℤ → Row
-linear16_row at least exponent = record { first = least *ℤ pos (power exponent); spacing = power exponent; last = 2 ^ 16 - 1; code_at = at }
+linear16_row at least exponent = record {
+  first = least *ℤ pos (power exponent);
+  spacing = power exponent;
+  last =
+      2 ^ 16 - 1;
+  code_at = at;
+}
 
 -- LINEAR11's words with one exponent, from the mantissa -1024 up
 abbrev pub linear11_row : ℤ → Row

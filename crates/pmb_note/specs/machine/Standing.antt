@@ -25,4 +25,5 @@ mode_in context addr = option_and_then selected_mode (slice_get context.pagings.
 
 -- what it keeps of the device with an address
 abbrev pub paging_in : Context → ℕ → Option PagingData
-paging_in context addr = option_and_then (λ _. slice_get context.pagings.items addr) (device_with addr context.profile.now)
+paging_in context addr = option_and_then (λ _. slice_get context.pagings.items addr)
+    (device_with addr context.profile.now)

@@ -1,7 +1,7 @@
 -- What is appended piece by piece.
 use Rattle.std.specs.Prelude.{◌≡◌, ℕ, ◌+◌, ◌≤◌, Bool, true, false, IsUtf8, List, ◌++◌, length}
-use Rattle.pmb_note.specs.declared.value.Sign.{Sign}
-use Rattle.pmb_note.specs.declared.value.Sign.TheVariants.{Signed, Unsigned}
+use Rattle.pmb_value.specs.declared.sign.Sign.{Sign}
+use Rattle.pmb_value.specs.declared.sign.Sign.TheVariants.{Signed, Unsigned}
 
 -- A text is appended to bytes, which makes them longer by so many at most.
 pub record Appends (text : List ℕ) (most : ℕ) (old new : List ℕ) : Type 0 where

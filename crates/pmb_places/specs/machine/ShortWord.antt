@@ -10,5 +10,6 @@ is_plain b = nat_lt (character "#") b
 
 abbrev pub IsShortWord : ShortWord → List ℕ → Type 0
 IsShortWord One bytes = (first : ℕ) × (is_plain first ≡ true) × (bytes ≡ first ∷ character " " ∷ [])
-IsShortWord Two bytes = (first second : ℕ) × (is_plain first ≡ true) × (is_plain second ≡ true) × (bytes ≡ first ∷ second ∷ character " " ∷ [])
+IsShortWord Two bytes = (first second : ℕ) × (is_plain first ≡ true) × (is_plain second ≡ true)
+    × (bytes ≡ first ∷ second ∷ character " " ∷ [])
 IsShortWord Other bytes = ⊤

@@ -3,27 +3,27 @@ use Rattle.std.specs.Prelude.{◌≡◌, ℕ, ◌+◌, ◌==◌, ◌&&◌, not, 
 use Rattle.pmb_bus.specs.Count.{capped}
 use Rattle.pmb_bus.specs.Event.{character}
 use Rattle.pmb_bus.specs.Text.{ends_in_comment, is_separator, is_word, open_word}
-use Rattle.pmb_places.specs.declared.places.Inside.{Inside}
-use Rattle.pmb_places.specs.declared.places.Inside.TheVariants.{Between, Word, Comment}
+use Rattle.pmb_places.specs.declared.places.TextState.{TextState}
+use Rattle.pmb_places.specs.declared.places.TextState.TheVariants.{Between, Word, Comment}
 use Rattle.pmb_places.specs.declared.places.Place.{Place}
 use Rattle.pmb_places.specs.declared.places.Places.{Places}
 use Rattle.pmb_places.specs.Text.{place_after, place_behind, place_of_last_word, end_of_last_word}
 
-abbrev pub is_comment : Inside → Bool
+abbrev pub is_comment : TextState → Bool
 is_comment Between = false
 is_comment Word = false
 is_comment Comment = true
 
-abbrev pub is_in_a_word : Inside → Bool
+abbrev pub is_in_a_word : TextState → Bool
 is_in_a_word Between = false
 is_in_a_word Word = true
 is_in_a_word Comment = false
 
 -- what a byte stands in that is in no comment yet
-abbrev pub inside_of : ℕ → Inside
+abbrev pub inside_of : ℕ → TextState
 inside_of b = if b == character "#" then Comment else (if is_separator b then Between else Word)
 
-abbrev pub inside_behind : Inside → ℕ → Inside
+abbrev pub inside_behind : TextState → ℕ → TextState
 inside_behind Comment b = if b == character "\n" then Between else Comment
 inside_behind Between b = inside_of b
 inside_behind Word b = inside_of b
@@ -57,7 +57,13 @@ further_along place n = record { line = place.line; column = capped (place.colum
 
 -- after a word of one byte that stands there, and LF
 abbrev pub behind_line : Place → Places
-behind_line word = record { here = place_after (place_beside word) (character "\n"); word = word; end = place_beside word; inside = Between }
+behind_line word = record {
+  here = place_after (place_beside word) (character "\n");
+  word = word;
+  end =
+      place_beside word;
+  inside = Between;
+}
 
 pub record PlacesStandAt (places : Places) (text : List ℕ) : Type 0 where
   pub here : places.here ≡ place_behind text

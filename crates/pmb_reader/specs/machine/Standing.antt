@@ -9,7 +9,7 @@ use Rattle.pmb_reader.specs.declared.reader.Mode.TheVariants as modes
 use Rattle.pmb_reader.specs.declared.reader.Reader.{Reader}
 use Rattle.pmb_reader.specs.Refusal.{refusal_data}
 use Rattle.pmb_reader.specs.Standing.{Standing, Open, Held, Passing}
-use Rattle.pmb_under_way.specs.UnderWay.{StandsIn, packet_of}
+use Rattle.pmb_packet_state.specs.PacketState.{StandsIn, packet_of}
 
 -- the events of the packet under way
 abbrev pub events_of : Standing → List Event

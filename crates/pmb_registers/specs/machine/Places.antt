@@ -1,7 +1,7 @@
 -- Where the registers of each code lie.
 use Rattle.std.specs.Prelude.{◌≢◌, ℕ, ◌<◌, ◌≤◌, Option, Some, None, List, [], length, map, slice_index_or, take, drop}
 use Rattle.std.specs.List.{AllByRecursion}
-use Rattle.pmb_registers.specs.declared.place.Place.{Place}
+use Rattle.pmb_registers.specs.declared.register_range.RegisterRange.{RegisterRange}
 use Rattle.pmb_registers.specs.declared.registers.Registers.TheInside.{Inside}
 use Rattle.pmb_command.specs.Parts.{CommandParts, DeviceParts}
 use Rattle.pmb_registers.specs.State.{RegisterData, InState, registers_of}
@@ -13,14 +13,15 @@ abbrev pub NoneHas : ℕ → List RegisterData → Type 0
 NoneHas code registers = AllByRecursion (λ r. code ≢ r.code) registers
 
 -- All registers of a code lie in its place.
-pub record IsPlaceOf (code : ℕ) (place : Place) (registers : List RegisterData) : Type 0 where
+pub record IsPlaceOf (code : ℕ) (place : RegisterRange) (registers : List RegisterData) : Type 0 where
   pub ordered : place.start ≤ place.end
   pub within : place.end ≤ length registers
   pub front : NoneHas code (take place.start registers)
   pub back : NoneHas code (drop place.end registers)
 
-abbrev pub ArePlaces : List Place → List RegisterData → Type 0
-ArePlaces places registers = (code : ℕ) (d : Place) → code < 256 → IsPlaceOf code (slice_index_or places code d) registers
+abbrev pub ArePlaces : List RegisterRange → List RegisterData → Type 0
+ArePlaces places registers = (code : ℕ) (d : RegisterRange) → code < 256
+    → IsPlaceOf code (slice_index_or places code d) registers
 
 -- the registers of a command, where there is one
 abbrev pub registers_of_some : DeviceParts → Option CommandParts → List RegisterData
@@ -30,7 +31,11 @@ registers_of_some device (Some command) = registers_of device command
 -- ---- what contracts see of a device's registers
 
 abbrev pub in_state : Inside → InState
-in_state r = record { device = r.device.now; state = record { page = r.page; registers = map register_data r.registers.items } }
+in_state r = record {
+  device = r.device.now;
+  state =
+      record { page = r.page; registers = map register_data r.registers.items };
+}
 
 -- What is kept beside the registers is true of them: the places, and the list of status registers.
 pub record IsKept (r : Inside) : Type 0 where

@@ -19,7 +19,8 @@ use Rattle.pmb_request.specs.declared.verb.Verb.{Verb}
 use Rattle.pmb_request.specs.Request.{Command, request_data}
 use Rattle.pmb_request.specs.Spelling.{Task, to_read, to_call, to_set, to_get, Wording, Ask}
 use Rattle.pmb_request.specs.RequestFault.{Means}
-use Rattle.pmb_request.specs.machine.Reading.{Partial, nothing, writing, behind, behind_code, step, finish, command_with, Room, StandsAt, AsksFor, IsFaultOf}
+use Rattle.pmb_request.specs.machine.Reading.{Partial, nothing, writing, behind, behind_code, step, finish}
+use Rattle.pmb_request.specs.machine.Reading.{command_with, Room, StandsAt, AsksFor, IsFaultOf}
 
 -- the byte that a word says
 abbrev pub said_byte : Option Token → Option ℕ
@@ -44,7 +45,8 @@ TakesTarget all length verb (Err fault) after = IsFaultOf all length fault
 
 -- The next word is no byte.
 abbrev pub IsNoByteNext : List Word → Type 0
-IsNoByteNext left = (word : Word) (rest : List Word) (b : ℕ) → left ≡ word ∷ rest → token_of word.text ≡ Some (said.Byte b) → ⊥
+IsNoByteNext left = (word : Word) (rest : List Word) (b : ℕ) → left ≡ word ∷ rest
+    → token_of word.text ≡ Some (said.Byte b) → ⊥
 
 -- all bytes of a call
 abbrev pub TakesBytes : List Word → ℕ → ℕ → ℕ → Result Unit WordFault → List ℕ → List Word → Type 0

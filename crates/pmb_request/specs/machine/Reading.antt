@@ -1,5 +1,6 @@
 -- Where a reader of a request line stands between two words: what the words so far ask for.
-use Rattle.std.specs.Prelude.{◌≡◌, ◌≢◌, ℕ, ◌⊎◌, Bool, true, false, Option, Some, None, if◌then◌else◌, List, [], ◌∷◌, ◌++◌, length, codes}
+use Rattle.std.specs.Prelude.{◌≡◌, ◌≢◌, ℕ, ◌⊎◌, Bool, true, false, Option, Some, None, if◌then◌else◌, List, [], ◌∷◌}
+use Rattle.std.specs.Prelude.{◌++◌, length, codes}
 use Rattle.std.specs.Str.{bytes_eq}
 use Rattle.pmb_line.specs.declared.token.Token.{Token}
 use Rattle.pmb_line.specs.declared.token.Token.TheVariants as said
@@ -59,7 +60,8 @@ behind_code Get a c = behind a c to_get
 
 -- and what was asked for so far
 abbrev pub on_more : ℕ → ℕ → Task → Option Token → Option Partial
-on_more a c (to_call bytes) token = on_byte_or_pec token (λ b. behind a c (to_call (bytes ++ b ∷ []))) (ended a c (to_call bytes))
+on_more a c (to_call bytes) token = on_byte_or_pec token (λ b. behind a c (to_call (bytes ++ b ∷ [])))
+    (ended a c (to_call bytes))
 on_more a c to_read token = on_pec token (ended a c to_read)
 on_more a c (to_set quantity) token = on_pec token (ended a c (to_set quantity))
 on_more a c to_get token = on_pec token (ended a c to_get)
@@ -127,7 +129,8 @@ pub record IsWriteLine (line : List ℕ) : Type 0 where
 
 -- a word does not fit
 abbrev pub IsUnfit : List Word → ℕ → Type 0
-IsUnfit all place = stop.IsUnfit (StandsAt all) (λ (s : Partial) (word : Word). step s word.text) (λ (word : Word). word.at) place
+IsUnfit all place = stop.IsUnfit (StandsAt all) (λ (s : Partial) (word : Word). step s word.text)
+    (λ (word : Word). word.at) place
 
 -- a word is missing at the end
 abbrev pub IsShort : List Word → ℕ → ℕ → Type 0
@@ -135,7 +138,8 @@ IsShort all length place = stop.IsShort (StandsAt all) nothing finish length pla
 
 -- a word fits, but there is no room
 abbrev pub IsFull : List Word → ℕ → Type 0
-IsFull all place = stop.IsFull (StandsAt all) (λ (s : Partial) (word : Word). step s word.text) Room (λ (word : Word). word.at) place
+IsFull all place = stop.IsFull (StandsAt all) (λ (s : Partial) (word : Word). step s word.text) Room
+    (λ (word : Word). word.at) place
 
 -- what is wrong with a line of these words that ends at `length`
 abbrev pub IsFaultOf : List Word → ℕ → WordFault → Type 0

@@ -26,7 +26,12 @@ bench_profile bench = bench.profile.now
 -- Between requests: these transactions were recorded.
 pub record BenchStands (bench : Bench) (ts : List TransactionData) : Type 0 where
   pub past : List (List AnsweredSignal)
-  pub bus : BusStandsAt bench.bus (record { past = past; members = all_after ts (first_members (bench_profile bench)); history = [] })
+  pub bus : BusStandsAt bench.bus (record {
+    past = past;
+    members =
+        all_after ts (first_members (bench_profile bench));
+    history = [];
+  })
   pub n : ℕ
   pub reader : ReaderStandsAt (bench_profile bench) bench.reader (Open n [])
   pub context : HasSeen bench.context (bench_profile bench) ts
@@ -37,17 +42,20 @@ pub record BenchStands (bench : Bench) (ts : List TransactionData) : Type 0 wher
 -- transaction is given to the context.
 abbrev pub HaveRead : Bench → List TransactionData → ℕ → List Event → TransactionData → List Event → Type 0
 HaveRead bench ts n before t [] =
-    ReaderStandsAt (bench_profile bench) bench.reader (Open (n + length before) []) × HasSeen bench.context (bench_profile bench) (ts ++ t ∷ [])
+    ReaderStandsAt (bench_profile bench) bench.reader (Open (n + length before) [])
+    × HasSeen bench.context (bench_profile bench) (ts ++ t ∷ [])
 HaveRead bench ts n before t (event ∷ rest) =
     ReaderStandsAt (bench_profile bench) bench.reader (Open n before) × HasSeen bench.context (bench_profile bench) ts
 
 -- Whatever packet the events turn out to begin.
 abbrev pub HaveHeard : Bench → List TransactionData → ℕ → List Event → Type 0
 HaveHeard bench ts n before =
-    (t : TransactionData) (rest : List Event) → Packet (bench_profile bench) t (before ++ rest) → HaveRead bench ts n before t rest
+    (t : TransactionData) (rest : List Event) → Packet (bench_profile bench) t (before ++ rest)
+    → HaveRead bench ts n before t rest
 
 -- A host runs on the bench, after these transactions, and stands there.
-pub record RunsHost (ts : List TransactionData) (bench : Bench) (exchange : Exchange) (standing : ExchangeStanding) : Type 0 where
+pub record RunsHost (ts : List TransactionData) (bench : Bench) (exchange : Exchange)
+    (standing : ExchangeStanding) : Type 0 where
   pub stands : ExchangeStandsAt exchange bench.bus standing
   pub profile_is : standing.job.profile ≡ bench_profile bench
   pub members_are : standing.members ≡ all_after ts (first_members (bench_profile bench))
@@ -55,18 +63,29 @@ pub record RunsHost (ts : List TransactionData) (bench : Bench) (exchange : Exch
   pub heard : HaveHeard bench ts n standing.events
 
 -- It goes on: some more events were recorded and put out.
-pub record GoesOn (ts : List TransactionData) (standing : ExchangeStanding) (bench : Bench) (exchange : Exchange) (held_old : Option (List ℕ)) (waiting_old : List ℕ) (held_new : Option (List ℕ)) (waiting_new : List ℕ) : Type 0 where
+pub record GoesOn (ts : List TransactionData) (standing : ExchangeStanding) (bench : Bench) (exchange : Exchange)
+    (held_old : Option (List ℕ)) (waiting_old : List ℕ) (held_new : Option (List ℕ))
+    (waiting_new : List ℕ) : Type 0 where
   pub few : standing.sent < 4161
   pub events : List Event
   pub writes : PutsText held_old waiting_old held_new waiting_new (canonical_text events)
-  pub runs : RunsHost ts bench exchange (record standing { events = standing.events ++ events; sent = standing.sent + 1 })
+  pub runs : RunsHost ts bench exchange (record standing {
+    events = standing.events ++ events;
+    sent =
+        standing.sent + 1;
+  })
 
 -- It ended so, and nothing was put out.
-pub record HasEnded (ts : List TransactionData) (standing : ExchangeStanding) (end : HostStep) (bench : Bench) (exchange : Exchange) (held_old : Option (List ℕ)) (waiting_old : List ℕ) (held_new : Option (List ℕ)) (waiting_new : List ℕ) : Type 0 where
+pub record HasEnded (ts : List TransactionData) (standing : ExchangeStanding) (end : HostStep) (bench : Bench)
+    (exchange : Exchange) (held_old : Option (List ℕ)) (waiting_old : List ℕ) (held_new : Option (List ℕ))
+    (waiting_new : List ℕ) : Type 0 where
   pub over : IsOver standing end bench.bus
   pub writes : PutsText held_old waiting_old held_new waiting_new []
   pub runs : RunsHost ts bench exchange standing
 
-abbrev pub RunsOn : List TransactionData → ExchangeStanding → Option HostStep → Bench → Exchange → Option (List ℕ) → List ℕ → Option (List ℕ) → List ℕ → Type 0
-RunsOn ts standing None bench exchange held_old waiting_old held_new waiting_new = GoesOn ts standing bench exchange held_old waiting_old held_new waiting_new
-RunsOn ts standing (Some end) bench exchange held_old waiting_old held_new waiting_new = HasEnded ts standing end bench exchange held_old waiting_old held_new waiting_new
+abbrev pub RunsOn : List TransactionData → ExchangeStanding → Option HostStep → Bench → Exchange → Option (List ℕ)
+    → List ℕ → Option (List ℕ) → List ℕ → Type 0
+RunsOn ts standing None bench exchange held_old waiting_old held_new waiting_new =
+    GoesOn ts standing bench exchange held_old waiting_old held_new waiting_new
+RunsOn ts standing (Some end) bench exchange held_old waiting_old held_new waiting_new =
+    HasEnded ts standing end bench exchange held_old waiting_old held_new waiting_new

@@ -34,7 +34,8 @@ counted_in (Refusal why) tally = with_refusal tally
 counted_in Nothing tally = tally
 
 -- A line that was counted is answered, by the transactions before it; the answer is put out and counted.
-pub record RunnerTakes (ts : List TransactionData) (before after : Runner) (line : List ℕ) (held_old : Option (List ℕ)) (waiting_old : List ℕ) (held_new : Option (List ℕ)) (waiting_new : List ℕ) : Type 0 where
+pub record RunnerTakes (ts : List TransactionData) (before after : Runner) (line : List ℕ) (held_old : Option (List ℕ))
+    (waiting_old : List ℕ) (held_new : Option (List ℕ)) (waiting_new : List ℕ) : Type 0 where
   pub answer : RunAnswer
   pub answers : RunsText (bench_profile before.bench) ts line answer
   pub writes : PutsText held_old waiting_old held_new waiting_new (answer_text before.lines answer)

@@ -29,6 +29,6 @@ pub record IsRefused (reached : Reached) (event : Event) (refusal : RefusalData)
   pub reads : ReaderReached after (behind_refusal reached n front event refusal)
 
 abbrev pub ReportsAs : Reached → Event → Took → Reader → Type 0
-ReportsAs reached event answers.More after = ReaderReached after (behind_event reached event)
+ReportsAs reached event answers.Continues after = ReaderReached after (behind_event reached event)
 ReportsAs reached event answers.Packet after = EndsPacket reached event (last_read after) after
 ReportsAs reached event (answers.Refused refusal) after = IsRefused reached event (refusal_data refusal) after

@@ -47,4 +47,5 @@ Taken = List ℕ × List CommandParts
 
 -- those after one more table
 abbrev pub after_one : ℕ → Taken → Data → Result Taken ProfileFault
-after_one n t d = bind (placed (at_command n (length t.0)) (command_of t.0 d)) (λ c. Ok (t.0 ++ c.entry.code ∷ [], put c t.1))
+after_one n t d = bind (placed (at_command n (length t.0)) (command_of t.0 d))
+    (λ c. Ok (t.0 ++ c.entry.code ∷ [], put c t.1))

@@ -1,5 +1,6 @@
 -- What is left to be written: legs, each as its bytes, and the packet error code so far.
-use Rattle.std.specs.Prelude.{ℕ, ◌≤◌, length, IsSome, IfSome, ◌%◌, Bool, true, false, Option, Some, None, List, [], ◌∷◌, ◌++◌, map, bit_xor, option_map}
+use Rattle.std.specs.Prelude.{ℕ, ◌≤◌, length, IsSome, IfSome, ◌%◌, Bool, true, false, Option, Some, None, List, [], ◌∷◌}
+use Rattle.std.specs.Prelude.{◌++◌, map, bit_xor, option_map}
 use Rattle.std.specs.List.{flat_map}
 use Rattle.std.specs.Option.{option_to_list}
 use Rattle.pmb_bus.specs.Address.{write_address, read_address, alert_address}
@@ -9,11 +10,12 @@ use Rattle.pmb_bus.specs.declared.event.Event.TheVariants.{Start, Byte, Ack, Nac
 use Rattle.pmb_command.specs.declared.form.Form.{Form}
 use Rattle.pmb_command.specs.Parts.{DeviceParts}
 use Rattle.pmb_command.specs.Wire.{wire}
-use Rattle.pmb_transaction.specs.Transaction.{PartData, TransactionData, Write, Read, Call, Refused, Alert, NoAlert, part_data}
+use Rattle.pmb_transaction.specs.Transaction.{PartData, TransactionData, Write, Read, Call, Refused, Alert, NoAlert}
+use Rattle.pmb_transaction.specs.Transaction.{part_data}
 use Rattle.pmb_writer.specs.Invalid.{forms_at}
 use Rattle.pmb_writer.specs.declared.course.Course.{Course}
 use Rattle.pmb_writer.specs.declared.leg.Leg.{Leg}
-use Rattle.pmb_writer.specs.declared.legs.Legs.{Legs}
+use Rattle.pmb_writer.specs.declared.legs.LegsToCome.{LegsToCome}
 
 -- The packet error code of bytes after those that have a code.
 unfoldable pub code_on : ℕ → List ℕ → ℕ
@@ -62,7 +64,8 @@ unfoldable pub legs_events : Bool → ℕ → List LegData → List Event
 legs_events true crc [] = Stop ∷ []
 legs_events false crc [] = []
 legs_events stop crc (l ∷ legs) =
-    Start ∷ (leg_events (code_before l.goes_on crc) l ++ legs_events stop (code_on (code_before l.goes_on crc) l.bytes) legs)
+    Start ∷ (leg_events (code_before l.goes_on crc) l
+    ++ legs_events stop (code_on (code_before l.goes_on crc) l.bytes) legs)
 
 -- ---- the legs of a transaction
 
@@ -86,22 +89,37 @@ reply_leg addr reply with_pec = record { bytes = read_byte addr ∷ reply; pec =
 
 abbrev pub part_leg : List DeviceParts → PartData → LegData
 part_leg profile part =
-    record { bytes = write_byte part.addr ∷ part.code ∷ wire_of (forms_at profile part.addr part.code).write part.bytes; pec = part.pec; last = Ack; goes_on = false }
+    record {
+      bytes = write_byte part.addr ∷ part.code
+          ∷ wire_of (forms_at profile part.addr part.code).write part.bytes;
+      pec = part.pec;
+      last = Ack;
+      goes_on = false;
+    }
 
 abbrev pub refused_legs : ℕ → List ℕ → Bool → List LegData
 refused_legs addr sent false = record { bytes = write_byte addr ∷ sent; pec = false; last = Nack; goes_on = false } ∷ []
-refused_legs addr sent true = asked_leg addr sent ∷ record { bytes = read_byte addr ∷ []; pec = false; last = Nack; goes_on = true } ∷ []
+refused_legs addr sent true = asked_leg addr sent
+    ∷ record { bytes = read_byte addr ∷ []; pec = false; last = Nack; goes_on = true } ∷ []
 
 abbrev pub legs_of : List DeviceParts → TransactionData → List LegData
 legs_of profile (Write parts) = map (part_leg profile) parts
-legs_of profile (Read t) = asked_leg t.addr (t.code ∷ []) ∷ reply_leg t.addr (wire_of (forms_at profile t.addr t.code).read t.reply) t.pec ∷ []
+legs_of profile (Read t) = asked_leg t.addr (t.code ∷ [])
+    ∷ reply_leg t.addr (wire_of (forms_at profile t.addr t.code).read t.reply) t.pec ∷ []
 legs_of profile (Call t) =
     asked_leg t.addr (t.code ∷ wire_of (forms_at profile t.addr t.code).call t.bytes)
     ∷ reply_leg t.addr (wire_of (forms_at profile t.addr t.code).call t.reply) t.pec
     ∷ []
 legs_of profile (Refused t) = map (part_leg profile) t.parts ++ refused_legs t.addr t.sent t.at_read
-legs_of profile (Alert t) = record { bytes = read_address alert_address ∷ t.byte ∷ []; pec = t.pec; last = Nack; goes_on = false } ∷ []
-legs_of profile NoAlert = record { bytes = read_address alert_address ∷ []; pec = false; last = Nack; goes_on = false } ∷ []
+legs_of profile (Alert t) = record {
+  bytes = read_address alert_address ∷ t.byte ∷ [];
+  pec = t.pec;
+  last =
+      Nack;
+  goes_on = false;
+} ∷ []
+legs_of profile NoAlert = record { bytes = read_address alert_address ∷ []; pec = false; last = Nack; goes_on = false }
+    ∷ []
 
 -- what a transaction's packet is made of
 abbrev pub packet_events : List DeviceParts → TransactionData → List Event
@@ -124,7 +142,7 @@ pub record IsWhole (l : Leg) : Type 0 where
   pub few : length l.«data».now ≤ 258
 
 -- the two after the parts, where there are any
-pub record AreWhole (l : Legs) : Type 0 where
+pub record AreWhole (l : LegsToCome) : Type 0 where
   pub first : IfSome l.first IsWhole
   pub second : IfSome l.second IsWhole
 
@@ -133,7 +151,7 @@ abbrev pub with_byte : ℕ → LegData → LegData
 with_byte b l = record { bytes = b ∷ l.bytes; pec = l.pec; last = l.last; goes_on = l.goes_on }
 
 -- the legs of the code that are to come
-abbrev pub legs_data : Legs → List LegData
+abbrev pub legs_data : LegsToCome → List LegData
 legs_data l =
     map (part_leg l.profile.now) (map part_data l.parts.now)
     ++ (option_to_list (option_map leg_data l.first) ++ option_to_list (option_map leg_data l.second))
@@ -142,4 +160,5 @@ legs_data l =
 abbrev pub course_events : Course → List Event
 course_events c =
     option_to_list c.owed
-    ++ (leg_events c.crc (leg_data c.leg) ++ legs_events c.stop (code_on c.crc (leg_data c.leg).bytes) (legs_data c.legs))
+    ++ (leg_events c.crc (leg_data c.leg) ++ legs_events c.stop (code_on c.crc (leg_data c.leg).bytes)
+    (legs_data c.legs))

@@ -1,5 +1,6 @@
 -- How many bytes a body has whose first bytes are known.
-use Rattle.std.specs.Prelude.{ℕ, ◌+◌, Bool, false, ◌&&◌, ◌||◌, Option, Some, None, List, length, nat_eq, nat_lt, is_some}
+use Rattle.std.specs.Prelude.{ℕ, ◌+◌, Bool, false, ◌&&◌, ◌||◌, Option, Some, None, List, length, nat_eq, nat_lt}
+use Rattle.std.specs.Prelude.{is_some}
 use Rattle.pmb_command.specs.declared.form.Form.{Form}
 use Rattle.pmb_command.specs.declared.form.Shape.{Shape}
 use Rattle.pmb_command.specs.declared.pec_mode.PecMode.{PecMode}
@@ -24,7 +25,8 @@ is_whole_wire (Some form) bytes = nat_eq (length bytes) (wire_length form bytes)
 
 -- A body may go on after a code and some bytes: that of a write, or in a first leg of a call.
 abbrev pub may_go_on : Bool → PecMode → Shape → List ℕ → Bool
-may_go_on first mode shape bytes = leaves_room shape.write (pec_length mode) bytes || (first && leaves_room shape.call 0 bytes)
+may_go_on first mode shape bytes = leaves_room shape.write (pec_length mode) bytes
+    || (first && leaves_room shape.call 0 bytes)
 
 -- A code and some bytes are the body of a read or a call.
 abbrev pub is_request : Shape → List ℕ → Bool

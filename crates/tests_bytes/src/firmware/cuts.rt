@@ -3,7 +3,7 @@
 
 use crate::compare::same;
 use pmb_bus::{Event, LexFault, Lexer, Step};
-use pmb_lexer::PmbLexer;
+use pmb_firmware::PmbLexer;
 use std::alloc::{AllocError, Global};
 use std::test::Fail;
 

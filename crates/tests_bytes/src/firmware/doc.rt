@@ -2,8 +2,7 @@
 
 use crate::compare::same;
 use pmb_bus::{Event, Lexed, Step};
-use pmb_firmware::{PmbFormat, PmbQuantity, encode};
-use pmb_lexer::PmbLexer;
+use pmb_firmware::{PmbFormat, PmbLexer, PmbQuantity, encode};
 
 #[test]
 fn the_program_of_the_lexer(rt: HostRuntime) {

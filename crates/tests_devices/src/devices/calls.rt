@@ -2,7 +2,7 @@
 
 use crate::compare::{ensure, same};
 use pmb_bus::Event;
-use pmb_device::{Device, DeviceSignal, Exchange, Heard, HostSignal, Outcome};
+use pmb_device::{Device, DevicePacket, DeviceSignal, Effect, Heard, HostSignal};
 use pmb_devices::Bus;
 use pmb_registers::CmlBit;
 use pmb_table::{DeviceProfile, Profile, SAMPLE};
@@ -103,8 +103,8 @@ fn a_device_knows_its_address(rt: HostRuntime) -> Result<(), Fail> {
 }
 
 /// An exchange in which 88h was asked for, up to the read address.
-fn asked<'p>(rt: &impl Abort, device: &'p DeviceProfile) -> Exchange<'p> {
-    let mut exchange = Exchange::new(device);
+fn parse_command<'p>(rt: &impl Abort, device: &'p DeviceProfile) -> DevicePacket<'p> {
+    let mut exchange = DevicePacket::new(device);
     exchange.start();
     same(rt, "write address", exchange.byte(0xb0), Heard::Ack);
     same(rt, "command", exchange.byte(0x88), Heard::Ack);
@@ -117,7 +117,7 @@ fn asked<'p>(rt: &impl Abort, device: &'p DeviceProfile) -> Exchange<'p> {
 fn an_exchange_without_registers_gives_what_it_is_handed(rt: HostRuntime) -> Result<(), Fail> {
     let profile = Profile::from_toml(rt.alloc(), SAMPLE.as_bytes())?;
     let device = profile.device_at(0).ok_or("no device")?;
-    let mut exchange = asked(&rt, device);
+    let mut exchange = parse_command(&rt, device);
     same(
         &rt,
         "bytes before the read",
@@ -133,7 +133,7 @@ fn an_exchange_without_registers_gives_what_it_is_handed(rt: HostRuntime) -> Res
     ensure(
         &rt,
         "outcome",
-        matches!(exchange.outcome(), Outcome::Nothing),
+        matches!(exchange.outcome(), Effect::Nothing),
     );
     exchange.end();
     same(&rt, "after the end", exchange.byte(0xb0), Heard::Silent);
@@ -144,12 +144,12 @@ fn an_exchange_without_registers_gives_what_it_is_handed(rt: HostRuntime) -> Res
 fn an_exchange_tells_what_its_leg_does(rt: HostRuntime) -> Result<(), Fail> {
     let profile = Profile::from_toml(rt.alloc(), SAMPLE.as_bytes())?;
     let device = profile.device_at(0).ok_or("no device")?;
-    let mut exchange = asked(&rt, device);
+    let mut exchange = parse_command(&rt, device);
     exchange.refuse(CmlBit::BadValue);
     ensure(
         &rt,
         "outcome",
-        matches!(exchange.outcome(), Outcome::Note(CmlBit::BadValue)),
+        matches!(exchange.outcome(), Effect::Note(CmlBit::BadValue)),
     );
     exchange.end();
     exchange.start();
@@ -161,7 +161,7 @@ fn an_exchange_tells_what_its_leg_does(rt: HostRuntime) -> Result<(), Fail> {
         "outcome of the write",
         matches!(
             exchange.outcome(),
-            Outcome::Write {
+            Effect::Write {
                 code: 0x00,
                 bytes: [0x01]
             }

@@ -93,7 +93,7 @@ impl<'p> Compared<'p> {
     /// the reader passes over what comes, up to a STOP.
     fn read(&mut self, event: Event) {
         match self.reader.take(event) {
-            Took::More => {}
+            Took::Continues => {}
             Took::Packet => {
                 for registers in self.applied.as_mut_slice().iter_mut() {
                     registers.apply(self.reader.packet());

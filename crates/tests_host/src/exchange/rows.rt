@@ -5,7 +5,7 @@ use arrayvec::ArrayVec;
 use plain_packets::part;
 use pmb_bus::event_text;
 use pmb_devices::Bus;
-use pmb_exchange::{Exchange, Step};
+use pmb_exchange::{Exchange, ExchangeStep};
 use pmb_host::{Host, HostFault, HostStep, Reply, Request};
 use pmb_table::{Profile, SAMPLE};
 use pmb_value::Quantity;
@@ -79,15 +79,15 @@ fn run<'p>(
     let mut exchange = Exchange::new(host);
     for _ in 0..4162 {
         match exchange.next(bus) {
-            Step::Recorded(recorded) => {
+            ExchangeStep::Recorded(recorded) => {
                 for event in recorded.events() {
                     text.extend_from_slice(event_text(*event).as_bytes())?;
                 }
             }
-            Step::End(step) => {
+            ExchangeStep::End(step) => {
                 let again = match exchange.next(bus) {
-                    Step::End(step) => is_end(&step, end),
-                    Step::Recorded(_) => false,
+                    ExchangeStep::End(step) => is_end(&step, end),
+                    ExchangeStep::Recorded(_) => false,
                 };
                 return Ok((again && is_end(&step, end), text));
             }

@@ -1,11 +1,11 @@
 //! What is known of PAGE and VOUT_MODE after transactions.
 
 use crate::compare::{ensure, same};
-use pmb_late::KnownMode::{Known, NoPage, Unknown};
-use pmb_late::Start::{AllKnown, Late, LateFixedMode};
-use pmb_late::{KnownMode, Start};
 use pmb_line::parse_line;
 use pmb_table::{Profile, SAMPLE};
+use pmb_unknown_start::KnownMode::{Known, NoPage, Unknown};
+use pmb_unknown_start::Start::{AllKnown, Late, LateFixedMode};
+use pmb_unknown_start::{KnownMode, Start};
 use std::test::Fail;
 
 /// What is known at first, lines, an address, and what is known of its PAGE and VOUT_MODE after them.
@@ -121,7 +121,7 @@ static ROWS: [Row; 65] = [
 ];
 
 /// Takes the transactions that lines spell; false where one has none.
-fn observe(profile: &Profile, known: &mut pmb_late::Late<'_>, lines: &str) -> bool {
+fn observe(profile: &Profile, known: &mut pmb_unknown_start::Late<'_>, lines: &str) -> bool {
     for line in lines.lines() {
         match parse_line(profile, line.as_bytes()) {
             Ok(transaction) => known.observe(&transaction),
@@ -135,7 +135,7 @@ fn observe(profile: &Profile, known: &mut pmb_late::Late<'_>, lines: &str) -> bo
 fn what_is_known(rt: HostRuntime) -> Result<(), Fail> {
     let profile = Profile::from_toml(rt.alloc(), PROFILE.as_bytes())?;
     for &(start, lines, address, page, mode) in rows() {
-        let mut known = pmb_late::Late::new(&profile, start);
+        let mut known = pmb_unknown_start::Late::new(&profile, start);
         ensure(
             &rt,
             ("a line of", lines),
@@ -152,11 +152,11 @@ fn what_is_known(rt: HostRuntime) -> Result<(), Fail> {
     Ok(())
 }
 
-// The program at the head of `pmb_late`.
+// The program at the head of `pmb_unknown_start`.
 #[test]
 fn begins_late(rt: HostRuntime) -> Result<(), Fail> {
     let profile = Profile::from_toml(rt.alloc(), SAMPLE.as_bytes())?;
-    let mut late = pmb_late::Late::new(&profile, Late);
+    let mut late = pmb_unknown_start::Late::new(&profile, Late);
     ensure(&rt, "nothing known", late.mode(0x59) == Unknown);
     let set_mode = parse_line(&profile, b"write 59 20 14")
         .ok()

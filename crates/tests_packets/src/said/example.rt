@@ -1,8 +1,8 @@
-//! The program of `pmb_said`'s documentation, its law, and a leg as long as one can be.
+//! The program of `pmb_partial_packet`'s documentation, its law, and a leg as long as one can be.
 
 use crate::compare::same;
 use pmb_bus::Event;
-use pmb_said::{Said, laws};
+use pmb_partial_packet::{PartialPacket, laws};
 use pmb_transaction::Reason;
 
 static READ: [Event; 12] = [
@@ -22,7 +22,7 @@ static READ: [Event; 12] = [
 
 #[test]
 fn tells_what_was_said(rt: HostRuntime) {
-    let mut said = Said::new();
+    let mut said = PartialPacket::new();
     for event in &READ {
         said.take(*event);
     }
@@ -51,7 +51,7 @@ fn tells_what_was_said(rt: HostRuntime) {
 
 #[test]
 fn keeps_a_leg_of_258_bytes(rt: HostRuntime) {
-    let mut said = Said::new();
+    let mut said = PartialPacket::new();
     said.take(Event::Start);
     said.take(Event::Byte(0xb0));
     for _ in 0..257u16 {

@@ -5,8 +5,8 @@ use crate::compare::same;
 use crate::said::told::told;
 use plain_packets::events;
 use pmb_bus::Event;
+use pmb_partial_packet::PartialPacket;
 use pmb_reader::{Reader, Took};
-use pmb_said::Said;
 use pmb_table::{Profile, SAMPLE};
 use pmb_transaction::Reason;
 use std::alloc::{AllocError, Global};
@@ -74,7 +74,7 @@ fn refusal(profile: &Profile, events: &[Event]) -> Option<(Reason, Option<Event>
     let mut reader = Reader::new(profile);
     for (i, event) in events.iter().enumerate() {
         match reader.take(*event) {
-            Took::More => {}
+            Took::Continues => {}
             Took::Packet => return None,
             Took::Refused(refusal) if i.saturating_add(1) == events.len() => {
                 return Some((refusal.reason, Some(*event)));
@@ -91,7 +91,7 @@ fn refusal(profile: &Profile, events: &[Event]) -> Option<(Reason, Option<Event>
 /// What was said before that, after an earlier packet.
 fn said_before(
     alloc: Global,
-    said: &mut Said,
+    said: &mut PartialPacket,
     profile: &Profile,
     events: &[Event],
 ) -> Result<String, AllocError> {
@@ -111,7 +111,7 @@ fn said_before(
 
 fn tells<R: Abort>(rt: &R, alloc: Global, rows: &[Row]) -> Result<(), Fail> {
     let profile = Profile::from_toml(alloc, SAMPLE.as_bytes())?;
-    let mut said = Said::new();
+    let mut said = PartialPacket::new();
     for (capture, expected) in rows {
         let events = events(alloc, capture)?;
         let text = said_before(alloc, &mut said, &profile, events.as_slice())?;

@@ -1,7 +1,7 @@
 //! What a packet under way had said, told as text.
 
 use pmb_bus::Event;
-use pmb_said::Said;
+use pmb_partial_packet::PartialPacket;
 use pmb_transaction::Reason;
 use std::alloc::{AllocError, Global};
 
@@ -37,7 +37,7 @@ fn tell_bytes(
 /// The reason, and all that was said before the event that was refused, or before the end.
 pub(crate) fn told(
     alloc: Global,
-    said: &Said,
+    said: &PartialPacket,
     reason: Reason,
     refused: Option<Event>,
 ) -> Result<String, AllocError> {

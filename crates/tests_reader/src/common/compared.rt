@@ -4,11 +4,11 @@
 use crate::compare::{ensure, same};
 use plain_packets::{CapturedRow, LONG, LONG_FORMS, PACKETS, REFUSALS, events};
 use pmb_bus::{Event, Lexer, Step, event_text};
-use pmb_common::Common;
-use pmb_kept::Kept;
+use pmb_canonical::Common;
 use pmb_line::line_of;
 use pmb_reader::{Reader, Took};
 use pmb_table::{Profile, SAMPLE};
+use pmb_transaction_slot::TransactionSlot;
 use std::alloc::{AllocError, Global};
 use std::process::Abort;
 use std::test::Fail;
@@ -31,7 +31,7 @@ fn first_packet<'p>(reader: &mut Reader<'p>, text: &[u8]) -> Option<(usize, usiz
         used += lexed.used;
         match lexed.step {
             Step::Event(event) => match reader.take(event) {
-                Took::More => {}
+                Took::Continues => {}
                 Took::Packet => return Some((used, count)),
                 Took::Refused(_) => return None,
             },
@@ -46,7 +46,7 @@ fn agree<R: Abort>(
     rt: &R,
     profile: &Profile,
     common: &mut Common,
-    kept: &mut Kept,
+    kept: &mut TransactionSlot,
     text: &[u8],
 ) -> usize {
     let mut reader = Reader::new(profile);
@@ -85,7 +85,7 @@ fn compare<R: Abort>(
 ) -> Result<usize, Fail> {
     let profile = Profile::from_toml(alloc, profile.as_bytes())?;
     let mut common = Common::new();
-    let mut kept = Kept::new();
+    let mut kept = TransactionSlot::new();
     let mut taken = 0usize;
     for row in rows {
         let (capture, _) = *row;

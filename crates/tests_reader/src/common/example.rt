@@ -1,23 +1,23 @@
-//! The program of `pmb_common`'s documentation, and its law.
+//! The program of `pmb_canonical`'s documentation, and its law.
 
 use crate::compare::same;
-use pmb_common::{Common, Taken, laws};
-use pmb_kept::Kept;
+use pmb_canonical::{Common, TakenPacket, laws};
 use pmb_line::line_of;
 use pmb_table::{Profile, SAMPLE};
+use pmb_transaction_slot::TransactionSlot;
 use std::test::Fail;
 
 #[test]
 fn takes_a_write(rt: HostRuntime) -> Result<(), Fail> {
     let profile = Profile::from_toml(rt.alloc(), SAMPLE.as_bytes())?;
     let mut common = Common::new();
-    let mut kept = Kept::new();
+    let mut kept = TransactionSlot::new();
     let taken = common.take(&mut kept, &profile, b"S b0 A 03 A P\nS b0 ");
     same(
         &rt,
         "a packet",
         taken,
-        Some(Taken {
+        Some(TakenPacket {
             used: 14,
             events: 6,
         }),

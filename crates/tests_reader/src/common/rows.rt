@@ -5,10 +5,10 @@
 //! over the bytes before them (SMBus 3.0 section 6.4), in a group over those of their own part.
 
 use crate::compare::same;
-use pmb_common::{Common, Taken};
-use pmb_kept::Kept;
+use pmb_canonical::{Common, TakenPacket};
 use pmb_line::line_of;
 use pmb_table::{Profile, SAMPLE};
+use pmb_transaction_slot::TransactionSlot;
 use std::alloc::{AllocError, Global};
 use std::test::Fail;
 
@@ -236,10 +236,10 @@ const NOT_TAKEN: [&str; 74] = [
 fn takes_each_row(rt: HostRuntime) -> Result<(), Fail> {
     let profile = Profile::from_toml(rt.alloc(), SAMPLE.as_bytes())?;
     let mut common = Common::new();
-    let mut kept = Kept::new();
+    let mut kept = TransactionSlot::new();
     for (text, used, events, line) in TAKEN {
         let taken = common.take(&mut kept, &profile, text.as_bytes());
-        same(&rt, text, taken, Some(Taken { used, events }));
+        same(&rt, text, taken, Some(TakenPacket { used, events }));
         same(&rt, text, line_of(kept.last()).as_str(), line);
     }
     Ok(())
@@ -249,7 +249,7 @@ fn takes_each_row(rt: HostRuntime) -> Result<(), Fail> {
 fn leaves_each_row(rt: HostRuntime) -> Result<(), Fail> {
     let profile = Profile::from_toml(rt.alloc(), SAMPLE.as_bytes())?;
     let mut common = Common::new();
-    let mut kept = Kept::new();
+    let mut kept = TransactionSlot::new();
     for text in NOT_TAKEN {
         same(
             &rt,
@@ -289,8 +289,8 @@ fn takes_sixteen_parts(rt: HostRuntime) -> Result<(), Fail> {
     let alloc = rt.alloc();
     let profile = Profile::from_toml(alloc, devices(alloc, 17)?.as_bytes())?;
     let mut common = Common::new();
-    let mut kept = Kept::new();
-    let sixteen = Taken {
+    let mut kept = TransactionSlot::new();
+    let sixteen = TakenPacket {
         used: 194,
         events: 81,
     };
@@ -314,8 +314,8 @@ fn takes_what_is_refused_after_fifteen_parts(rt: HostRuntime) -> Result<(), Fail
     let alloc = rt.alloc();
     let profile = Profile::from_toml(alloc, devices(alloc, 17)?.as_bytes())?;
     let mut common = Common::new();
-    let mut kept = Kept::new();
-    let refused = Taken {
+    let mut kept = TransactionSlot::new();
+    let refused = TakenPacket {
         used: 189,
         events: 79,
     };
@@ -350,7 +350,7 @@ const FULL_BLOCKS_PEC: &str = "ad";
 fn takes_two_full_blocks(rt: HostRuntime) -> Result<(), Fail> {
     let profile = Profile::from_toml(rt.alloc(), SAMPLE.as_bytes())?;
     let mut common = Common::new();
-    let mut kept = Kept::new();
+    let mut kept = TransactionSlot::new();
     let mut text = String::new(rt.alloc());
     text.push_str("S b0 A 30 A ff A ")?;
     for _ in 0..255 {
@@ -367,7 +367,7 @@ fn takes_two_full_blocks(rt: HostRuntime) -> Result<(), Fail> {
         &rt,
         "the longest packet",
         common.take(&mut kept, &profile, text.as_bytes()),
-        Some(Taken {
+        Some(TakenPacket {
             used: 2586,
             events: 1035,
         }),

@@ -4,7 +4,7 @@
 use crate::compare::same;
 use plain_packets::events;
 use pmb_bus::Event;
-use pmb_count::{Counter, Counts, count, laws};
+use pmb_count::{CaptureCounts, Counter, count, laws};
 use pmb_table::{Profile, SAMPLE};
 use std::alloc::Global;
 use std::process::Abort;
@@ -25,7 +25,7 @@ static ROWS: [Row; 8] = [
 ];
 
 // counts a capture that comes in two pieces
-fn count_in_two(profile: &Profile, first: &[Event], rest: &[Event]) -> Counts {
+fn count_in_two(profile: &Profile, first: &[Event], rest: &[Event]) -> CaptureCounts {
     let mut counter = Counter::new(profile);
     counter.feed(first);
     counter.feed(rest);
@@ -37,7 +37,7 @@ fn counts<R: Abort>(rt: &R, alloc: Global, profile: &Profile, rows: &[Row]) -> R
         let (capture, packets, refusals) = *row;
         let events = events(alloc, capture)?;
         let counted = count(profile, events.as_slice());
-        same(rt, capture, counted, Counts { packets, refusals });
+        same(rt, capture, counted, CaptureCounts { packets, refusals });
         for cut in 0..=events.len() {
             let (first, rest) = events.as_slice().split_at(cut);
             let counted = count_in_two(profile, first, rest);
@@ -45,7 +45,7 @@ fn counts<R: Abort>(rt: &R, alloc: Global, profile: &Profile, rows: &[Row]) -> R
                 rt,
                 (capture, "cut at", cut),
                 counted,
-                Counts { packets, refusals },
+                CaptureCounts { packets, refusals },
             );
         }
     }
@@ -66,7 +66,7 @@ fn counts_a_refused_address(rt: HostRuntime) -> Result<(), Fail> {
         &rt,
         "a refused address",
         count(&profile, &refused_address),
-        Counts {
+        CaptureCounts {
             packets: 1,
             refusals: 0,
         },

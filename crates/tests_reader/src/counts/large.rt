@@ -102,7 +102,7 @@ fn counted(profile: &Profile, count: u32, senseless: Senseless) -> (u32, u32) {
         state = state.wrapping_mul(1_664_525).wrapping_add(1_013_904_223);
         let event = senseless.event(state >> 16);
         match reader.take(event) {
-            Took::More => {}
+            Took::Continues => {}
             Took::Packet => packets = packets.saturating_add(1),
             Took::Refused(_) => {
                 refusals = refusals.saturating_add(1);
@@ -145,7 +145,7 @@ fn a_leg_without_end_is_refused_behind_its_block(rt: HostRuntime) -> Result<(), 
         Event::Byte(0x99),
         Event::Ack,
     ] {
-        same(&rt, event, reader.take(event), Took::More);
+        same(&rt, event, reader.take(event), Took::Continues);
     }
     let mut refused_at = None;
     for place in 5..1_000_000u64 {

@@ -40,7 +40,7 @@ impl<'p> Compared<'p> {
         self.reader.resync();
         self.plain.resync();
         let read = self.plain.take(event)?;
-        Ok(matches!(read, Read::More) && self.reader.take(event) == Took::More)
+        Ok(matches!(read, Read::More) && self.reader.take(event) == Took::Continues)
     }
 
     /// Hands an event to both, and tells whether they answer alike. A refusal is asked for again,
@@ -48,7 +48,7 @@ impl<'p> Compared<'p> {
     pub(crate) fn take(&mut self, event: Event) -> Result<bool, AllocError> {
         let took = self.reader.take(event);
         match self.plain.take(event)? {
-            Read::More => Ok(took == Took::More),
+            Read::More => Ok(took == Took::Continues),
             Read::Packet(events) => Ok(took == Took::Packet && self.has_read(events.as_slice())?),
             Read::Refused(refusal) => {
                 let again = self.reader.take(event);

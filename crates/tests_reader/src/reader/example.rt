@@ -12,7 +12,7 @@ fn reads_a_refused_address(rt: HostRuntime) -> Result<(), Fail> {
     let profile = Profile::from_toml(rt.alloc(), SAMPLE.as_bytes())?;
     let mut reader = Reader::new(&profile);
     for event in [Event::Start, Event::Byte(0x40), Event::Nack] {
-        same(&rt, event, reader.take(event), Took::More);
+        same(&rt, event, reader.take(event), Took::Continues);
     }
     same(&rt, "what may follow", reader.expected(), Kinds::STOP);
     same(&rt, "its end", reader.take(Event::Stop), Took::Packet);

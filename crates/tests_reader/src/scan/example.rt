@@ -4,7 +4,7 @@ use crate::compare::same;
 use crate::scan::log::Log;
 use pmb_bus::LexFault;
 use pmb_io::{Io, Waiting};
-use pmb_scan::{Scan, Taken};
+use pmb_scan::{PieceEnd, Scan};
 use pmb_table::{Profile, SAMPLE};
 use std::test::Fail;
 
@@ -20,7 +20,7 @@ fn stops_at_a_bad_word(rt: HostRuntime) -> Result<(), Fail> {
         &rt,
         "a bad word",
         taken,
-        Taken::Fault {
+        PieceEnd::Fault {
             used: 14,
             fault: LexFault::BadToken { at: 14 },
         },

@@ -4,7 +4,7 @@ use crate::compare::same;
 use crate::scan::log::Log;
 use pmb_bus::LexFault;
 use pmb_io::{Io, Waiting};
-use pmb_scan::{Scan, Taken};
+use pmb_scan::{PieceEnd, Scan};
 use pmb_table::{Profile, SAMPLE};
 use std::alloc::Global;
 use std::process::Abort;
@@ -70,8 +70,8 @@ fn check_row(
             continue;
         }
         match scan.take_words(piece, &mut log, &mut waiting, &mut writer)? {
-            Taken::All => used = used.saturating_add(piece.len()),
-            Taken::Fault { used: more, fault } => {
+            PieceEnd::All => used = used.saturating_add(piece.len()),
+            PieceEnd::Fault { used: more, fault } => {
                 used = used.saturating_add(more);
                 bad = Some(fault);
             }

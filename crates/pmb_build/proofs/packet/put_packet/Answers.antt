@@ -11,8 +11,10 @@ returns-clause-puts g c =
     let waiting = c.make_room.new.waiting.items in
     let text = canonical_text appended.events in record {
       text = text;
-      writes = c.texts_add_up.ensures.both (g.W.Sink.told c.args.writer.now).held held held c.args.waiting.now.items waiting c.append_packet.new.text.items [] text
+      writes = c.texts_add_up.ensures.both (g.W.Sink.told c.args.writer.now).held held held c.args.waiting.now.items
+          waiting c.append_packet.new.text.items [] text
           c.in_ok-make_room.ensures.ok
-          (subst (λ waits. PutsText held waiting held waits text) (sym appended.appended) (c.texts_add_up.ensures.waits held waiting text));
+          (subst (λ waits. PutsText held waiting held waits text) (sym appended.appended)
+          (c.texts_add_up.ensures.waits held waiting text));
       holds = record { events = appended.events; packet = appended.packet; whole = refl };
     }

@@ -1,5 +1,5 @@
 use Rattle.std.proofs.Common.{◌∙◌, ap}
-use Rattle.pmb_status.specs.Status.{code_of}
+use Rattle.pmb_args.specs.ExitStatus.{code_of}
 use Rattle.pmb_cli.proofs.program.no_words.Goals as goal
 
 -- The number is that of the status.

@@ -1,6 +1,6 @@
 use Rattle.std.proofs.Common.{inl, inr, map, refl, subst}
 use Rattle.pmb_table.specs.declared.sample.TheConstants.{SAMPLE}
-use Rattle.pmb_words.specs.Asked.{Asking, asking_of}
+use Rattle.pmb_args.specs.Asked.{Asking, asking_of}
 use Rattle.pmb_cli.specs.Statuses.{StatusTells}
 use Rattle.pmb_cli.specs.Tasks.{DidTask}
 use Rattle.pmb_cli.proofs.Codes.{code_within}
@@ -16,13 +16,22 @@ returns-in-Ok-clause-ran g c =
     let asking : Asking = asking_of c.in-Ok.task in
     let ask = c.in-Ok.ensures.ok in
     let one = c.one_asking.ensures in
-    let did : DidTask g.R.Source.told g.W.Sink.told g.E.Sink.told SAMPLE.now asking (c.args.reader.now, c.args.out.now, c.args.err.now) (c.run_task.new.reader, c.run_task.new.out, c.run_task.new.err) c.run_task.result =
-    subst (λ (out : g.row.W.Denot). DidTask g.R.Source.told g.W.Sink.told g.E.Sink.told SAMPLE.now asking (c.args.reader.now, out, c.args.err.now) (c.run_task.new.reader, c.run_task.new.out, c.run_task.new.err) c.run_task.result) c.in-Ok.ensures.ok_quiet.0
-    (subst (λ (err : g.row.E.Denot). DidTask g.R.Source.told g.W.Sink.told g.E.Sink.told SAMPLE.now asking (c.args.reader.now, c.asked.new.out, err) (c.run_task.new.reader, c.run_task.new.out, c.run_task.new.err) c.run_task.result) c.in-Ok.ensures.ok_quiet.1 c.run_task.ensures) in (
+    let did : DidTask g.R.Source.told g.W.Sink.told g.E.Sink.told SAMPLE.now asking
+    (c.args.reader.now, c.args.out.now, c.args.err.now)
+    (c.run_task.new.reader, c.run_task.new.out, c.run_task.new.err) c.run_task.result =
+    subst (λ (out : g.row.W.Denot). DidTask g.R.Source.told g.W.Sink.told g.E.Sink.told SAMPLE.now asking
+    (c.args.reader.now, out, c.args.err.now) (c.run_task.new.reader, c.run_task.new.out, c.run_task.new.err)
+    c.run_task.result) c.in-Ok.ensures.ok_quiet.0
+    (subst (λ (err : g.row.E.Denot). DidTask g.R.Source.told g.W.Sink.told g.E.Sink.told SAMPLE.now asking
+    (c.args.reader.now, c.asked.new.out, err) (c.run_task.new.reader, c.run_task.new.out, c.run_task.new.err)
+    c.run_task.result) c.in-Ok.ensures.ok_quiet.1 c.run_task.ensures) in (
       c.run_task.result,
       c.code.ensures,
       record {
-        did = λ other also. subst (λ (a : Asking). DidTask g.R.Source.told g.W.Sink.told g.E.Sink.told SAMPLE.now a (c.args.reader.now, c.args.out.now, c.args.err.now) (c.run_task.new.reader, c.run_task.new.out, c.run_task.new.err) c.run_task.result) (one.one words asking other ask also) did;
+        did = λ other also. subst (λ (a : Asking). DidTask g.R.Source.told g.W.Sink.told g.E.Sink.told SAMPLE.now a
+            (c.args.reader.now, c.args.out.now, c.args.err.now)
+            (c.run_task.new.reader, c.run_task.new.out, c.run_task.new.err) c.run_task.result)
+            (one.one words asking other ask also) did;
         unread = λ some. absurd (some ask.no_fault);
         out_text = λ some done. absurd (some ask.no_fault);
         not_refusals = λ some. absurd (some ask.no_fault);
@@ -44,7 +53,8 @@ returns-in-Ok-clause-ran g c =
 -- They ask for nothing, or there was no memory for them.
 pub returns-in-Err-clause-ran : goal.returns-in-Err-clause-ran
 returns-in-Err-clause-ran g c =
-    let tells : StatusTells g.R.Source.told g.W.Sink.told (c.args.reader.now, c.args.out.now) (c.args.reader.now, c.asked.new.out) c.in-Err.status = record {
+    let tells : StatusTells g.R.Source.told g.W.Sink.told (c.args.reader.now, c.args.out.now)
+    (c.args.reader.now, c.asked.new.out) c.in-Err.status = record {
       unwritten = c.in-Err.ensures.wrote.unwritten;
       none_failed = λ other. (refl, c.in-Err.ensures.wrote.none_failed other);
       io_failed = λ failed. inr (inl (c.in-Err.ensures.wrote.io_failed failed));

@@ -21,10 +21,13 @@ pub returns-in_err-row-clause-sound : goal.returns-in_err-row-clause-sound
 returns-in_err-row-clause-sound c = rw c.from_residual.ensures tt
 
 pub entry_of-requires : goal.entry_of-requires
-entry_of-requires c = (standard_entry_at c.args.code (row_parts c.in_ok-row.row.now) (is_entry (goal.at.entry_of-requires c).In_ok-row)).entry.name.most
+entry_of-requires c = (standard_entry_at c.args.code (row_parts c.in_ok-row.row.now)
+    (is_entry (goal.at.entry_of-requires c).In_ok-row)).entry.name.most
 
 pub returns-clause-entry : goal.returns-clause-entry
 returns-clause-entry c = ap Some c.entry_of.ensures ∙ sym (is_entry (goal.at.returns-clause-entry c).In_ok-row)
 
 pub returns-clause-sound : goal.returns-clause-sound
-returns-clause-sound c = rw c.entry_of.ensures (standard_entry_at c.args.code (row_parts c.in_ok-row.row.now) (is_entry (goal.at.returns-clause-sound c).In_ok-row))
+returns-clause-sound c = rw c.entry_of.ensures
+    (standard_entry_at c.args.code (row_parts c.in_ok-row.row.now)
+    (is_entry (goal.at.returns-clause-sound c).In_ok-row))

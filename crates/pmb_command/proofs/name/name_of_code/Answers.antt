@@ -26,4 +26,5 @@ pub returns-clause-value : goal.returns-clause-value
 returns-clause-value c = spelled (goal.at.returns-clause-value c).After-push-2
 
 pub returns-clause-fits : goal.returns-clause-fits
-returns-clause-fits c = subst (IsNameOf c.args.code) (sym (spelled (goal.at.returns-clause-fits c).After-push-2)) (made_name c.args.code)
+returns-clause-fits c = subst (IsNameOf c.args.code) (sym (spelled (goal.at.returns-clause-fits c).After-push-2))
+    (made_name c.args.code)

@@ -11,6 +11,7 @@ each_line-requires-clause-begins g c = stands_fresh c.args.conversion c.new.resu
 -- The task that runs begins with this conversion.
 pub returns : goal.returns
 returns g c =
-    subst (λ (start : Converter). AsTool (Ran g.R.Source.told g.W.Sink.told (converting start.conversion) c.args.first.now
+    subst (λ (start : Converter). AsTool (Ran g.R.Source.told g.W.Sink.told
+    (converting start.conversion) c.args.first.now
     (c.args.reader.now, c.args.writer.now) (c.each_line.new.reader, c.each_line.new.writer)) c.each_line.result)
     c.new.ensures c.each_line.ensures

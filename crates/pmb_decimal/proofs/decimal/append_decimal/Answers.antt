@@ -16,10 +16,16 @@ returns-clause-text g c =
     let num_fits : SFits w64 c.num.result = search rules in
     let num-2_fits : SFits w64 c.num-2.result = search rules in
     let absolute = simp to_z-of_z at c.unsigned_abs-numerator.ensures.value in
-    let numerator_is : c.unsigned_abs-numerator.result ≡ unsigned_abs q.numerator = absolute ∙ ap unsigned_abs c.num.ensures.value in
-    let denominator_is : c.unsigned_abs.result ≡ q.denominator = omega (arith, ints, c.unsigned_abs.ensures.value, c.den.ensures.value) in
+    let numerator_is : c.unsigned_abs-numerator.result ≡ unsigned_abs q.numerator = absolute
+    ∙ ap unsigned_abs c.num.ensures.value in
+    let denominator_is : c.unsigned_abs.result ≡ q.denominator =
+    omega (arith, ints, c.unsigned_abs.ensures.value, c.den.ensures.value) in
     let units_are : units ≡ half_even (unsigned_abs q.numerator * 10 ^ digits) q.denominator =
-    c.nearest_units-units.ensures.value ∙ ap (λ n. half_even (n * c.unit_of-unit.result) c.unsigned_abs.result) numerator_is ∙ ap (λ u. half_even (unsigned_abs q.numerator * u) c.unsigned_abs.result) c.unit_of-unit.ensures.value ∙ ap (half_even (unsigned_abs q.numerator * 10 ^ digits)) denominator_is in
+    c.nearest_units-units.ensures.value ∙ ap (λ n. half_even (n * c.unit_of-unit.result) c.unsigned_abs.result)
+    numerator_is ∙ ap (λ u. half_even (unsigned_abs q.numerator * u) c.unsigned_abs.result)
+    c.unit_of-unit.ensures.value ∙ ap (half_even (unsigned_abs q.numerator * 10 ^ digits)) denominator_is in
     let signed = simp to_z-of_z at c.append_sign.ensures.text in
     let own_sign = signed ∙ ap (λ z. old ++ minus (with_sign z units)) c.num-2.ensures.value in
-    c.append_units.ensures.text ∙ ap (λ front. front ++ magnitude) own_sign ∙ append_assoc old (minus (with_sign q.numerator units)) magnitude ∙ ap (λ text. old ++ text) (sym (rounded-is digits q units units_are))
+    c.append_units.ensures.text ∙ ap (λ front. front ++ magnitude) own_sign
+    ∙ append_assoc old (minus (with_sign q.numerator units)) magnitude
+    ∙ ap (λ text. old ++ text) (sym (rounded-is digits q units units_are))

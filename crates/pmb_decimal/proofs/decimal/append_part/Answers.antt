@@ -11,7 +11,8 @@ returns-then-part-gt0-clause-text g c =
     let old = c.args.out.now.items in
     let kept = without_last_zeros (padded c.args.places c.args.part) in
     let some = some_of_other c.args.places c.args.part (omega arith) c.requires.below in
-    c.append_digits.ensures.text ∙ ap (λ front. front ++ kept) c.push.ensures.items ∙ append_assoc old (46 ∷ []) kept ∙ ap (λ text. old ++ text) (sym (after_point-some kept some))
+    c.append_digits.ensures.text ∙ ap (λ front. front ++ kept) c.push.ensures.items ∙ append_assoc old (46 ∷ []) kept
+    ∙ ap (λ text. old ++ text) (sym (after_point-some kept some))
 
 pub returns-else-part-gt0-clause-text : goal.returns-else-part-gt0-clause-text
 returns-else-part-gt0-clause-text g c =

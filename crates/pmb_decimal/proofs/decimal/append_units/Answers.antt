@@ -14,13 +14,24 @@ split-whole-requires-clause-positive g c = omega (arith, c.requires.unit, ten_po
 pub append_part-requires : goal.append_part-requires
 append_part-requires g c =
     let below = mod_below c.args.units c.args.unit (omega (arith, c.requires.unit, ten_positive c.args.digits)) in
-    let fits : c.split-whole.result.1 < 10 ^ c.args.digits = omega (arith, c.split-whole.ensures.part, below, c.requires.unit) in
-    (search rules, (c.count.ensures.few, (rw c.count.ensures.value fits, omega (arith, c.append_whole.ensures.short, c.requires.room))))
+    let fits : c.split-whole.result.1 < 10 ^ c.args.digits =
+    omega (arith, c.split-whole.ensures.part, below, c.requires.unit) in (
+      search rules,
+      (
+        c.count.ensures.few,
+        (
+          rw c.count.ensures.value fits,
+          omega (arith, c.append_whole.ensures.short, c.requires.room),
+        ),
+      ),
+    )
 
 pub returns-clause-text : goal.returns-clause-text
 returns-clause-text g c =
     let old = c.args.out.now.items in
     let whole = decimal c.split-whole.result.0 in
     let part = after_point (without_last_zeros (padded c.count.result c.split-whole.result.1)) in
-    let units = units-are c.args.digits c.args.units c.args.unit c.split-whole.result.0 c.split-whole.result.1 c.count.result c.requires.unit c.split-whole.ensures.whole c.split-whole.ensures.part c.count.ensures.value in
-    c.append_part.ensures.text ∙ ap (λ front. front ++ part) c.append_whole.ensures.text ∙ append_assoc old whole part ∙ ap (λ text. old ++ text) units
+    let units = units-are c.args.digits c.args.units c.args.unit c.split-whole.result.0 c.split-whole.result.1
+    c.count.result c.requires.unit c.split-whole.ensures.whole c.split-whole.ensures.part c.count.ensures.value in
+    c.append_part.ensures.text ∙ ap (λ front. front ++ part) c.append_whole.ensures.text ∙ append_assoc old whole part
+    ∙ ap (λ text. old ++ text) units

@@ -4,7 +4,11 @@ use Rattle.pmb_decimal.proofs.decimal.append_whole.Goals as goal
 
 pub append-requires : goal.append-requires
 append-requires g c =
-    omega (arith, ap length (c.as_bytes.ensures.value ∙ c.format.ensures.text), short_decimal c.args.whole c.requires.fits)
+    omega (
+      arith,
+      ap length (c.as_bytes.ensures.value ∙ c.format.ensures.text),
+      short_decimal c.args.whole c.requires.fits,
+    )
 
 pub returns-clause-text : goal.returns-clause-text
 returns-clause-text g c =
@@ -13,4 +17,8 @@ returns-clause-text g c =
 pub returns-clause-short : goal.returns-clause-short
 returns-clause-short g c =
     let written = simp length-append at (ap length c.append.ensures) in
-    omega (arith, ap length (c.as_bytes.ensures.value ∙ c.format.ensures.text), short_decimal c.args.whole c.requires.fits)
+    omega (
+      arith,
+      ap length (c.as_bytes.ensures.value ∙ c.format.ensures.text),
+      short_decimal c.args.whole c.requires.fits,
+    )

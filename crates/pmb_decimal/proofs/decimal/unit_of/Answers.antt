@@ -8,4 +8,9 @@ returns-clause-positive c = omega (arith, c.pow.ensures, c.from.ensures, ten_pos
 
 pub returns-clause-small : goal.returns-clause-small
 returns-clause-small c =
-    omega (arith, c.pow.ensures, pow-le-pow_right {n = 10} (omega arith) {i = c.from.result} {j = 12} (omega (arith, c.from.ensures, c.count.ensures.few)))
+    omega (
+      arith,
+      c.pow.ensures,
+      pow-le-pow_right {n = 10} (omega arith) {i = c.from.result} {j = 12}
+          (omega (arith, c.from.ensures, c.count.ensures.few)),
+    )

@@ -10,7 +10,9 @@ returns-clause-value g c =
     let quantity_fits : SFits w128 c.scaled.result = search rules in
     let value_fits : SFits w128 c.scaled_code.result = search rules in
     rw (to_z-of_z w128 c.scaled.result quantity_fits, to_z-of_z w128 c.scaled_code.result value_fits)
-    (above_by_greatest (g.C.Codes.coding c.args.codes.now) c.args.quantity.now c.greatest.result c.scaled.result c.scaled_code.result c.scaled.ensures.positive c.greatest.ensures c.scaled.ensures.value c.scaled_code.ensures.value)
+    (above_by_greatest (g.C.Codes.coding c.args.codes.now) c.args.quantity.now c.greatest.result c.scaled.result
+    c.scaled_code.result c.scaled.ensures.positive c.greatest.ensures c.scaled.ensures.value
+    c.scaled_code.ensures.value)
 
 pub returns-clause-some_code : goal.returns-clause-some_code
 unfolding HasCode

@@ -19,12 +19,15 @@ use Rattle.pmb_host.proofs.checks.check_set.Goals as goal
 kept : (profile : List DeviceParts) (command : Command) (device : DeviceParts) (entry : EntryParts) (form : Form)
     → Finds profile command.addr command.code device entry → entry.shape.write ≡ Some form → form ≢ Zero
     → AreKept (set_rules profile command)
-kept profile command device entry form finds written some = rw (finds.known, finds.has, finds.entry_is, written) (search rules)
+kept profile command device entry form finds written some = rw (finds.known, finds.has, finds.entry_is, written)
+    (search rules)
 
 -- what the format makes of the quantity
 answer : (profile : List DeviceParts) (command : Command) (value : Fraction) (mode : Option ℕ) (number : NumberFormat)
     → AreKept (set_rules profile command) → HasNumber profile command mode number
-    → (word : Result ℕ HostFault) → MatchResult word (λ code. IsInRange (number_coding number) value × IsNearest (number_coding number) value code) (IsOutside number value)
+    → (word : Result ℕ HostFault) → MatchResult word
+    (λ code. IsInRange (number_coding number) value × IsNearest (number_coding number) value code)
+    (IsOutside number value)
     → ((a b : ℕ) → IsNearest (number_coding number) value a → IsNearest (number_coding number) value b → a ≡ b)
     → MatchResult word (CanSet profile command value mode) (IsSetFault profile command value mode)
 answer profile command value mode number rules_kept has (Ok word) (inside, nearest) one = record {

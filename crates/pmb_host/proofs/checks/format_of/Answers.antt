@@ -14,13 +14,21 @@ use Rattle.pmb_host.proofs.checks.format_of.Goals as goal
 breaks_mode : (profile : List DeviceParts) (command : Command) (device : DeviceParts) (entry : EntryParts) (pec : Bool)
     → Finds profile command.addr command.code device entry → command.pec ≡ pec → (AllowsPec device.pec pec → ⊥)
     → (keeps_mode profile command.addr command.pec).need → ⊥
-breaks_mode profile command device entry pec finds same not_allowed kept = not_allowed (rw same at (rw finds.known at kept))
+breaks_mode profile command device entry pec finds same not_allowed kept =
+    not_allowed (rw same at (rw finds.known at kept))
 
 pub returns-in-Err : goal.returns-in-Err
 returns-in-Err c profile command finds same =
     let some_number : c.number_of-number.result ≢ Err NotAQuantity = search rules in
     wrong_pec c.number_of-number.result
-    (record { device = c.args.device.now; command = finds.command; known = finds.known; has = finds.has; number_is = cc })
+    (record {
+      device = c.args.device.now;
+      command = finds.command;
+      known = finds.known;
+      has = finds.has;
+      number_is =
+          cc;
+    })
     some_number
     (breaks_mode profile command c.args.device.now (entry_parts c.args.entry.now) c.args.pec finds same (search rules))
     (search rules)

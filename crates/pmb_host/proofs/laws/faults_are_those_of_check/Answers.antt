@@ -5,4 +5,5 @@ pub returns-clause-reads : goal.returns-clause-reads
 returns-clause-reads c = λ profile command reply invalid fits. read_faults profile command reply invalid fits
 
 pub returns-clause-calls : goal.returns-clause-calls
-returns-clause-calls c = λ profile command bytes reply invalid fits. call_faults profile command reply invalid bytes fits
+returns-clause-calls c = λ profile command bytes reply invalid fits. call_faults profile command reply invalid bytes
+    fits

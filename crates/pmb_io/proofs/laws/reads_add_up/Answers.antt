@@ -3,4 +3,11 @@ use Rattle.pmb_io.proofs.Writing.{consumes_nothing, consumes_then, keeps_consume
 use Rattle.pmb_io.proofs.laws.reads_add_up.Goals as goal
 
 pub returns : goal.returns
-returns c = record { both = consumes_then; nothing = consumes_nothing; kept = keeps_consumes; both_given = gave_then; nothing_given = gave_nothing }
+returns c = record {
+  both = consumes_then;
+  nothing = consumes_nothing;
+  kept = keeps_consumes;
+  both_given =
+      gave_then;
+  nothing_given = gave_nothing;
+}

@@ -20,7 +20,8 @@ returns-in_err-each_piece g c =
     (failed_as g.R.Source.told g.W.Sink.told _ _ _ _ (g.T.LineTask.job c.args.task) _
     (λ bytes text stands. g.T.LineTask.writes_front c.args.task now bytes text
     (subst (λ (most : ℕ). g.T.LineTask.Stands c.args.task now (ended_lines most bytes) text) c.requires.most
-    (subst (λ start. g.T.LineTask.Stands start now (ended_lines g.row.MOST bytes) text) c.new-lines.ensures.task stands.given)))
+    (subst (λ start. g.T.LineTask.Stands start now (ended_lines g.row.MOST bytes) text) c.new-lines.ensures.task
+    stands.given)))
     c.in_err-each_piece.ensures)
 
 -- It is the text for all lines.

@@ -12,6 +12,8 @@ invariant-reads g l = record {
   not_ended : (g.R.Source.told l.reader).ended ≡ (g.R.Source.told l.fn.reader).ended;
   reads : (g.R.Source.told l.reader).reads ≡ raised (g.R.Source.told l.fn.reader).reads l.counter;
   sent : l.waiting.items ≡ [];
-  so_far : Through (g.E.Engine.Stands l.fn.engine l.engine) l.fn.first (told_by g.R.Source.told g.W.Sink.told (l.fn.reader, l.fn.writer)) (told_by g.R.Source.told g.W.Sink.told (l.reader, l.writer));
+  so_far : Through (g.E.Engine.Stands l.fn.engine l.engine) l.fn.first
+      (told_by g.R.Source.told g.W.Sink.told (l.fn.reader, l.fn.writer))
+      (told_by g.R.Source.told g.W.Sink.told (l.reader, l.writer));
   many : l.counter ≤ length so_far.read;
 }

@@ -10,7 +10,8 @@ pub returns-clause-failed : goal.returns-clause-failed
 returns-clause-failed g c = c.in-Ok.ensures.failed
 
 pub returns-clause-read : goal.returns-clause-read
-returns-clause-read g c = counts_piece (g.R.Source.told c.args.reader.now) (g.R.Source.told c.read.new.self) c.in-Ok.count c.read.new.buffer c.in-Ok.ensures.read (omega arith)
+returns-clause-read g c = counts_piece (g.R.Source.told c.args.reader.now)
+    (g.R.Source.told c.read.new.self) c.in-Ok.count c.read.new.buffer c.in-Ok.ensures.read (omega arith)
 
 pub returns-clause-given : goal.returns-clause-given
 returns-clause-given g c = c.in-Ok.ensures.given

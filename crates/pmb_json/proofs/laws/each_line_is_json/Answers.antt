@@ -14,7 +14,10 @@ returns c =
       words = c.places_are_in_range.ensures.words;
       end = c.places_are_in_range.ensures.end;
     } in
-    let spells : SpellsJson = record { json = c.spelling_is_json.ensures; line = c.spelling_fits_in_line.ensures } in record {
-      whole = λ choice profile after bytes text tally bus formats small. text_is_json below choice profile bus formats spells after bytes text tally small;
-      so_far = λ choice profile after bytes text bus formats small. text_so_far_is_json below choice profile bus formats spells after bytes text small;
+    let spells : SpellsJson = record { json = c.spelling_is_json.ensures; line = c.spelling_fits_in_line.ensures } in
+    record {
+      whole = λ choice profile after bytes text tally bus formats small. text_is_json below choice profile bus formats
+          spells after bytes text tally small;
+      so_far = λ choice profile after bytes text bus formats small. text_so_far_is_json below choice profile bus formats
+          spells after bytes text small;
     }

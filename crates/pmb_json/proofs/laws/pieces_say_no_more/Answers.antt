@@ -1,5 +1,5 @@
 use Rattle.std.proofs.Common.{List, [], ◌++◌, ◌∙◌}
-use Rattle.pmb_late.specs.declared.start.Start.TheVariants.{AllKnown}
+use Rattle.pmb_unknown_start.specs.declared.start.Start.TheVariants.{AllKnown}
 use Rattle.pmb_note.specs.Paging.{mode as mode_of_whole}
 use Rattle.pmb_transaction.specs.Transaction.{TransactionData}
 use Rattle.pmb_json.proofs.Pieces.{spans_said}

@@ -7,10 +7,13 @@ use Rattle.pmb_json.proofs.run.json.Goals as goal
 pub returns-in-Ok : goal.returns-in-Ok
 returns-in-Ok g c =
     let began = c.new-engine.ensures in
-    json_ran g.R.Source.told g.W.Sink.told c.new-engine.result c.each_piece.new.engine _ _ _ began.choice began.profile began.bad_words _ _ _ c.tally.result c.tally.ensures c.in-Ok.ensures
+    json_ran g.R.Source.told g.W.Sink.told c.new-engine.result c.each_piece.new.engine _ _ _ began.choice began.profile
+    began.bad_words _ _ _ c.tally.result c.tally.ensures c.in-Ok.ensures
 
 pub returns-in-Err : goal.returns-in-Err
 returns-in-Err g c =
     let began = c.new-engine.ensures in
     tool_ran_into g.R.Source.told g.W.Sink.told _ _ _ _ (Err c.from.result) c.in-Err.fault c.from.ensures
-    (json_failed g.R.Source.told g.W.Sink.told c.new-engine.result c.each_piece.new.engine _ _ _ began.choice began.profile began.bad_words _ _ _ c.in-Err.fault c.accepted_bus.ensures c.fronts_are_written.ensures c.in-Err.ensures)
+    (json_failed g.R.Source.told g.W.Sink.told c.new-engine.result c.each_piece.new.engine _ _ _ began.choice
+    began.profile began.bad_words _ _ _ c.in-Err.fault c.accepted_bus.ensures c.fronts_are_written.ensures
+    c.in-Err.ensures)

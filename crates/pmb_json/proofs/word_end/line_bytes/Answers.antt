@@ -11,5 +11,6 @@ loop-byte-preserved c =
     let index = c.loop-byte.byte-index in record {
       counted = omega (arith, c.loop-byte.invariant.counted);
       in_line = subst HasNoLf (sym (take_more bytes index 0 (omega arith)))
-          (no_lf_append (take index bytes) (get_or bytes index 0 ∷ []) c.loop-byte.invariant.in_line (c.if-byte-eq10.false, tt));
+          (no_lf_append (take index bytes) (get_or bytes index 0 ∷ []) c.loop-byte.invariant.in_line
+          (c.if-byte-eq10.false, tt));
     }

@@ -11,5 +11,6 @@ loop-byte-preserved c =
     let index = c.loop-byte.byte-index in record {
       counted = omega (arith, c.loop-byte.invariant.counted);
       word = subst (λ (w : List ℕ). front_word w ≡ w) (sym (take_more bytes index 0 (omega arith)))
-          (solid_both (take index bytes) (get_or bytes index 0 ∷ []) c.loop-byte.invariant.word (solid_byte (get_or bytes index 0) (sym c.ends_word.ensures ∙ c.if-ends_word.false)));
+          (solid_both (take index bytes) (get_or bytes index 0 ∷ []) c.loop-byte.invariant.word
+          (solid_byte (get_or bytes index 0) (sym c.ends_word.ensures ∙ c.if-ends_word.false)));
     }

@@ -24,4 +24,5 @@ returns-in_err-initial-clause-told c =
     let parts = entry_parts c.in_ok-entry.entry in
     let digits = option_map (λ t. t.now) c.in_ok-text.text in
     rw (← table, ← entry, ← text, ← code, ← form)
-    (no_other_fault (λ what. c.from_residual-in_err-initial.result ≡ Err what) parts digits (λ initial. record { entry = parts; initial = initial }))
+    (no_other_fault (λ what. c.from_residual-in_err-initial.result ≡ Err what) parts digits
+    (λ initial. record { entry = parts; initial = initial }))

@@ -11,12 +11,14 @@ use Rattle.pmb_keys.specs.Rules.{keys_of}
 use Rattle.pmb_keys.proofs.rules.has_only.Goals as goal
 
 -- a test of each key of the entries is one of each key of their members
-all_keys : (test : List ℕ → Bool) (entries : List Entry) → list_all (λ k. test (string_bytes k)) (map_keys entries) ≡ list_all test (keys_of (members_view entries))
+all_keys : (test : List ℕ → Bool) (entries : List Entry) → list_all (λ k. test (string_bytes k)) (map_keys entries)
+    ≡ list_all test (keys_of (members_view entries))
 all_keys test [] = refl
 all_keys test (e ∷ entries) = ap (λ rest. test (string_bytes e.0) && rest) (all_keys test entries)
 
 pub returns : goal.returns
 returns c =
     let known : List ℕ → Bool = λ k. list_any (bytes_eq k) (map (λ word. word.now) c.args.known.now) in
-    all_from_yields_List (λ k. known (string_bytes k)) _ _ c.all.result c.all.ensures.ran (YieldsList-from_rest (keys c.args.table.now) c.keys.ensures.rest) (λ x b q k. search (rules, tests))
+    all_from_yields_List (λ k. known (string_bytes k)) _ _ c.all.result c.all.ensures.ran
+    (YieldsList-from_rest (keys c.args.table.now) c.keys.ensures.rest) (λ x b q k. search (rules, tests))
     ∙ all_keys known c.args.table.now.entries

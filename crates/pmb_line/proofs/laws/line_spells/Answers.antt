@@ -8,4 +8,5 @@ pub returns-clause-spells : goal.returns-clause-spells
 returns-clause-spells c = line_spells
 
 pub returns-clause-alone : goal.returns-clause-alone
-returns-clause-alone c t u has_line has_bytes other = one_transaction (texts (line_words (line t))) t u (line_spells t has_line has_bytes) other
+returns-clause-alone c t u has_line has_bytes other = one_transaction (texts (line_words (line t))) t u
+    (line_spells t has_line has_bytes) other

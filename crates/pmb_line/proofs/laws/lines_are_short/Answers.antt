@@ -6,4 +6,5 @@ pub returns-clause-one : goal.returns-clause-one
 returns-clause-one c = line_has_no_lf
 
 pub returns-clause-short : goal.returns-clause-short
-returns-clause-short c profile t events packet = line_is_short t (packet_within c.bodies_are_short.ensures.body profile t events packet)
+returns-clause-short c profile t events packet =
+    line_is_short t (packet_within c.bodies_are_short.ensures.body profile t events packet)

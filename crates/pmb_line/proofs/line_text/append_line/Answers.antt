@@ -18,8 +18,11 @@ returns-in-Read-clause-line g c =
     let reply = c.in-Read.reply.items in
     let step1 = more old kw [] head _ _ (first old kw _ c.append-in-Read.ensures) c.append_bytes.ensures.text in
     let step2 = more old kw head (Colon ∷ []) _ _ step1 c.append-in-Read-2.ensures in
-    let step3 = more old kw (head ++ Colon ∷ []) (bytes reply) _ _ step2 (c.append_bytes-in-Read.ensures.text ∙ ap (λ xs. c.append-in-Read-2.new.out.items ++ behind (bytes xs)) c.as_slice-in-Read.ensures.value) in
-    let marked = marks Pec c.append_bytes-in-Read.new.out.items c.append_mark.new.out.items c.in-Read.pec c.append_mark.ensures.marked c.append_mark.ensures.unmarked in
+    let step3 = more old kw (head ++ Colon ∷ []) (bytes reply) _ _ step2
+    (c.append_bytes-in-Read.ensures.text ∙ ap (λ xs. c.append-in-Read-2.new.out.items ++ behind (bytes xs))
+    c.as_slice-in-Read.ensures.value) in
+    let marked = marks Pec c.append_bytes-in-Read.new.out.items c.append_mark.new.out.items c.in-Read.pec
+    c.append_mark.ensures.marked c.append_mark.ensures.unmarked in
     more old kw ((head ++ Colon ∷ []) ++ bytes reply) (mark Pec c.in-Read.pec) _ _ step3 marked
     ∙ ap (λ t. old ++ line (says.transaction_data t)) (sym c.in-Read.is)
 
@@ -31,12 +34,18 @@ returns-in-Call-clause-line g c =
     let sent = c.in-Call.bytes.items in
     let reply = c.in-Call.reply.items in
     let step1 = more old kw [] head _ _ (first old kw _ c.append-in-Call.ensures) c.append_bytes-in-Call.ensures.text in
-    let step2 = more old kw head (bytes sent) _ _ step1 (c.append_bytes-in-Call-2.ensures.text ∙ ap (λ xs. c.append_bytes-in-Call.new.out.items ++ behind (bytes xs)) c.as_slice-in-Call.ensures.value) in
+    let step2 = more old kw head (bytes sent) _ _ step1
+    (c.append_bytes-in-Call-2.ensures.text ∙ ap (λ xs. c.append_bytes-in-Call.new.out.items ++ behind (bytes xs))
+    c.as_slice-in-Call.ensures.value) in
     let step3 = more old kw (head ++ bytes sent) (Colon ∷ []) _ _ step2 c.append-in-Call-2.ensures in
-    let step4 = more old kw ((head ++ bytes sent) ++ Colon ∷ []) (bytes reply) _ _ step3 (c.append_bytes-in-Call-3.ensures.text ∙ ap (λ xs. c.append-in-Call-2.new.out.items ++ behind (bytes xs)) c.as_slice-in-Call-2.ensures.value) in
-    let marked = marks Pec c.append_bytes-in-Call-3.new.out.items c.append_mark-in-Call.new.out.items c.in-Call.pec c.append_mark-in-Call.ensures.marked c.append_mark-in-Call.ensures.unmarked in
+    let step4 = more old kw ((head ++ bytes sent) ++ Colon ∷ []) (bytes reply) _ _ step3
+    (c.append_bytes-in-Call-3.ensures.text ∙ ap (λ xs. c.append-in-Call-2.new.out.items ++ behind (bytes xs))
+    c.as_slice-in-Call-2.ensures.value) in
+    let marked = marks Pec c.append_bytes-in-Call-3.new.out.items c.append_mark-in-Call.new.out.items c.in-Call.pec
+    c.append_mark-in-Call.ensures.marked c.append_mark-in-Call.ensures.unmarked in
     more old kw (((head ++ bytes sent) ++ Colon ∷ []) ++ bytes reply) (mark Pec c.in-Call.pec) _ _ step4 marked
-    ∙ ap (λ xs. old ++ (kw ++ behind (xs ++ mark Pec c.in-Call.pec))) (append_assoc (head ++ bytes sent) (Colon ∷ []) (bytes reply))
+    ∙ ap (λ xs. old ++ (kw ++ behind (xs ++ mark Pec c.in-Call.pec)))
+    (append_assoc (head ++ bytes sent) (Colon ∷ []) (bytes reply))
     ∙ ap (λ t. old ++ line (says.transaction_data t)) (sym c.in-Call.is)
 
 pub returns-in-Refused-clause-line : goal.returns-in-Refused-clause-line
@@ -47,10 +56,16 @@ returns-in-Refused-clause-line g c =
     let addr : List Token = Byte c.in-Refused.addr ∷ [] in
     let sent = c.in-Refused.sent.items in
     let step1 = more old kw [] front _ _ (first old kw _ c.append-in-Refused.ensures)
-    (c.append_parts_before.ensures.text ∙ ap (λ xs. c.append-in-Refused.new.out.items ++ behind (flat_map part_before (map part_data xs))) c.as_slice-in-Refused.ensures.value) in
+    (c.append_parts_before.ensures.text ∙ ap
+    (λ xs. c.append-in-Refused.new.out.items ++ behind (flat_map part_before (map part_data xs)))
+    c.as_slice-in-Refused.ensures.value) in
     let step2 = more old kw front addr _ _ step1 c.append_bytes-in-Refused.ensures.text in
-    let step3 = more old kw (front ++ addr) (bytes sent) _ _ step2 (c.append_bytes-in-Refused-2.ensures.text ∙ ap (λ xs. c.append_bytes-in-Refused.new.out.items ++ behind (bytes xs)) c.as_slice-in-Refused-2.ensures.value) in
-    let marked = marks Read c.append_bytes-in-Refused-2.new.out.items c.append_mark-in-Refused.new.out.items c.in-Refused.at_read c.append_mark-in-Refused.ensures.marked c.append_mark-in-Refused.ensures.unmarked in
+    let step3 = more old kw (front ++ addr) (bytes sent) _ _ step2
+    (c.append_bytes-in-Refused-2.ensures.text
+    ∙ ap (λ xs. c.append_bytes-in-Refused.new.out.items ++ behind (bytes xs))
+    c.as_slice-in-Refused-2.ensures.value) in
+    let marked = marks Read c.append_bytes-in-Refused-2.new.out.items c.append_mark-in-Refused.new.out.items
+    c.in-Refused.at_read c.append_mark-in-Refused.ensures.marked c.append_mark-in-Refused.ensures.unmarked in
     more old kw ((front ++ addr) ++ bytes sent) (mark Read c.in-Refused.at_read) _ _ step3 marked
     ∙ ap (λ xs. old ++ (kw ++ behind (xs ++ mark Read c.in-Refused.at_read))) (append_assoc front addr (bytes sent))
     ∙ ap (λ t. old ++ line (says.transaction_data t)) (sym c.in-Refused.is)

@@ -1,4 +1,5 @@
-use Rattle.std.proofs.Common.{◌≡◌, ℕ, ◌<◌, ◌+◌, Some, List, [], ◌∷◌, ◌++◌, map, take, drop, length, refl, sym, ap, subst, ◌∙◌, arith}
+use Rattle.std.proofs.Common.{◌≡◌, ℕ, ◌<◌, ◌+◌, Some, List, [], ◌∷◌, ◌++◌, map, take, drop, length, refl, sym, ap}
+use Rattle.std.proofs.Common.{subst, ◌∙◌, arith}
 use Rattle.std.proofs.lemmas.List.{map-append, length-map, length-set, length-take-le, take_more_set}
 use Rattle.std.proofs.Math.Seq.{take-append_seam}
 use Rattle.std.specs.List.{refill}
@@ -17,8 +18,10 @@ put_at : {X : Type 0} (items slice : List X) (number : ℕ) (item : X) → slice
 put_at {X} items slice number item same there =
     let long : length (slice_set items number item) ≡ length items = length-set items number item in
     ap (λ (s : List X). take (number + 1) (refill (length items) items (slice_set s number item))) same
-    ∙ (ap (λ n. take (number + 1) (take n (slice_set items number item ++ drop (length (slice_set items number item)) items))) (sym long)
-    ∙ (ap (take (number + 1)) (take-append_seam (slice_set items number item) (drop (length (slice_set items number item)) items)) ∙ take_more_set items number item there))
+    ∙ (ap (λ n. take (number + 1) (take n (slice_set items number item
+    ++ drop (length (slice_set items number item)) items))) (sym long)
+    ∙ (ap (take (number + 1)) (take-append_seam (slice_set items number item)
+    (drop (length (slice_set items number item)) items)) ∙ take_more_set items number item there))
 
 pub have_part-requires-clause-few : goal.have_part-requires-clause-few
 have_part-requires-clause-few c = omega (arith, c.if-number-ge16.false)
@@ -29,9 +32,11 @@ returns-then-number-ge16-clause-reads c all stands =
     let ps : List PartData = map part_data front in
     let a = c.in_ok-addr.addr in
     let long : length front ≡ c.args.number = length-take-le c.args.number c.args.parts.now.items c.requires in
-    full_word all (end c.args.words.now) (write_next ps) (write_code ps a.byte) (record { at = a.at; token = Some (Byte a.byte) }) (left c.args.words.now) (left c.take.new.words) _
+    full_word all (end c.args.words.now) (write_next ps) (write_code ps a.byte)
+    (record { at = a.at; token = Some (Byte a.byte) }) (left c.args.words.now) (left c.take.new.words) _
     stands c.in_ok-addr.ensures.takes refl
-    (λ (room : HasRoomForPart 16 ps []). absurd (omega (arith, room.few, length-map front part_data, long, c.if-number-ge16.true))) refl
+    (λ (room : HasRoomForPart 16 ps []). absurd
+    (omega (arith, room.few, length-map front part_data, long, c.if-number-ge16.true))) refl
 
 pub returns-clause-reads : goal.returns-clause-reads
 returns-clause-reads c all stands =
@@ -39,11 +44,21 @@ returns-clause-reads c all stands =
     let ps : List PartData = map part_data front in
     let a = c.in_ok-addr.addr.byte in
     let long : length front ≡ c.args.number = length-take-le c.args.number c.args.parts.now.items c.requires in
-    let room : HasRoomForPart 16 ps [] = record { few = omega (arith, length-map front part_data, long, c.if-number-ge16.false); each = stands.room.each; few_bytes = omega arith } in
-    let at_code : LineStandsAt all (write_code ps a) (left c.take.new.words) = next_of all (write_next ps) (write_code ps a) _ _ _ stands c.in_ok-addr.ensures.takes refl room in
-    let read : ReadsPart all (end c.args.words.now) (ps ++ part_data c.read_data.new.part ∷ []) c.read_data.result (left c.read_data.new.words) =
-    subst (λ n. ReadsPart all n (ps ++ part_data c.read_data.new.part ∷ []) c.read_data.result (left c.read_data.new.words)) c.take.ensures.end (c.read_data.ensures.reads all ps at_code) in
+    let room : HasRoomForPart 16 ps [] = record {
+      few = omega (arith, length-map front part_data, long, c.if-number-ge16.false);
+      each =
+          stands.room.each;
+      few_bytes = omega arith;
+    } in
+    let at_code : LineStandsAt all (write_code ps a) (left c.take.new.words) =
+    next_of all (write_next ps) (write_code ps a) _ _ _ stands c.in_ok-addr.ensures.takes refl room in
+    let read : ReadsPart all (end c.args.words.now) (ps ++ part_data c.read_data.new.part ∷ []) c.read_data.result
+    (left c.read_data.new.words) =
+    subst (λ n. ReadsPart all n (ps ++ part_data c.read_data.new.part ∷ []) c.read_data.result
+    (left c.read_data.new.words)) c.take.ensures.end (c.read_data.ensures.reads all ps at_code) in
     subst (λ qs. ReadsPart all (end c.args.words.now) qs c.read_data.result (left c.read_data.new.words))
-    (sym (ap (map part_data) (put_at c.have_part.new.parts.items c.as_mut_slice.result.now c.args.number c.read_data.new.part c.as_mut_slice.ensures.value c.have_part.ensures.there)
-    ∙ (map-append part_data (take c.args.number c.have_part.new.parts.items) (c.read_data.new.part ∷ []) ∙ ap (λ parts. map part_data parts ++ part_data c.read_data.new.part ∷ []) c.have_part.ensures.same)))
+    (sym (ap (map part_data) (put_at c.have_part.new.parts.items c.as_mut_slice.result.now c.args.number
+    c.read_data.new.part c.as_mut_slice.ensures.value c.have_part.ensures.there)
+    ∙ (map-append part_data (take c.args.number c.have_part.new.parts.items) (c.read_data.new.part ∷ [])
+    ∙ ap (λ parts. map part_data parts ++ part_data c.read_data.new.part ∷ []) c.have_part.ensures.same)))
     read

@@ -9,7 +9,8 @@ use Rattle.pmb_line.proofs.parts.read_write.Given as goal
 -- a part comes, or all of them have come
 abbrev pub invariant-loop-goes_on : goal.invariant-loop-goes_on
 invariant-loop-goes_on l = record {
-  stands : (all : List Located) → LineStandsAt all (write_next []) (left l.fn.words) → WritesOn all (map part_data (take l.count l.parts.items)) l.goes_on (left l.words);
+  stands : (all : List Located) → LineStandsAt all (write_next []) (left l.fn.words)
+      → WritesOn all (map part_data (take l.count l.parts.items)) l.goes_on (left l.words);
   there : l.count ≤ length l.parts.items;
   few : l.count ≤ 16;
   ends : end l.words ≡ end l.fn.words;

@@ -16,6 +16,7 @@ returns-then-is_err c =
     no_room_for (map part_data c.args.parts.now.items) c.args.sent.now c.args.at c.in-len1-up.len_at_least
     (λ code bs split few few_bytes.
     let long = ap length split in
-    let fitted = c.try_extend_from_slice.ensures.variant.1 (omega (arith, ap length c.new-bytes.ensures, length-take {A = ℕ}, length-drop {A = ℕ}, long, few_bytes)) in
+    let fitted = c.try_extend_from_slice.ensures.variant.1
+    (omega (arith, ap length c.new-bytes.ensures, length-take {A = ℕ}, length-drop {A = ℕ}, long, few_bytes)) in
     let failed = c.is_err.ensures.negation ∙ ap not c.if-is_err.true in
     cc (fitted, failed))

@@ -13,24 +13,33 @@ returns-in_err-take_bytes-clause-reads c all stands =
     let ps : List PartData = map part_data c.args.parts.now.items in
     let a = c.in_ok-addr.field-0.byte in
     let at_addr : LineStandsAt all (refused_sent ps a []) (left c.take.new.words) =
-    next_of all (refused_next ps) (refused_sent ps a []) _ _ _ stands c.in_ok-addr.ensures.takes refl (record { few_parts = stands.room; few_sent = omega arith }) in
+    next_of all (refused_next ps) (refused_sent ps a []) _ _ _ stands c.in_ok-addr.ensures.takes refl
+    (record { few_parts = stands.room; few_sent = omega arith }) in
     let at_new : LineStandsAt all (refused_sent ps a c.clear.new.self.items) (left c.take.new.words) =
     subst (λ bs. LineStandsAt all (refused_sent ps a bs) (left c.take.new.words)) (sym c.clear.ensures) at_addr in
     let p = err_from_is_err_and c.from_residual-in_err-take_bytes.result c.from_residual-in_err-take_bytes.ensures.1 in
-    rw (p.1, p.2) (too_many all (end c.args.words.now) (refused_sent ps a) (λ bs b. refl) 258 _ _ _ _ at_new c.in_err-take_bytes.ensures.takes (λ le. record { few_parts = stands.room; few_sent = le }) (λ bs (r : IsRefusedWithin ps bs). r.few_sent))
+    rw (p.1, p.2) (too_many all (end c.args.words.now) (refused_sent ps a)
+    (λ bs b. refl) 258 _ _ _ _ at_new c.in_err-take_bytes.ensures.takes
+    (λ le. record { few_parts = stands.room; few_sent = le }) (λ bs (r : IsRefusedWithin ps bs). r.few_sent))
 
 pub returns-clause-reads : goal.returns-clause-reads
 returns-clause-reads c all stands =
     let ps : List PartData = map part_data c.args.parts.now.items in
     let a = c.in_ok-addr.field-0.byte in
     let at_addr : LineStandsAt all (refused_sent ps a []) (left c.take.new.words) =
-    next_of all (refused_next ps) (refused_sent ps a []) _ _ _ stands c.in_ok-addr.ensures.takes refl (record { few_parts = stands.room; few_sent = omega arith }) in
+    next_of all (refused_next ps) (refused_sent ps a []) _ _ _ stands c.in_ok-addr.ensures.takes refl
+    (record { few_parts = stands.room; few_sent = omega arith }) in
     let sent = c.take_bytes.new.bytes.items in
     let at_sent : LineStandsAt all (refused_sent ps a sent) (left c.take_bytes.new.words) =
-    bytes_on all (refused_sent ps a) (λ bs b. refl) _ _ _ _ (subst (λ bs. LineStandsAt all (refused_sent ps a bs) (left c.take.new.words)) (sym c.clear.ensures) at_addr)
+    bytes_on all (refused_sent ps a) (λ bs b. refl) _ _ _ _
+    (subst (λ bs. LineStandsAt all (refused_sent ps a bs) (left c.take.new.words)) (sym c.clear.ensures) at_addr)
     c.in_ok-take_bytes.ensures.takes.0 (record { few_parts = stands.room; few_sent = c.take_bytes.ensures.fits }) in
     let same = c.as_slice.ensures.value in
-    let reads : ReadsLeg all (end c.take_bytes.new.words) (map part_data c.end_leg.new.parts.items) a c.as_slice.result.now c.end_leg.new.at_read c.end_leg.result (left c.end_leg.new.words) =
-    c.end_leg.ensures.reads all (subst (λ bs. LineStandsAt all (refused_sent ps a bs) (left c.take_bytes.new.words)) (sym same) at_sent) c.in_ok-take_bytes.ensures.takes.1 in
-    subst (λ n. ReadsLeg all n (map part_data c.end_leg.new.parts.items) a sent c.end_leg.new.at_read c.end_leg.result (left c.end_leg.new.words)) (c.take_bytes.ensures.end ∙ c.take.ensures.end)
-    (subst (λ bs. ReadsLeg all (end c.take_bytes.new.words) (map part_data c.end_leg.new.parts.items) a bs c.end_leg.new.at_read c.end_leg.result (left c.end_leg.new.words)) same reads)
+    let reads : ReadsLeg all (end c.take_bytes.new.words) (map part_data c.end_leg.new.parts.items) a
+    c.as_slice.result.now c.end_leg.new.at_read c.end_leg.result (left c.end_leg.new.words) =
+    c.end_leg.ensures.reads all (subst (λ bs. LineStandsAt all (refused_sent ps a bs) (left c.take_bytes.new.words))
+    (sym same) at_sent) c.in_ok-take_bytes.ensures.takes.1 in
+    subst (λ n. ReadsLeg all n (map part_data c.end_leg.new.parts.items) a sent c.end_leg.new.at_read c.end_leg.result
+    (left c.end_leg.new.words)) (c.take_bytes.ensures.end ∙ c.take.ensures.end)
+    (subst (λ bs. ReadsLeg all (end c.take_bytes.new.words) (map part_data c.end_leg.new.parts.items) a bs
+    c.end_leg.new.at_read c.end_leg.result (left c.end_leg.new.words)) same reads)

@@ -11,7 +11,13 @@ use Rattle.pmb_line.proofs.refused.read_refused.Given as goal
 abbrev pub invariant-loop-goes_on : goal.invariant-loop-goes_on
 invariant-loop-goes_on l = record {
   stands : (all : List Located) → LineStandsAt all (refused_next []) (left l.fn.words)
-      → RefusesOn all (says.Refused (record { parts = map part_data l.parts.items; addr = l.addr; sent = l.sent.items; at_read = l.at_read })) (map part_data l.parts.items) l.goes_on (left l.words);
+      → RefusesOn all (says.Refused (record {
+        parts = map part_data l.parts.items;
+        addr = l.addr;
+        sent =
+            l.sent.items;
+        at_read = l.at_read;
+      })) (map part_data l.parts.items) l.goes_on (left l.words);
   ends : end l.words ≡ end l.fn.words;
 }
 

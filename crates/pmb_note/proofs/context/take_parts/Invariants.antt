@@ -9,4 +9,5 @@ use Rattle.pmb_note.proofs.context.take_parts.Given as goal
 abbrev pub invariant-loop-part : goal.invariant-loop-part
 invariant-loop-part l =
     (now : DeviceParts → PagingData) → Keeps l.fn.pagings l.profile now
-    → Keeps l.pagings l.profile (λ device. fold (after_told device) (now device) (map told_by_part (map part_data (take l.part-index l.parts))))
+    → Keeps l.pagings l.profile (λ device. fold (after_told device) (now device)
+    (map told_by_part (map part_data (take l.part-index l.parts))))

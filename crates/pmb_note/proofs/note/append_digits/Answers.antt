@@ -10,5 +10,6 @@ pub returns : goal.returns
 returns g c = record {
   items = grind (arith, common_steps);
   longer = grind (arith, common_steps);
-  utf8 = IsUtf8-from_ascii (encode_lower (c.args.byte ∷ [])) (IsAscii-encode_with lower_digits (c.args.byte ∷ []) digits_are_ascii);
+  utf8 = IsUtf8-from_ascii (encode_lower (c.args.byte ∷ []))
+      (IsAscii-encode_with lower_digits (c.args.byte ∷ []) digits_are_ascii);
 }

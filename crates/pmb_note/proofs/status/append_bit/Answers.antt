@@ -15,5 +15,9 @@ pub returns-in-None : goal.returns-in-None
 returns-in-None g c =
     let is : None ≡ bit_text c.args.code c.args.bit = c.in-None.ensures.name in
     let few : length c.format.result.now ≤ 2 =
-    subst (λ (digits : List ℕ). length digits ≤ 2) (sym c.format.ensures.text) (length-decimal-le 2 c.args.bit (omega arith) (omega (arith, c.requires.few)) (omega (arith, c.requires.few))) in
-    called (ap (λ (digits : List ℕ). codes "bit" ++ digits) c.format.ensures.text ∙ ap (λ (found : Option (List ℕ)). named_bit found c.args.bit) is) (at_most 17 (omega (arith, few)) (then c.append-in-None.ensures c.append-in-None-2.ensures))
+    subst (λ (digits : List ℕ). length digits ≤ 2) (sym c.format.ensures.text)
+    (length-decimal-le 2 c.args.bit (omega arith) (omega (arith, c.requires.few))
+    (omega (arith, c.requires.few))) in
+    called (ap (λ (digits : List ℕ). codes "bit" ++ digits) c.format.ensures.text
+    ∙ ap (λ (found : Option (List ℕ)). named_bit found c.args.bit) is)
+    (at_most 17 (omega (arith, few)) (then c.append-in-None.ensures c.append-in-None-2.ensures))

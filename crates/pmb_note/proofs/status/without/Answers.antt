@@ -6,4 +6,5 @@ pub returns-clause-others : goal.returns-clause-others
 returns-clause-others c = let one = one_at c.args.bit c.requires.few in omega (arith, one, c.requires.set)
 
 pub returns-clause-within : goal.returns-clause-within
-returns-clause-within c = let one = one_at c.args.bit c.requires.few in omega (arith, one, c.requires.set, c.requires.highest)
+returns-clause-within c = let one = one_at c.args.bit c.requires.few in
+    omega (arith, one, c.requires.set, c.requires.highest)

@@ -4,7 +4,8 @@ use Rattle.pmb_quantity.proofs.ReadingLemmas.{is_digit_at, after_more, after_fro
 use Rattle.pmb_quantity.proofs.parse.long_number.Goals as goal
 
 pub overflow_sub-digit : goal.overflow_sub-digit
-overflow_sub-digit c = let digit = is_digit_at c.args.digits.now c.loop-digit.digit-index c.requires.digits c.loop-digit-test.true in digit.0
+overflow_sub-digit c = let digit = is_digit_at c.args.digits.now c.loop-digit.digit-index c.requires.digits
+    c.loop-digit-test.true in digit.0
 
 pub returns-then-number-limit : goal.returns-then-number-limit
 returns-then-number-limit c =

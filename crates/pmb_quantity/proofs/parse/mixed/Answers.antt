@@ -11,7 +11,8 @@ pub nonzero_div-rest : goal.nonzero_div-rest
 nonzero_div-rest c = rw c.gcd-divisor.ensures (gcd_positive c.args.rest c.args.scale (omega arith))
 
 pub from_parts-requires : goal.from_parts-requires
-from_parts-requires c = rw c.gcd-divisor.ensures (quotient_positive c.args.scale _ (omega arith) (IsGcd-gcd c.args.rest c.args.scale).1)
+from_parts-requires c = rw c.gcd-divisor.ensures
+    (quotient_positive c.args.scale _ (omega arith) (IsGcd-gcd c.args.rest c.args.scale).1)
 
 pub returns-then-denominator-ge-LIMIT : goal.returns-then-denominator-ge-LIMIT
 returns-then-denominator-ge-LIMIT c =

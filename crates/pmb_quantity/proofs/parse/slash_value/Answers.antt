@@ -25,5 +25,9 @@ returns-in_default-number c =
 pub returns : goal.returns
 returns c =
     let bottom = some_below (2 ^ 63) (digits_value 10 c.args.back.now) c.in-Some.denominator c.in-Some.ensures in
-    let top = some_below (2 ^ 63) (digits_value 10 c.args.front.now) c.in-Some-number.numerator c.in-Some-number.ensures in
-    c.from_words.ensures ∙ ap (λ n. fitted (lowest_terms (pos n) c.in-Some.denominator)) top.0 ∙ ap (λ d. fitted (lowest_terms (pos (digits_value 10 c.args.front.now)) d)) bottom.0 ∙ sym (slash-is c.args.front.now c.args.back.now (λ none. c.if-denominator-eq0.false (bottom.0 ∙ none)) top.1 bottom.1)
+    let top = some_below (2 ^ 63) (digits_value 10 c.args.front.now) c.in-Some-number.numerator
+    c.in-Some-number.ensures in
+    c.from_words.ensures ∙ ap (λ n. fitted (lowest_terms (pos n) c.in-Some.denominator)) top.0
+    ∙ ap (λ d. fitted (lowest_terms (pos (digits_value 10 c.args.front.now)) d)) bottom.0
+    ∙ sym (slash-is c.args.front.now c.args.back.now (λ none. c.if-denominator-eq0.false (bottom.0 ∙ none)) top.1
+    bottom.1)

@@ -13,7 +13,8 @@ loop-left-preserved c =
     let out = c.args.fives - c.loop-left.left in
     let split : rest ≡ rest / 5 * 5 = omega arith in
     let more : c.args.fives - (c.loop-left.left - 1) ≡ suc out = omega (arith, c.loop-left.invariant.1) in (
-      ap (λ k. rest / 5 * 5 ^ k) more ∙ ap (λ x. rest / 5 * x) (pow-succ' 5 out) ∙ sym (mul_assoc (rest / 5) 5 (5 ^ out)) ∙ ap (λ x. x * 5 ^ out) (sym split) ∙ c.loop-left.invariant.0,
+      ap (λ k. rest / 5 * 5 ^ k) more ∙ ap (λ x. rest / 5 * x) (pow-succ' 5 out)
+          ∙ sym (mul_assoc (rest / 5) 5 (5 ^ out)) ∙ ap (λ x. x * 5 ^ out) (sym split) ∙ c.loop-left.invariant.0,
       omega (arith, c.loop-left.invariant.1),
     )
 

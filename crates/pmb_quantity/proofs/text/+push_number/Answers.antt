@@ -1,4 +1,5 @@
-use Rattle.std.proofs.Common.{◌+◌, ◌/◌, ◌%◌, [], ◌∷◌, ◌++◌, sym, ◌∙◌, ap, length, length-append, append_assoc, arith, rules}
+use Rattle.std.proofs.Common.{◌+◌, ◌/◌, ◌%◌, [], ◌∷◌, ◌++◌, sym, ◌∙◌, ap, length, length-append, append_assoc, arith}
+use Rattle.std.proofs.Common.{rules}
 use Rattle.std.specs.Fmt.{decimal}
 use Rattle.std.proofs.lemmas.Fmt.{decimal_digit}
 use Rattle.pmb_quantity.proofs.TextLemmas.{decimal_pair, decimal_pairs, length-decimal_pairs}
@@ -35,4 +36,6 @@ pub returns : goal.returns
 returns t c =
     let n = c.args.number in
     let pair = (48 + n % 100 / 10) ∷ (48 + n % 100 % 10) ∷ [] in
-    c.push_pair-2.ensures ∙ ap (λ bytes. bytes ++ pair) c.push_number.ensures ∙ append_assoc c.args.text.now.bytes (decimal (n / 100)) pair ∙ ap (λ ds. c.args.text.now.bytes ++ ds) (sym (decimal_pairs n (omega arith) (omega arith)))
+    c.push_pair-2.ensures ∙ ap (λ bytes. bytes ++ pair) c.push_number.ensures ∙ append_assoc c.args.text.now.bytes
+    (decimal (n / 100)) pair ∙ ap (λ ds. c.args.text.now.bytes ++ ds)
+    (sym (decimal_pairs n (omega arith) (omega arith)))

@@ -42,5 +42,6 @@ overflow_mul-from c =
     let unit = c.unit_of-unit.result in
     let rest : c.from.result ≤ d = omega (arith, c.from.ensures, mod_below n d c.requires.positive) in
     let product = mul-le c.from.result unit d unit rest (omega arith) in
-    let whole : d * unit ≤ 10 ^ p = subst (λ (u : ℕ). d * u ≤ 10 ^ p) (sym c.unit_of-unit.ensures) (mul-div-le (10 ^ p) d) in
+    let whole : d * unit ≤ 10 ^ p = subst (λ (u : ℕ). d * u ≤ 10 ^ p) (sym c.unit_of-unit.ensures)
+    (mul-div-le (10 ^ p) d) in
     omega (arith, product, whole, ten_small p c.in-Some.ensures.few)

@@ -1,4 +1,5 @@
-use Rattle.std.proofs.Common.{◌≡◌, ◌-◌, ◌*◌, ◌/◌, ◌%◌, ◌^◌, [], ◌∷◌, ◌++◌, length, length-append, append_assoc, bit_and, sym, ap, ◌∙◌, arith}
+use Rattle.std.proofs.Common.{◌≡◌, ◌-◌, ◌*◌, ◌/◌, ◌%◌, ◌^◌, [], ◌∷◌, ◌++◌, length, length-append, append_assoc, bit_and}
+use Rattle.std.proofs.Common.{sym, ap, ◌∙◌, arith}
 use Rattle.std.specs.Fmt.{decimal}
 use Rattle.std.proofs.Math.Nat.{div-le_self}
 use Rattle.std.proofs.lemmas.Nat.{one_shl, and_mask}
@@ -34,9 +35,14 @@ returns-then-places-gt0 c =
     let p = c.args.places in
     let text = c.args.text.now.bytes in
     let whole = decimal (n / 2 ^ p) in
-    let mask : bit_and n (1 * 2 ^ p % 2 ^ 64 - 1) ≡ n % 2 ^ p = ap (λ x. bit_and n (x - 1)) (one_shl p 64 (omega (arith, c.requires.few))) ∙ and_mask n p in
+    let mask : bit_and n (1 * 2 ^ p % 2 ^ 64 - 1) ≡ n % 2 ^ p =
+    ap (λ x. bit_and n (x - 1)) (one_shl p 64 (omega (arith, c.requires.few))) ∙ and_mask n p in
     let digits = padded p (n % 2 ^ p * 5 ^ p) in
     let pointed = c.push_ascii.ensures ∙ ap (λ b. b ++ 46 ∷ []) c.push_number.ensures in
-    let written = c.push_halves.ensures ∙ ap (λ x. c.push_ascii.new.text.bytes ++ padded p (x * 5 ^ p)) mask ∙ ap (λ b. b ++ digits) pointed in
-    let after : 46 ∷ digits ≡ after_point p (n % 2 ^ p * (10 ^ p / 2 ^ p)) = sym (after_point-some p (n % 2 ^ p * 5 ^ p) c.if-places-gt0.true) ∙ ap (λ x. after_point p (n % 2 ^ p * x)) (sym (fives p)) in
-    written ∙ append_assoc (text ++ whole) (46 ∷ []) digits ∙ append_assoc text whole (46 ∷ digits) ∙ ap (λ ds. text ++ (whole ++ ds)) after
+    let written = c.push_halves.ensures ∙ ap (λ x. c.push_ascii.new.text.bytes ++ padded p (x * 5 ^ p)) mask
+    ∙ ap (λ b. b ++ digits) pointed in
+    let after : 46 ∷ digits ≡ after_point p (n % 2 ^ p * (10 ^ p / 2 ^ p)) =
+    sym (after_point-some p (n % 2 ^ p * 5 ^ p) c.if-places-gt0.true) ∙ ap (λ x. after_point p (n % 2 ^ p * x))
+    (sym (fives p)) in
+    written ∙ append_assoc (text ++ whole) (46 ∷ []) digits ∙ append_assoc text whole (46 ∷ digits)
+    ∙ ap (λ ds. text ++ (whole ++ ds)) after

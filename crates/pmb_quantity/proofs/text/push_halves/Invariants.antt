@@ -9,7 +9,8 @@ pub record Halved (written whole : List ℕ) (places left : ℕ) : Type 0 where
   pub room : length written + places ≤ 45
 
 abbrev pub invariant-loop-places : goal.invariant-loop-places
-invariant-loop-places l = Halved l.text.bytes (l.fn.text.bytes ++ padded l.fn.places (l.fn.numerator * 5 ^ l.fn.places)) l.places l.left
+invariant-loop-places l = Halved l.text.bytes (l.fn.text.bytes ++ padded l.fn.places (l.fn.numerator * 5 ^ l.fn.places))
+    l.places l.left
 
 abbrev pub decreases-loop-places : goal.decreases-loop-places
 decreases-loop-places l = l.places

@@ -13,4 +13,5 @@ returns-then-denominator-halvings c =
     let h = trailing_zeros w64 d in
     let is : d ≡ 2 ^ h = c.if-denominator-halvings.true ∙ one_shl h 64 (omega (arith, c.if-halvings-le-PLACES.true)) in
     let places = places_of_power h c.if-halvings-le-PLACES.true in
-    c.push_halved.ensures ∙ ap (λ p. text ++ magnitude_text n (2 ^ h) p) (sym places) ∙ ap (λ x. text ++ magnitude_text n x (places_of x)) (sym is)
+    c.push_halved.ensures ∙ ap (λ p. text ++ magnitude_text n (2 ^ h) p) (sym places)
+    ∙ ap (λ x. text ++ magnitude_text n x (places_of x)) (sym is)

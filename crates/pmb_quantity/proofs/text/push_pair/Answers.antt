@@ -10,4 +10,5 @@ pub returns : goal.returns
 returns c =
     let n = c.args.number in
     let last = (48 + n % 10) ∷ [] in
-    c.push_ascii-2.ensures ∙ ap (λ bytes. bytes ++ last) c.push_ascii.ensures ∙ append_assoc c.args.text.now.bytes ((48 + n / 10) ∷ []) last
+    c.push_ascii-2.ensures ∙ ap (λ bytes. bytes ++ last) c.push_ascii.ensures ∙ append_assoc c.args.text.now.bytes
+    ((48 + n / 10) ∷ []) last

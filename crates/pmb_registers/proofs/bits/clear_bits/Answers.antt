@@ -7,7 +7,9 @@ loop-i-init c = cleared_none c.args.bytes.now
 
 pub loop-i-preserved : goal.loop-i-preserved
 loop-i-preserved c =
-    cleared_more c.args.written.now c.args.bytes.now c.loop-i.bytes c.loop-i.i (omega (arith, c.min-count.ensures)) (omega (arith, c.min-count.ensures)) c.loop-i.invariant
+    cleared_more c.args.written.now c.args.bytes.now c.loop-i.bytes c.loop-i.i (omega (arith, c.min-count.ensures))
+    (omega (arith, c.min-count.ensures)) c.loop-i.invariant
 
 pub returns : goal.returns
-returns c = c.loop-i.invariant ∙ cleared_all c.args.written.now c.args.bytes.now c.loop-i.i (omega (arith, c.min-count.ensures))
+returns c = c.loop-i.invariant ∙ cleared_all c.args.written.now c.args.bytes.now c.loop-i.i
+    (omega (arith, c.min-count.ensures))

@@ -5,5 +5,7 @@ use Rattle.pmb_registers.proofs.bits.clear_each.Goals as goal
 
 pub loop-byte-preserved : goal.loop-byte-preserved
 loop-byte-preserved c =
-    map_over_more (λ (byte : ℕ). 0) c.args.bytes.now c.loop-byte.bytes c.loop-byte.byte-index (get_or c.loop-byte.bytes c.loop-byte.byte-index 0) c.loop-byte-test.true c.loop-byte.invariant
-    (get_or_default c.loop-byte.bytes c.loop-byte.byte-index 0 (get_or c.loop-byte.bytes c.loop-byte.byte-index 0) (omega arith))
+    map_over_more (λ (byte : ℕ). 0) c.args.bytes.now c.loop-byte.bytes c.loop-byte.byte-index
+    (get_or c.loop-byte.bytes c.loop-byte.byte-index 0) c.loop-byte-test.true c.loop-byte.invariant
+    (get_or_default c.loop-byte.bytes c.loop-byte.byte-index 0 (get_or c.loop-byte.bytes c.loop-byte.byte-index 0)
+    (omega arith))

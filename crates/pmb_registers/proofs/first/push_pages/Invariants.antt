@@ -6,4 +6,5 @@ use Rattle.pmb_registers.proofs.first.push_pages.Given as goal
 
 abbrev pub invariant-loop-page : goal.invariant-loop-page
 invariant-loop-page l =
-    map register_data l.registers.items ≡ map register_data l.initial.registers.items ++ map (one_register l.code l.bytes) (map Some (range_with_len 0 l.page))
+    map register_data l.registers.items ≡ map register_data l.initial.registers.items
+    ++ map (one_register l.code l.bytes) (map Some (range_with_len 0 l.page))

@@ -5,4 +5,6 @@ use Rattle.pmb_registers.proofs.register.change_each.Given as goal
 
 abbrev pub invariant-loop-register : goal.invariant-loop-register
 invariant-loop-register l =
-    map register_data l.registers ≡ changed l.selected (nat_eq l.code) (change_of l.change) (map register_data (take l.register-index l.initial.registers)) ++ map register_data (drop l.register-index l.initial.registers)
+    map register_data l.registers ≡ changed l.selected (nat_eq l.code) (change_of l.change)
+    (map register_data (take l.register-index l.initial.registers))
+    ++ map register_data (drop l.register-index l.initial.registers)

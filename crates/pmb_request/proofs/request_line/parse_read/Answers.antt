@@ -15,14 +15,17 @@ returns-in_err-addr-clause-err c all stands =
 pub returns-in_err-pec-clause-err : goal.returns-in_err-pec-clause-err
 returns-in_err-pec-clause-err c all stands =
     let target = c.in_ok-addr.field-0 in
-    let at_end : StandsAt all (behind target.addr target.code to_read) (words_left c.take.new.words) = c.in_ok-addr.ensures.takes all Read stands in
+    let at_end : StandsAt all (behind target.addr target.code to_read) (words_left c.take.new.words) =
+    c.in_ok-addr.ensures.takes all Read stands in
     let p = err_from_is_err_and c.from_residual-in_err-pec.result c.from_residual-in_err-pec.ensures.1 in
-    rw (p.1, p.2) (of_the_line all _ _ c.in_err-pec.field-0.0 c.take.ensures.end (c.in_err-pec.ensures all target.addr target.code to_read at_end tt))
+    rw (p.1, p.2) (of_the_line all _ _ c.in_err-pec.field-0.0 c.take.ensures.end
+    (c.in_err-pec.ensures all target.addr target.code to_read at_end tt))
 
 pub returns-clause-ok : goal.returns-clause-ok
 returns-clause-ok c all mode stands =
     let target = c.in_ok-addr.field-0 in
-    let at_end : StandsAt all (behind target.addr target.code to_read) (words_left c.take.new.words) = c.in_ok-addr.ensures.takes all Read stands in
+    let at_end : StandsAt all (behind target.addr target.code to_read) (words_left c.take.new.words) =
+    c.in_ok-addr.ensures.takes all Read stands in
     record {
       wording = Ask (command_with target.addr target.code c.in_ok-pec.pec) to_read;
       asks = c.in_ok-pec.ensures all target.addr target.code to_read at_end tt;

@@ -12,7 +12,8 @@ pub returns-in_err-read_words-clause-err : goal.returns-in_err-read_words-clause
 returns-in_err-read_words-clause-err c =
     let fault = c.in_err-read_words.field-0.0 in
     let p = err_from_is_err_and c.from_residual.result c.from_residual.ensures.1 in
-    rw (p.1, p.2) (of_line c.args.line.now fault (fault_of_write c.args.line.now fault c.requires c.in_err-read_words.ensures.err))
+    rw (p.1, p.2) (of_line c.args.line.now fault
+    (fault_of_write c.args.line.now fault c.requires c.in_err-read_words.ensures.err))
 
 pub returns-clause-ok : goal.returns-clause-ok
 returns-clause-ok c mode =

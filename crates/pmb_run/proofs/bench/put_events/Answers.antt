@@ -18,7 +18,9 @@ loop-event-preserved g c =
     ap (λ (last : List ℕ). canonical_text (take i events) ++ last) (sym (append-nil (text_of event)))
     ∙ (sym (flat_map-append text_of (take i events) (event ∷ [])) ∙ ap canonical_text (sym more)) in
     record {
-      put = subst (λ (put : List ℕ). PutsText (g.W.Sink.told c.args.writer.now).held c.args.waiting.now.items (g.W.Sink.told c.put_event.new.writer).held c.put_event.new.waiting.items put) text
-          (c.texts_add_up.ensures.both _ _ _ _ _ _ (canonical_text (take i events)) (text_of event) c.loop-event.invariant.put c.in_ok-put_event.ensures.writes);
+      put = subst (λ (put : List ℕ). PutsText (g.W.Sink.told c.args.writer.now).held c.args.waiting.now.items
+          (g.W.Sink.told c.put_event.new.writer).held c.put_event.new.waiting.items put) text
+          (c.texts_add_up.ensures.both _ _ _ _ _ _ (canonical_text (take i events))
+          (text_of event) c.loop-event.invariant.put c.in_ok-put_event.ensures.writes);
       failures = c.in_ok-put_event.ensures.failed ∙ c.loop-event.invariant.failures;
     }

@@ -4,7 +4,8 @@ use Rattle.pmb_run.proofs.KeptParts.{all_at_places, one_place_more}
 use Rattle.pmb_run.proofs.kept.commands_are_kept.Goals as goal
 
 pub loop-index-preserved : goal.loop-index-preserved
-loop-index-preserved c = one_place_more IsKeptCommand c.args.device.now.commands c.loop-index.index c.loop-index.invariant c.command_is_kept.ensures
+loop-index-preserved c = one_place_more IsKeptCommand c.args.device.now.commands c.loop-index.index
+    c.loop-index.invariant c.command_is_kept.ensures
 
 pub returns : goal.returns
 returns c =

@@ -4,7 +4,8 @@ use Rattle.pmb_run.proofs.KeptParts.{all_at_places, one_place_more}
 use Rattle.pmb_run.proofs.kept.profile_is_kept.Goals as goal
 
 pub loop-index-preserved : goal.loop-index-preserved
-loop-index-preserved c = one_place_more IsKeptDevice c.args.profile.now c.loop-index.index c.loop-index.invariant c.device_at_is_kept.ensures
+loop-index-preserved c = one_place_more IsKeptDevice c.args.profile.now c.loop-index.index c.loop-index.invariant
+    c.device_at_is_kept.ensures
 
 pub returns : goal.returns
 returns c =

@@ -9,4 +9,5 @@ returns-clause-one c profile bytes a b bus =
 
 pub returns-clause-front : goal.returns-clause-front
 returns-clause-front c profile bytes more a b tally bus =
-    ended_first profile (c.lines_have_one_answer.ensures profile bus) bytes more a b tally (c.ended_lines_stay.ensures most_request_line bytes more)
+    ended_first profile (c.lines_have_one_answer.ensures profile bus) bytes more a b tally
+    (c.ended_lines_stay.ensures most_request_line bytes more)

@@ -13,10 +13,13 @@ returns c bytes =
     let kept = c.profile_is_kept.ensures in
     let laws : SomeLaws profile = record {
       request_or_fault = c.request_or_fault.ensures;
-      allowed_or_fault = λ request sound. c.allowed_or_fault.ensures profile request bus (make_formats profile kept) sound;
+      allowed_or_fault = λ request sound. c.allowed_or_fault.ensures profile request bus
+          (make_formats profile kept) sound;
       some_exchange = λ members request word number. c.some_exchange.ensures profile members request word number bus;
-      packets = λ request word number reply. c.allowed_requests_have_packets.ensures profile request word number reply bus;
+      packets = λ request word number reply. c.allowed_requests_have_packets.ensures profile request word number reply
+          bus;
       positive = c.readings_have_denominators.ensures;
     } in
-    let fits = all_contained (λ m. IsState m.device m.state) (first_members profile) (λ m at. c.states_fit.ensures profile [] (first_members profile) m bus refl at) in
+    let fits = all_contained (λ m. IsState m.device m.state) (first_members profile)
+    (λ m at. c.states_fit.ensures profile [] (first_members profile) m bus refl at) in
     some_text profile bus laws (first_good profile bus.devices kept fits) bytes

@@ -6,7 +6,8 @@ use Rattle.pmb_table.proofs.command_map.bare_copy.Goals as goal
 use Rattle.pmb_table.proofs.command_map.bare_copy.Goals.{In_ok-insert}
 
 -- one more entry is copied
-copied : (c : In_ok-insert) → c.insert.new.self.entries ++ map bare_entry c.next.new.self ≡ map bare_entry c.args.commands.now.entries
+copied : (c : In_ok-insert) → c.insert.new.self.entries ++ map bare_entry c.next.new.self
+    ≡ map bare_entry c.args.commands.now.entries
 copied c =
     let entry : ℕ × Command = (c.in-Some.code.now, c.in-Some.command.now) in
     let left = c.next.new.self in

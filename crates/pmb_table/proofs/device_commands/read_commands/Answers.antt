@@ -7,7 +7,13 @@ use Rattle.pmb_table.proofs.device_commands.read_commands.Goals as goal
 
 pub loop-value-init : goal.loop-value-init
 unfolding IsDistinct
-loop-value-init c = rw c.new-taken.ensures record { read = refl; taken = (tt, tt); own_codes = c.requires.own_codes; accepted = c.requires.accepted }
+loop-value-init c = rw c.new-taken.ensures record {
+  read = refl;
+  taken = (tt, tt);
+  own_codes =
+      c.requires.own_codes;
+  accepted = c.requires.accepted;
+}
 
 pub returns-in-Err-clause-read : goal.returns-in-Err-clause-read
 returns-in-Err-clause-read c =
@@ -16,7 +22,8 @@ returns-in-Err-clause-read c =
     let rest = commands_after c.args.device c.loop-value.taken.items c.loop-value.commands in
     ⊎_elim
     (λ memory. inl cc)
-    (λ fault. inr (fault_of_one c.args.device c.loop-value.taken.items c.loop-value.commands (view c.value-item.result) (items_view (drop (i + 1) vs)) c.in-Err.fault fault
+    (λ fault. inr (fault_of_one c.args.device c.loop-value.taken.items c.loop-value.commands (view c.value-item.result)
+    (items_view (drop (i + 1) vs)) c.in-Err.fault fault
     ∙ ap rest (sym (item_at vs i c.value-item.result c.loop-value-test.true c.value-item.is))
     ∙ c.loop-value.invariant.read))
     c.in-Err.ensures.read

@@ -10,7 +10,8 @@ use Rattle.pmb_table.proofs.device_commands.read_commands.Given as goal
 -- the tables from here on answer what all do
 abbrev pub invariant-loop-value : goal.invariant-loop-value
 invariant-loop-value l = record {
-  read : commands_after l.device l.taken.items l.commands (items_view (drop l.value-index l.values)) ≡ commands_after l.device [] l.fn.first (items_view l.values);
+  read : commands_after l.device l.taken.items l.commands (items_view (drop l.value-index l.values))
+      ≡ commands_after l.device [] l.fn.first (items_view l.values);
   taken : AreTaken l.taken.items;
   own_codes : HaveOwnCodes l.commands;
   accepted : AllByRecursion IsCommand l.commands;

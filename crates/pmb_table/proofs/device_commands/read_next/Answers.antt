@@ -18,7 +18,8 @@ push-requires c =
 
 -- and all are taken after it
 are_taken : (c : After-push) → IsNew c.code_of-code.result c.args.taken.now.items → AreTaken c.push.new.self.items
-are_taken c new = rw c.push.ensures.items (AreTaken-push c.args.taken.now.items c.code_of-code.result c.requires new c.code_of-code.type_inv)
+are_taken c new = rw c.push.ensures.items
+    (AreTaken-push c.args.taken.now.items c.code_of-code.result c.requires new c.code_of-code.type_inv)
 
 pub returns-in-Ok-put-clause-taken : goal.returns-in-Ok-put-clause-taken
 returns-in-Ok-put-clause-taken c =
@@ -32,4 +33,5 @@ returns-in-Err-put-clause-taken c =
 
 -- and the commands are ones that a device may have
 pub returns-in-Ok-put-clause-accepted : goal.returns-in-Ok-put-clause-accepted
-returns-in-Ok-put-clause-accepted c = λ all. rw c.in-Ok-put.ensures.ok (IsCommand-put (command_parts c.in-Ok.command) c.args.commands.now c.in-Ok.ensures.accepted all)
+returns-in-Ok-put-clause-accepted c = λ all. rw c.in-Ok-put.ensures.ok
+    (IsCommand-put (command_parts c.in-Ok.command) c.args.commands.now c.in-Ok.ensures.accepted all)

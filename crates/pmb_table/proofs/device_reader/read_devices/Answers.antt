@@ -13,7 +13,13 @@ use Rattle.pmb_table.proofs.device_reader.read_devices.Goals.{In-Ok}
 
 pub loop-value-init : goal.loop-value-init
 unfolding IsDistinct
-loop-value-init c = rw c.new-devices.ensures.items record { read = refl; count = refl; own_addresses = tt; devices = tt }
+loop-value-init c = rw c.new-devices.ensures.items record {
+  read = refl;
+  count = refl;
+  own_addresses = tt;
+  devices =
+      tt;
+}
 
 -- the device that was read is the value's
 is_read : (c : In-Ok) → Ok c.in-Ok.device ≡ device_of c.loop-value.devices.items (view c.value-item.result)
@@ -24,10 +30,12 @@ loop-value-preserved c =
     let before = c.loop-value.devices.items in
     let i = c.loop-value.value-index in
     let vs = c.args.values.now in
-    let own : IsNew c.in-Ok.device.address (map (λ x. x.address) before) = rw (← c.as_slice.ensures.value) c.in-Ok.ensures.own_address in
+    let own : IsNew c.in-Ok.device.address (map (λ x. x.address) before) =
+    rw (← c.as_slice.ensures.value) c.in-Ok.ensures.own_address in
     rw c.in-Ok-push.ensures.items record {
       read =
-          rest_of_device before (view c.value-item.result) (items_view (drop (i + 1) vs)) c.in-Ok.device (is_read (goal.at.loop-value-preserved c).In-Ok)
+          rest_of_device before (view c.value-item.result) (items_view (drop (i + 1) vs)) c.in-Ok.device
+          (is_read (goal.at.loop-value-preserved c).In-Ok)
           ∙ ap (devices_after before) (sym (item_at vs i c.value-item.result c.loop-value-test.true c.value-item.is))
           ∙ c.loop-value.invariant.read;
       count = length_push before c.in-Ok.device ∙ ap (λ n. n + 1) c.loop-value.invariant.count;

@@ -9,7 +9,8 @@ use Rattle.pmb_table.proofs.device_reader.read_devices.Given as goal
 -- the values from here on answer what all do
 abbrev pub invariant-loop-value : goal.invariant-loop-value
 invariant-loop-value l = record {
-  read : devices_after l.devices.items (items_view (drop l.value-index l.values)) ≡ devices_after [] (items_view l.values);
+  read : devices_after l.devices.items (items_view (drop l.value-index l.values))
+      ≡ devices_after [] (items_view l.values);
   count : length l.devices.items ≡ l.value-index;
   own_addresses : HaveOwnAddresses l.devices.items;
   devices : AllByRecursion IsDevice l.devices.items;

@@ -17,15 +17,18 @@ loop-code-preserved c =
                 w.commands-is
                 ∙ w.in_ok-put.ensures.ok
                 ∙ ap (put (bare (entry_parts w.in-Some.entry))) c.loop-code.invariant.commands
-                ∙ put-standard c.standard_entries_are_sound.ensures c.loop-code.code (entry_parts w.in-Some.entry) (sym w.in-Some.ensures.entry);
+                ∙ put-standard c.standard_entries_are_sound.ensures c.loop-code.code (entry_parts w.in-Some.entry)
+                (sym w.in-Some.ensures.entry);
             own_codes = search rules;
             accepted =
                 subst (AllByRecursion IsCommand) (sym (w.commands-is ∙ w.in_ok-put.ensures.ok))
-                (IsCommand-put (bare (entry_parts w.in-Some.entry)) c.loop-code.commands (record { entry = w.in-Some.ensures.sound.entry; initial = tt }) c.loop-code.invariant.accepted);
+                (IsCommand-put (bare (entry_parts w.in-Some.entry)) c.loop-code.commands
+                (record { entry = w.in-Some.ensures.sound.entry; initial = tt }) c.loop-code.invariant.accepted);
           }
       | in_default w ↦
           record {
-            commands = w.commands-is ∙ c.loop-code.invariant.commands ∙ standard_from-none c.loop-code.code (sym w.in_default.ensures.entry);
+            commands = w.commands-is ∙ c.loop-code.invariant.commands ∙ standard_from-none c.loop-code.code
+                (sym w.in_default.ensures.entry);
             own_codes = search rules;
             accepted = subst (AllByRecursion IsCommand) (sym w.commands-is) c.loop-code.invariant.accepted;
           }

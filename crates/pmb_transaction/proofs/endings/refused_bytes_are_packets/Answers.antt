@@ -3,4 +3,5 @@ use Rattle.pmb_transaction.proofs.endings.refused_bytes_are_packets.Goals as goa
 
 pub returns : goal.returns
 returns c = λ profile parts legs addr device bytes byte bus few own each new known inside small.
-    byte_packet c.pec_is_a_byte.ensures profile bus parts few own legs each addr new device known bytes byte inside small
+    byte_packet c.pec_is_a_byte.ensures profile bus parts few own legs each addr new device known bytes byte inside
+    small

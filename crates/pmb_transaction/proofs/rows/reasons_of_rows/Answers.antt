@@ -1,4 +1,7 @@
-use Rattle.pmb_transaction.proofs.WorkedRows.{read_first, written_again, another_is_read, reply_with_wrong_code, alert_with_wrong_code, nobody_there, nobody_in_a_group, no_such_command, written_with_wrong_code, reply_too_long, alert_too_long, reply_too_short, behind_refused_address, behind_whole_body}
+use Rattle.pmb_transaction.proofs.WorkedRows.{read_first, written_again, another_is_read, reply_with_wrong_code}
+use Rattle.pmb_transaction.proofs.WorkedRows.{alert_with_wrong_code, nobody_there, nobody_in_a_group, no_such_command}
+use Rattle.pmb_transaction.proofs.WorkedRows.{written_with_wrong_code, reply_too_long, alert_too_long, reply_too_short}
+use Rattle.pmb_transaction.proofs.WorkedRows.{behind_refused_address, behind_whole_body}
 use Rattle.pmb_transaction.proofs.rows.reasons_of_rows.Goals as goal
 
 pub returns-clause-read_first : goal.returns-clause-read_first

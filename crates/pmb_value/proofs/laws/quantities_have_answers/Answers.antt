@@ -12,7 +12,8 @@ pub returns-clause-linear11 : goal.returns-clause-linear11
 returns-clause-linear11 c = words_have_answers linear11 IsSeparated-linear11 refl
 
 pub returns-clause-fixed : goal.returns-clause-fixed
-returns-clause-fixed c = λ e fits. has_answers (linear11_fixed e) (IsSeparated-linear11_fixed e fits) (decide_fixed e) (λ k code. code.0) (c.linear11_fixed_has_codes.ensures e fits)
+returns-clause-fixed c = λ e fits. has_answers (linear11_fixed e) (IsSeparated-linear11_fixed e fits) (decide_fixed e)
+    (λ k code. code.0) (c.linear11_fixed_has_codes.ensures e fits)
 
 pub returns-clause-unsigned : goal.returns-clause-unsigned
 returns-clause-unsigned c = λ e fits. words_have_answers (ulinear16 e) (IsSeparated-ulinear16 e) refl

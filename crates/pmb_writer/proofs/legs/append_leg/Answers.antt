@@ -16,4 +16,5 @@ returns-in-Some-clause-text g c others =
     ∙ (append_assoc old text (canonical_text (legs_events true c.append.result others))
     ∙ (ap (λ (code : ℕ). old ++ (text ++ canonical_text (legs_events true code others))) c.append.ensures.code
     ∙ (ap (λ (t : List ℕ). old ++ t) (sym (leg_behind c.args.crc l others))
-    ∙ ap (λ leg. old ++ canonical_text (legs_events true c.args.crc (option_to_list (option_map leg_data leg) ++ others))) (sym c.in-Some.is))))
+    ∙ ap (λ leg. old ++ canonical_text (legs_events true c.args.crc
+    (option_to_list (option_map leg_data leg) ++ others))) (sym c.in-Some.is))))

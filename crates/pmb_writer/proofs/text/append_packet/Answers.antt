@@ -15,8 +15,10 @@ returns-in-Write g c =
     ∙ (ap (λ parts. legs_of profile (Write (map part_data parts))) c.as_slice.ensures.value
     ∙ ap (λ (made : Transaction). legs_of profile (transaction_data made)) (sym c.in-Write.is)) in record {
       events = packet_events profile t;
-      packet = packet_written (record { nothing = c.worked_pecs.ensures.nothing; goes_on = c.pec_goes_on.ensures }) profile c.accepted_bus.ensures.devices t c.requires.packet;
-      appended = c.append.ensures ∙ ap (λ (l : List LegData). c.args.text.now.items ++ canonical_text (legs_events true 0 l)) legs;
+      packet = packet_written (record { nothing = c.worked_pecs.ensures.nothing; goes_on = c.pec_goes_on.ensures })
+          profile c.accepted_bus.ensures.devices t c.requires.packet;
+      appended = c.append.ensures ∙ ap (λ (l : List LegData). c.args.text.now.items
+          ++ canonical_text (legs_events true 0 l)) legs;
     }
 
 pub returns-in-Read : goal.returns-in-Read
@@ -25,17 +27,24 @@ returns-in-Read g c =
     let t = transaction_data c.args.transaction.now in
     let legs : legs_data c.read_legs.result ≡ legs_of profile t =
     c.read_legs.ensures.legs
-    ∙ (ap (λ (reply : List ℕ). legs_of profile (Read (record { addr = c.in-Read.addr; code = c.in-Read.code; reply = reply; pec = c.in-Read.pec }))) c.as_slice-in-Read.ensures.value
+    ∙ (ap (λ (reply : List ℕ). legs_of profile
+    (Read (record { addr = c.in-Read.addr; code = c.in-Read.code; reply = reply; pec = c.in-Read.pec })))
+    c.as_slice-in-Read.ensures.value
     ∙ ap (λ (made : Transaction). legs_of profile (transaction_data made)) (sym c.in-Read.is)) in record {
       events = packet_events profile t;
-      packet = packet_written (record { nothing = c.worked_pecs.ensures.nothing; goes_on = c.pec_goes_on.ensures }) profile c.accepted_bus.ensures.devices t c.requires.packet;
-      appended = c.append-in-Read.ensures ∙ ap (λ (l : List LegData). c.args.text.now.items ++ canonical_text (legs_events true 0 l)) legs;
+      packet = packet_written (record { nothing = c.worked_pecs.ensures.nothing; goes_on = c.pec_goes_on.ensures })
+          profile c.accepted_bus.ensures.devices t c.requires.packet;
+      appended = c.append-in-Read.ensures ∙ ap
+          (λ (l : List LegData). c.args.text.now.items ++ canonical_text (legs_events true 0 l)) legs;
     }
 
 pub returns-in_default : goal.returns-in_default
 returns-in_default g c =
     let t = transaction_data c.args.transaction.now in record {
       events = packet_events c.args.profile.now t;
-      packet = packet_written (record { nothing = c.worked_pecs.ensures.nothing; goes_on = c.pec_goes_on.ensures }) c.args.profile.now c.accepted_bus.ensures.devices t c.requires.packet;
-      appended = c.append-in_default.ensures ∙ ap (λ (legs : List LegData). c.args.text.now.items ++ canonical_text (legs_events true 0 legs)) c.legs_of.ensures.legs;
+      packet = packet_written (record { nothing = c.worked_pecs.ensures.nothing; goes_on = c.pec_goes_on.ensures })
+          c.args.profile.now c.accepted_bus.ensures.devices t c.requires.packet;
+      appended = c.append-in_default.ensures ∙ ap
+          (λ (legs : List LegData). c.args.text.now.items ++ canonical_text (legs_events true 0 legs))
+          c.legs_of.ensures.legs;
     }

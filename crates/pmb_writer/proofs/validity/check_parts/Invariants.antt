@@ -6,4 +6,5 @@ use Rattle.pmb_writer.proofs.validity.check_parts.Given as goal
 
 -- the parts so far keep their rules
 abbrev pub invariant-loop-number : goal.invariant-loop-number
-invariant-loop-number l = Lead (rules_from l.profile l.parts l.number) (parts_rules l.profile [] (map part_data l.parts))
+invariant-loop-number l = Lead (rules_from l.profile l.parts l.number)
+    (parts_rules l.profile [] (map part_data l.parts))

@@ -6,7 +6,11 @@ returns-clause-begins c = record {
   same = refl;
   answered = record {
     given = record { answers = []; each = tt; whole = refl };
-    counts = record { packets_counted = ap (λ t. t.packets) c.new-2.ensures; refusals_counted = ap (λ t. t.refusals) c.new-2.ensures };
+    counts = record {
+      packets_counted = ap (λ t. t.packets) c.new-2.ensures;
+      refusals_counted =
+          ap (λ t. t.refusals) c.new-2.ensures;
+    };
   };
   number = refl;
 }

@@ -4,12 +4,14 @@ use Rattle.pmb_bus.proofs.lexer.Lexer.feed_bytes.Goals as goal
 
 pub loop-i-preserved : goal.loop-i-preserved
 loop-i-preserved c =
-    fed_more c.args.self.now c.loop-i.self c.args.bytes.now c.loop-i.i 0 c.loop-i.invariant c.loop-i-test.true c.step.new.self
+    fed_more c.args.self.now c.loop-i.self c.args.bytes.now c.loop-i.i 0 c.loop-i.invariant c.loop-i-test.true
+    c.step.new.self
     c.in-Need.ensures.stands
 
 pub returns-in-Event-clause-stands : goal.returns-in-Event-clause-stands
 returns-in-Event-clause-stands c =
-    fed_event c.args.self.now c.loop-i.self c.args.bytes.now c.loop-i.i 0 c.loop-i.invariant c.loop-i-test.true c.step.new.self c.in-Event.event
+    fed_event c.args.self.now c.loop-i.self c.args.bytes.now c.loop-i.i 0 c.loop-i.invariant c.loop-i-test.true
+    c.step.new.self c.in-Event.event
     c.in-Event.ensures.stands
 
 pub returns-in-Event-clause-faulted : goal.returns-in-Event-clause-faulted
@@ -17,7 +19,8 @@ returns-in-Event-clause-faulted c = λ fault is. absurd (c.loop-i.invariant.soun
 
 pub returns-in-Fault-clause-stands : goal.returns-in-Fault-clause-stands
 returns-in-Fault-clause-stands c =
-    fed_fault c.args.self.now c.loop-i.self c.args.bytes.now c.loop-i.i 0 c.loop-i.invariant c.loop-i-test.true c.step.new.self c.in-Fault.fault
+    fed_fault c.args.self.now c.loop-i.self c.args.bytes.now c.loop-i.i 0 c.loop-i.invariant c.loop-i-test.true
+    c.step.new.self c.in-Fault.fault
     c.in-Fault.ensures.stands
 
 pub returns-in-Fault-clause-faulted : goal.returns-in-Fault-clause-faulted

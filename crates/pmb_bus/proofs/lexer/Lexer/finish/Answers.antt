@@ -11,7 +11,8 @@ returns-in-Ok-None-clause-stands c = λ n text events stands.
 
 pub returns-in-Ok-Some-clause-stands : goal.returns-in-Ok-Some-clause-stands
 returns-in-Ok-Some-clause-stands c = λ n text events stands.
-    let token : event_of (open_word text) ≡ Some c.in-Ok-Some.event = rw c.in-Ok-Some.field-0-is at (c.in-Ok-Some.ensures.ends n text stands.place) in
+    let token : event_of (open_word text) ≡ Some c.in-Ok-Some.event =
+    rw c.in-Ok-Some.field-0-is at (c.in-Ok-Some.ensures.ends n text stands.place) in
     finishes_word c.args.self.now n text events c.in-Ok-Some.event stands token
 
 pub returns-in-Err-clause-stands : goal.returns-in-Err-clause-stands

@@ -12,7 +12,9 @@ returns-clause-visits g c start reached text n front stands spells standing refu
     let before = accepted_in (map outcome reached.spans) in
     let taken = c.take_refusal.ensures in
     on_ok_weaker c.take_refusal.result (λ puts.
-    puts_more g.O.Output.text g.O.Output.Stands start c.args.self.now c.take_refusal.new.self reached.spans (RefusedSpan n front c.args._event refusal) text _ _ _ _ _
+    puts_more g.O.Output.text g.O.Output.Stands start c.args.self.now c.take_refusal.new.self reached.spans
+    (RefusedSpan n front c.args._event refusal) text _ _ _ _ _
     stands (adds_refusal _ _ refusal taken.counted) (ap g.O.Output.text taken.output)
-    (subst (λ ts. g.O.Output.Stands c.take_refusal.new.self.output ts) (sym (append-nil before)) (subst (λ o. g.O.Output.Stands o before) (sym taken.output) stands.behind))
+    (subst (λ ts. g.O.Output.Stands c.take_refusal.new.self.output ts) (sym (append-nil before))
+    (subst (λ o. g.O.Output.Stands o before) (sym taken.output) stands.behind))
     puts (sym (append-nil _))) taken.puts

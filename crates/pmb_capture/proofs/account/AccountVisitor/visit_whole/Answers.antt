@@ -11,6 +11,9 @@ returns-clause-visits g c start reached text n events stands between spells stan
     let t = transaction_data c.args.transaction.now in
     let before = accepted_in (map outcome reached.spans) in
     on_ok_both c.put_packet.result (λ behind puts.
-    puts_more g.O.Output.text g.O.Output.Stands start c.args.self.now (record { tally = c.count_packet.new.self; output = c.put_packet.new.self }) reached.spans (ReadSpan n events t) text _ _ _ _ _
-    stands (adds_packet _ _ t c.count_packet.ensures) c.put_packet.ensures.same behind puts (ap (λ o. o.of_packet before t) stands.same ∙ sym (append-nil _)))
+    puts_more g.O.Output.text g.O.Output.Stands start c.args.self.now
+    (record { tally = c.count_packet.new.self; output = c.put_packet.new.self }) reached.spans
+    (ReadSpan n events t) text _ _ _ _ _
+    stands (adds_packet _ _ t c.count_packet.ensures) c.put_packet.ensures.same behind puts
+    (ap (λ o. o.of_packet before t) stands.same ∙ sym (append-nil _)))
     (c.put_packet.ensures.stands before stands.behind) (c.put_packet.ensures.puts before stands.behind)

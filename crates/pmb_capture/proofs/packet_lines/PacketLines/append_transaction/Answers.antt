@@ -9,7 +9,8 @@ pub returns-clause-line : goal.returns-clause-line
 returns-clause-line c before seen =
     let profile = c.args.self.now.profile.now in
     let t = transaction_data c.args.transaction.now in
-    noted (line t) (note profile before t) _ _ _ _ _ c.append_line.ensures.line c.append.ensures (c.append_note.ensures.note profile before seen) c.append-2.ensures
+    noted (line t) (note profile before t) _ _ _ _ _ c.append_line.ensures.line c.append.ensures
+    (c.append_note.ensures.note profile before seen) c.append-2.ensures
 
 pub returns-clause-seen : goal.returns-clause-seen
 returns-clause-seen c before = c.observe.ensures c.args.self.now.profile.now before

@@ -7,5 +7,6 @@ use Rattle.pmb_capture.proofs.packet_lines.PacketLinesOutput.put_packet.Goals as
 pub returns-clause-stands : goal.returns-clause-stands
 returns-clause-stands g c before stands =
     let after = before ++ transaction_data c.args.transaction.now ∷ [] in
-    let seen = subst (λ (profile : Bor (List DeviceParts)). HasSeen c.append_transaction.new.self.context profile.now after) (sym c.append_transaction.ensures.profile) (c.append_transaction.ensures.seen before stands) in
+    let seen = subst (λ (profile : Bor (List DeviceParts)). HasSeen c.append_transaction.new.self.context profile.now
+    after) (sym c.append_transaction.ensures.profile) (c.append_transaction.ensures.seen before stands) in
     seen

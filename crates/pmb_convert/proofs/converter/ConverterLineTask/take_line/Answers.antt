@@ -12,6 +12,7 @@ returns-clause-takes g c start lines text stands =
     (λ writes. record {
       text = answer_line answer;
       writes = writes;
-      holds = answers_more start c.args.self.now c.count.new.self lines text (line_text c.args.line) answer c.count.ensures c.answer-answer.ensures stands;
+      holds = answers_more start c.args.self.now c.count.new.self lines text
+          (line_text c.args.line) answer c.count.ensures c.answer-answer.ensures stands;
     })
     c.put_answer.ensures.ok

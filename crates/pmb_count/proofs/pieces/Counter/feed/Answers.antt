@@ -21,15 +21,24 @@ loop-at-preserved c =
     let all : HasCounted profile after (events ++ take used (drop at piece)) =
     record {
       outcomes = has.outcomes ++ more.0;
-      read = subst (λ (es : List Event). HasRead profile c.feed_on-fed.new.reader (events ++ take used es) AnyEvent (has.outcomes ++ more.0)) rest more.2;
+      read = subst (λ (es : List Event). HasRead profile c.feed_on-fed.new.reader (events ++ take used es) AnyEvent
+          (has.outcomes ++ more.0)) rest more.2;
       counted = c.add-self.ensures has.outcomes more.0 has.counted more.1;
     } in
     all in
-    let longer : (events : List Event) → (events ++ take at piece) ++ take used (drop at piece) ≡ events ++ take (at + used) piece =
+    let longer : (events : List Event) → (events ++ take at piece) ++ take used (drop at piece) ≡ events
+    ++ take (at + used) piece =
     λ events.
-    append_assoc events (take at piece) (take used (drop at piece)) ∙ ap (λ (es : List Event). events ++ es) (sym (take-add at used piece)) in
+    append_assoc events (take at piece) (take used (drop at piece)) ∙ ap (λ (es : List Event). events ++ es)
+    (sym (take-add at used piece)) in
     let n = c.loop-at.invariant.counting in record {
-      within = omega (arith, c.loop-at.invariant.within, c.feed_on-fed.ensures.within, ap (λ (es : List Event). length es) rest, length-drop at piece);
+      within = omega (
+        arith,
+        c.loop-at.invariant.within,
+        c.feed_on-fed.ensures.within,
+        ap (λ (es : List Event). length es) rest,
+        length-drop at piece,
+      );
       counting = (n.0, n.1 ++ take used (drop at piece), counted n.0 n.1 n.2);
       counted = λ profile events has.
           subst (λ (es : List Event). HasCounted profile after es) (longer events)

@@ -16,7 +16,8 @@ returns-in-Ok-clause-reads c = λ profile events has. (
 pub returns-in-Ok-clause-written : goal.returns-in-Ok-clause-written
 returns-in-Ok-clause-written c = λ profile ts events bus capture has.
     let back =
-    c.captures_are_read_back.ensures profile ts c.args.self.now.reader events has.outcomes (Ok tt) bus capture has.read (c.in-Ok.ensures profile) in
+    c.captures_are_read_back.ensures profile ts c.args.self.now.reader events has.outcomes (Ok tt) bus capture has.read
+    (c.in-Ok.ensures profile) in
     let is = subst (IsCountOf c.args.self.now.so_far) back.0 has.counted in
     (is.packets_are ∙ ap capped (packets_written ts), is.refusals_are ∙ ap capped (refusals_written ts))
 
@@ -25,13 +26,15 @@ returns-in-Err-clause-reads c = λ profile events has.
     let refusal = c.in-Err.refusal in
     let added = Refusal (refusal_data refusal) ∷ [] in (
       has.outcomes ++ added,
-      c.reading_is_truncated.ensures profile c.args.self.now.reader events has.outcomes refusal has.read (c.in-Err.ensures profile),
+      c.reading_is_truncated.ensures profile c.args.self.now.reader events has.outcomes refusal has.read
+          (c.in-Err.ensures profile),
       c.add.ensures has.outcomes added has.counted refl,
     )
 
 pub returns-in-Err-clause-written : goal.returns-in-Err-clause-written
 returns-in-Err-clause-written c = λ profile ts events bus capture has.
     let back =
-    c.captures_are_read_back.ensures profile ts c.args.self.now.reader events has.outcomes (Err c.in-Err.refusal) bus capture has.read
+    c.captures_are_read_back.ensures profile ts c.args.self.now.reader events has.outcomes
+    (Err c.in-Err.refusal) bus capture has.read
     (c.in-Err.ensures profile) in
     absurd (cc (back.1))

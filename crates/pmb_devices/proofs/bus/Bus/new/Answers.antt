@@ -13,6 +13,7 @@ returns c = record {
   profile = first_devices c.args.profile.now;
   runs = refl;
   devices = subst (λ (ds : List DeviceParts). AllStand Outside c.loop-i.devices.items (first_members ds))
-      (take_all c.loop-i.i c.args.profile.now (omega (arith, c.len-i-end.ensures.len, c.loop-i-test.false))) c.loop-i.invariant;
+      (take_all c.loop-i.i c.args.profile.now (omega (arith, c.len-i-end.ensures.len, c.loop-i-test.false)))
+      c.loop-i.invariant;
   answered = tt;
 }

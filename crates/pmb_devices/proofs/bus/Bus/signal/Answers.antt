@@ -14,10 +14,15 @@ use Rattle.pmb_devices.proofs.bus.Bus.signal.Goals as goal
 pub returns-clause-takes : goal.returns-clause-takes
 returns-clause-takes c = λ standing at.
     let legs = legs_after Outside standing.history in
-    let stand = subst (λ (devices : List Device). AllStand legs devices standing.members) (sym c.as_mut_slice.ensures.value) at.devices in
+    let stand = subst (λ (devices : List Device). AllStand legs devices standing.members)
+    (sym c.as_mut_slice.ensures.value) at.devices in
     let handed = c.hand_on-answer.ensures legs standing.members stand in
     let items = with_items_is c.args.self.now.devices c.hand_on-answer.new.devices (omega arith) in
-    let new : Bus = record { profile = c.args.self.now.profile; devices = with_items c.args.self.now.devices c.hand_on-answer.new.devices } in
+    let new : Bus = record {
+      profile = c.args.self.now.profile;
+      devices =
+          with_items c.args.self.now.devices c.hand_on-answer.new.devices;
+    } in
     takes c.args.self.now new refl standing at c.args.signal c.new.result.result c.hand_on-answer.result
     (ap (λ (r : RecordedData). r.result) c.new.ensures) c.transactions_are_applied.ensures
     (subst (HandsOn legs c.args.signal standing.members c.hand_on-answer.result) (sym items) handed)

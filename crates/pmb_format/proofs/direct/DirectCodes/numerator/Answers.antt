@@ -8,14 +8,16 @@ use Rattle.pmb_format.proofs.direct.DirectCodes.numerator.Goals as goal
 
 pub with_sign_of-requires-clause-number_is_small :
     goal.with_sign_of-requires-clause-number_is_small
-with_sign_of-requires-clause-number_is_small c = omega (arith, ints, c.times-word.ensures.small, c.times-offset.ensures.small)
+with_sign_of-requires-clause-number_is_small c =
+    omega (arith, ints, c.times-word.ensures.small, c.times-offset.ensures.small)
 
 pub returns-clause-value : goal.returns-clause-value
 returns-clause-value c =
     let word_fits : SFits w64 c.times-word.result = search rules in
     let offset_fits : SFits w64 c.times-offset.result = search rules in
     let result_fits : SFits w64 c.with_sign_of.result = search rules in
-    let difference_fits : SFits w64 (c.times-word.result -ℤ c.times-offset.result) = omega (arith, ints, c.times-word.ensures.small, c.times-offset.ensures.small) in
+    let difference_fits : SFits w64 (c.times-word.result -ℤ c.times-offset.result) =
+    omega (arith, ints, c.times-word.ensures.small, c.times-offset.ensures.small) in
     let m_fits : SFits w16 c.m.result = search rules in
     let b_fits : SFits w16 c.b.result = search rules in
     let r_fits : SFits w8 c.r.result = search rules in
@@ -33,4 +35,6 @@ returns-clause-value c =
     let down = simp (to_z-of_z, +ℤ_idl) at c.ten_to.ensures.value in
     let up = simp (to_z-of_z, one_r) at c.ten_to-2.ensures.value in
     let from = simp to_z-of_z at c.from.ensures in
-    rw to_z-of_z (numerator_is c.args.code c.args.self.now inside c.twos_complement.result c.times-word.result c.from.result c.times-offset.result c.with_sign_of.result c.ten_to.result c.ten_to-2.result same c.twos_complement.ensures.value down word from up offset value)
+    rw to_z-of_z (numerator_is c.args.code c.args.self.now inside c.twos_complement.result c.times-word.result
+    c.from.result c.times-offset.result c.with_sign_of.result c.ten_to.result c.ten_to-2.result same
+    c.twos_complement.ensures.value down word from up offset value)

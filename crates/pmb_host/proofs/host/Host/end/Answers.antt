@@ -32,5 +32,6 @@ returns-in-Some-reply c =
     let few = few_taken c.in-Some-reply.reply.form (length content) holds.fits.taken in
     let many = ap length data_is in
     (c.reply_of.result, refl, c.reply_of.ensures (omega (arith, few, many)) ∙ ap (told_data host.number) data_is) in
-    subst (λ (fault : Option HostFault). IsToldOf fault host.reply host.number step) (sym (none_kept host.fault c.in_default.not-Some))
+    subst (λ (fault : Option HostFault). IsToldOf fault host.reply host.number step)
+    (sym (none_kept host.fault c.in_default.not-Some))
     (subst (λ (reply : Option Incoming). IsToldOf None reply host.number step) (sym c.in-Some-reply.is) told)

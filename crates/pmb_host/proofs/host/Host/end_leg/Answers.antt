@@ -9,7 +9,8 @@ returns-then-from-legs c = λ standing heard at.
     let legs = c.legs.ensures in
     let leg = c.from.ensures in
     let less = c.if-from-legs.true in
-    c.start.ensures standing heard (next_leg c.args.self.now standing.job heard at (omega (arith, same, legs, leg, less)))
+    c.start.ensures standing heard (next_leg c.args.self.now standing.job heard at
+    (omega (arith, same, legs, leg, less)))
 
 pub returns-then-is_some : goal.returns-then-is_some
 returns-then-is_some c = λ standing heard at.
@@ -17,7 +18,8 @@ returns-then-is_some c = λ standing heard at.
     let legs = c.legs.ensures in
     let leg = c.from.ensures in
     let last = c.if-from-legs.false in
-    c.ask.ensures standing heard (first_ask c.args.self.now standing.job heard at (omega (arith, same, legs, leg, last)) (sym c.is_some.ensures ∙ c.if-is_some.true))
+    c.ask.ensures standing heard (first_ask c.args.self.now standing.job heard at (omega (arith, same, legs, leg, last))
+    (sym c.is_some.ensures ∙ c.if-is_some.true))
 
 pub returns-else-is_some : goal.returns-else-is_some
 returns-else-is_some c = λ standing heard at.
@@ -25,4 +27,5 @@ returns-else-is_some c = λ standing heard at.
     let legs = c.legs.ensures in
     let leg = c.from.ensures in
     let last = c.if-from-legs.false in
-    c.stop.ensures standing heard (all_written c.args.self.now standing.job heard at (omega (arith, same, legs, leg, last)) (sym c.is_some.ensures ∙ c.if-is_some.false))
+    c.stop.ensures standing heard (all_written c.args.self.now standing.job heard at
+    (omega (arith, same, legs, leg, last)) (sym c.is_some.ensures ∙ c.if-is_some.false))

@@ -9,4 +9,5 @@ returns-in-Ok c =
     let reply = c.in-Ok.ensures.reply in
     let empty = c.new-reply.ensures in
     c.of.ensures (Get command c.args.mode) 0 (reply.kept, c.in-Ok.ensures.has, (λ none. cc none)) c.read_of.ensures
-    (empty_reply c.new-reply.result (forms_at c.args.profile.now c.args.addr c.args.code).read c.in-Ok.form c.args.pec reply.form_is empty.form empty.pec empty.empty)
+    (empty_reply c.new-reply.result (forms_at c.args.profile.now c.args.addr c.args.code).read c.in-Ok.form c.args.pec
+    reply.form_is empty.form empty.pec empty.empty)

@@ -12,5 +12,10 @@ returns c = λ request word allowed task_is incoming.
       word = word;
       number = c.args.number;
       allowed = allowed;
-      stands = (refl, λ result. at_first_leg _ job (has_job _ job request word refl task_is refl refl allowed c.accepted_bus.ensures suits) suits incoming refl refl refl);
+      stands = (
+        refl,
+        λ result. at_first_leg _ job
+            (has_job _ job request word refl task_is refl refl allowed c.accepted_bus.ensures suits) suits incoming refl
+            refl refl,
+      );
     }

@@ -15,11 +15,13 @@ loop-preserved g c = record {
   so_far = elim c.match-write_some.branch [
     | in-Some w ↦
         let left : c.match-write_some.rest.now ≡ drop w.in-Some.count c.loop.rest.now = search (rules, common_steps) in
-        subst (λ r. WritesUpTo (g.T.Write.contents c.args.self.now.inner) (g.T.Write.contents c.write_some.new.self.inner) c.args.bytes.now r) (sym left)
+        subst (λ r. WritesUpTo (g.T.Write.contents c.args.self.now.inner)
+        (g.T.Write.contents c.write_some.new.self.inner) c.args.bytes.now r) (sym left)
         (up_to_more _ _ _ _ _ w.in-Some.count c.loop.invariant.so_far w.in-Some.ensures.took.1)
     | in-Interrupted w ↦
         let left : c.match-write_some.rest.now ≡ c.loop.rest.now = search rules in
-        subst (λ r. WritesUpTo (g.T.Write.contents c.args.self.now.inner) (g.T.Write.contents c.write_some.new.self.inner) c.args.bytes.now r) (sym left)
+        subst (λ r. WritesUpTo (g.T.Write.contents c.args.self.now.inner)
+        (g.T.Write.contents c.write_some.new.self.inner) c.args.bytes.now r) (sym left)
         (up_to_kept _ _ _ _ _ c.loop.invariant.so_far w.in-Interrupted.ensures.took)
   ];
 }

@@ -1,5 +1,6 @@
-use Rattle.std.proofs.Common.{◌+◌, ◌++◌, List, ℕ, ap, arith, length, length-drop, refl, subst, sym, take, take-append-drop, ◌∙◌}
-use Rattle.pmb_json.specs.declared.engine.Inside.{Inside}
+use Rattle.std.proofs.Common.{◌+◌, ◌++◌, List, ℕ, ap, arith, length, length-drop, refl, subst, sym, take}
+use Rattle.std.proofs.Common.{take-append-drop, ◌∙◌}
+use Rattle.pmb_json.specs.declared.engine.EngineState.{EngineState}
 use Rattle.pmb_json.specs.declared.engine.Json.{Json}
 use Rattle.pmb_json.specs.machine.Standing.{StandsIn, json_bad_words, json_choice, json_profile}
 use Rattle.pmb_json.proofs.MetWords.{line_goes_on}
@@ -17,12 +18,14 @@ returns-in-None-clause-takes c start given text is stands =
     let new : Json = record old { stream = c.take_text.new.self } in
     let behind = stands.1.behind in
     let taken = c.take_text.ensures in
-    subst (λ (i : Inside). StandsIn i start new (given ++ bytes) text) (sym is) (
+    subst (λ (i : EngineState). StandsIn i start new (given ++ bytes) text) (sym is) (
       stands.0,
       record {
         made = made_on start old new stands.1.made refl refl taken.same;
-        behind = behind_taken (json_choice start) (json_profile start) (json_bad_words start) _ _ given text bytes behind
-            (line_goes_on (json_choice start) (json_profile start) behind.b bytes bytes behind.used behind.put old.stream new.stream refl c.in-None.ensures.line taken.knows behind.holds);
+        behind = behind_taken (json_choice start) (json_profile start) (json_bad_words start) _ _ given text bytes
+            behind
+            (line_goes_on (json_choice start) (json_profile start) behind.b bytes bytes behind.used behind.put
+            old.stream new.stream refl c.in-None.ensures.line taken.knows behind.holds);
       },
     )
 
@@ -37,7 +40,8 @@ returns-in-Some-clause-takes c start given text is stands =
     let made = stands.1.made in
     let stream = c.begin_anew.new.self in record {
       front = take (count + 1) bytes;
-      split = sym (take-append-drop (count + 1) bytes) ∙ ap (λ (l : List ℕ). take (count + 1) bytes ++ l) (sym c.behind.ensures.rest);
+      split = sym (take-append-drop (count + 1) bytes) ∙ ap (λ (l : List ℕ). take (count + 1) bytes ++ l)
+          (sym c.behind.ensures.rest);
       stands = record {
         made = record {
           choice = begun.same.choice ∙ (taken.same.choice ∙ made.choice);
@@ -45,12 +49,20 @@ returns-in-Some-clause-takes c start given text is stands =
           reads = begun.same.profile ∙ (taken.same.profile ∙ made.reads);
           bad_words = made.bad_words;
         };
-        behind = begins_anew (json_choice start) (json_profile start) (json_bad_words start) given text bytes count old.stream c.take_text-in-Some.new.self stream _ stands.0 c.in-Some.ensures.line
-            c.texts_may_be_cut_between_words.ensures.lines (begun.same.choice ∙ (taken.same.choice ∙ made.choice)) (begun.same.profile ∙ (taken.same.profile ∙ made.reads))
-            (subst (λ (p : List DeviceParts). ScanStandsAt c.new-self.result (at_start p)) made.profile c.new-self.ensures) taken.knows begun.begins stands.1.behind;
+        behind = begins_anew (json_choice start) (json_profile start) (json_bad_words start) given text bytes count
+            old.stream c.take_text-in-Some.new.self stream _ stands.0 c.in-Some.ensures.line
+            c.texts_may_be_cut_between_words.ensures.lines (begun.same.choice ∙ (taken.same.choice ∙ made.choice))
+            (begun.same.profile ∙ (taken.same.profile ∙ made.reads))
+            (subst (λ (p : List DeviceParts). ScanStandsAt c.new-self.result (at_start p)) made.profile
+            c.new-self.ensures) taken.knows begun.begins stands.1.behind;
       };
     }
 
 pub returns-in-Some-clause-less : goal.returns-in-Some-clause-less
 returns-in-Some-clause-less c =
-    omega (arith, ap (λ (l : List ℕ). length l) c.behind.ensures.rest, length-drop (c.in-Some.count + 1) c.args.bytes.now, c.in-Some.ensures.within)
+    omega (
+      arith,
+      ap (λ (l : List ℕ). length l) c.behind.ensures.rest,
+      length-drop (c.in-Some.count + 1) c.args.bytes.now,
+      c.in-Some.ensures.within,
+    )

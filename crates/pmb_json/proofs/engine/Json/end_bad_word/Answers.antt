@@ -2,14 +2,15 @@ use Rattle.std.proofs.Common.{◌++◌, ◌∷◌, [], List, refl, subst, sym, �
 use Rattle.pmb_bus.specs.Text.{open_word}
 use Rattle.pmb_io.specs.Count.{capped}
 use Rattle.pmb_io.specs.Outgoing.{PutsText}
-use Rattle.pmb_json.specs.declared.engine.Inside.TheVariants as inside
+use Rattle.pmb_json.specs.declared.engine.EngineState.TheVariants as inside
 use Rattle.pmb_json.specs.declared.engine.Json.{Json}
-use Rattle.pmb_json.specs.machine.Standing.{behind_bytes, json_bad_words, json_choice, json_profile, json_tally, last_word_objects}
+use Rattle.pmb_json.specs.machine.Standing.{behind_bytes, json_bad_words, json_choice, json_profile, json_tally}
+use Rattle.pmb_json.specs.machine.Standing.{last_word_objects}
 use Rattle.pmb_json.proofs.Steps.{drops_line, made_on, stops_json}
-use Rattle.pmb_objects.specs.BadToken.{bad_token_object}
-use Rattle.pmb_objects.specs.Object.{Object, object_lines}
+use Rattle.pmb_json_objects.specs.BadToken.{bad_token_object}
+use Rattle.pmb_json_objects.specs.Object.{Object, object_lines}
 use Rattle.pmb_places.specs.Places.{place_of_last_word}
-use Rattle.pmb_stream.specs.Choice.{ChoiceData}
+use Rattle.pmb_json_stream.specs.Choice.{ChoiceData}
 use Rattle.pmb_json.proofs.engine.Json.end_bad_word.Goals as goal
 
 -- reading ends there
@@ -23,9 +24,12 @@ returns-in_ok-put_last_word-in-End-clause-takes g c start given text stands =
     let put = c.in_ok-put_last_word-in-End.ensures in
     let said = object_lines choice.devices (last_word_objects b) in record {
       text = said;
-      writes = subst (λ (k : ChoiceData). PutsText (g.W.Sink.told c.args.writer.now).held c.args.waiting.now.items (g.W.Sink.told c.put_last_word.new.writer).held c.put_last_word.new.waiting.items (object_lines k.devices (last_word_objects b)))
+      writes = subst (λ (k : ChoiceData). PutsText (g.W.Sink.told c.args.writer.now).held c.args.waiting.now.items
+          (g.W.Sink.told c.put_last_word.new.writer).held c.put_last_word.new.waiting.items
+          (object_lines k.devices (last_word_objects b)))
           stands.made.choice (put.puts b knows);
-      holds = stops_json choice (json_profile start) (json_bad_words start) given text laws.opened laws.placed c.args.rest.now c.args.self.now.stream behind said (json_tally c.put_last_word.new.self)
+      holds = stops_json choice (json_profile start) (json_bad_words start) given text laws.opened laws.placed
+          c.args.rest.now c.args.self.now.stream behind said (json_tally c.put_last_word.new.self)
           (sym stands.made.bad_words ∙ c.in-End.is) refl (put.knows b knows).tally;
     }
 
@@ -43,13 +47,15 @@ returns-in_ok-put_bad_word-in-GoOn-clause-takes g c start given text stands =
     let said = object_lines choice.devices word in
     let new : Json = record old { stream = c.put_bad_word.new.self; inside = inside.BadLine } in record {
       text = said;
-      writes = subst (λ (k : ChoiceData). PutsText (g.W.Sink.told c.args.writer.now).held c.args.waiting.now.items (g.W.Sink.told c.put_bad_word.new.writer).held c.put_bad_word.new.waiting.items (object_lines k.devices word))
+      writes = subst (λ (k : ChoiceData). PutsText (g.W.Sink.told c.args.writer.now).held c.args.waiting.now.items
+          (g.W.Sink.told c.put_bad_word.new.writer).held c.put_bad_word.new.waiting.items (object_lines k.devices word))
           stands.made.choice (put.puts b knows);
       holds = c.drop_line.ensures.takes start given (text ++ said) refl (
         sym stands.made.bad_words ∙ c.in-GoOn.is,
         record {
           made = made_on start old new stands.made refl refl put.same;
-          behind = drops_line choice (json_profile start) (json_bad_words start) given text laws.opened laws.placed c.args.rest.now old.stream behind said new.stream refl (put.knows b knows);
+          behind = drops_line choice (json_profile start) (json_bad_words start) given text laws.opened laws.placed
+              c.args.rest.now old.stream behind said new.stream refl (put.knows b knows);
         },
       );
     }

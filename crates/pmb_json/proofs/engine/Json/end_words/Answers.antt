@@ -5,17 +5,18 @@ use Rattle.pmb_io.specs.Engines.{PutsOut}
 use Rattle.pmb_io.specs.Outgoing.{PutsText}
 use Rattle.pmb_io.proofs.Writing.{on_ok_both, writes_then}
 use Rattle.pmb_json.specs.Text.{WritesJson}
-use Rattle.pmb_json.specs.machine.Standing.{behind_bytes, json_bad_words, json_choice, json_profile, json_tally, last_word_objects}
+use Rattle.pmb_json.specs.machine.Standing.{behind_bytes, json_bad_words, json_choice, json_profile, json_tally}
+use Rattle.pmb_json.specs.machine.Standing.{last_word_objects}
 use Rattle.pmb_json.proofs.MetWords.{met, met_knows}
 use Rattle.pmb_json.proofs.Reading.{ends_json, ends_met, reads_end}
 use Rattle.pmb_json.proofs.Steps.{behind_put, ends_in_word}
-use Rattle.pmb_objects.specs.Counts.{end_objects}
-use Rattle.pmb_objects.specs.Object.{object_lines}
+use Rattle.pmb_json_objects.specs.Counts.{end_objects}
+use Rattle.pmb_json_objects.specs.Object.{object_lines}
 use Rattle.pmb_scan.specs.Scan.{TakesEnd, end_spans}
 use Rattle.pmb_spans.specs.Spans.{moved_spans}
-use Rattle.pmb_stream.specs.Choice.{ChoiceData}
-use Rattle.pmb_stream.specs.Spans.{after_spans, event_place, span_objects, transactions_in}
-use Rattle.pmb_stream.specs.Stream.{StreamStands, stream_profile}
+use Rattle.pmb_json_stream.specs.Choice.{ChoiceData}
+use Rattle.pmb_json_stream.specs.Spans.{after_spans, event_place, span_objects, transactions_in}
+use Rattle.pmb_json_stream.specs.Stream.{StreamStands, stream_profile}
 use Rattle.pmb_json.proofs.engine.Json.end_words.Goals as goal
 
 -- the bytes spell events
@@ -28,8 +29,10 @@ returns-in-None-clause-ends g c start bytes text stands =
     let b = behind.b in
     let words = behind.holds in
     let stream = c.take_end.new.visitor in
-    let taken = subst (λ end. PutsOut (λ more. TakesEnd (StreamStands words.begun stream) words.reached end c.take_end.new.self (behind.put ++ more))
-    (g.W.Sink.told c.args.writer.now).held c.args.waiting.now.items (g.W.Sink.told c.take_end.new.writer).held c.take_end.new.waiting.items) c.in-None.is
+    let taken = subst (λ end. PutsOut (λ more. TakesEnd (StreamStands words.begun stream) words.reached end
+    c.take_end.new.self (behind.put ++ more))
+    (g.W.Sink.told c.args.writer.now).held c.args.waiting.now.items (g.W.Sink.told c.take_end.new.writer).held
+    c.take_end.new.waiting.items) c.in-None.is
     (c.in_ok-take_end.ensures.takes words.begun words.reached behind.put words.scans words.told) in
     let ends = taken.holds in
     let there = ends.there in
@@ -38,17 +41,24 @@ returns-in-None-clause-ends g c start bytes text stands =
     let end = c.truncation.ensures there ends.reads in
     let counts = after_spans b.counts (there.spans ++ last) in
     let objects = λ (k : ChoiceData) (p : List DeviceParts).
-    object_lines k.devices (span_objects k p (event_place b.read b.n there.text) (b.ts ++ transactions_in there.spans) (moved_spans b.n last) ++ end_objects counts) in
+    object_lines k.devices (span_objects k p (event_place b.read b.n there.text) (b.ts ++ transactions_in there.spans)
+    (moved_spans b.n last) ++ end_objects counts) in
     let said = objects choice profile in
     let spells = subst (λ (l : List ℕ). Spells l there.events) (sym ends.same_text) ends.spells in
     let puts = c.put_end.ensures.puts b there told.at spells end in
-    let reads = reads_end choice profile b old.scan old.stream behind.used behind.put words taken.text said c.take_end.new.self stream last c.spans_move.ensures ends end refl in
+    let reads = reads_end choice profile b old.scan old.stream behind.used behind.put words taken.text said
+    c.take_end.new.self stream last c.spans_move.ensures ends end refl in
     on_ok_both c.put_end.result (λ put tallied. record {
       text = taken.text ++ said;
       writes = writes_then _ _ _ _ _ _ taken.text said taken.writes
-          (subst (λ (p : List DeviceParts). PutsText (g.W.Sink.told c.take_end.new.writer).held c.take_end.new.waiting.items (g.W.Sink.told c.put_end.new.writer).held c.put_end.new.waiting.items (objects choice p)) (told.same.profile ∙ words.same_profile)
-          (subst (λ (k : ChoiceData). PutsText (g.W.Sink.told c.take_end.new.writer).held c.take_end.new.waiting.items (g.W.Sink.told c.put_end.new.writer).held c.put_end.new.waiting.items (objects k (stream_profile stream))) (told.same.choice ∙ words.same_choice) put));
-      holds = ends_json choice profile (json_bad_words start) _ bytes text (taken.text ++ said) counts _ behind reads tallied;
+          (subst (λ (p : List DeviceParts). PutsText (g.W.Sink.told c.take_end.new.writer).held
+          c.take_end.new.waiting.items (g.W.Sink.told c.put_end.new.writer).held c.put_end.new.waiting.items
+          (objects choice p)) (told.same.profile ∙ words.same_profile)
+          (subst (λ (k : ChoiceData). PutsText (g.W.Sink.told c.take_end.new.writer).held c.take_end.new.waiting.items
+          (g.W.Sink.told c.put_end.new.writer).held c.put_end.new.waiting.items (objects k (stream_profile stream)))
+          (told.same.choice ∙ words.same_choice) put));
+      holds = ends_json choice profile (json_bad_words start) _ bytes text (taken.text ++ said) counts _ behind reads
+          tallied;
     }) puts (c.put_end.ensures.tally b there told.at end)
 
 -- they end in a word that is no token
@@ -62,8 +72,10 @@ returns-in-Some-clause-ends g c start bytes text stands =
     let words = behind.holds in
     let laws = c.bad_words_stand_there.ensures in
     let stream = c.take_end.new.visitor in
-    let taken = subst (λ end. PutsOut (λ more. TakesEnd (StreamStands words.begun stream) words.reached end c.take_end.new.self (behind.put ++ more))
-    (g.W.Sink.told c.args.writer.now).held c.args.waiting.now.items (g.W.Sink.told c.take_end.new.writer).held c.take_end.new.waiting.items) c.in-Some.is
+    let taken = subst (λ end. PutsOut (λ more. TakesEnd (StreamStands words.begun stream) words.reached end
+    c.take_end.new.self (behind.put ++ more))
+    (g.W.Sink.told c.args.writer.now).held c.args.waiting.now.items (g.W.Sink.told c.take_end.new.writer).held
+    c.take_end.new.waiting.items) c.in-Some.is
     (c.in_ok-take_end.ensures.takes words.begun words.reached behind.put words.scans words.told) in
     let ends = taken.holds in
     let there = words.reached in
@@ -72,15 +84,22 @@ returns-in-Some-clause-ends g c start bytes text stands =
     let end = c.truncation-in-Some.ensures there ends.reads in
     let front = laws.begun there.text in
     let bad = met choice profile b there front.0 in
-    let is = ends_met choice profile b old.scan old.stream behind.used behind.put words taken.text _ c.take_end.new.self stream last c.spans_move.ensures laws.begun laws.under_way ends end in
+    let is = ends_met choice profile b old.scan old.stream behind.used behind.put words taken.text _ c.take_end.new.self
+    stream last c.spans_move.ensures laws.begun laws.under_way ends end in
     let knows = met_knows choice profile b there front.0 stream front.1 told.at.knows in
     let said = object_lines choice.devices (last_word_objects (behind_bytes b bad)) in
-    let later = behind_put choice profile (json_bad_words start) _ (λ at used put. Unit {0}) bytes text taken.text behind tt in
+    let later = behind_put choice profile (json_bad_words start) _ (λ at used put. Unit {0}) bytes text taken.text
+    behind tt in
     on_ok_both c.put_last_word.result (λ put after. record {
       text = taken.text ++ said;
       writes = writes_then _ _ _ _ _ _ taken.text said taken.writes
-          (subst (λ (k : ChoiceData). PutsText (g.W.Sink.told c.take_end.new.writer).held c.take_end.new.waiting.items (g.W.Sink.told c.put_last_word.new.writer).held c.put_last_word.new.waiting.items (object_lines k.devices (last_word_objects (behind_bytes b bad))))
+          (subst (λ (k : ChoiceData). PutsText (g.W.Sink.told c.take_end.new.writer).held c.take_end.new.waiting.items
+          (g.W.Sink.told c.put_last_word.new.writer).held c.put_last_word.new.waiting.items
+          (object_lines k.devices (last_word_objects (behind_bytes b bad))))
           (told.same.choice ∙ words.same_choice) put);
-      holds = subst (λ (l : List ℕ). WritesJson choice profile (json_bad_words start) bytes l (json_tally c.put_last_word.new.self)) (append_assoc text taken.text said)
-          (ends_in_word choice profile (json_bad_words start) bytes (text ++ taken.text) _ later laws.opened laws.placed bad said (json_tally c.put_last_word.new.self) is.1 is.0 (laws.under_way there.text) is.2 refl after.tally);
-    }) (c.put_last_word.ensures.puts (behind_bytes b bad) knows) (c.put_last_word.ensures.knows (behind_bytes b bad) knows)
+      holds = subst (λ (l : List ℕ). WritesJson choice profile (json_bad_words start) bytes l
+          (json_tally c.put_last_word.new.self)) (append_assoc text taken.text said)
+          (ends_in_word choice profile (json_bad_words start) bytes (text ++ taken.text) _ later laws.opened laws.placed
+          bad said (json_tally c.put_last_word.new.self) is.1 is.0 (laws.under_way there.text) is.2 refl after.tally);
+    }) (c.put_last_word.ensures.puts (behind_bytes b bad) knows)
+    (c.put_last_word.ensures.knows (behind_bytes b bad) knows)

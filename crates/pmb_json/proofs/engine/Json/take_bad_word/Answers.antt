@@ -1,8 +1,10 @@
-use Rattle.std.proofs.Common.{◌≡◌, ◌++◌, ◌+◌, ◌≤◌, ◌⊎◌, [], List, ℕ, ap, arith, drop, length, length-take-le, refl, subst, sym, take, take-append-drop, ◌∙◌}
+use Rattle.std.proofs.Common.{◌≡◌, ◌++◌, ◌+◌, ◌≤◌, ◌⊎◌, [], List, ℕ, ap, arith, drop, length, length-take-le, refl}
+use Rattle.std.proofs.Common.{subst, sym, take, take-append-drop, ◌∙◌}
 use Rattle.pmb_bus.specs.Text.{front_word, open_word}
-use Rattle.pmb_json.specs.declared.engine.Inside.{Inside}
+use Rattle.pmb_json.specs.declared.engine.EngineState.{EngineState}
 use Rattle.pmb_json.specs.declared.engine.Json.{Json}
-use Rattle.pmb_json.specs.machine.Standing.{Behind, BehindBadWord, StandsIn, behind_bytes, json_bad_words, json_choice, json_profile}
+use Rattle.pmb_json.specs.machine.Standing.{Behind, BehindBadWord, StandsIn, behind_bytes, json_bad_words, json_choice}
+use Rattle.pmb_json.specs.machine.Standing.{json_profile}
 use Rattle.pmb_json.proofs.Steps.{behind_taken, goes_on, is_behind, made_on, waits}
 use Rattle.pmb_json.proofs.Taking.{line_then, puts_none}
 use Rattle.pmb_io.proofs.Writing.{writes_nothing}
@@ -24,15 +26,18 @@ returns-then-not-is_over-clause-takes g c start given text is stands =
     let taken = c.take_text.ensures in
     let word = take count bytes in
     let rest = c.behind-rest.result.now in
-    let split : bytes ≡ word ++ rest = sym (take-append-drop count bytes) ∙ ap (λ (l : List ℕ). word ++ l) (sym c.behind-rest.ensures.rest) in
+    let split : bytes ≡ word ++ rest = sym (take-append-drop count bytes)
+    ∙ ap (λ (l : List ℕ). word ++ l) (sym c.behind-rest.ensures.rest) in
     let over = c.if-not-is_over.ensures in
-    let later = goes_on choice profile laws.opened behind.b behind.between bytes word rest behind.used behind.put old.stream new.stream split c.word_bytes-count.ensures.word taken.knows has in
+    let later = goes_on choice profile laws.opened behind.b behind.between bytes word rest behind.used behind.put
+    old.stream new.stream split c.word_bytes-count.ensures.word taken.knows has in
     puts_none (λ t. StandsIn new.inside start new (given ++ bytes) t) _ _ text
-    (subst (λ (i : Inside). StandsIn i start new (given ++ bytes) text) (sym is)
+    (subst (λ (i : EngineState). StandsIn i start new (given ++ bytes) text) (sym is)
     (record {
       made = made_on start old new stands.made refl refl taken.same;
       behind = behind_taken choice profile (json_bad_words start) _ _ given text bytes behind
-          (waits choice profile laws.opened behind.b behind.between bytes word rest behind.used behind.put old.stream new.stream split c.word_bytes-count.ensures.word taken.knows has over.0
+          (waits choice profile laws.opened behind.b behind.between bytes word rest behind.used behind.put old.stream
+          new.stream split c.word_bytes-count.ensures.word taken.knows has over.0
           (omega (arith, over.1, c.word_length-2.ensures.kept (behind_bytes behind.b later.bad) later.knows)));
     }))
 
@@ -51,21 +56,28 @@ returns-clause-takes g c start given text is stands =
     let taken = c.take_text.ensures in
     let word = take count bytes in
     let rest = c.behind-rest.result.now in
-    let split : bytes ≡ word ++ rest = sym (take-append-drop count bytes) ∙ ap (λ (l : List ℕ). word ++ l) (sym c.behind-rest.ensures.rest) in
+    let split : bytes ≡ word ++ rest = sym (take-append-drop count bytes)
+    ∙ ap (λ (l : List ℕ). word ++ l) (sym c.behind-rest.ensures.rest) in
     let solid = c.word_bytes-count.ensures.word in
-    let later = goes_on choice profile laws.opened behind.b behind.between bytes word rest behind.used behind.put old.stream new.stream split solid taken.knows has in
+    let later = goes_on choice profile laws.opened behind.b behind.between bytes word rest behind.used behind.put
+    old.stream new.stream split solid taken.knows has in
     let had = c.word_length.ensures.kept (behind_bytes behind.b has.bad) has.knows in
     let has_now = c.word_length-2.ensures.kept (behind_bytes behind.b later.bad) later.knows in
     let counted : count ≡ length word = sym (length-take-le count bytes c.word_bytes-count.ensures.within) in
-    let stops = subst (λ (l : List ℕ). (front_word l ≡ []) ⊎ (32 ≤ length (take 32 (open_word (behind_bytes behind.b has.bad).read)) + length word)) (sym c.behind-rest.ensures.rest)
-    (subst (λ (n : ℕ). (front_word (drop count bytes) ≡ []) ⊎ (32 ≤ length (take 32 (open_word (behind_bytes behind.b has.bad).read)) + n)) counted
+    let stops = subst (λ (l : List ℕ). (front_word l ≡ [])
+    ⊎ (32 ≤ length (take 32 (open_word (behind_bytes behind.b has.bad).read)) + length word))
+    (sym c.behind-rest.ensures.rest)
+    (subst (λ (n : ℕ). (front_word (drop count bytes) ≡ [])
+    ⊎ (32 ≤ length (take 32 (open_word (behind_bytes behind.b has.bad).read)) + n)) counted
     (subst (λ (n : ℕ). (front_word (drop count bytes) ≡ []) ⊎ (32 ≤ n + count)) had c.word_bytes-count.ensures.over)) in
     let over = subst (λ (n : ℕ). ((rest ≡ []) → ⊥) ⊎ (32 ≤ n)) has_now c.if-not-is_over.ensures in
     line_then c.end_bad_word.result start _ given word rest bytes text [] _ _ _ _ _ _ split (writes_nothing _ _)
     (c.end_bad_word.ensures.takes start (given ++ word) (text ++ [])
     (record {
       made = made_on start old new stands.made refl refl taken.same;
-      behind = subst (λ (t : List ℕ). Behind choice profile (json_bad_words start) (BehindBadWord choice profile rest new.stream) (given ++ word) t) (sym (append-nil text))
+      behind = subst (λ (t : List ℕ). Behind choice profile (json_bad_words start)
+          (BehindBadWord choice profile rest new.stream) (given ++ word) t) (sym (append-nil text))
           (behind_taken choice profile (json_bad_words start) _ _ given text word behind
-          (is_behind choice profile laws.opened behind.b behind.between bytes word rest behind.used behind.put old.stream new.stream split solid taken.knows has stops over));
+          (is_behind choice profile laws.opened behind.b behind.between bytes word rest behind.used behind.put
+          old.stream new.stream split solid taken.knows has stops over));
     }))

@@ -2,26 +2,28 @@ use Rattle.std.proofs.Common.{[], refl, subst}
 use Rattle.std.proofs.lemmas.Result.{on_ok_weaker}
 use Rattle.pmb_io.specs.Outgoing.{PutsText}
 use Rattle.pmb_io.proofs.Writing.{on_ok_both}
-use Rattle.pmb_json.specs.declared.engine.Inside.{Inside}
-use Rattle.pmb_json.specs.machine.Standing.{StandsIn, behind_bytes, behind_object, json_bad_words, json_choice, json_profile, json_tally, last_word_objects}
+use Rattle.pmb_json.specs.declared.engine.EngineState.{EngineState}
+use Rattle.pmb_json.specs.machine.Standing.{StandsIn, behind_bytes, behind_object, json_bad_words, json_choice}
+use Rattle.pmb_json.specs.machine.Standing.{json_profile, json_tally, last_word_objects}
 use Rattle.pmb_json.proofs.Fronts.{bad_line_now}
 use Rattle.pmb_json.proofs.Steps.{ends_in_line, ends_in_word}
 use Rattle.pmb_json.proofs.Words.{solid_no_lf}
-use Rattle.pmb_objects.specs.Counts.{end_objects}
-use Rattle.pmb_objects.specs.Object.{object_lines}
-use Rattle.pmb_stream.specs.Choice.{ChoiceData}
+use Rattle.pmb_json_objects.specs.Counts.{end_objects}
+use Rattle.pmb_json_objects.specs.Object.{object_lines}
+use Rattle.pmb_json_stream.specs.Choice.{ChoiceData}
 use Rattle.pmb_json.proofs.engine.JsonEngine.end.Goals as goal
 
 pub returns-in-Words-clause-ends : goal.returns-in-Words-clause-ends
 returns-in-Words-clause-ends g c start bytes text stands =
-    c.end_words.ensures.ends start bytes text (subst (λ (i : Inside). StandsIn i start c.args.self.now bytes text) c.in-Words.is stands)
+    c.end_words.ensures.ends start bytes text
+    (subst (λ (i : EngineState). StandsIn i start c.args.self.now bytes text) c.in-Words.is stands)
 
 -- in a word that is no token
 pub returns-in-BadWord-clause-ends : goal.returns-in-BadWord-clause-ends
 returns-in-BadWord-clause-ends g c start bytes text stands =
     let choice = json_choice start in
     let profile = json_profile start in
-    let word = subst (λ (i : Inside). StandsIn i start c.args.self.now bytes text) c.in-BadWord.is stands in
+    let word = subst (λ (i : EngineState). StandsIn i start c.args.self.now bytes text) c.in-BadWord.is stands in
     let laws = c.bad_words_stand_there.ensures in
     let behind = word.behind in
     let has = behind.holds.word in
@@ -29,9 +31,13 @@ returns-in-BadWord-clause-ends g c start bytes text stands =
     let said = object_lines choice.devices (last_word_objects b) in
     on_ok_both c.put_last_word.result (λ put after. record {
       text = said;
-      writes = subst (λ (k : ChoiceData). PutsText (g.W.Sink.told c.args.writer.now).held c.args.waiting.now.items (g.W.Sink.told c.put_last_word.new.writer).held c.put_last_word.new.waiting.items (object_lines k.devices (last_word_objects b))) word.made.choice put;
-      holds = ends_in_word choice profile (json_bad_words start) bytes text _ behind laws.opened laws.placed has.bad said (json_tally c.put_last_word.new.self) has.is_text
-          (bad_line_now choice profile behind.b has.bad has.so_far (solid_no_lf has.bad.line has.under_way)) has.under_way (has.lines []) refl after.tally;
+      writes = subst (λ (k : ChoiceData). PutsText (g.W.Sink.told c.args.writer.now).held c.args.waiting.now.items
+          (g.W.Sink.told c.put_last_word.new.writer).held c.put_last_word.new.waiting.items
+          (object_lines k.devices (last_word_objects b))) word.made.choice put;
+      holds = ends_in_word choice profile (json_bad_words start) bytes text _ behind laws.opened laws.placed has.bad
+          said (json_tally c.put_last_word.new.self) has.is_text
+          (bad_line_now choice profile behind.b has.bad has.so_far (solid_no_lf has.bad.line has.under_way))
+          has.under_way (has.lines []) refl after.tally;
     }) (c.put_last_word.ensures.puts b has.knows) (c.put_last_word.ensures.knows b has.knows)
 
 -- in the rest of its line
@@ -39,14 +45,18 @@ pub returns-in-BadLine-clause-ends : goal.returns-in-BadLine-clause-ends
 returns-in-BadLine-clause-ends g c start bytes text stands =
     let choice = json_choice start in
     let profile = json_profile start in
-    let line = subst (λ (i : Inside). StandsIn i start c.args.self.now bytes text) c.in-BadLine.is stands in
+    let line = subst (λ (i : EngineState). StandsIn i start c.args.self.now bytes text) c.in-BadLine.is stands in
     let behind = line.1.behind in
     let has = behind.holds in
     let b = behind_object behind.b has.bad in
     let said = object_lines choice.devices (end_objects b.counts) in
     on_ok_weaker c.put_counts.result (λ put. record {
       text = said;
-      writes = subst (λ (k : ChoiceData). PutsText (g.W.Sink.told c.args.writer.now).held c.args.waiting.now.items (g.W.Sink.told c.put_counts.new.writer).held c.put_counts.new.waiting.items (object_lines k.devices (end_objects b.counts))) line.1.made.choice put;
-      holds = ends_in_line choice profile (json_bad_words start) bytes text _ behind has.bad said (json_tally c.args.self.now) has.is_text
-          (bad_line_now choice profile behind.b has.bad has.so_far has.in_line) (has.lines [] [] [] refl tt) refl has.knows.tally;
+      writes = subst (λ (k : ChoiceData). PutsText (g.W.Sink.told c.args.writer.now).held c.args.waiting.now.items
+          (g.W.Sink.told c.put_counts.new.writer).held c.put_counts.new.waiting.items
+          (object_lines k.devices (end_objects b.counts))) line.1.made.choice put;
+      holds = ends_in_line choice profile (json_bad_words start) bytes text _ behind has.bad said
+          (json_tally c.args.self.now) has.is_text
+          (bad_line_now choice profile behind.b has.bad has.so_far has.in_line)
+          (has.lines [] [] [] refl tt) refl has.knows.tally;
     }) (c.put_counts.ensures.puts b has.knows)

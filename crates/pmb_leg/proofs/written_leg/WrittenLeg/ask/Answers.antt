@@ -14,7 +14,8 @@ read_byte : (c : After-restart) → c.read_address.result ≡ read_address c.sel
 read_byte c = omega (arith, c.address.ensures.address, c.address.ensures.seven_bits, c.read_address.ensures.low_bits)
 
 -- the code over the read address too
-goes_on : (c : After-restart) (bytes : List ℕ) → pec bytes ≡ c.self.inside.crc → c.pec_next-code.result ≡ pec (bytes ++ read_address c.self.inside.device.now.address ∷ [])
+goes_on : (c : After-restart) (bytes : List ℕ) → pec bytes ≡ c.self.inside.crc
+    → c.pec_next-code.result ≡ pec (bytes ++ read_address c.self.inside.device.now.address ∷ [])
 goes_on c bytes so_far =
     c.pec_next-code.ensures.goes_on bytes so_far ∙ ap (λ (b : ℕ). pec (bytes ++ b ∷ [])) (read_byte c)
 
@@ -27,14 +28,17 @@ request c =
     subst P (sym c.self.view_is) c.requires.asked
 
 has_form : (c : After-restart) → reply_form c.self.inside.forms c.self.inside.bytes.items ≡ Some c.in-Some.form
-has_form c = ap (reply_form c.self.inside.forms) (sym c.as_slice.ensures.value) ∙ sym c.reply_form-form.ensures ∙ c.in-Some.is
+has_form c = ap (reply_form c.self.inside.forms) (sym c.as_slice.ensures.value) ∙ sym c.reply_form-form.ensures
+    ∙ c.in-Some.is
 
 pub returns-in-Some-clause-answers : goal.returns-in-Some-clause-answers
 returns-in-Some-clause-answers c all =
     rw (← c.self.view_is, c.restart.ensures, c.pec.ensures)
-    (leg_answers (kept c.self.inside) c.in-Some.form c.pec_next-code.result (alike c) (goes_on c) c.self.inside.bytes.items c.self.invariant (request c) (has_form c) all)
+    (leg_answers (kept c.self.inside) c.in-Some.form c.pec_next-code.result (alike c)
+    (goes_on c) c.self.inside.bytes.items c.self.invariant (request c) (has_form c) all)
 
 pub returns-in-Some-clause-says : goal.returns-in-Some-clause-says
 returns-in-Some-clause-says c reply with_pec all =
     rw (← c.self.view_is, c.restart.ensures, c.pec.ensures)
-    (leg_says (kept c.self.inside) c.in-Some.form c.pec_next-code.result (alike c) (goes_on c) c.self.inside.bytes.items c.self.invariant (request c) (has_form c) reply with_pec all)
+    (leg_says (kept c.self.inside) c.in-Some.form c.pec_next-code.result (alike c) (goes_on c) c.self.inside.bytes.items
+    c.self.invariant (request c) (has_form c) reply with_pec all)

@@ -9,4 +9,5 @@ returns-clause-some c =
     let len = c.word_len-len.result in
     let text = take (length w.rest.now - start) (drop start w.rest.now) in
     let whole : text ≡ drop start w.rest.now = take_all start w.rest.now in
-    first_word w.at start len w.rest.now text (c.blanks-start.ensures.passed w.at) whole (omega arith) c.word_len-len.ensures.within c.word_len-len.ensures.each c.word_len-len.ensures.stops
+    first_word w.at start len w.rest.now text (c.blanks-start.ensures.passed w.at) whole
+    (omega arith) c.word_len-len.ensures.within c.word_len-len.ensures.each c.word_len-len.ensures.stops

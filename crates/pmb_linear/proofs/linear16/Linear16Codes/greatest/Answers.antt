@@ -10,4 +10,5 @@ pub returns : goal.returns
 returns g c =
     let f = linear16 g.W.Word.number c.args.self.now in
     let row = linear16_row g.W.Word.at g.W.Word.least_number c.args.self.now in
-    subst (IsGreatest f) (sym c.at.ensures) (last_is_greatest f row (rises-linear16 g.W.Word.number g.W.Word.at g.W.Word.least_number c.args.self.now c.counts.ensures))
+    subst (IsGreatest f) (sym c.at.ensures) (last_is_greatest f row
+    (rises-linear16 g.W.Word.number g.W.Word.at g.W.Word.least_number c.args.self.now c.counts.ensures))

@@ -5,4 +5,5 @@ use Rattle.pmb_note.proofs.context.Context.append_note.Goals as goal
 
 pub returns-clause-note : goal.returns-clause-note
 returns-clause-note g c = λ profile ts seen.
-    c.append_text.ensures.items ∙ ap (λ (text : List ℕ). c.args.out.now.items ++ text) (note_is c.args.self.now profile ts seen (transaction_data c.args.transaction.now))
+    c.append_text.ensures.items ∙ ap (λ (text : List ℕ). c.args.out.now.items ++ text)
+    (note_is c.args.self.now profile ts seen (transaction_data c.args.transaction.now))

@@ -10,6 +10,7 @@ use Rattle.pmb_note.proofs.context.Context.append_parts.Given as goal
 -- the parts so far
 abbrev pub invariant-loop-part : goal.invariant-loop-part
 invariant-loop-part g l = record {
-  text : Appends (flat_map (part_behind (part_text l.self.profile.now (mode_in l.self))) (map part_data (take l.part-index l.rest))) (323 * l.part-index) l.initial.out.items l.out.items;
+  text : Appends (flat_map (part_behind (part_text l.self.profile.now (mode_in l.self)))
+      (map part_data (take l.part-index l.rest))) (323 * l.part-index) l.initial.out.items l.out.items;
   room : length l.out.items ≤ length l.fn.out.items + 320 + 323 * l.part-index;
 }

@@ -10,6 +10,7 @@ returns c = record {
     long = omega (arith, c.loop-address.invariant.long, c.loop-address-test.false, c.loop-address.auto.address-end);
     each = λ addr device known.
         let is = device_is c.args.profile.now addr device c.accepted_bus.ensures known in
-        c.loop-address.invariant.each addr device (omega (arith, is.0.address.greatest, is.1, c.loop-address-test.false)) known;
+        c.loop-address.invariant.each addr device
+        (omega (arith, is.0.address.greatest, is.1, c.loop-address-test.false)) known;
   };
 }

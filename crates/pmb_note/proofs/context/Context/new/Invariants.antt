@@ -7,5 +7,6 @@ use Rattle.pmb_note.proofs.context.Context.new.Given as goal
 abbrev pub invariant-loop-address : goal.invariant-loop-address
 invariant-loop-address l = record {
   long : length l.pagings.items ≡ l.address;
-  each : (addr : ℕ) (device : DeviceParts) → addr < l.address → device_with addr l.profile ≡ Some device → slice_get l.pagings.items addr ≡ Some (first_paging device);
+  each : (addr : ℕ) (device : DeviceParts) → addr < l.address → device_with addr l.profile ≡ Some device
+      → slice_get l.pagings.items addr ≡ Some (first_paging device);
 }

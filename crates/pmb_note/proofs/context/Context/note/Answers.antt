@@ -8,6 +8,9 @@ use Rattle.pmb_note.proofs.context.Context.note.Goals as goal
 
 pub unwrap-text-requires : goal.unwrap-text-requires
 unwrap-text-requires c =
-    let text = text_under c.args.self.now.profile.now (mode_in c.args.self.now) (transaction_data c.args.transaction.now) in
-    let written : c.as_slice.result.now ≡ text = c.as_slice.ensures.value ∙ c.append_text.ensures.items ∙ ap (λ (xs : List ℕ). xs ++ text) c.new-bytes.ensures in
-    ok_from_text c.from_utf8.result c.as_slice.result.now _ _ c.from_utf8.ensures.cases (subst IsUtf8 (sym written) c.append_text.ensures.utf8)
+    let text = text_under c.args.self.now.profile.now (mode_in c.args.self.now)
+    (transaction_data c.args.transaction.now) in
+    let written : c.as_slice.result.now ≡ text = c.as_slice.ensures.value ∙ c.append_text.ensures.items
+    ∙ ap (λ (xs : List ℕ). xs ++ text) c.new-bytes.ensures in
+    ok_from_text c.from_utf8.result c.as_slice.result.now _ _ c.from_utf8.ensures.cases
+    (subst IsUtf8 (sym written) c.append_text.ensures.utf8)

@@ -11,8 +11,10 @@ returns-in-One c = λ text stands.
     let out : ends_in_comment text ≡ false = sym stands.comment ∙ c.if-not-self.true in
     let found : Closed text bytes =
     elim c.in-One.is [
-      | inl one ↦ closed_one text bytes (subst (λ (word : ShortWord). IsShortWord word bytes) one c.short_word.ensures) out
-      | inr two ↦ closed_two text bytes (subst (λ (word : ShortWord). IsShortWord word bytes) two c.short_word.ensures) out
+      | inl one ↦ closed_one text bytes (subst (λ (word : ShortWord). IsShortWord word bytes) one c.short_word.ensures)
+          out
+      | inr two ↦ closed_two text bytes (subst (λ (word : ShortWord). IsShortWord word bytes) two c.short_word.ensures)
+          out
     ] in record {
       bytes = c.clear.ensures ∙ sym (ap (λ (word : List ℕ). take 32 word) found.opened);
       comment = c.if-not-self.true ∙ sym found.comment;

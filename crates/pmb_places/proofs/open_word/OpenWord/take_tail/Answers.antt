@@ -12,7 +12,8 @@ returns c = λ text stands.
     let tail = c.of-tail.ensures.tail text stands.comment in
     let before : c.if-tail-gt0.self.bytes.items ≡ cond (from == 0) old [] =
     elim c.if-tail-gt0.branch [
-      | then-tail-gt0 w ↦ ap (λ (s : OpenWord). s.bytes.items) w.self-is ∙ w.clear.ensures ∙ ends from old w.if-tail-gt0.true
+      | then-tail-gt0 w ↦ ap (λ (s : OpenWord). s.bytes.items) w.self-is ∙ w.clear.ensures
+          ∙ ends from old w.if-tail-gt0.true
       | else-tail-gt0 w ↦ ap (λ (s : OpenWord). s.bytes.items) w.self-is ∙ goes_on from old w.if-tail-gt0.false
     ] in
     let comment : c.if-tail-gt0.self.in_comment ≡ c.of-tail.result.in_comment =
@@ -20,7 +21,9 @@ returns c = λ text stands.
       | then-tail-gt0 w ↦ ap (λ (s : OpenWord). s.in_comment) w.self-is
       | else-tail-gt0 w ↦ ap (λ (s : OpenWord). s.in_comment) w.self-is
     ] in record {
-      bytes = taken text c.args.bytes.now old c.if-tail-gt0.self.bytes.items c.keep.new.bytes.items c.of-tail.result.in_comment from tail stands.bytes before
-          (c.keep.ensures ∙ ap (λ (piece : List ℕ). take 32 (c.if-tail-gt0.self.bytes.items ++ piece)) (take_rest c.args.bytes.now from));
+      bytes = taken text c.args.bytes.now old c.if-tail-gt0.self.bytes.items c.keep.new.bytes.items
+          c.of-tail.result.in_comment from tail stands.bytes before
+          (c.keep.ensures ∙ ap (λ (piece : List ℕ). take 32 (c.if-tail-gt0.self.bytes.items ++ piece))
+          (take_rest c.args.bytes.now from));
       comment = comment ∙ tail.comment;
     }

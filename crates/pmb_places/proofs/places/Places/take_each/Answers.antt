@@ -10,7 +10,10 @@ loop-byte-preserved c = λ text stands.
     let bytes = c.args.bytes.now in
     let index = c.loop-byte.byte-index in
     let next = get_or bytes index 0 in
-    subst (λ (given : List ℕ). PlacesStandAt c.take_byte.new.self (text ++ given)) (sym (take_more bytes index 0 (omega arith)))
-    (subst (λ (given : List ℕ). PlacesStandAt c.take_byte.new.self given) (append_assoc text (take index bytes) (next ∷ []))
-    (subst (λ (places : Places). PlacesStandAt places ((text ++ take index bytes) ++ next ∷ [])) (sym c.take_byte.ensures)
+    subst (λ (given : List ℕ). PlacesStandAt c.take_byte.new.self (text ++ given))
+    (sym (take_more bytes index 0 (omega arith)))
+    (subst (λ (given : List ℕ). PlacesStandAt c.take_byte.new.self given)
+    (append_assoc text (take index bytes) (next ∷ []))
+    (subst (λ (places : Places). PlacesStandAt places ((text ++ take index bytes) ++ next ∷ []))
+    (sym c.take_byte.ensures)
     (stands_after c.loop-byte.self (text ++ take index bytes) next (c.loop-byte.invariant text stands))))

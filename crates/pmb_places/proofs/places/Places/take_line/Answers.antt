@@ -8,5 +8,7 @@ use Rattle.pmb_places.proofs.places.Places.take_line.Goals as goal
 
 pub returns : goal.returns
 returns c = λ text events stands between small none all.
-    subst (λ places. PlacesStandAt places (text ++ canonical_text (events ++ Stop ∷ []))) (sym (c.take_last_word.ensures ∙ ap behind_line c.further_along.ensures))
-    (stands_behind_line c.args.self.now.here text events c.args.bytes c.saturating_sub.result stands.here between small none all c.saturating_sub.ensures)
+    subst (λ places. PlacesStandAt places (text ++ canonical_text (events ++ Stop ∷ [])))
+    (sym (c.take_last_word.ensures ∙ ap behind_line c.further_along.ensures))
+    (stands_behind_line c.args.self.now.here text events c.args.bytes c.saturating_sub.result stands.here between small
+    none all c.saturating_sub.ensures)

@@ -21,11 +21,13 @@ invariant_of-result c =
     let none = c.without_fives-numerator.ensures.lowest in
     let small : rest ≤ n = decimal_numerator n p t rest l few_twos few_fives twos fives none in
     let ten : 5 ^ l * 2 ^ (p - t) ≤ 10 ^ p = decimal_denominator n p t rest l few_twos few_fives twos fives none in
-    rw (to_z_pos w64 rest (omega arith), c.power_of_five.ensures, shifted_fives l (p - t) (omega arith) (omega arith)) (record {
+    rw (to_z_pos w64 rest (omega arith), c.power_of_five.ensures, shifted_fives l (p - t) (omega arith) (omega arith))
+    (record {
       numerator_fits = omega arith;
       denominator_fits = omega (arith, ten, ten_at_most p 18 c.requires.few);
       positive = parts_positive l (p - t);
-      lowest = lowest_of_gcd (record { numerator = pos rest; denominator = 5 ^ l * 2 ^ (p - t) }) (decimal_coprime n p t rest l few_twos few_fives twos fives none);
+      lowest = lowest_of_gcd (record { numerator = pos rest; denominator = 5 ^ l * 2 ^ (p - t) })
+          (decimal_coprime n p t rest l few_twos few_fives twos fives none);
     })
 
 pub returns : goal.returns
@@ -41,7 +43,8 @@ returns c =
     let fives = c.without_fives-numerator.ensures.value in
     let none = c.without_fives-numerator.ensures.lowest in
     let small : rest ≤ n = decimal_numerator n p t rest l few_twos few_fives twos fives none in
-    rw (to_z_pos w64 rest (omega arith), c.power_of_five.ensures, shifted_fives l (p - t) (omega arith) (omega arith)) (sym (decimal_lowest n p t rest l few_twos few_fives twos fives none))
+    rw (to_z_pos w64 rest (omega arith), c.power_of_five.ensures, shifted_fives l (p - t) (omega arith) (omega arith))
+    (sym (decimal_lowest n p t rest l few_twos few_fives twos fives none))
 
 pub overflow_cast-result : goal.overflow_cast-result
 overflow_cast-result c =
@@ -52,4 +55,8 @@ overflow_cast-result c =
     let twos = c.common_halvings-twos.ensures.value in
     let fives = c.without_fives-numerator.ensures.value in
     let none = c.without_fives-numerator.ensures.lowest in
-    omega (arith, decimal_numerator n p c.common_halvings-twos.result c.without_fives-numerator.result.0 c.without_fives-numerator.result.1 few_twos few_fives twos fives none)
+    omega (
+      arith,
+      decimal_numerator n p c.common_halvings-twos.result c.without_fives-numerator.result.0
+          c.without_fives-numerator.result.1 few_twos few_fives twos fives none,
+    )

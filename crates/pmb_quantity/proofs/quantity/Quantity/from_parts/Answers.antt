@@ -17,7 +17,8 @@ invariant_of-result c =
     let d = c.args.denominator in
     let n_fits = rw c.gcd-divisor.ensures at c.if-numerator-ge-LIMIT.false in
     let d_fits = rw c.gcd-divisor.ensures at c.if-denominator-ge-LIMIT.false in
-    rw (to_z_pos w64 (n / c.gcd-divisor.result) (omega arith), c.gcd-divisor.ensures) (IsQuantity-quotients n d c.requires n_fits d_fits)
+    rw (to_z_pos w64 (n / c.gcd-divisor.result) (omega arith), c.gcd-divisor.ensures)
+    (IsQuantity-quotients n d c.requires n_fits d_fits)
 
 pub returns : goal.returns
 returns c =
@@ -25,4 +26,5 @@ returns c =
     let d = c.args.denominator in
     let n_fits = rw c.gcd-divisor.ensures at c.if-numerator-ge-LIMIT.false in
     let d_fits = rw c.gcd-divisor.ensures at c.if-denominator-ge-LIMIT.false in
-    rw (to_z_pos w64 (n / c.gcd-divisor.result) (omega arith), c.gcd-divisor.ensures) (sym (lowest-fits n d n_fits d_fits))
+    rw (to_z_pos w64 (n / c.gcd-divisor.result) (omega arith), c.gcd-divisor.ensures)
+    (sym (lowest-fits n d n_fits d_fits))

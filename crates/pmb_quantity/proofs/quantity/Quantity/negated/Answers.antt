@@ -15,5 +15,7 @@ invariant_of-result c =
     let negative_fits : SFits w64 (neg_ℤ n) = omega (arith, ints, small) in
     let inside : Fraction = record { numerator = n; denominator = d } in
     let same : to_z w64 (of_z w64 (pos 0 -ℤ to_z w64 (of_z w64 n))) ≡ neg_ℤ n =
-    ap (λ z. to_z w64 (of_z w64 (pos 0 -ℤ z))) (to_z-of_z w64 n fits) ∙ ap (λ z. to_z w64 (of_z w64 z)) (+ℤ_idl (neg_ℤ n)) ∙ to_z-of_z w64 (neg_ℤ n) negative_fits in
-    subst (λ (z : ℤ). IsQuantity (record { numerator = z; denominator = d })) (sym same) (IsQuantity-negative inside c.self.invariant)
+    ap (λ z. to_z w64 (of_z w64 (pos 0 -ℤ z))) (to_z-of_z w64 n fits)
+    ∙ ap (λ z. to_z w64 (of_z w64 z)) (+ℤ_idl (neg_ℤ n)) ∙ to_z-of_z w64 (neg_ℤ n) negative_fits in
+    subst (λ (z : ℤ). IsQuantity (record { numerator = z; denominator = d })) (sym same)
+    (IsQuantity-negative inside c.self.invariant)

@@ -17,12 +17,18 @@ returns c =
     elim c.if-num-lt0.branch [
       | then-num-lt0 w ↦
           let pushed = rw c.requires at w.push_ascii.ensures in
-          ap (λ (t : ArrayString). t.bytes) w.text-is ∙ pushed ∙ sym (minus-negative q.numerator (omega (arith, ints, c.num.ensures.value, w.if-num-lt0.true)))
+          ap (λ (t : ArrayString). t.bytes) w.text-is ∙ pushed
+          ∙ sym (minus-negative q.numerator (omega (arith, ints, c.num.ensures.value, w.if-num-lt0.true)))
       | else-num-lt0 w ↦
-          ap (λ (t : ArrayString). t.bytes) w.text-is ∙ c.requires ∙ sym (minus-positive q.numerator (omega (arith, ints, c.num.ensures.value, w.if-num-lt0.false)))
+          ap (λ (t : ArrayString). t.bytes) w.text-is ∙ c.requires
+          ∙ sym (minus-positive q.numerator (omega (arith, ints, c.num.ensures.value, w.if-num-lt0.false)))
     ] in
     let absolute = simp to_z-of_z at c.unsigned_abs.ensures.value in
-    let numerator_is : c.unsigned_abs.result ≡ unsigned_abs q.numerator = absolute ∙ ap unsigned_abs c.num-2.ensures.value in
-    let denominator_is : c.unsigned_abs-2.result ≡ q.denominator = omega (arith, ints, c.unsigned_abs-2.ensures.value, c.den.ensures.value) in
+    let numerator_is : c.unsigned_abs.result ≡ unsigned_abs q.numerator = absolute
+    ∙ ap unsigned_abs c.num-2.ensures.value in
+    let denominator_is : c.unsigned_abs-2.result ≡ q.denominator =
+    omega (arith, ints, c.unsigned_abs-2.ensures.value, c.den.ensures.value) in
     let magnitude : ℕ → ℕ → List ℕ = λ (n d : ℕ). magnitude_text n d (places_of d) in
-    c.push_magnitude.ensures ∙ ap (λ front. front ++ magnitude c.unsigned_abs.result c.unsigned_abs-2.result) sign ∙ ap (λ n. minus q.numerator ++ magnitude n c.unsigned_abs-2.result) numerator_is ∙ ap (λ d. minus q.numerator ++ magnitude (unsigned_abs q.numerator) d) denominator_is
+    c.push_magnitude.ensures ∙ ap (λ front. front ++ magnitude c.unsigned_abs.result c.unsigned_abs-2.result) sign
+    ∙ ap (λ n. minus q.numerator ++ magnitude n c.unsigned_abs-2.result) numerator_is
+    ∙ ap (λ d. minus q.numerator ++ magnitude (unsigned_abs q.numerator) d) denominator_is

@@ -22,7 +22,8 @@ returns-else-is_between c = λ profile.
 pub returns-in-Held : goal.returns-in-Held
 returns-in-Held c = λ profile.
     let held = c.in-Held.refusal in
-    while_held profile c.args.self.now (λ s. ReaderFinishes profile s (Err held)) held c.in-Held.is (λ n refusal same stands. same)
+    while_held profile c.args.self.now (λ s. ReaderFinishes profile s (Err held)) held c.in-Held.is
+    (λ n refusal same stands. same)
 
 pub returns-in-Passing : goal.returns-in-Passing
 returns-in-Passing c = λ profile.

@@ -1,5 +1,5 @@
 use Rattle.std.proofs.Common.{sym, subst}
-use Rattle.pmb_under_way.specs.UnderWay.{StandsIn}
+use Rattle.pmb_packet_state.specs.PacketState.{StandsIn}
 use Rattle.pmb_reader.proofs.Modes.{one_event_more, one_packet_more, still_open}
 use Rattle.pmb_reader.proofs.reader.Reader.read.Goals as goal
 

@@ -13,12 +13,15 @@ returns-in_err-addr-clause-takes c all verb stands =
 pub returns-in_err-code-clause-takes : goal.returns-in_err-code-clause-takes
 returns-in_err-code-clause-takes c all verb stands =
     let a = c.in_ok-addr.addr in
-    let at_code_now : StandsAt all (at_code verb a) (words_left c.take_byte.new.words) = c.in_ok-addr.ensures.takes all _ _ (wants_address verb) stands in
+    let at_code_now : StandsAt all (at_code verb a) (words_left c.take_byte.new.words) =
+    c.in_ok-addr.ensures.takes all _ _ (wants_address verb) stands in
     let p = err_from_is_err_and c.from_residual-in_err-code.result c.from_residual-in_err-code.ensures.1 in
-    rw (p.1, p.2) (subst (λ n. IsFaultOf all n c.in_err-code.field-0.0) c.take_byte.ensures.end (c.in_err-code.ensures.takes all _ _ (wants_code verb a) at_code_now))
+    rw (p.1, p.2) (subst (λ n. IsFaultOf all n c.in_err-code.field-0.0) c.take_byte.ensures.end
+    (c.in_err-code.ensures.takes all _ _ (wants_code verb a) at_code_now))
 
 pub returns-clause-takes : goal.returns-clause-takes
 returns-clause-takes c all verb stands =
     let a = c.in_ok-addr.addr in
-    let at_code_now : StandsAt all (at_code verb a) (words_left c.take_byte.new.words) = c.in_ok-addr.ensures.takes all _ _ (wants_address verb) stands in
+    let at_code_now : StandsAt all (at_code verb a) (words_left c.take_byte.new.words) =
+    c.in_ok-addr.ensures.takes all _ _ (wants_address verb) stands in
     c.in_ok-code.ensures.takes all _ _ (wants_code verb a) at_code_now

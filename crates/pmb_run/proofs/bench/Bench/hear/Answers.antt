@@ -17,25 +17,31 @@ loop-event-preserved c =
     let event = event_at events i in
     let bench = c.loop-event.self in
     let more : take (i + 1) events ≡ take i events ++ event ∷ [] = take_more events i Start c.loop-event-test.true in
-    let grown = λ (before : List Event). append_assoc before (take i events) (event ∷ []) ∙ ap (λ (es : List Event). before ++ es) (sym more) in
-    let bus : IsBus (bench_profile bench) = subst (λ p. IsBus p) (ap (λ p. p.now) (sym c.loop-event.invariant.profile)) c.accepted_bus.ensures in
+    let grown = λ (before : List Event). append_assoc before (take i events) (event ∷ [])
+    ∙ ap (λ (es : List Event). before ++ es) (sym more) in
+    let bus : IsBus (bench_profile bench) = subst (λ p. IsBus p) (ap (λ p. p.now) (sym c.loop-event.invariant.profile))
+    c.accepted_bus.ensures in
     elim c.match-take.branch [
-      | in-Packet w ↦ let now : Bench = record bench { reader = c.take.new.self; context = w.observe.new.self } in record {
-        profile = ap (λ (b : Bench). b.profile) w.self-is ∙ c.loop-event.invariant.profile;
-        bus = ap (λ (b : Bench). b.bus) w.self-is ∙ c.loop-event.invariant.bus;
-        heard = λ ts n before heard.
-            subst (λ (b : Bench). HaveHeard b ts n (before ++ take (i + 1) events)) (sym w.self-is)
-            (heard_as now ts n _ _ (grown before)
-            (heard_packet bench c.take.new.self event ts n (before ++ take i events) (c.loop-event.invariant.heard ts n before heard) w.observe.new.self _
-            c.one_transaction.ensures c.no_packet_begins_another.ensures bus c.take.result w.in-Packet.is c.take.ensures w.packet.ensures w.observe.ensures));
-      }
+      | in-Packet w ↦ let now : Bench = record bench { reader = c.take.new.self; context = w.observe.new.self } in
+          record {
+            profile = ap (λ (b : Bench). b.profile) w.self-is ∙ c.loop-event.invariant.profile;
+            bus = ap (λ (b : Bench). b.bus) w.self-is ∙ c.loop-event.invariant.bus;
+            heard = λ ts n before heard.
+                subst (λ (b : Bench). HaveHeard b ts n (before ++ take (i + 1) events)) (sym w.self-is)
+                (heard_as now ts n _ _ (grown before)
+                (heard_packet bench c.take.new.self event ts n (before ++ take i events)
+                (c.loop-event.invariant.heard ts n before heard) w.observe.new.self _
+                c.one_transaction.ensures c.no_packet_begins_another.ensures bus c.take.result w.in-Packet.is c.take.ensures
+                w.packet.ensures w.observe.ensures));
+          }
       | in-More w ↦ let now : Bench = record bench { reader = c.take.new.self } in record {
         profile = ap (λ (b : Bench). b.profile) w.self-is ∙ c.loop-event.invariant.profile;
         bus = ap (λ (b : Bench). b.bus) w.self-is ∙ c.loop-event.invariant.bus;
         heard = λ ts n before heard.
             subst (λ (b : Bench). HaveHeard b ts n (before ++ take (i + 1) events)) (sym w.self-is)
             (heard_as now ts n _ _ (grown before)
-            (heard_other bench c.take.new.self event ts n (before ++ take i events) (c.loop-event.invariant.heard ts n before heard)
+            (heard_other bench c.take.new.self event ts n (before ++ take i events)
+            (c.loop-event.invariant.heard ts n before heard)
             c.some_packet_is_read.ensures c.take.result (ends_none c.take.result w.in-More.is) c.take.ensures));
       }
     ]
@@ -43,5 +49,6 @@ loop-event-preserved c =
 -- They are all of them.
 pub returns-clause-heard : goal.returns-clause-heard
 returns-clause-heard c = λ ts n before heard.
-    heard_as c.loop-event.self ts n _ _ (ap (λ (events : List Event). before ++ events) (take_all c.loop-event.event-index c.args.events.now c.loop-event-test.false))
+    heard_as c.loop-event.self ts n _ _ (ap (λ (events : List Event). before ++ events)
+    (take_all c.loop-event.event-index c.args.events.now c.loop-event-test.false))
     (c.loop-event.invariant.heard ts n before heard)

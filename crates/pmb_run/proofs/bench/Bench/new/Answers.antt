@@ -8,7 +8,8 @@ use Rattle.pmb_run.proofs.bench.Bench.new.Goals as goal
 pub returns-clause-begins : goal.returns-clause-begins
 returns-clause-begins c = record {
   past = [];
-  bus = subst (λ members. BusStandsAt c.args.bus (record { past = []; members = members; history = [] })) (sym (map-id (first_members c.args.profile.now))) c.requires;
+  bus = subst (λ members. BusStandsAt c.args.bus (record { past = []; members = members; history = [] }))
+      (sym (map-id (first_members c.args.profile.now))) c.requires;
   n = 0;
   reader = c.new.ensures;
   context = c.new-2.ensures;

@@ -18,14 +18,18 @@ returns-in_ok-put_events-in-Recorded-clause-runs g c = λ ts standing runs.
     record {
       few = stepped.0;
       events = events;
-      writes = subst (λ (es : List Event). PutsText (g.W.Sink.told c.args.writer.now).held c.args.waiting.now.items (g.W.Sink.told c.put_events.new.writer).held c.put_events.new.waiting.items (canonical_text es))
+      writes = subst (λ (es : List Event). PutsText (g.W.Sink.told c.args.writer.now).held c.args.waiting.now.items
+          (g.W.Sink.told c.put_events.new.writer).held c.put_events.new.waiting.items (canonical_text es))
           c.events.ensures c.in_ok-put_events-in-Recorded.ensures.writes;
       runs = record {
-        stands = subst (λ (bus : Bus). ExchangeStandsAt c.next.new.self bus (record standing { events = standing.events ++ events; sent = standing.sent + 1 })) (sym c.hear.ensures.bus) stepped.1;
+        stands = subst (λ (bus : Bus). ExchangeStandsAt c.next.new.self bus
+            (record standing { events = standing.events ++ events; sent = standing.sent + 1 }))
+            (sym c.hear.ensures.bus) stepped.1;
         profile_is = runs.profile_is ∙ same_profile;
         members_are = runs.members_are ∙ ap (λ p. all_after ts (first_members p)) same_profile;
         n = runs.n;
-        heard = heard_as c.hear.new.self ts runs.n _ _ (ap (λ (es : List Event). standing.events ++ es) c.events-in-Recorded.ensures)
+        heard = heard_as c.hear.new.self ts runs.n _ _
+            (ap (λ (es : List Event). standing.events ++ es) c.events-in-Recorded.ensures)
             (c.hear.ensures.heard ts runs.n standing.events heard_so_far);
       };
     }

@@ -21,7 +21,8 @@ loop-init g c = record {
         events = [];
         writes = c.texts_add_up.ensures.nothing (g.W.Sink.told c.args.writer.now).held c.args.waiting.now.items;
         runs = runs_first ts bench request c.args.host c.new-exchange.result stands new c.packet_is_not_empty.ensures
-            (c.new-exchange.ensures (bench_profile bench) request bench.bus (begins_on ts bench request c.args.host stands new));
+            (c.new-exchange.ensures (bench_profile bench) request bench.bus
+            (begins_on ts bench request c.args.host stands new));
       };
 }
 
@@ -36,13 +37,15 @@ loop-preserved g c = record {
       let first = beginning_on ts c.args.self.now.bench request c.args.host stands new in
       let was = c.loop.invariant.runs ts request stands new in
       let standing = record first { events = was.events; sent = c.loop.counter } in
-      sent_more c.texts_add_up.ensures.both ts first c.loop.counter c.loop.self.bench c.next.new.self c.loop.exchange c.next.new.exchange
+      sent_more c.texts_add_up.ensures.both ts first c.loop.counter c.loop.self.bench c.next.new.self c.loop.exchange
+      c.next.new.exchange
       (g.W.Sink.told c.args.writer.now).held (g.W.Sink.told c.loop.writer).held (g.W.Sink.told c.next.new.writer).held
       c.args.waiting.now.items c.loop.waiting.items c.next.new.waiting.items was
       (subst
       (
       λ (end : Option HostStep).
-      RunsOn ts standing end c.next.new.self c.next.new.exchange (g.W.Sink.told c.loop.writer).held c.loop.waiting.items (g.W.Sink.told c.next.new.writer).held c.next.new.waiting.items
+      RunsOn ts standing end c.next.new.self c.next.new.exchange (g.W.Sink.told c.loop.writer).held c.loop.waiting.items
+      (g.W.Sink.told c.next.new.writer).held c.next.new.waiting.items
       ) c.in_default.is (c.in_ok-end.ensures.runs ts standing was.runs));
 }
 
@@ -57,17 +60,23 @@ returns-in-Some-clause-takes g c ts request line stands spells new =
     subst
     (
     λ (end : Option HostStep).
-    RunsOn ts standing end c.next.new.self c.next.new.exchange (g.W.Sink.told c.loop.writer).held c.loop.waiting.items (g.W.Sink.told c.next.new.writer).held c.next.new.waiting.items
+    RunsOn ts standing end c.next.new.self c.next.new.exchange (g.W.Sink.told c.loop.writer).held c.loop.waiting.items
+    (g.W.Sink.told c.next.new.writer).held c.next.new.waiting.items
     ) c.in-Some.is (c.in_ok-end.ensures.runs ts standing was.runs) in
     on_ok_weaker c.put.result
     (
     λ puts.
-    host_taken c.texts_add_up.ensures.both ts before c.count.new.self c.next.new.self c.loop.self.bench request c.args.host line c.loop.counter c.in-Some.end c.loop.exchange c.next.new.exchange
-    (g.W.Sink.told c.args.writer.now).held (g.W.Sink.told c.loop.writer).held (g.W.Sink.told c.next.new.writer).held (g.W.Sink.told c.put.new.writer).held
-    c.args.waiting.now.items c.loop.waiting.items c.next.new.waiting.items c.put.new.waiting.items stands new spells was ended
-    (subst (λ (text : List ℕ). PutsText (g.W.Sink.told c.next.new.writer).held c.next.new.waiting.items (g.W.Sink.told c.put.new.writer).held c.put.new.waiting.items text)
+    host_taken c.texts_add_up.ensures.both ts before c.count.new.self c.next.new.self c.loop.self.bench request
+    c.args.host line c.loop.counter c.in-Some.end c.loop.exchange c.next.new.exchange
+    (g.W.Sink.told c.args.writer.now).held (g.W.Sink.told c.loop.writer).held (g.W.Sink.told c.next.new.writer).held
+    (g.W.Sink.told c.put.new.writer).held
+    c.args.waiting.now.items c.loop.waiting.items c.next.new.waiting.items c.put.new.waiting.items stands new spells was
+    ended
+    (subst (λ (text : List ℕ). PutsText (g.W.Sink.told c.next.new.writer).held c.next.new.waiting.items
+    (g.W.Sink.told c.put.new.writer).held c.put.new.waiting.items text)
     (c.as_slice.ensures.value ∙ c.end_line.ensures) puts)
-    (c.in_ok-end.ensures.profile ∙ c.loop.invariant.same) c.count.ensures.bench (c.count.ensures.lines ∙ c.loop.invariant.lines)
+    (c.in_ok-end.ensures.profile ∙ c.loop.invariant.same) c.count.ensures.bench
+    (c.count.ensures.lines ∙ c.loop.invariant.lines)
     (c.count.ensures.counted ∙ ap (end_counted c.in-Some.end) c.loop.invariant.tally)
     )
     c.put.ensures.ok
@@ -75,6 +84,8 @@ returns-in-Some-clause-takes g c ts request line stands spells new =
 -- There are never so many signals.
 pub returns-clause-takes : goal.returns-clause-takes
 returns-clause-takes g c ts request line stands spells new =
-    never_taken ts (beginning_on ts c.args.self.now.bench request c.args.host stands new) c.args.self.now c.loop.self c.loop.self.bench c.loop.exchange line c.loop.counter
-    (g.W.Sink.told c.args.writer.now).held (g.W.Sink.told c.loop.writer).held c.args.waiting.now.items c.loop.waiting.items
+    never_taken ts (beginning_on ts c.args.self.now.bench request c.args.host stands new) c.args.self.now c.loop.self
+    c.loop.self.bench c.loop.exchange line c.loop.counter
+    (g.W.Sink.told c.args.writer.now).held (g.W.Sink.told c.loop.writer).held c.args.waiting.now.items
+    c.loop.waiting.items
     (c.loop.invariant.runs ts request stands new) (omega arith)

@@ -14,7 +14,8 @@ use Rattle.pmb_run.proofs.runner.Runner.take_request.Goals as goal
 pub returns-in-Ok-clause-takes : goal.returns-in-Ok-clause-takes
 returns-in-Ok-clause-takes g c ts line stands spells =
     c.take_host.ensures.takes ts (request_data c.args.request) line stands spells
-    (subst (λ (p : Bor (List DeviceParts)). IsNewHost p.now (request_data c.args.request) c.in-Ok.host) c.profile.ensures c.in-Ok.ensures.made)
+    (subst (λ (p : Bor (List DeviceParts)). IsNewHost p.now (request_data c.args.request) c.in-Ok.host)
+    c.profile.ensures c.in-Ok.ensures.made)
 
 -- There is none, and the request's fault was put out.
 pub returns-in-Err-clause-takes : goal.returns-in-Err-clause-takes
@@ -23,11 +24,14 @@ returns-in-Err-clause-takes g c ts line stands spells =
     on_ok_weaker c.take_fault.result
     (
     λ writes.
-    fault_taken ts before c.take_fault.new.self line (host_fault_text c.in-Err.fault) (g.W.Sink.told c.args.writer.now).held (g.W.Sink.told c.take_fault.new.writer).held
+    fault_taken ts before c.take_fault.new.self line (host_fault_text c.in-Err.fault)
+    (g.W.Sink.told c.args.writer.now).held (g.W.Sink.told c.take_fault.new.writer).held
     c.args.waiting.now.items c.take_fault.new.waiting.items
-    (host_refused ts before.bench line (request_data c.args.request) c.profile.result c.in-Err.fault spells c.profile.ensures c.in-Err.ensures.first) stands
+    (host_refused ts before.bench line (request_data c.args.request) c.profile.result c.in-Err.fault spells
+    c.profile.ensures c.in-Err.ensures.first) stands
     c.take_fault.ensures.bench c.take_fault.ensures.lines c.take_fault.ensures.counted
-    (subst (λ (why : List ℕ). PutsText (g.W.Sink.told c.args.writer.now).held c.args.waiting.now.items (g.W.Sink.told c.take_fault.new.writer).held c.take_fault.new.waiting.items (numbered_text before.lines why))
+    (subst (λ (why : List ℕ). PutsText (g.W.Sink.told c.args.writer.now).held c.args.waiting.now.items
+    (g.W.Sink.told c.take_fault.new.writer).held c.take_fault.new.waiting.items (numbered_text before.lines why))
     (c.as_slice.ensures.value ∙ c.fault_text.ensures) writes)
     )
     c.take_fault.ensures.writes

@@ -13,11 +13,14 @@ returns-else-eq-clause-takes g c ts stands =
     on_ok_weaker c.take_fault.result
     (
     λ writes.
-    fault_taken ts before c.take_fault.new.self c.args.line.now (fault_text c.in-Err.fault) (g.W.Sink.told c.args.writer.now).held (g.W.Sink.told c.take_fault.new.writer).held
+    fault_taken ts before c.take_fault.new.self c.args.line.now (fault_text c.in-Err.fault)
+    (g.W.Sink.told c.args.writer.now).held (g.W.Sink.told c.take_fault.new.writer).held
     c.args.waiting.now.items c.take_fault.new.waiting.items
-    (line_refused ts before.bench c.args.line.now c.in-Err.fault c.in-Err.ensures.err (λ blank. search (rules, c.eq.ensures, c.if-eq.false, blank))) stands
+    (line_refused ts before.bench c.args.line.now c.in-Err.fault c.in-Err.ensures.err
+    (λ blank. search (rules, c.eq.ensures, c.if-eq.false, blank))) stands
     c.take_fault.ensures.bench c.take_fault.ensures.lines c.take_fault.ensures.counted
-    (subst (λ (why : List ℕ). PutsText (g.W.Sink.told c.args.writer.now).held c.args.waiting.now.items (g.W.Sink.told c.take_fault.new.writer).held c.take_fault.new.waiting.items (numbered_text before.lines why))
+    (subst (λ (why : List ℕ). PutsText (g.W.Sink.told c.args.writer.now).held c.args.waiting.now.items
+    (g.W.Sink.told c.take_fault.new.writer).held c.take_fault.new.waiting.items (numbered_text before.lines why))
     (c.as_slice.ensures.value ∙ c.text.ensures) writes)
     )
     c.take_fault.ensures.writes

@@ -3,7 +3,7 @@ use Rattle.std.proofs.lemmas.Result.{on_ok_weaker}
 use Rattle.pmb_build.specs.Answer.{numbered_text}
 use Rattle.pmb_io.specs.Lines.{line_text}
 use Rattle.pmb_io.specs.Outgoing.{PutsText}
-use Rattle.pmb_io.specs.declared.line.Line.{Line}
+use Rattle.pmb_io.specs.declared.input_line.InputLine.{InputLine}
 use Rattle.pmb_line.specs.LineFault.{fault_text}
 use Rattle.pmb_line.specs.declared.line_fault.LineFault.TheVariants as fault
 use Rattle.pmb_run.specs.Answer.{Refusal, RunsLine, most_request_line}
@@ -16,8 +16,10 @@ returns-in-Ended-clause-takes g c start given text stands =
     let before = c.args.self.now in
     let ts = recorded_so_far start before given text stands in
     on_ok_weaker c.take_text.result
-    (puts_more start before _ c.take_text.new.self given text (line_text c.args.line) c.in-Ended.text.now _ _ _ _ refl c.saturating_add-self.ensures refl stands
-    (λ answer answers. subst (λ (line : Line). RunsLine (bench_profile before.bench) ts (line_text line) answer) (sym c.in-Ended.is) answers))
+    (puts_more start before _ c.take_text.new.self given text (line_text c.args.line) c.in-Ended.text.now _ _ _ _ refl
+    c.saturating_add-self.ensures refl stands
+    (λ answer answers. subst (λ (line : InputLine). RunsLine (bench_profile before.bench) ts (line_text line) answer)
+    (sym c.in-Ended.is) answers))
     (c.take_text.ensures.takes ts stands.stands)
 
 pub returns-in-Last-clause-takes : goal.returns-in-Last-clause-takes
@@ -25,8 +27,10 @@ returns-in-Last-clause-takes g c start given text stands =
     let before = c.args.self.now in
     let ts = recorded_so_far start before given text stands in
     on_ok_weaker c.take_text-in-Last.result
-    (puts_more start before _ c.take_text-in-Last.new.self given text (line_text c.args.line) c.in-Last.text.now _ _ _ _ refl c.saturating_add-self.ensures refl stands
-    (λ answer answers. subst (λ (line : Line). RunsLine (bench_profile before.bench) ts (line_text line) answer) (sym c.in-Last.is) answers))
+    (puts_more start before _ c.take_text-in-Last.new.self given text (line_text c.args.line) c.in-Last.text.now _ _ _ _
+    refl c.saturating_add-self.ensures refl stands
+    (λ answer answers. subst (λ (line : InputLine). RunsLine (bench_profile before.bench) ts (line_text line) answer)
+    (sym c.in-Last.is) answers))
     (c.take_text-in-Last.ensures.takes ts stands.stands)
 
 -- Its fault was put out.
@@ -38,14 +42,18 @@ returns-in-TooLong-clause-takes g c start given text stands =
     on_ok_weaker c.take_fault.result
     (
     λ writes.
-    fault_more start before c.take_fault.new.self given text (line_text c.args.line) why c.saturating_add-self.result (g.W.Sink.told c.args.writer.now).held c.args.waiting.now.items
+    fault_more start before c.take_fault.new.self given text (line_text c.args.line) why c.saturating_add-self.result
+    (g.W.Sink.told c.args.writer.now).held c.args.waiting.now.items
     (g.W.Sink.told c.take_fault.new.writer).held c.take_fault.new.waiting.items c.saturating_add-self.ensures
     c.take_fault.ensures.bench c.take_fault.ensures.lines c.take_fault.ensures.counted stands
-    (subst (λ (line : Line). RunsLine (bench_profile before.bench) ts (line_text line) (Refusal why)) (sym c.in-TooLong.is) refl)
+    (subst (λ (line : InputLine). RunsLine (bench_profile before.bench) ts (line_text line) (Refusal why))
+    (sym c.in-TooLong.is) refl)
     (subst
     (
     λ (said : List ℕ).
-    PutsText (g.W.Sink.told c.args.writer.now).held c.args.waiting.now.items (g.W.Sink.told c.take_fault.new.writer).held c.take_fault.new.waiting.items (numbered_text c.saturating_add-self.result said)
+    PutsText (g.W.Sink.told c.args.writer.now).held c.args.waiting.now.items
+    (g.W.Sink.told c.take_fault.new.writer).held c.take_fault.new.waiting.items
+    (numbered_text c.saturating_add-self.result said)
     ) (c.as_slice.ensures.value ∙ c.text-fault.ensures) writes)
     )
     c.take_fault.ensures.writes

@@ -13,9 +13,14 @@ returns-then-not-is_between-clause-stands c reached stands = stands_behind_none 
 pub returns-clause-stands : goal.returns-clause-stands
 returns-clause-stands c reached stands =
     let bytes = take c.front_blank-blank.result c.args.piece.now in
-    let between : EndsBetween reached.text = (c.is_between.ensures.between (length reached.text) reached.text reached.events stands.lexer).0 c.if-not-is_between.false in
-    let skipped = c.skip.ensures.stands (length reached.text) reached.text reached.events [] stands.lexer between c.front_blank-blank.ensures.between c.front_blank-blank.ensures.spells in record {
-      lexer = subst (λ (n : ℕ). LexerStandsAt c.skip.new.self n (reached.text ++ bytes) reached.events) (sym (length-append reached.text bytes))
-          (subst (λ (events : List Event). LexerStandsAt c.skip.new.self (length reached.text + length bytes) (reached.text ++ bytes) events) (append-nil reached.events) skipped);
+    let between : EndsBetween reached.text =
+    (c.is_between.ensures.between (length reached.text) reached.text reached.events stands.lexer).0
+    c.if-not-is_between.false in
+    let skipped = c.skip.ensures.stands (length reached.text) reached.text reached.events [] stands.lexer between
+    c.front_blank-blank.ensures.between c.front_blank-blank.ensures.spells in record {
+      lexer = subst (λ (n : ℕ). LexerStandsAt c.skip.new.self n (reached.text ++ bytes) reached.events)
+          (sym (length-append reached.text bytes))
+          (subst (λ (events : List Event). LexerStandsAt c.skip.new.self (length reached.text + length bytes)
+          (reached.text ++ bytes) events) (append-nil reached.events) skipped);
       reader = reads_on c.args.self.now.reader reached bytes stands.reader;
     }

@@ -22,7 +22,8 @@ returns-in-Err-clause-takes g c start reached text stands visited =
 -- no word is under way
 pub returns-in-Ok-None-clause-takes : goal.returns-in-Ok-None-clause-takes
 returns-in-Ok-None-clause-takes g c start reached text stands visited =
-    let finish = subst (λ o. Finishes (length reached.text) reached.text reached.events (Ok o) c.finish.new.self) c.in-Ok-None.field-0-is
+    let finish = subst (λ o. Finishes (length reached.text) reached.text reached.events (Ok o) c.finish.new.self)
+    c.in-Ok-None.field-0-is
     (c.in-Ok-None.ensures.stands (length reached.text) reached.text reached.events stands.lexer) in record {
       text = [];
       writes = writes_nothing _ _;
@@ -39,9 +40,11 @@ returns-in-Ok-None-clause-takes g c start reached text stands visited =
 -- the word under way is the last event's
 pub returns-in_ok-take_event-in-Ok-Some-clause-takes : goal.returns-in_ok-take_event-in-Ok-Some-clause-takes
 returns-in_ok-take_event-in-Ok-Some-clause-takes g c start reached text stands visited =
-    let finish = subst (λ o. Finishes (length reached.text) reached.text reached.events (Ok o) c.finish.new.self) c.in-Ok-Some.field-0-is
+    let finish = subst (λ o. Finishes (length reached.text) reached.text reached.events (Ok o) c.finish.new.self)
+    c.in-Ok-Some.field-0-is
     (c.in-Ok-Some.ensures.stands (length reached.text) reached.text reached.events stands.lexer) in
-    let taken = c.in_ok-take_event-in-Ok-Some.ensures.takes start reached text stands.reader visited finish.spells in record {
+    let taken = c.in_ok-take_event-in-Ok-Some.ensures.takes start reached text stands.reader visited finish.spells in
+    record {
       text = taken.text;
       writes = taken.writes;
       holds = record {

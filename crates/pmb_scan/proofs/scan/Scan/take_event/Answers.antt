@@ -17,7 +17,8 @@ returns-in-More-clause-takes g c start reached text read visited spells = record
     same_text = refl;
     events = refl;
     reads = c.in-More.ensures reached read;
-    visited = subst (λ t. g.V.Visitor.Stands start c.visit_event.new.self (behind_event reached c.args.event) t) (sym (append-nil text)) (c.visit_event.ensures start reached text visited spells);
+    visited = subst (λ t. g.V.Visitor.Stands start c.visit_event.new.self (behind_event reached c.args.event) t)
+        (sym (append-nil text)) (c.visit_event.ensures start reached text visited spells);
   };
 }
 
@@ -35,7 +36,8 @@ returns-in-Packet-clause-takes g c start reached text read visited spells =
         reads = ended.reads;
         visited = puts.holds;
       };
-    }) (c.visit_packet.ensures.visits start reached text ended.n ended.front c.args.event visited spells ended.standing ended.packet)
+    }) (c.visit_packet.ensures.visits start reached text ended.n ended.front c.args.event visited spells ended.standing
+    ended.packet)
 
 pub returns-in-Refused-clause-takes : goal.returns-in-Refused-clause-takes
 returns-in-Refused-clause-takes g c start reached text read visited spells =
@@ -51,4 +53,5 @@ returns-in-Refused-clause-takes g c start reached text read visited spells =
         reads = refused.reads;
         visited = puts.holds;
       };
-    }) (c.visit_refusal.ensures.visits start reached text refused.n refused.front visited spells refused.standing refused.refused)
+    }) (c.visit_refusal.ensures.visits start reached text refused.n refused.front visited spells refused.standing
+    refused.refused)

@@ -14,7 +14,9 @@ abbrev pub invariant-packets : goal.invariant-packets
 invariant-packets g l = record {
   failures : (g.W.Sink.told l.writer).failures ≡ (g.W.Sink.told l.fn.writer).failures;
   within : length l.rest ≤ length l.fn.piece;
-  took : TookUpTo g.V.Visitor.Stands l.fn.self l.fn.visitor l.fn.piece l.rest (g.W.Sink.told l.fn.writer).held l.fn.waiting.items (g.W.Sink.told l.writer).held l.waiting.items l.self l.visitor;
+  took : TookUpTo g.V.Visitor.Stands l.fn.self l.fn.visitor l.fn.piece l.rest
+      (g.W.Sink.told l.fn.writer).held l.fn.waiting.items (g.W.Sink.told l.writer).held l.waiting.items l.self
+      l.visitor;
 }
 
 -- so too word by word, where no more is left than when the first word began
@@ -23,5 +25,7 @@ invariant-words g l = record {
   failures : (g.W.Sink.told l.writer).failures ≡ (g.W.Sink.told l.fn.writer).failures;
   within : length l.rest ≤ length l.fn.piece;
   shorter : length l.rest ≤ length l.initial.rest;
-  took : TookUpTo g.V.Visitor.Stands l.fn.self l.fn.visitor l.fn.piece l.rest (g.W.Sink.told l.fn.writer).held l.fn.waiting.items (g.W.Sink.told l.writer).held l.waiting.items l.self l.visitor;
+  took : TookUpTo g.V.Visitor.Stands l.fn.self l.fn.visitor l.fn.piece l.rest
+      (g.W.Sink.told l.fn.writer).held l.fn.waiting.items (g.W.Sink.told l.writer).held l.waiting.items l.self
+      l.visitor;
 }

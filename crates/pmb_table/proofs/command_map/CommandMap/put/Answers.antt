@@ -8,16 +8,19 @@ use Rattle.pmb_table.proofs.command_map.CommandMap.put.Goals.{In_ok-place}
 use Rattle.pmb_table.proofs.command_map.CommandMap.put.Goals as goal
 
 -- the command that was put is found
-is_found : (c : In_ok-place) → IsFoundByCode c.insert_full.new.self.entries (slice_set c.self.inside.places c.args.command.entry.code c.in_ok-place.place)
+is_found : (c : In_ok-place) → IsFoundByCode c.insert_full.new.self.entries
+    (slice_set c.self.inside.places c.args.command.entry.code c.in_ok-place.place)
 is_found c =
     let small : c.args.command.entry.code < 256 = omega arith in
     let within : c.args.command.entry.code < length c.self.inside.places = omega arith in
-    found_put c.args.command c.self.inside.commands.entries c.insert_full.new.self.entries c.self.inside.places c.in_ok-place.place c.self.invariant small within
+    found_put c.args.command c.self.inside.commands.entries c.insert_full.new.self.entries c.self.inside.places
+    c.in_ok-place.place c.self.invariant small within
     c.in_ok-place.ensures.entries c.in_ok-place.ensures.unique c.in_ok-place.ensures.index
 
 pub overflow_cast-self : goal.overflow_cast-self
 overflow_cast-self c =
-    let all : length c.insert_full.new.self.entries ≤ 256 = few c.insert_full.new.self.entries _ (is_found (goal.at.overflow_cast-self c).In_ok-place) in
+    let all : length c.insert_full.new.self.entries ≤ 256 = few c.insert_full.new.self.entries _
+    (is_found (goal.at.overflow_cast-self c).In_ok-place) in
     omega (arith, all, c.in_ok-place.ensures.within)
 
 pub invariant_of-self-2 : goal.invariant_of-self-2

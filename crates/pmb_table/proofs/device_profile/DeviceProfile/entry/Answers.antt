@@ -7,5 +7,6 @@ use Rattle.pmb_table.proofs.device_profile.DeviceProfile.entry.Goals as goal
 -- the command that was found is one of the device's
 pub returns-in-Some-clause-accepted : goal.returns-in-Some-clause-accepted
 returns-in-Some-clause-accepted c =
-    let found = All-find IsCommand (λ x. nat_eq x.entry.code c.args.code) c.self.inside.commands c.self.invariant.commands in
+    let found = All-find IsCommand (λ x. nat_eq x.entry.code c.args.code) c.self.inside.commands
+    c.self.invariant.commands in
     (subst (λ o. IfSome o IsCommand) (sym c.in-Some.ensures) found).entry

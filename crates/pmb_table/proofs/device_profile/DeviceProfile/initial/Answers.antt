@@ -8,7 +8,8 @@ use Rattle.pmb_table.proofs.device_profile.DeviceProfile.initial.Goals as goal
 -- the command that was found is one of the device's
 pub returns-in-Some-initial-clause-accepted : goal.returns-in-Some-initial-clause-accepted
 returns-in-Some-initial-clause-accepted c =
-    let found = All-find IsCommand (λ x. nat_eq x.entry.code c.args.code) c.self.inside.commands c.self.invariant.commands in
+    let found = All-find IsCommand (λ x. nat_eq x.entry.code c.args.code) c.self.inside.commands
+    c.self.invariant.commands in
     let entry = (command_parts c.in-Some.command.now).entry in
     let whole = (subst (λ o. IfSome o IsCommand) (sym c.in-Some.ensures) found).initial in
     rw (← c.self.view_is, ← c.in-Some.ensures, c.as_slice.ensures.value)

@@ -13,7 +13,8 @@ pub returns-in-Linear11Fixed-clause-one_code : goal.returns-in-Linear11Fixed-cla
 returns-in-Linear11Fixed-clause-one_code c = rw c.in-Linear11Fixed.is c.obeys_laws-in-Linear11Fixed.ensures.one_code
 
 pub returns-in-Linear11Fixed-clause-canonical_codes : goal.returns-in-Linear11Fixed-clause-canonical_codes
-returns-in-Linear11Fixed-clause-canonical_codes c = rw c.in-Linear11Fixed.is c.obeys_laws-in-Linear11Fixed.ensures.canonical_codes
+returns-in-Linear11Fixed-clause-canonical_codes c =
+    rw c.in-Linear11Fixed.is c.obeys_laws-in-Linear11Fixed.ensures.canonical_codes
 
 pub returns-in-Linear11Fixed-clause-one_even : goal.returns-in-Linear11Fixed-clause-one_even
 returns-in-Linear11Fixed-clause-one_even c = rw c.in-Linear11Fixed.is c.obeys_laws-in-Linear11Fixed.ensures.one_even

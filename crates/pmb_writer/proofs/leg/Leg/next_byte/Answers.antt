@@ -20,4 +20,5 @@ returns-then-self-clause-bytes c =
     let old : LegData = leg_data c.args.self.now in
     let left : LegData = leg_data c.next_plain.new.self in
     with_code-end old.pec c.args.crc.now old.bytes left.bytes
-    (ap (λ l. l.pec) (sym c.in_default.ensures.1) ∙ c.if-self.true) c.in_default.ensures.0 (ap (λ l. l.bytes) c.in_default.ensures.1 ∙ c.in_default.ensures.0)
+    (ap (λ l. l.pec) (sym c.in_default.ensures.1) ∙ c.if-self.true) c.in_default.ensures.0
+    (ap (λ l. l.bytes) c.in_default.ensures.1 ∙ c.in_default.ensures.0)

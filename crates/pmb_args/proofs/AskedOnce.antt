@@ -1,0 +1,240 @@
+-- The words ask for one thing.
+use Rattle.std.proofs.Common.{◌≡◌, ◌⊎◌, ◌≤◌, ℕ, ◌==◌, if◌then◌else◌, Option, Some, None, List, [], ◌∷◌, get_or, codes}
+use Rattle.std.proofs.Common.{inl, inr, refl, sym, ap, ◌∙◌, subst, arith}
+use Rattle.clap.specs.Words.{IsAmong, Kinds, Row, Text, subcommand_of}
+use Rattle.clap.specs.declared.error.kind.ErrorKind.{ErrorKind}
+use Rattle.pmb_args.specs.declared.exit_status.ExitStatus.{ExitStatus}
+use Rattle.pmb_args.specs.declared.exit_status.ExitStatus.TheVariants.{Done, BadArguments, IoFailed, NoMemory}
+use Rattle.pmb_args.specs.Asked.{AskFor, Asking, AsksNothing, Convert, FlagsAsk, HasBadFormat, NameAsks, NamesNone}
+use Rattle.pmb_args.specs.Asked.{SubcommandAsks, UnderProfile, Wanted, Show, Check, Json, Build, Run, Profile}
+use Rattle.pmb_args.specs.Asked.{converter, format_in, name_of, place_in}
+use Rattle.pmb_args.specs.declared.direction.Direction.{Direction}
+use Rattle.pmb_args.specs.declared.direction.Direction.TheVariants.{Encode, Decode}
+use Rattle.pmb_args.specs.declared.profile_place.ProfilePlace.{ProfilePlace}
+use Rattle.clap.specs.declared.error.kind.ErrorKind.TheVariants.{DisplayHelp, DisplayVersion, OutOfMemory}
+use Rattle.pmb_args.specs.Json.{JsonAsks, JsonWanted, at_first}
+use Rattle.pmb_args.proofs.JsonOnce.{one_wanted}
+use Rattle.pmb_args.specs.Words.{AskToTell, IsTelling, help, version, faults_of, pmb_app}
+
+-- ---- the subcommand's name
+
+-- the name of the subcommand, and its matches
+name_in : Option (Text × List Row) → Text
+name_in None = []
+name_in (Some met) = met.0
+
+rows_in : Option (Text × List Row) → List Row
+rows_in None = []
+rows_in (Some met) = met.1
+
+-- one subcommand has one name, and one list of matches
+one_name : (found : Option (Text × List Row)) (name other : Text) (rows others : List Row) → found ≡ Some (name, rows)
+    → found ≡ Some (other, others) → name ≡ other
+unfolding name_in
+one_name found name other rows others first second = ap name_in (sym first ∙ second)
+
+one_rows : (found : Option (Text × List Row)) (name other : Text) (rows others : List Row) → found ≡ Some (name, rows)
+    → found ≡ Some (other, others) → rows ≡ others
+unfolding rows_in
+one_rows found name other rows others first second = ap rows_in (sym first ∙ second)
+
+-- the letters that tell the names apart
+abbrev letter_of : Wanted → ℕ
+letter_of Show = 115
+letter_of Check = 99
+letter_of (Json choice) = 106
+letter_of Build = 98
+letter_of Run = 114
+letter_of Profile = 112
+
+abbrev converter_letter : Direction → ℕ
+converter_letter Encode = 101
+converter_letter Decode = 100
+
+begins : (wanted : Wanted) → get_or (name_of wanted) 0 0 ≡ letter_of wanted
+begins Show = refl
+begins Check = refl
+begins (Json choice) = refl
+begins Build = refl
+begins Run = refl
+begins Profile = refl
+
+converter_begins : (direction : Direction) → get_or (converter direction) 0 0 ≡ converter_letter direction
+converter_begins Encode = refl
+converter_begins Decode = refl
+
+-- what a letter stands for, where the flags of `json` choose this
+abbrev wanted_at : JsonWanted → ℕ → Wanted
+wanted_at choice letter = if letter == 115 then Show else if letter == 99 then Check else if letter ==
+    98 then Build else if letter == 114 then Run else if letter == 112 then Profile else Json choice
+
+has_letter : (rows : List Row) (choice : JsonWanted) (wanted : Wanted) → FlagsAsk rows wanted
+    → (letter_of wanted ≡ 106 → JsonAsks rows choice) → wanted_at choice (letter_of wanted) ≡ wanted
+has_letter rows choice Show flags chosen = refl
+has_letter rows choice Check flags chosen = refl
+has_letter rows choice (Json other) flags chosen = ap Json (one_wanted rows choice other (chosen refl) flags)
+has_letter rows choice Build flags chosen = refl
+has_letter rows choice Run flags chosen = refl
+has_letter rows choice Profile flags chosen = refl
+
+-- what is chosen there for `json`
+abbrev choice_in : Wanted → JsonWanted
+choice_in Show = at_first
+choice_in Check = at_first
+choice_in (Json choice) = choice
+choice_in Build = at_first
+choice_in Run = at_first
+choice_in Profile = at_first
+
+json_chosen : (rows : List Row) (wanted : Wanted) → FlagsAsk rows wanted → letter_of wanted ≡ 106
+    → JsonAsks rows (choice_in wanted)
+json_chosen rows Show flags is = absurd (omega (arith, is))
+json_chosen rows Check flags is = absurd (omega (arith, is))
+json_chosen rows (Json choice) flags is = flags
+json_chosen rows Build flags is = absurd (omega (arith, is))
+json_chosen rows Run flags is = absurd (omega (arith, is))
+json_chosen rows Profile flags is = absurd (omega (arith, is))
+
+-- one name and one list of matches ask for one thing
+one_of_name : (rows : List Row) (a b : Wanted) → name_of a ≡ name_of b → FlagsAsk rows a → FlagsAsk rows b → a ≡ b
+one_of_name rows a b same left right =
+    let letter : letter_of a ≡ letter_of b = sym (begins a) ∙ ap (λ (t : Text). get_or t 0 0) same ∙ begins b in
+    let chosen = json_chosen rows b right in
+    sym (has_letter rows (choice_in b) a left (λ is. chosen (sym letter ∙ is))) ∙ ap (wanted_at (choice_in b)) letter
+    ∙ has_letter rows (choice_in b) b right chosen
+
+one_direction : (a b : Direction) → converter a ≡ converter b → a ≡ b
+one_direction a b same = by a b (sym (converter_begins a) ∙ ap (λ (t : Text). get_or t 0 0) same ∙ converter_begins b)
+  where
+    by : (a b : Direction) → converter_letter a ≡ converter_letter b → a ≡ b
+    by Encode Encode is = refl
+    by Encode Decode is = absurd (omega (arith, is))
+    by Decode Encode is = absurd (omega (arith, is))
+    by Decode Decode is = refl
+
+-- what converts wants no profile
+other_name : (wanted : Wanted) (direction : Direction) → name_of wanted ≡ converter direction → ⊥
+other_name wanted direction same = by wanted direction (sym (begins wanted) ∙ ap (λ (t : Text). get_or t 0 0) same
+    ∙ converter_begins direction)
+  where
+    converts : (direction : Direction) → (100 ≤ converter_letter direction) × (converter_letter direction ≤ 101)
+    converts Encode = (omega arith, omega arith)
+    converts Decode = (omega arith, omega arith)
+
+    by : (wanted : Wanted) (direction : Direction) → letter_of wanted ≡ converter_letter direction → ⊥
+    by Show direction is = omega (arith, is, (converts direction).1)
+    by Check direction is = omega (arith, is, (converts direction).0)
+    by (Json choice) direction is = omega (arith, is, (converts direction).1)
+    by Build direction is = omega (arith, is, (converts direction).0)
+    by Run direction is = omega (arith, is, (converts direction).1)
+    by Profile direction is = omega (arith, is, (converts direction).1)
+
+-- ---- one thing is asked for
+
+pub one_asking : (found : Option (Text × List Row)) (a b : Asking) → SubcommandAsks found a → SubcommandAsks found b
+    → a ≡ b
+one_asking found (UnderProfile place wanted) (UnderProfile other others) is also =
+    let rows = one_rows found _ _ is.0 also.0 is.1 also.1 in
+    let flags = subst (λ (rs : List Row). FlagsAsk rs wanted) rows is.3 in
+    ap (λ (p : ProfilePlace). UnderProfile p wanted) (is.2 ∙ ap place_in rows ∙ sym also.2)
+    ∙ ap (UnderProfile other) (one_of_name also.0 wanted others (one_name found _ _ is.0 also.0 is.1 also.1) flags
+    also.3)
+one_asking found (UnderProfile place wanted) (Convert direction format) is also =
+    absurd (other_name wanted direction (one_name found _ _ is.0 also.0 is.1 also.1))
+one_asking found (Convert direction format) (UnderProfile place wanted) is also =
+    absurd (other_name wanted direction (one_name found _ _ also.0 is.0 also.1 is.1))
+one_asking found (Convert direction format) (Convert other others) is also =
+    ap (λ (d : Direction). Convert d format)
+    (one_direction direction other (one_name found _ _ is.0 also.0 is.1 also.1))
+    ∙ ap (Convert other) (is.2 ∙ ap format_in (one_rows found _ _ is.0 also.0 is.1 also.1) ∙ sym also.2)
+
+-- ---- a subcommand that asks for nothing
+
+-- where its name and its matches want nothing, and it doesn't convert
+pub nothing_named : (found : Option (Text × List Row)) (name : Text) (rows : List Row) → found ≡ Some (name, rows)
+    → ((wanted : Wanted) → ¬ (NameAsks name rows wanted)) → ((direction : Direction) → ¬ (name ≡ converter direction))
+    → AsksNothing found
+nothing_named found name rows named none_wanted none_converts (UnderProfile place wanted) is =
+    none_wanted wanted (
+      one_name found _ _ rows is.0 named is.1,
+      subst (λ (rs : List Row). FlagsAsk rs wanted)
+          (one_rows found _ _ is.0 rows is.1 named) is.3,
+    )
+nothing_named found name rows named none_wanted none_converts (Convert direction format) is =
+    none_converts direction (one_name found _ _ rows is.0 named is.1)
+
+-- of `json`, where its matches choose nothing
+pub json_wants_none : (rows : List Row) → ((choice : JsonWanted) → ¬ (JsonAsks rows choice)) → (wanted : Wanted)
+    → ¬ (NameAsks (codes "json") rows wanted)
+json_wants_none rows none wanted asks = none (choice_in wanted)
+    (json_chosen rows wanted asks.1 (sym (begins wanted) ∙ ap (λ (t : Text). get_or t 0 0) (sym asks.0)))
+
+pub json_nothing : (found : Option (Text × List Row)) (rows : List Row) → found ≡ Some (codes "json", rows)
+    → ((choice : JsonWanted) → ¬ (JsonAsks rows choice)) → AsksNothing found
+json_nothing found rows named none = nothing_named found (codes "json") rows named (json_wants_none rows none)
+    (λ direction same. other_name (Json at_first) direction same)
+
+-- ---- a format that is none
+
+-- what is asked for has a bad format where the words have one
+pub bad_format : (words : List Text) (asking : Asking) → AskFor words asking → HasBadFormat words → NamesNone asking
+bad_format words asking ask bad = subst NamesNone
+    (one_asking (subcommand_of pmb_app words) (Convert bad.direction bad.format) asking bad.asks.asks ask.asks)
+    (bad.fault, bad.bad)
+
+-- and only there
+pub names_none : (words : List Text) (asking : Asking) → AskFor words asking → NamesNone asking → HasBadFormat words
+names_none words (UnderProfile place wanted) ask none = absurd none
+names_none words (Convert direction format) ask none =
+    record { direction = direction; format = format; asks = ask; fault = none.0; bad = none.1 }
+
+-- ---- no fault
+
+-- where `clap` finds no fault, the words are read but for memory
+pub only_memory : (kinds : Kinds) (kind : ErrorKind) (Memory : Type 0) → kinds ≡ [] → Memory ⊎ IsAmong kind kinds
+    → Memory
+only_memory kinds kind Memory none (inl memory) = memory
+only_memory kinds kind Memory none (inr among) = absurd (subst (λ (ks : Kinds). IsAmong kind ks) none among)
+
+-- words without a fault ask for no text about `pmb`
+pub no_telling : (words : List Text) → faults_of words ≡ [] → AskToTell words → ⊥
+no_telling words none (help is) = let clash : DisplayHelp ∷ [] ≡ [] = sym is ∙ none in cc
+no_telling words none (version is) = let clash : DisplayVersion ∷ [] ≡ [] = sym is ∙ none in cc
+
+-- a fault among those of refused words asks for none either
+pub refused_is_no_telling : (kinds : Kinds) (kind : ErrorKind) → (IsAmong DisplayHelp kinds → ⊥)
+    → (IsAmong DisplayVersion kinds → ⊥) → (kind ≡ OutOfMemory) ⊎ IsAmong kind kinds → IsTelling kind → ⊥
+refused_is_no_telling kinds kind no_help no_version (inl memory) (inl same) = let clash : OutOfMemory ≡ DisplayHelp =
+    sym memory ∙ same in cc
+refused_is_no_telling kinds kind no_help no_version (inl memory) (inr same) = let clash : OutOfMemory ≡ DisplayVersion =
+    sym memory ∙ same in cc
+refused_is_no_telling kinds kind no_help no_version (inr among) (inl same) =
+    no_help (subst (λ (k : ErrorKind). IsAmong k kinds) same among)
+refused_is_no_telling kinds kind no_help no_version (inr among) (inr same) =
+    no_version (subst (λ (k : ErrorKind). IsAmong k kinds) same among)
+
+-- where a text about `pmb` is asked for, the fault is that call, or memory is lacking
+only_one : (kind other : ErrorKind) → IsAmong kind (other ∷ []) → kind ≡ other
+only_one kind other (inl same) = same
+only_one kind other (inr none) = absurd none
+
+pub is_telling : (words : List Text) (kind : ErrorKind) → AskToTell words
+    → (kind ≡ OutOfMemory) ⊎ IsAmong kind (faults_of words) → (kind ≡ OutOfMemory) ⊎ IsTelling kind
+is_telling words kind ask (inl memory) = inl memory
+is_telling words kind (help is) (inr among) =
+    inr (inl (only_one kind DisplayHelp (subst (λ (ks : Kinds). IsAmong kind ks) is among)))
+is_telling words kind (version is) (inr among) =
+    inr (inr (only_one kind DisplayVersion (subst (λ (ks : Kinds). IsAmong kind ks) is among)))
+
+-- ---- the status of what was told
+
+-- where there was no memory, the words are not told to be bad
+pub memory_is_not_bad : (status : ExitStatus) → status ≡ BadArguments → status ≡ NoMemory → ⊥
+memory_is_not_bad status bad memory = let clash : BadArguments ≡ NoMemory = sym bad ∙ memory in cc
+
+-- nor where a text about `pmb` was asked for
+pub told_is_not_bad : (status : ExitStatus) → status ≡ BadArguments → (status ≡ Done) ⊎ (status ≡ IoFailed)
+    ⊎ (status ≡ NoMemory) → ⊥
+told_is_not_bad status bad (inl done) = let clash : BadArguments ≡ Done = sym bad ∙ done in cc
+told_is_not_bad status bad (inr (inl failed)) = let clash : BadArguments ≡ IoFailed = sym bad ∙ failed in cc
+told_is_not_bad status bad (inr (inr memory)) = memory_is_not_bad status bad memory

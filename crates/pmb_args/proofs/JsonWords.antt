@@ -1,0 +1,264 @@
+-- What `clap` finds in the words of `pmb json`.
+use Rattle.std.proofs.Common.{◌≡◌, ℕ, ◌<◌, false, Some, None, List, [], ◌∷◌, codes, refl, sym, ap, ap₂, ◌∙◌, subst}
+use Rattle.std.proofs.Common.{arith}
+use Rattle.std.specs.Char.{digit_value}
+use Rattle.hex.specs.Hex.{hex_digit_value}
+use Rattle.clap.specs.Faults.{level_fault, step_fault, walk_fault, word_fault}
+use Rattle.clap.specs.Kinds.{or_else}
+use Rattle.clap.specs.Simple.{built_leaf}
+use Rattle.clap.specs.Walk.{Held, Step, Walk, after_step, finished, nothing_held, option, plain_word, walk, walk_from}
+use Rattle.clap.specs.Walk.{walked, word_met}
+use Rattle.clap.specs.Words.{Kinds, Row, Rule, Shape, Text, subcommand_of}
+use Rattle.clap.proofs.OnLiterals.{clap_on_literals}
+use Rattle.pmb_args.specs.Asked.{AskFor, AskForNothing, Asking, Json, UnderProfile, place_in}
+use Rattle.pmb_args.specs.Json.{JsonAsks, JsonWanted, SpellDevices, SpellsAddress, SpellsDigits, at_first, devices_in}
+use Rattle.pmb_args.specs.Json.{digits_in}
+use Rattle.pmb_args.specs.declared.json_choice.AfterBadWord.TheVariants.{GoOn}
+use Rattle.pmb_args.specs.declared.json_choice.KnownAtFirst.TheVariants.{VoutMode, Neither}
+use Rattle.pmb_args.specs.declared.profile_place.ProfilePlace.TheVariants.{Sample, Front}
+use Rattle.pmb_args.specs.Words.{IsFlag, faults_of, json_app, pmb_app}
+use Rattle.pmb_args.proofs.AskedOnce.{json_nothing}
+use Rattle.pmb_args.proofs.JsonAddresses.{no_devices}
+use Rattle.pmb_args.proofs.AskedWords.{IsNoFlag, after_walk, has_no_hyphen, is_no_end, no_device, no_flag, six}
+
+abbrev json_words : Text → List Text → List Text
+json_words name words = name ∷ codes "json" ∷ words
+
+-- ---- flags that no word follows
+
+-- the capture, where a profile comes first, is written by this choice
+abbrev in_json : JsonWanted → Asking
+in_json choice = UnderProfile Front (Json choice)
+
+pub asks_late : (name : Text) → AskFor (json_words name (codes "--late" ∷ []))
+    (in_json (record at_first { known = Neither }))
+unfolding clap_on_literals
+asks_late name = record {
+  no_fault = refl;
+  asks =
+      (_, refl, refl, record { known = refl; after_bad_word = refl; digits = six; devices = no_device });
+}
+
+pub asks_late_fixed : (name : Text) → AskFor (json_words name (codes "--late" ∷ codes "--fixed-vout-mode" ∷ []))
+    (in_json (record at_first { known = VoutMode }))
+unfolding clap_on_literals
+asks_late_fixed name = record {
+  no_fault = refl;
+  asks =
+      (_, refl, refl, record { known = refl; after_bad_word = refl; digits = six; devices = no_device });
+}
+
+pub asks_to_go_on : (name : Text) → AskFor (json_words name (codes "--keep-going" ∷ []))
+    (in_json (record at_first { after_bad_word = GoOn }))
+unfolding clap_on_literals
+asks_to_go_on name = record {
+  no_fault = refl;
+  asks =
+      (_, refl, refl, record { known = refl; after_bad_word = refl; digits = six; devices = no_device });
+}
+
+pub asks_two : (name : Text) → AskFor (json_words name (codes "--keep-going" ∷ codes "--sample" ∷ []))
+    (UnderProfile Sample (Json (record at_first { after_bad_word = GoOn })))
+unfolding clap_on_literals
+asks_two name = record {
+  no_fault = refl;
+  asks =
+      (_, refl, refl, record { known = refl; after_bad_word = refl; digits = six; devices = no_device });
+}
+
+-- `--fixed-vout-mode` alone
+pub alone_is_nothing : (name : Text) → AskForNothing (json_words name (codes "--fixed-vout-mode" ∷ []))
+unfolding clap_on_literals
+alone_is_nothing name = record {
+  no_fault = refl;
+  nothing = json_nothing _ _ refl (λ wanted asks. let clash : None ≡ Some wanted.known = asks.known in cc);
+}
+
+-- ---- a flag that a word follows
+
+-- the word is that of the flag
+value_met : (rules : List Rule) (position : ℕ) (id word : Text) (h : Held) → IsNoFlag word
+    → word_met rules [] false (option id) position word h ≡ plain_word rules (option id) word h
+value_met rules position id word h plain =
+    let no_end = is_no_end word plain in
+    let no_hyphen = has_no_hyphen word plain in
+    rw (no_end, no_hyphen, no_hyphen) refl
+
+value_is_no_fault : (s : Shape) (id word : Text) (h : Held) → IsNoFlag word → word_fault s [] false (option id) word h
+    ≡ []
+value_is_no_fault s id word h plain =
+    let no_end = is_no_end word plain in
+    let no_hyphen = has_no_hyphen word plain in
+    rw (no_end, no_hyphen, no_hyphen) refl
+
+data Valued : Type 0 where
+  digits_flag : Valued
+  device_flag : Valued
+
+abbrev id_of : Valued → Text
+id_of digits_flag = codes "digits"
+id_of device_flag = codes "device"
+
+abbrev flag_of : Valued → Text
+flag_of digits_flag = codes "--digits"
+flag_of device_flag = codes "--device"
+
+abbrev given : Valued → Text → List Text
+given v word = flag_of v ∷ word ∷ []
+
+-- `json` as it is built
+abbrev leaf : Shape
+leaf = built_leaf json_app.top
+
+-- after the flag
+abbrev start : Valued → Walk
+start v = walked leaf.rules [] (walk_from nothing_held) (flag_of v)
+
+-- what the word is there
+abbrev met : Valued → Text → Held × Step
+met v word = plain_word leaf.rules (option (id_of v)) word (start v).held
+
+abbrev end_by : Valued → Text → Held × Step → Walk
+end_by v word how = after_step leaf.rules word (start v) how.0 how.1
+
+abbrev fault_by : Kinds → Held × Step → Kinds
+fault_by fault how = or_else (or_else fault (step_fault leaf 1 how.0 how.1)) []
+
+walk_given : (v : Valued) (word : Text) → IsNoFlag word → walk leaf.rules [] nothing_held (given v word)
+    ≡ end_by v word (met v word)
+unfolding clap_on_literals
+walk_given digits_flag word plain = ap (end_by digits_flag word)
+    (value_met leaf.rules 1 (codes "digits") word (start digits_flag).held plain)
+walk_given device_flag word plain = ap (end_by device_flag word)
+    (value_met leaf.rules 1 (codes "device") word (start device_flag).held plain)
+
+walk_fault_given : (v : Valued) (word : Text) → IsNoFlag word
+    → walk_fault leaf [] (walk_from nothing_held) (given v word) ≡ fault_by [] (met v word)
+unfolding clap_on_literals
+walk_fault_given digits_flag word plain =
+    ap₂ fault_by (value_is_no_fault leaf (codes "digits") word (start digits_flag).held plain)
+    (value_met leaf.rules 1 (codes "digits") word (start digits_flag).held plain)
+walk_fault_given device_flag word plain =
+    ap₂ fault_by (value_is_no_fault leaf (codes "device") word (start device_flag).held plain)
+    (value_met leaf.rules 1 (codes "device") word (start device_flag).held plain)
+
+level_given : (v : Valued) (word : Text) → IsNoFlag word → level_fault leaf [] nothing_held (given v word) false []
+    ≡ after_walk leaf (fault_by [] (met v word)) (end_by v word (met v word))
+level_given v word plain = ap₂ (after_walk leaf) (walk_fault_given v word plain) (walk_given v word plain)
+
+takes_given : (v : Valued) (word : Text) → after_walk leaf (fault_by [] (met v word)) (end_by v word (met v word)) ≡ []
+unfolding clap_on_literals
+takes_given digits_flag word = refl
+takes_given device_flag word = refl
+
+enters_given : (v : Valued) (name word : Text) → faults_of (json_words name (given v word))
+    ≡ or_else (level_fault leaf [] nothing_held (given v word) false []) []
+unfolding clap_on_literals
+enters_given digits_flag name word = refl
+enters_given device_flag name word = refl
+
+no_fault_given : (v : Valued) (name word : Text) → IsNoFlag word → faults_of (json_words name (given v word)) ≡ []
+no_fault_given v name word plain = enters_given v name word
+    ∙ ap (λ (k : Kinds). or_else k []) (level_given v word plain ∙ takes_given v word)
+
+-- the matches
+abbrev rows_given : Valued → Text → List Row
+rows_given v word = finished leaf.rules (end_by v word (met v word)).held
+
+walk_rows : (v : Valued) (name word : Text) → subcommand_of pmb_app (json_words name (given v word))
+    ≡ Some (codes "json", finished leaf.rules (walk leaf.rules [] nothing_held (given v word)).held)
+unfolding clap_on_literals
+walk_rows digits_flag name word = refl
+walk_rows device_flag name word = refl
+
+subcommand_given : (v : Valued) (name word : Text) → IsNoFlag word
+    → subcommand_of pmb_app (json_words name (given v word)) ≡ Some (codes "json", rows_given v word)
+subcommand_given v name word plain = walk_rows v name word
+    ∙ ap (λ (end : Walk). Some (codes "json", finished leaf.rules end.held)) (walk_given v word plain)
+
+-- the profile is the one that comes first
+front_given : (v : Valued) (word : Text) → Front ≡ place_in (rows_given v word)
+unfolding clap_on_literals
+front_given digits_flag word = refl
+front_given device_flag word = refl
+
+-- what the matches choose is asked for
+choice_given : (v : Valued) (name word : Text) (choice : JsonWanted) → IsNoFlag word
+    → JsonAsks (rows_given v word) choice → AskFor (json_words name (given v word)) (in_json choice)
+choice_given v name word choice plain asks =
+    record {
+      no_fault = no_fault_given v name word plain;
+      asks =
+          (_, subcommand_given v name word plain, front_given v word, asks);
+    }
+
+nothing_given : (v : Valued) (name word : Text) → IsNoFlag word
+    → ((choice : JsonWanted) → ¬ (JsonAsks (rows_given v word) choice)) → AskForNothing (json_words name (given v word))
+nothing_given v name word plain none = record {
+  no_fault = no_fault_given v name word plain;
+  nothing =
+      json_nothing _ _ (subcommand_given v name word plain) none;
+}
+
+-- ---- `--digits N`
+
+digits_given : (N : Text) → digits_in (rows_given digits_flag N) ≡ N
+unfolding clap_on_literals
+digits_given N = refl
+
+digits_ask : (N : Text) (n : ℕ) → SpellsDigits N n
+    → JsonAsks (rows_given digits_flag N) (record at_first { digits = n })
+unfolding clap_on_literals
+digits_ask N n spells = record { known = refl; after_bad_word = refl; digits = spells; devices = no_device }
+
+digits_are_no_flag : (N : Text) (n : ℕ) → SpellsDigits N n → IsNoFlag N
+digits_are_no_flag [] n spells = tt
+digits_are_no_flag (c ∷ cs) n spells = λ hyphen.
+    let small : digit_value 45 < 10 = subst (λ x. digit_value x < 10) hyphen spells.numeral.1.0 in
+    absurd (omega (arith, small))
+
+pub asks_digits : (name N : Text) (n : ℕ) → SpellsDigits N n
+    → AskFor (json_words name (codes "--digits" ∷ N ∷ [])) (in_json (record at_first { digits = n }))
+asks_digits name N n spells = choice_given digits_flag name N _ (digits_are_no_flag N n spells) (digits_ask N n spells)
+
+pub bad_digits_ask_nothing : (name N : Text) → (IsFlag N → ⊥) → ((n : ℕ) → ¬ (SpellsDigits N n))
+    → AskForNothing (json_words name (codes "--digits" ∷ N ∷ []))
+bad_digits_ask_nothing name N no_hyphen none_spelled =
+    nothing_given digits_flag name N (no_flag N no_hyphen)
+    (λ choice asks. none_spelled choice.digits
+    (subst (λ word. SpellsDigits word choice.digits) (digits_given N) asks.digits))
+
+-- ---- `--device HH`
+
+devices_given : (HH : Text) → devices_in (rows_given device_flag HH) ≡ HH ∷ []
+unfolding clap_on_literals
+devices_given HH = refl
+
+device_asks : (HH : Text) (address : ℕ) → SpellsAddress HH address
+    → JsonAsks (rows_given device_flag HH) (record at_first { devices = address ∷ [] })
+unfolding clap_on_literals
+device_asks HH address spells = record {
+  known = refl;
+  after_bad_word = refl;
+  digits = six;
+  devices = record { addresses = address ∷ []; spell = (spells, tt); once = refl };
+}
+
+address_is_no_flag : (HH : Text) (address : ℕ) → SpellsAddress HH address → IsNoFlag HH
+address_is_no_flag [] address spells = tt
+address_is_no_flag (c ∷ cs) address spells = λ hyphen.
+    let first : c ≡ spells.high = let two : c ∷ cs ≡ spells.high ∷ spells.low ∷ [] = spells.two in cc in
+    let clash : None ≡ Some spells.high_value = ap hex_digit_value (sym hyphen ∙ first) ∙ spells.high_is in
+    cc
+
+pub asks_device : (name HH : Text) (address : ℕ) → SpellsAddress HH address
+    → AskFor (json_words name (codes "--device" ∷ HH ∷ [])) (in_json (record at_first { devices = address ∷ [] }))
+asks_device name HH address spells = choice_given device_flag name HH _ (address_is_no_flag HH address spells)
+    (device_asks HH address spells)
+
+pub bad_device_asks_nothing : (name HH : Text) → (IsFlag HH → ⊥) → ((address : ℕ) → ¬ (SpellsAddress HH address))
+    → AskForNothing (json_words name (codes "--device" ∷ HH ∷ []))
+bad_device_asks_nothing name HH no_hyphen none_spelled =
+    nothing_given device_flag name HH (no_flag HH no_hyphen)
+    (λ choice asks. no_devices (HH ∷ []) 0 [] (omega arith) none_spelled choice.devices
+    (subst (λ words. SpellDevices words choice.devices) (devices_given HH) asks.devices))

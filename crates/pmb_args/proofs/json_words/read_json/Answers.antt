@@ -1,0 +1,61 @@
+use Rattle.std.proofs.Common.{◌≡◌, ◌∙◌, ℕ, Option, Some, None, List, MatchOption, codes, map, refl, subst, sym}
+use Rattle.clap.specs.Words.{all_of, first_of, found_of, rows_of}
+use Rattle.clap.proofs.WalkLemmas.{first_value-rows, raw_values-rows}
+use Rattle.pmb_args.specs.Json.{SpellDevices, SpellsDigits}
+use Rattle.pmb_args.proofs.AskedLemmas.{text_or, texts_or_none}
+use Rattle.pmb_args.proofs.json_words.read_json.Goals as goal
+
+at_none : {X : Type 0} (found : Option X) (P : Type 0) (Q : X → Type 0) → found ≡ None → MatchOption found P Q → P
+at_none found P Q is holds = subst (λ o. MatchOption o P Q) is holds
+
+at_some : {X : Type 0} (found : Option X) (x : X) (P : Type 0) (Q : X → Type 0) → found ≡ Some x → MatchOption found P Q
+    → Q x
+at_some found x P Q is holds = subst (λ o. MatchOption o P Q) is holds
+
+-- N is no number.
+pub returns-in_default-read_digits : goal.returns-in_default-read_digits
+returns-in_default-read_digits c =
+    let rows = rows_of (found_of c.args.arguments.now) in
+    let word = text_or c.get_str.result c.unwrap_or.result _ (first_of (codes "digits") rows) (codes "6")
+    (c.get_str.ensures ∙ first_value-rows (found_of c.args.arguments.now) (codes "digits")) c.unwrap_or.ensures
+    refl in
+    subst (λ w. (n : ℕ) → ¬ (SpellsDigits w n)) word
+    (at_none c.read_digits.result ((n : ℕ) → ¬ (SpellsDigits c.unwrap_or.result.now n))
+    (SpellsDigits c.unwrap_or.result.now) c.in_default-read_digits.is c.read_digits.ensures)
+
+-- An HH is no address.
+pub returns-in_default-read_devices : goal.returns-in_default-read_devices
+returns-in_default-read_devices c =
+    let rows = rows_of (found_of c.args.arguments.now) in
+    let words = texts_or_none c.get_strs.result c.unwrap_or-2.result _ (all_of (codes "device") rows)
+    (c.get_strs.ensures ∙ raw_values-rows (found_of c.args.arguments.now) (codes "device")) c.unwrap_or-2.ensures
+    refl in
+    subst (λ ws. (devices : List ℕ) → ¬ (SpellDevices ws devices)) words
+    (at_none c.read_devices.result ((devices : List ℕ)
+    → ¬ (SpellDevices (map (λ word. word.now) c.unwrap_or-2.result.now) devices))
+    (λ devices. SpellDevices (map (λ word. word.now) c.unwrap_or-2.result.now) devices.items)
+    c.in_default-read_devices.is c.read_devices.ensures)
+
+-- All is said.
+pub returns : goal.returns
+returns c =
+    let rows = rows_of (found_of c.args.arguments.now) in
+    let word = text_or c.get_str.result c.unwrap_or.result _ (first_of (codes "digits") rows) (codes "6")
+    (c.get_str.ensures ∙ first_value-rows (found_of c.args.arguments.now) (codes "digits")) c.unwrap_or.ensures
+    refl in
+    let words = texts_or_none c.get_strs.result c.unwrap_or-2.result _ (all_of (codes "device") rows)
+    (c.get_strs.ensures ∙ raw_values-rows (found_of c.args.arguments.now) (codes "device")) c.unwrap_or-2.ensures
+    refl in
+    record {
+      known = sym c.known.ensures ∙ c.in-Some.is;
+      after_bad_word = c.after_bad_word.ensures;
+      digits = subst (λ w. SpellsDigits w c.in-Some-read_digits.digits) word
+          (at_some c.read_digits.result c.in-Some-read_digits.digits
+          ((n : ℕ) → ¬ (SpellsDigits c.unwrap_or.result.now n)) (SpellsDigits c.unwrap_or.result.now)
+          c.in-Some-read_digits.is c.read_digits.ensures);
+      devices = subst (λ ws. SpellDevices ws c.in-Some-read_devices.devices.items) words
+          (at_some c.read_devices.result c.in-Some-read_devices.devices ((devices : List ℕ)
+          → ¬ (SpellDevices (map (λ word. word.now) c.unwrap_or-2.result.now) devices))
+          (λ devices. SpellDevices (map (λ word. word.now) c.unwrap_or-2.result.now) devices.items)
+          c.in-Some-read_devices.is c.read_devices.ensures);
+    }

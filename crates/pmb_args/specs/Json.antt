@@ -1,0 +1,105 @@
+-- What the words of `json` ask for: its flags, N of `--digits` and HH of each `--device`.
+use Rattle.std.specs.Prelude.{◌≡◌, ◌≤◌, ◌<◌, ◌+◌, ◌*◌, ◌==◌, ℕ, Bool, true, false, not, Option, Some, None, List, []}
+use Rattle.std.specs.Prelude.{◌∷◌, codes, unwrap_or, filter, if◌then◌else◌}
+use Rattle.std.specs.List.{AllZip}
+use Rattle.std.specs.Str.Parse.{IsNumeral, digits_value}
+use Rattle.clap.specs.Words.{Row, Text, all_of, first_of}
+use Rattle.hex.specs.Hex.{hex_digit_value}
+use Rattle.pmb_args.specs.declared.json_fault.JsonFault.{JsonFault}
+use Rattle.pmb_args.specs.declared.json_fault.JsonFault.TheVariants.{NeedsLate, BadDigits, BadAddress}
+use Rattle.pmb_args.specs.declared.json_choice.AfterBadWord.{AfterBadWord}
+use Rattle.pmb_args.specs.declared.json_choice.AfterBadWord.TheVariants.{End, GoOn}
+use Rattle.pmb_args.specs.declared.json_choice.JsonChoice.{JsonChoice}
+use Rattle.pmb_args.specs.declared.json_choice.KnownAtFirst.{KnownAtFirst}
+use Rattle.pmb_args.specs.declared.json_choice.KnownAtFirst.TheVariants.{Both, VoutMode, Neither}
+use Rattle.pmb_args.specs.Flags.{has_flag}
+
+-- What is wanted: what is known of PAGE and VOUT_MODE at first, what is done after a word that is
+-- no token, the most digits
+-- after a point, and the devices, all where there is none.
+pub record JsonWanted : Type 0 where
+  pub known : KnownAtFirst
+  pub after_bad_word : AfterBadWord
+  pub digits : ℕ
+  pub devices : List ℕ
+
+-- the same as it is kept
+abbrev pub json_wanted_of : JsonChoice → JsonWanted
+json_wanted_of choice = record {
+  known = choice.known;
+  after_bad_word = choice.after_bad_word;
+  digits = choice.digits;
+  devices = choice.devices.items;
+}
+
+-- what is wanted where no flag is given
+abbrev pub at_first : JsonWanted
+at_first = record { known = Both; after_bad_word = End; digits = 6; devices = [] }
+
+-- ---- N and HH
+
+-- N: a number of at most 12, in decimal digits, at least one
+pub record SpellsDigits (word : Text) (n : ℕ) : Type 0 where
+  pub numeral : IsNumeral 10 word
+  pub value : n ≡ digits_value 10 word
+  pub most : n ≤ 12
+
+-- HH: an address of seven bits, in two hexadecimal digits of either case
+pub record SpellsAddress (word : Text) (address : ℕ) : Type 0 where
+  pub high : ℕ
+  pub low : ℕ
+  pub high_value : ℕ
+  pub low_value : ℕ
+  pub two : word ≡ high ∷ low ∷ []
+  pub high_is : hex_digit_value high ≡ Some high_value
+  pub low_is : hex_digit_value low ≡ Some low_value
+  pub value : address ≡ high_value * 16 + low_value
+  pub seven_bits : address < 0x80
+
+-- numbers, each of them once, in the order in which they come first
+abbrev pub each_once : List ℕ → List ℕ
+each_once [] = []
+each_once (x ∷ xs) = x ∷ filter (λ y. not (y == x)) (each_once xs)
+
+-- words that spell addresses, and each of these once
+pub record SpellDevices (words : List Text) (devices : List ℕ) : Type 0 where
+  pub addresses : List ℕ
+  pub spell : AllZip SpellsAddress words addresses
+  pub once : devices ≡ each_once addresses
+
+-- ---- what is among the matches
+
+-- by `--late` and `--fixed-vout-mode`, which is nothing without the first
+abbrev pub known_by : (late fixed : Bool) → Option KnownAtFirst
+known_by false false = Some Both
+known_by true false = Some Neither
+known_by true true = Some VoutMode
+known_by false true = None
+
+abbrev pub known_in : List Row → Option KnownAtFirst
+known_in rows = known_by (has_flag (codes "late") rows) (has_flag (codes "fixed-vout-mode") rows)
+
+-- reading continues with `--keep-going`
+abbrev pub after_bad_word_in : List Row → AfterBadWord
+after_bad_word_in rows = if has_flag (codes "keep-going") rows then GoOn else End
+
+-- N, and 6 where there is none
+abbrev pub digits_in : List Row → Text
+digits_in rows = unwrap_or (first_of (codes "digits") rows) (codes "6")
+
+-- each HH, in their order
+abbrev pub devices_in : List Row → List Text
+devices_in rows = unwrap_or (all_of (codes "device") rows) []
+
+-- The matches choose this.
+pub record JsonAsks (rows : List Row) (wanted : JsonWanted) : Type 0 where
+  pub known : known_in rows ≡ Some wanted.known
+  pub after_bad_word : wanted.after_bad_word ≡ after_bad_word_in rows
+  pub digits : SpellsDigits (digits_in rows) wanted.digits
+  pub devices : SpellDevices (devices_in rows) wanted.devices
+
+-- what is wrong with matches that ask for nothing
+abbrev pub HasFault : List Row → JsonFault → Type 0
+HasFault rows NeedsLate = known_in rows ≡ None
+HasFault rows BadDigits = (n : ℕ) → ¬ (SpellsDigits (digits_in rows) n)
+HasFault rows BadAddress = (devices : List ℕ) → ¬ (SpellDevices (devices_in rows) devices)

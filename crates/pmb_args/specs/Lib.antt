@@ -1,0 +1,6 @@
+pub mod Flags
+pub mod Words
+pub mod Json
+pub mod Asked
+pub mod Texts
+pub mod ExitStatus

@@ -1,0 +1,104 @@
+//! The flags of `json`, and what they choose.
+
+ghost use Rattle.std.specs.Prelude.{◌≡◌, ◌<◌, ℕ, List, MatchOption, MatchResult, map, unwrap_or};
+ghost use Rattle.clap.specs.Words.{Text, found_of, rows_of};
+ghost use Rattle.pmb_args.specs.Json.{HasFault, JsonAsks, SpellDevices, SpellsAddress, SpellsDigits, after_bad_word_in, devices_in, digits_in, json_wanted_of, known_in};
+
+use crate::flags::has_flag;
+use crate::json_choice::{AfterBadWord, JsonChoice, KnownAtFirst};
+use crate::json_fault::JsonFault;
+use arrayvec::ArrayVec;
+use clap::ArgMatches;
+
+/// What the matches of `json` choose.
+///
+/// # Errors
+///
+/// The first of these: `NeedsLate` for `--fixed-vout-mode` without `--late`, `BadDigits` for N that is
+/// no number from 0 to 12, `BadAddress` for HH that is no address of seven bits.
+pub(crate) fn read_json(arguments: &ArgMatches<'_>) -> Result<JsonChoice, JsonFault>
+    ensures { MatchResult result (λ choice. JsonAsks (rows_of (found_of arguments.now)) (json_wanted_of choice)) (HasFault (rows_of (found_of arguments.now))) }
+{
+    let Some(known) = known(arguments) else {
+        return Err(JsonFault::NeedsLate);
+    };
+    let Some(digits) = read_digits(arguments.get_str("digits").unwrap_or("6")) else {
+        return Err(JsonFault::BadDigits);
+    };
+    let Some(devices) = read_devices(arguments.get_strs("device").unwrap_or(&[])) else {
+        return Err(JsonFault::BadAddress);
+    };
+    Ok(JsonChoice {
+        known,
+        after_bad_word: after_bad_word(arguments),
+        digits,
+        devices,
+    })
+}
+
+// What is known at first, by `--late` and `--fixed-vout-mode`; nothing where the first is missing.
+fn known(arguments: &ArgMatches<'_>) -> Option<KnownAtFirst>
+    ensures { result ≡ known_in (rows_of (found_of arguments.now)) }
+{
+    let is_fixed = has_flag(arguments, "fixed-vout-mode");
+    if has_flag(arguments, "late") {
+        Some(if is_fixed {
+            KnownAtFirst::VoutMode
+        } else {
+            KnownAtFirst::Neither
+        })
+    } else if is_fixed {
+        None
+    } else {
+        Some(KnownAtFirst::Both)
+    }
+}
+
+// What is done after a word that is no token, by `--keep-going`.
+fn after_bad_word(arguments: &ArgMatches<'_>) -> AfterBadWord
+    ensures { result ≡ after_bad_word_in (rows_of (found_of arguments.now)) }
+{
+    if has_flag(arguments, "keep-going") {
+        AfterBadWord::GoOn
+    } else {
+        AfterBadWord::End
+    }
+}
+
+// The number from 0 to 12 that a word spells.
+fn read_digits(word: &str) -> Option<u8>
+    ensures { MatchOption result ((n : ℕ) → ¬ (SpellsDigits word.now n)) (SpellsDigits word.now) }
+{
+    if word.starts_with('+') {
+        return None;
+    }
+    match word.parse::<u8>() {
+        Ok(digits) if digits <= 12 => Some(digits),
+        _ => None,
+    }
+}
+
+// The addresses that words spell, each once.
+fn read_devices(words: &[&str]) -> Option<ArrayVec<u8, 128>>
+    ensures { MatchOption result ((devices : List ℕ) → ¬ (SpellDevices (map (λ word. word.now) words.now) devices)) (λ devices. SpellDevices (map (λ word. word.now) words.now) devices.items) }
+{
+    let mut devices = ArrayVec::<u8, 128>::new();
+    for word in words {
+        let address = read_address(word)?;
+        if !devices.contains(&address) {
+            devices.push(address);
+        }
+    }
+    Some(devices)
+}
+
+// The address of seven bits that a word spells.
+fn read_address(word: &str) -> Option<u8>
+    ensures { MatchOption result ((address : ℕ) → ¬ (SpellsAddress word.now address)) (SpellsAddress word.now) }
+{
+    let mut bytes = [0; 1];
+    match hex::decode_to_slice(word, &mut bytes) {
+        Ok(()) if bytes[0] < 0x80 => Some(bytes[0]),
+        _ => None,
+    }
+}

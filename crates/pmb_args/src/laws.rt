@@ -1,0 +1,53 @@
+//! Laws over the definitions alone.
+
+ghost use Rattle.std.specs.Prelude.{◌≡◌, ◌∷◌, [], List, ℕ, codes};
+ghost use Rattle.clap.specs.Words.{Text};
+ghost use Rattle.pmb_args.specs.Asked.{AskFor, AskForNothing, Asking, Convert, HasBadFormat, Json, NamesNone, NeedsNoFlag, UnderProfile, Wanted, converter, name_of};
+ghost use Rattle.clap.specs.declared.error.kind.ErrorKind.TheVariants.{DisplayHelp, InvalidSubcommand};
+ghost use Rattle.pmb_args.specs.Json.{SpellsAddress, SpellsDigits, at_first};
+ghost use Rattle.pmb_args.specs.Words.{AreRefused, AskToTell, IsFlag, faults_of};
+ghost use Rattle.pmb_args.specs.declared.direction.Direction.{Direction};
+ghost use Rattle.pmb_args.specs.declared.json_choice.AfterBadWord.TheVariants.{GoOn};
+ghost use Rattle.pmb_args.specs.declared.json_choice.KnownAtFirst.TheVariants.{Neither, VoutMode};
+ghost use Rattle.pmb_args.specs.declared.profile_place.ProfilePlace.TheVariants.{Front, Sample};
+
+/// The words `pmb show`, `pmb check`, `pmb json`, `pmb build`, `pmb run` and `pmb profile`, each with
+/// `--sample` or without it, `pmb encode FORMAT` and `pmb decode FORMAT` have no fault of `clap`'s and
+/// ask for just that, where FORMAT does not begin with `-`; `pmb --help` and `pmb --version` call for
+/// a text about `pmb`. Of `pmb help` and whatever words after it `clap`'s definition says that they
+/// may call for help or be refused.
+pub fn words_ask()
+    ensures sampled { (name : Text) (wanted : Wanted) → NeedsNoFlag wanted → AskFor (name ∷ name_of wanted ∷ codes "--sample" ∷ []) (UnderProfile Sample wanted) }
+    ensures unsampled { (name : Text) (wanted : Wanted) → NeedsNoFlag wanted → AskFor (name ∷ name_of wanted ∷ []) (UnderProfile Front wanted) }
+    ensures converts { (name format : Text) (direction : Direction) → (IsFlag format → ⊥) → AskFor (name ∷ converter direction ∷ format ∷ []) (Convert direction format) }
+    ensures help { (name : Text) → AskToTell (name ∷ codes "--help" ∷ []) }
+    ensures version { (name : Text) → AskToTell (name ∷ codes "--version" ∷ []) }
+    ensures help_words { (name : Text) (words : List Text) → faults_of (name ∷ codes "help" ∷ words) ≡ DisplayHelp ∷ InvalidSubcommand ∷ [] }
+{}
+
+/// `pmb json` with `--late`, `--late --fixed-vout-mode`, `--keep-going`, `--keep-going --sample`,
+/// `--digits N` or `--device HH` has no fault of `clap`'s and asks for just that, where N is a number
+/// from 0 to 12 and HH an address. With any other N or HH that does not begin with `-`, and with
+/// `--fixed-vout-mode` alone, it asks for nothing.
+pub fn json_words_ask()
+    ensures late { (name : Text) → AskFor (name ∷ codes "json" ∷ codes "--late" ∷ []) (UnderProfile Front (Json (record at_first { known = Neither }))) }
+    ensures late_fixed { (name : Text) → AskFor (name ∷ codes "json" ∷ codes "--late" ∷ codes "--fixed-vout-mode" ∷ []) (UnderProfile Front (Json (record at_first { known = VoutMode }))) }
+    ensures keep_going { (name : Text) → AskFor (name ∷ codes "json" ∷ codes "--keep-going" ∷ []) (UnderProfile Front (Json (record at_first { after_bad_word = GoOn }))) }
+    ensures two { (name : Text) → AskFor (name ∷ codes "json" ∷ codes "--keep-going" ∷ codes "--sample" ∷ []) (UnderProfile Sample (Json (record at_first { after_bad_word = GoOn }))) }
+    ensures digits { (name N : Text) (n : ℕ) → SpellsDigits N n → AskFor (name ∷ codes "json" ∷ codes "--digits" ∷ N ∷ []) (UnderProfile Front (Json (record at_first { digits = n }))) }
+    ensures device { (name HH : Text) (address : ℕ) → SpellsAddress HH address → AskFor (name ∷ codes "json" ∷ codes "--device" ∷ HH ∷ []) (UnderProfile Front (Json (record at_first { devices = address ∷ [] }))) }
+    ensures fixed_alone { (name : Text) → AskForNothing (name ∷ codes "json" ∷ codes "--fixed-vout-mode" ∷ []) }
+    ensures bad_digits { (name N : Text) → (IsFlag N → ⊥) → ((n : ℕ) → SpellsDigits N n → ⊥) → AskForNothing (name ∷ codes "json" ∷ codes "--digits" ∷ N ∷ []) }
+    ensures bad_device { (name HH : Text) → (IsFlag HH → ⊥) → ((address : ℕ) → SpellsAddress HH address → ⊥) → AskForNothing (name ∷ codes "json" ∷ codes "--device" ∷ HH ∷ []) }
+{}
+
+/// Words ask for one thing at most: those that ask for something to be done have no fault, ask for
+/// nothing else and for no text about `pmb`, and have a bad format where what they ask for has.
+pub fn one_asking()
+    ensures one { (words : List Text) (a b : Asking) → AskFor words a → AskFor words b → a ≡ b }
+    ensures something { (words : List Text) (asking : Asking) → AskFor words asking → AskForNothing words → ⊥ }
+    ensures not_refused { (words : List Text) (asking : Asking) → AskFor words asking → AreRefused words → ⊥ }
+    ensures not_told { (words : List Text) (asking : Asking) → AskFor words asking → AskToTell words → ⊥ }
+    ensures bad_format { (words : List Text) (asking : Asking) → AskFor words asking → HasBadFormat words → NamesNone asking }
+    ensures names_none { (words : List Text) (asking : Asking) → AskFor words asking → NamesNone asking → HasBadFormat words }
+{}

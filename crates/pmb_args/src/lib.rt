@@ -1,0 +1,33 @@
+//! The command line: what its arguments ask for, what is printed where they ask for nothing to be done,
+//! and the exit statuses, with what is written of a fault on standard error.
+//!
+//! No other crate knows `clap`.
+//!
+//! ```rust
+//! let mut out = Io::new(Vec::new(rt.alloc()));
+//! let mut err = Io::new(Vec::new(rt.alloc()));
+//! let task = parse_command(rt.alloc(), &["pmb", "check", "--sample"], &mut out, &mut err);
+//! assert!(rt; matches!(task, Ok(Task::UnderProfile(ProfilePlace::Sample, Subcommand::Check))));
+//! ```
+#![tactic(auto)]
+
+mod direction;
+mod exit_status;
+mod flags;
+mod json_choice;
+mod json_fault;
+mod json_words;
+pub mod laws;
+mod profile_place;
+mod subcommand;
+mod tasks;
+mod without_words;
+mod words;
+
+pub use direction::Direction;
+pub use exit_status::{ExitStatus, ended, report, report_format, report_nothing, report_text};
+pub use json_choice::{AfterBadWord, JsonChoice, KnownAtFirst};
+pub use profile_place::ProfilePlace;
+pub use subcommand::Subcommand;
+pub use tasks::{Task, parse_command};
+pub use without_words::no_words;

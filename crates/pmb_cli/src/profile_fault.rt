@@ -1,0 +1,37 @@
+//! What is written of a fault of a profile on standard error.
+
+ghost use Rattle.pmb_cli.specs.ProfileFault.{IsReported};
+
+use pmb_args::{ExitStatus, report, report_text};
+use pmb_hints::{explanation, fault_text};
+use pmb_io::{Sink, ToolFault};
+use pmb_table::{FaultKind, ProfileFault};
+use std::alloc::Global;
+
+/// Reports on `err` what is wrong with a profile, and where.
+pub(crate) fn report_profile<E: Sink>(fault: ProfileFault, err: &mut E) -> ExitStatus
+    ensures { IsReported fault.what result (E.told err.old) (E.told err.new) }
+{
+    if fault.what == FaultKind::OutOfMemory {
+        return report(ToolFault::Memory, err);
+    }
+    report_text(fault_text(fault).as_str(), err);
+    ExitStatus::BadArguments
+}
+
+/// Reports the same of the profile in `text`, and then the lines that help, all in one write.
+pub(crate) fn explain_profile<E: Sink>(
+    alloc: Global,
+    text: &[u8],
+    fault: ProfileFault,
+    err: &mut E,
+) -> ExitStatus
+    ensures { IsReported fault.what result (E.told err.old) (E.told err.new) }
+{
+    if fault.what == FaultKind::OutOfMemory {
+        return report(ToolFault::Memory, err);
+    }
+    let lines = explanation(alloc, text, fault);
+    let _ = err.write_all(lines.as_str().as_bytes());
+    ExitStatus::BadArguments
+}

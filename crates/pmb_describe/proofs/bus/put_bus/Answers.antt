@@ -1,9 +1,0 @@
-use Rattle.std.proofs.Common.{◌∙◌}
-use Rattle.pmb_describe.specs.Table.{bus_head, devices_text}
-use Rattle.pmb_describe.proofs.Texts.{on_ok, puts_as}
-use Rattle.pmb_describe.proofs.bus.put_bus.Goals as goal
-
-pub returns-clause-puts : goal.returns-clause-puts
-returns-clause-puts g c =
-    let head = puts_as _ _ _ _ _ (bus_head c.args.profile.now) (c.as_slice.ensures.value ∙ c.bus_head.ensures) c.in_ok-put.ensures.ok in
-    on_ok c.put_devices.result (λ rest. c.texts_add_up.ensures.both _ _ _ _ _ _ (bus_head c.args.profile.now) (devices_text 0 c.args.profile.now) head rest) c.put_devices.ensures.puts

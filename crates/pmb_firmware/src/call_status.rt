@@ -1,0 +1,65 @@
+//! What a call came to, as the number that C is told.
+ghost use Rattle.std.specs.Prelude.{◌≡◌};
+ghost use Rattle.pmb_firmware.specs.CallStatus.{number_of};
+
+use pmb_convert::FormatFault;
+use pmb_value::{QuantityFault, RangeFault};
+
+/// What a call came to.
+#[derive(Clone, Copy)]
+pub enum CallStatus {
+    /// All went well.
+    Done,
+    /// The quantity is outside the format's range.
+    Range(RangeFault),
+    /// The struct names no format.
+    Format(FormatFault),
+    /// The numbers or the text make no quantity.
+    Quantity(QuantityFault),
+    /// The standard has no such name.
+    NoName,
+    /// The text, and the NUL after it where it has one, don't fit into the caller's room.
+    NoRoom,
+    /// The profile has a fault.
+    BadProfile,
+    /// There was no memory.
+    NoMemory,
+    /// The choice of JSON has a number that none of its fields has.
+    BadChoice,
+    /// No word has ended in the text so far.
+    NoEvent,
+    /// A word of the text is no token.
+    BadToken,
+}
+
+impl CallStatus {
+    /// The number that the header gives it.
+    pub const fn number(self) -> i32
+        ensures { result ≡ number_of self }
+    {
+        match self {
+            CallStatus::Done => 0,
+            CallStatus::Range(RangeFault::Below) => 1,
+            CallStatus::Range(RangeFault::Above) => 2,
+            CallStatus::Format(FormatFault::BadFormat) => 3,
+            CallStatus::Format(FormatFault::BadExponent) => 4,
+            CallStatus::Format(FormatFault::ZeroSlope) => 5,
+            CallStatus::Format(FormatFault::BadScale) => 6,
+            CallStatus::Format(FormatFault::Relative) => 7,
+            CallStatus::Format(FormatFault::Vid) => 8,
+            CallStatus::Format(FormatFault::Ieee) => 9,
+            CallStatus::Format(FormatFault::NoCoefficients) => 10,
+            CallStatus::Quantity(QuantityFault::Empty) => 11,
+            CallStatus::Quantity(QuantityFault::BadDigit) => 12,
+            CallStatus::Quantity(QuantityFault::ZeroDenominator) => 13,
+            CallStatus::Quantity(QuantityFault::TooLarge) => 14,
+            CallStatus::NoName => 15,
+            CallStatus::NoRoom => 16,
+            CallStatus::BadProfile => 17,
+            CallStatus::NoMemory => 18,
+            CallStatus::BadChoice => 19,
+            CallStatus::NoEvent => 20,
+            CallStatus::BadToken => 21,
+        }
+    }
+}

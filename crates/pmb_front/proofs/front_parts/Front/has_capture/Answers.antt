@@ -1,6 +1,0 @@
-use Rattle.std.proofs.Common.{ap}
-use Rattle.pmb_front.specs.Front.{Parts}
-use Rattle.pmb_front.proofs.front_parts.Front.has_capture.Goals as goal
-
-pub returns : goal.returns
-returns c = ap (λ (parts : Parts). parts.marked) c.self.view_is

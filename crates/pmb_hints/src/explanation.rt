@@ -1,0 +1,36 @@
+//! A profile's fault as a text.
+
+use crate::lines::hints;
+use arrayvec::ArrayString;
+use pmb_table::ProfileFault;
+use std::alloc::Global;
+use std::fmt::Write;
+
+/// The text of a fault.
+pub type FaultText = ArrayString<96>;
+
+/// A fault with its hints.
+pub type Explanation = ArrayString<2048>;
+
+/// A fault as one line: its name, and its device and its command where it has them.
+pub fn fault_text(fault: ProfileFault) -> FaultText {
+    let mut text = FaultText::new();
+    let _ = write!(text, "profile: {:?}", fault.what);
+    if let Some(device) = fault.device {
+        let _ = write!(text, " in device {device}");
+    }
+    if let Some(command) = fault.command {
+        let _ = write!(text, " command {command}");
+    }
+    let _ = text.try_push_str("\n");
+    text
+}
+
+/// What `pmb profile` reports of a fault of the profile in `text`: the fault, and the lines that help.
+pub fn explanation(alloc: Global, text: &[u8], fault: ProfileFault) -> Explanation {
+    let mut lines = Explanation::new();
+    let _ = lines.try_push_str("pmb: ");
+    let _ = lines.try_push_str(fault_text(fault).as_str());
+    let _ = lines.try_push_str(hints(alloc, text, fault).as_str());
+    lines
+}

@@ -1,0 +1,132 @@
+//! A whole input worked on, and the text put into a room.
+
+ghost use Rattle.std.specs.Prelude.{◌≡◌};
+ghost use Rattle.pmb_json.specs.Json.{json_job};
+ghost use Rattle.pmb_json_stream.specs.Choice.{choice_data};
+ghost use Rattle.pmb_in_memory.specs.Put.{Puts, put_of};
+ghost use Rattle.pmb_in_memory.specs.MemoryTask.{working};
+
+use crate::buffer_id::BufferId;
+use crate::fault::WholeFault;
+use crate::memory_task::MemoryTask;
+use crate::put::{Put, put_of};
+use crate::room::{Filled, Room};
+use crate::whole::{write_json, write_whole};
+use pmb_decimal::Digits;
+use pmb_io::Tally;
+use pmb_json::AfterBadToken;
+use pmb_json_stream::Choice;
+use pmb_unknown_start::Start;
+use std::alloc::Global;
+use std::marker::Brand;
+
+/// Puts what the work's subcommand writes of an input under a profile at the start of a room, as
+/// far as it fits; what stands after it stays. Nothing but the profile, and the devices of `run`,
+/// takes memory.
+///
+/// # Errors
+///
+/// `Profile` where the profile's text has a fault. `Memory` where there was none. The room stays as
+/// it was then.
+pub fn put_whole(
+    work: MemoryTask,
+    alloc: Global,
+    profile: &[u8],
+    input: &[u8],
+    room: &mut [u8],
+) -> Result<Put, WholeFault>
+    ensures { Puts (working work) profile.now input.now room.old room.new result }
+{
+    let ended = put_whole_at::<Brand>(work, alloc, profile, input, room);
+    put_of(ended.length, ended.outcome)
+}
+
+/// Puts the objects of a capture under a profile, each as a line of JSON, at the start of a room,
+/// as far as they fit; what stands after them stays. Nothing but the profile takes memory.
+///
+/// # Errors
+///
+/// `Profile` where the profile's text has a fault. `Memory` where there was none. The room stays as
+/// it was then.
+pub fn put_json<'c>(
+    choice: Choice<'c>,
+    bad_words: AfterBadToken,
+    alloc: Global,
+    profile: &[u8],
+    capture: &[u8],
+    room: &mut [u8],
+) -> Result<Put, WholeFault>
+    ensures { Puts (λ devices. json_job (choice_data choice.entry) devices bad_words) profile.now capture.now room.old room.new result }
+{
+    let Choice {
+        digits,
+        start,
+        devices,
+    } = choice;
+    let ended = put_json_at::<Brand>(
+        digits, start, devices, bad_words, alloc, profile, capture, room,
+    );
+    put_of(ended.length, ended.outcome)
+}
+
+/// The room again, how long the text is, and how the work ended.
+#[derive(Drop)]
+struct Ended<'r> {
+    room: &'r mut [u8],
+    length: usize,
+    outcome: Result<Tally, WholeFault>,
+}
+
+/// Puts the text of a work into the room of a place.
+fn put_whole_at<'r, P: BufferId>(
+    work: MemoryTask,
+    alloc: Global,
+    profile: &[u8],
+    input: &[u8],
+    room: &'r mut [u8],
+) -> Ended<'r>
+    requires same { room.ghost_name ≡ P.name }
+    requires before { room.old ≡ P.before }
+    ensures same { result.room.ghost_name ≡ room.entry.ghost_name }
+    ensures puts { Puts (working work) profile.now input.now room.old result.room.now (put_of result.length result.outcome) }
+{
+    let mut writer: Room<'r, P> = Room::new(room);
+    let outcome = write_whole(work, alloc, profile, input, &mut writer);
+    let Filled { room, count } = writer.into_filled();
+    Ended {
+        room,
+        length: count,
+        outcome,
+    }
+}
+
+/// Puts the objects of a capture into the room of a place.
+fn put_json_at<'r, P: BufferId>(
+    digits: Digits,
+    start: Start,
+    devices: &[u8],
+    bad_words: AfterBadToken,
+    alloc: Global,
+    profile: &[u8],
+    capture: &[u8],
+    room: &'r mut [u8],
+) -> Ended<'r>
+    requires same { room.ghost_name ≡ P.name }
+    requires before { room.old ≡ P.before }
+    ensures same { result.room.ghost_name ≡ room.entry.ghost_name }
+    ensures puts { Puts (λ bus. json_job (record { digits = digits; start = start; devices = devices.now }) bus bad_words) profile.now capture.now room.old result.room.now (put_of result.length result.outcome) }
+{
+    let mut writer: Room<'r, P> = Room::new(room);
+    let choice = Choice {
+        digits,
+        start,
+        devices,
+    };
+    let outcome = write_json(choice, bad_words, alloc, profile, capture, &mut writer);
+    let Filled { room, count } = writer.into_filled();
+    Ended {
+        room,
+        length: count,
+        outcome,
+    }
+}

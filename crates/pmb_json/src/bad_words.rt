@@ -1,9 +1,0 @@
-/// What is done after a word that is no token.
-#[derive(Clone, Copy, Debug, PartialEq, Eq)]
-pub enum BadWords {
-    /// Reading ends there.
-    End,
-    /// The rest of its line and the packet under way are dropped, and reading begins anew with the
-    /// next line.
-    GoOn,
-}

@@ -1,0 +1,70 @@
+//! What is said of a command's data, by its kind.
+
+ghost use Rattle.std.specs.Prelude.{◌≡◌, ◌+◌, ◌≤◌, ◌++◌, length};
+ghost use Rattle.pmb_json_text.specs.declared.item_order.ItemOrder.TheVariants.{Later};
+ghost use Rattle.pmb_json_text.specs.Member.{AreWritable, members_text};
+ghost use Rattle.pmb_json_fields.specs.Value.{data_members};
+ghost use Rattle.pmb_json_fields.specs.machine.Written.{Appends};
+
+use crate::access::Access;
+use crate::bits::append_status;
+use crate::number::append_quantity;
+use crate::voltage::append_voltage;
+use arrayvec::ArrayVec;
+use pmb_command::Kind;
+use pmb_decimal::Digits;
+use pmb_unknown_start::KnownMode;
+use pmb_value::{Direct, Linear11};
+
+/// The most bytes of the members that [`data_members`] appends: those of 16 status bits.
+pub const DATA_MEMBERS: usize = 1702;
+
+/// Appends what is said of a command's data to an object that has members already.
+///
+/// `digits` is how many digits a number has after the point at most. `mode` is the VOUT_MODE by which
+/// an output voltage is read, as far as it is known, and `coefficients` are those of the device for
+/// output voltages in DIRECT. `code` and `kind` are the command's, and `bytes` what is read or
+/// written: without the count of a block, and without a packet error code. Nothing is appended where
+/// the kind says nothing of that many bytes.
+pub fn data_members<const N: usize>(
+    out: &mut ArrayVec<u8, N>,
+    digits: Digits,
+    access: Access,
+    mode: KnownMode,
+    coefficients: Option<Direct>,
+    code: u8,
+    kind: Kind,
+    bytes: &[u8],
+)
+    requires room { length out.old.items + DATA_MEMBERS ≤ N }
+    ensures members { out.new.items ≡ out.old.items ++ members_text Later (data_members digits access mode coefficients code kind bytes.now) }
+    ensures short { length out.new.items ≤ length out.old.items + DATA_MEMBERS }
+    ensures writable { AreWritable (data_members digits access mode coefficients code kind bytes.now) }
+{
+    append_data(out, digits, access, mode, coefficients, code, kind, bytes);
+}
+
+/// The same.
+fn append_data<const N: usize>(
+    out: &mut ArrayVec<u8, N>,
+    digits: Digits,
+    access: Access,
+    mode: KnownMode,
+    coefficients: Option<Direct>,
+    code: u8,
+    kind: Kind,
+    bytes: &[u8],
+)
+    requires { length out.old.items + 1702 ≤ N }
+    ensures { Appends (data_members digits access mode coefficients code kind bytes.now) 1702 out.old.items out.new.items }
+{
+    match kind {
+        Kind::Raw => {}
+        // A fixed exponent binds the writer alone: every word has its value.
+        Kind::Linear11 | Kind::Linear11Fixed(_) => append_quantity(out, digits, &Linear11, bytes),
+        Kind::Vout => append_voltage(out, digits, mode, Sign::Unsigned, coefficients, bytes),
+        Kind::VoutSigned => append_voltage(out, digits, mode, Sign::Signed, coefficients, bytes),
+        Kind::Direct(format) => append_quantity(out, digits, &format, bytes),
+        Kind::Status => append_status(out, access, code, bytes),
+    }
+}

@@ -1,0 +1,82 @@
+//! The value of a number: as an exact text, and as the nearest number.
+
+ghost use Rattle.std.specs.Prelude.{◌≡◌, ◌+◌, ◌≤◌, ◌∷◌, [], codes, length};
+ghost use Rattle.pmb_quantity.specs.QuantityText.{spelling};
+ghost use Rattle.pmb_decimal.specs.Decimal.{rounded_text};
+ghost use Rattle.pmb_json_text.specs.Json.{IsNumber, number, string};
+ghost use Rattle.pmb_json_text.specs.Member.{named};
+ghost use Rattle.pmb_json_fields.specs.Value.{of_word, value_members};
+ghost use Rattle.pmb_json_fields.specs.machine.Written.{Appends};
+
+use crate::raw::append_text;
+use arrayvec::ArrayVec;
+use pmb_decimal::{Digits, append_decimal};
+use pmb_json_text::{ItemOrder, number_text_member};
+use pmb_value::{Format, Quantity};
+
+/// Appends what two bytes say in a format; nothing for another number of bytes.
+pub(crate) fn append_quantity<F: Format, const N: usize>(
+    out: &mut ArrayVec<u8, N>,
+    digits: Digits,
+    format: &F,
+    bytes: &[u8],
+)
+    requires { length out.old.items + 345 ≤ N }
+    ensures { Appends (of_word (value_members digits (F.coding format.now)) bytes.now) 345 out.old.items out.new.items }
+{
+    match bytes {
+        [low, high] => append_value(out, digits, format, u16::from_le_bytes([*low, *high])),
+        _ => {}
+    }
+}
+
+/// Appends the value of a word in a format, and the nearest number.
+pub(crate) fn append_value<F: Format, const N: usize>(
+    out: &mut ArrayVec<u8, N>,
+    digits: Digits,
+    format: &F,
+    word: u16,
+)
+    requires { length out.old.items + 345 ≤ N }
+    ensures { Appends (value_members digits (F.coding format.now) word) 345 out.old.items out.new.items }
+{
+    let quantity = format.decode(word);
+    append_exact(out, &quantity);
+    append_nearest(out, digits, &quantity);
+}
+
+/// Appends the exact value.
+fn append_exact<const N: usize>(out: &mut ArrayVec<u8, N>, quantity: &Quantity)
+    requires { length out.old.items + 292 ≤ N }
+    ensures { Appends (named (codes "value") (string (spelling quantity.now)) ∷ []) 292 out.old.items out.new.items }
+{
+    append_text(out, "value", quantity.text().as_str().as_bytes());
+}
+
+/// Appends the nearest number.
+fn append_nearest<const N: usize>(out: &mut ArrayVec<u8, N>, digits: Digits, quantity: &Quantity)
+    requires { length out.old.items + 53 ≤ N }
+    ensures { Appends (named (codes "number") (number (rounded_text digits quantity.now)) ∷ []) 53 out.old.items out.new.items }
+{
+    let text = nearest(digits, quantity);
+    number_text_member(out, ItemOrder::Later, "number", text.as_slice());
+}
+
+/// The text of the nearest number.
+fn nearest(digits: Digits, quantity: &Quantity) -> ArrayVec<u8, 33>
+    ensures text { result.items ≡ rounded_text digits quantity.now }
+    ensures number { IsNumber result.items }
+{
+    let mut text = ArrayVec::new();
+    nearest_is_number(digits, quantity);
+    append_decimal(quantity, digits, &mut text);
+    text
+}
+
+/// The nearest decimal is a number of JSON. This does nothing: what `num` says of a quantity is all
+/// that it needs.
+fn nearest_is_number(digits: Digits, quantity: &Quantity)
+    ensures { IsNumber (rounded_text digits quantity.now) }
+{
+    let _ = quantity.num();
+}

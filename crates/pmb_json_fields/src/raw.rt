@@ -1,0 +1,43 @@
+//! Members whose value is a text, and why a word has no value.
+
+ghost use Rattle.std.specs.Prelude.{◌≡◌, ◌+◌, ◌*◌, ◌≤◌, ◌∷◌, [], IsTrue, length};
+ghost use Rattle.pmb_json_text.specs.Json.{string};
+ghost use Rattle.pmb_json_text.specs.Member.{is_key, named};
+ghost use Rattle.pmb_json_fields.specs.Value.{mode_fault_name, raw_members};
+ghost use Rattle.pmb_json_fields.specs.machine.Written.{Appends};
+
+use arrayvec::ArrayVec;
+use pmb_json_text::{ItemOrder, TEXT_MEMBER, text_member};
+use pmb_value::ModeFault;
+
+/// Appends a member whose value is a text.
+#[inline(always)]
+pub(crate) fn append_text<const N: usize>(out: &mut ArrayVec<u8, N>, key: &str, text: &[u8])
+    requires key { IsTrue (is_key key.now) }
+    requires room { length out.old.items + (TEXT_MEMBER + 6 * length text.now) ≤ N }
+    ensures { Appends (named key.now (string text.now) ∷ []) (TEXT_MEMBER + 6 * length text.now) out.old.items out.new.items }
+{
+    text_member(out, ItemOrder::Later, key, text);
+}
+
+/// Appends why a word has no value.
+pub(crate) fn append_raw<const N: usize>(out: &mut ArrayVec<u8, N>, why: &str)
+    requires short { length why.now ≤ 12 }
+    requires room { length out.old.items + 94 ≤ N }
+    ensures { Appends (raw_members why.now) 94 out.old.items out.new.items }
+{
+    append_text(out, "raw", why.as_bytes());
+}
+
+/// Why a VOUT_MODE names no format.
+pub(crate) fn mode_fault_name(fault: ModeFault) -> &'static str
+    ensures name { result.now ≡ mode_fault_name fault }
+    ensures short { length result.now ≤ 12 }
+{
+    match fault {
+        ModeFault::Relative => "relative",
+        ModeFault::Vid => "vid",
+        ModeFault::Ieee => "ieee",
+        ModeFault::NoCoefficients => "coefficients",
+    }
+}

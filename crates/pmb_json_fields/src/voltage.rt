@@ -1,0 +1,75 @@
+//! Output voltages, which VOUT_MODE says how to read.
+
+ghost use Rattle.std.specs.Prelude.{◌≡◌, ◌+◌, ◌≤◌, length};
+ghost use Rattle.pmb_value.specs.Vout.{format_of};
+ghost use Rattle.pmb_json_fields.specs.Value.{format_members, of_word, vout_members};
+ghost use Rattle.pmb_json_fields.specs.machine.Written.{Appends, is_signed};
+
+use crate::number::append_value;
+use crate::raw::{append_raw, mode_fault_name};
+use arrayvec::ArrayVec;
+use pmb_decimal::Digits;
+use pmb_unknown_start::KnownMode;
+use pmb_value::{Direct, Sign, vout_format};
+
+/// Appends what two bytes of an output voltage say; nothing for another number of bytes.
+pub(crate) fn append_voltage<const N: usize>(
+    out: &mut ArrayVec<u8, N>,
+    digits: Digits,
+    mode: KnownMode,
+    sign: Sign,
+    coefficients: Option<Direct>,
+    bytes: &[u8],
+)
+    requires { length out.old.items + 345 ≤ N }
+    ensures { Appends (of_word (vout_members digits mode (is_signed sign) coefficients) bytes.now) 345 out.old.items out.new.items }
+{
+    match bytes {
+        [low, high] => append_word(
+            out,
+            digits,
+            mode,
+            sign,
+            coefficients,
+            u16::from_le_bytes([*low, *high]),
+        ),
+        _ => {}
+    }
+}
+
+/// Appends what a word of an output voltage says.
+fn append_word<const N: usize>(
+    out: &mut ArrayVec<u8, N>,
+    digits: Digits,
+    mode: KnownMode,
+    sign: Sign,
+    coefficients: Option<Direct>,
+    word: u16,
+)
+    requires { length out.old.items + 345 ≤ N }
+    ensures { Appends (vout_members digits mode (is_signed sign) coefficients word) 345 out.old.items out.new.items }
+{
+    match mode {
+        KnownMode::Known(mode) => append_by_mode(out, digits, mode, sign, coefficients, word),
+        KnownMode::Unknown => append_raw(out, "unknown"),
+        KnownMode::NoPage => append_raw(out, "page"),
+    }
+}
+
+/// Appends what a word of an output voltage says under a VOUT_MODE.
+fn append_by_mode<const N: usize>(
+    out: &mut ArrayVec<u8, N>,
+    digits: Digits,
+    mode: u8,
+    sign: Sign,
+    coefficients: Option<Direct>,
+    word: u16,
+)
+    requires { length out.old.items + 345 ≤ N }
+    ensures { Appends (format_members digits (format_of mode (is_signed sign) coefficients) word) 345 out.old.items out.new.items }
+{
+    match vout_format(mode, sign == Sign::Signed, coefficients) {
+        Ok(format) => append_value(out, digits, &format, word),
+        Err(fault) => append_raw(out, mode_fault_name(fault)),
+    }
+}

@@ -1,0 +1,14 @@
+-- The byte that was refused, and those before it.
+use Rattle.std.proofs.Common.{◌≡◌, ℕ, Some, List, [], ◌∷◌, ◌++◌, refl, ap}
+use Rattle.pmb_partial_packet.specs.PartialPacket.{but_last}
+use Rattle.pmb_json_objects.specs.Packets.{last_byte}
+
+pub before_last : (front : List ℕ) (last : ℕ) → but_last (front ++ last ∷ []) ≡ front
+before_last [] last = refl
+before_last (b ∷ []) last = refl
+before_last (b ∷ c ∷ front) last = ap (λ bs. b ∷ bs) (before_last (c ∷ front) last)
+
+pub the_last : (front : List ℕ) (last : ℕ) → last_byte (front ++ last ∷ []) ≡ Some last
+the_last [] last = refl
+the_last (b ∷ []) last = refl
+the_last (b ∷ c ∷ front) last = the_last (c ∷ front) last

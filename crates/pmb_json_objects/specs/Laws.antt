@@ -1,0 +1,90 @@
+-- Objects as JSON, and what holds by nature of that which they are made of.
+use Rattle.std.specs.Prelude.{ℕ, ◌+◌, ◌^◌, ◌<◌, ◌≤◌, ⊤, IfSome, List, [], ◌∷◌, codes, length, unsigned_abs}
+use Rattle.std.specs.List.{AllByRecursion}
+use Rattle.pmb_coefficients.specs.Coefficients.{Coefficients, MakeFormat}
+use Rattle.pmb_command.specs.declared.entry.Kind.{Kind}
+use Rattle.pmb_command.specs.declared.entry.Kind.TheVariants.{Raw, Linear11, Linear11Fixed, Vout, VoutSigned, Direct}
+use Rattle.pmb_command.specs.declared.entry.Kind.TheVariants.{Status}
+use Rattle.pmb_command.specs.Bus.{IsBus}
+use Rattle.pmb_command.specs.Parts.{device_with}
+use Rattle.pmb_json_text.specs.Json.{HasDistinctKeys}
+use Rattle.pmb_json_text.specs.Member.{AreWritable, Member, object_of}
+use Rattle.pmb_json_text.specs.Spelling.{AreBytes}
+use Rattle.pmb_places.specs.declared.places.Place.{Place}
+use Rattle.pmb_transaction.specs.Transaction.{PartData, TransactionData, Write, Read, Call, Refused, Alert, NoAlert}
+use Rattle.pmb_json_objects.specs.Seen.{SeenData, entry_at, page_at}
+
+-- ---- what is promised
+
+-- Members that can be written, where no object has a key twice: by the laws of `pmb_json_text` their line
+-- is JSON, and spells their object.
+pub record IsJsonObject (members : List Member) : Type 0 where
+  pub writable : AreWritable members
+  pub distinct : HasDistinctKeys (object_of members)
+
+-- the keys of all objects; those of each are some of these, in this order
+abbrev pub object_keys : List (List ℕ)
+object_keys =
+    codes "at" ∷ codes "line" ∷ codes "column" ∷ codes "kind" ∷ codes "part" ∷ codes "parts" ∷ codes "reason"
+    ∷ codes "expected" ∷ codes "got" ∷ codes "device"
+    ∷ codes "writes" ∷ codes "reads" ∷ codes "calls" ∷ codes "packets" ∷ codes "refused" ∷ codes "refusals"
+    ∷ codes "bad_tokens" ∷ codes "code" ∷ codes "command" ∷ codes "page"
+    ∷ codes "bytes" ∷ codes "byte" ∷ codes "sent" ∷ codes "reply" ∷ codes "pec" ∷ codes "right_pec" ∷ codes "word"
+    ∷ codes "value" ∷ codes "number" ∷ codes "raw" ∷ codes "bits" ∷ codes "clears" ∷ []
+
+-- ---- numbers of 64 bits
+
+abbrev pub IsCount : ℕ → Type 0
+IsCount n = n < 2 ^ 64
+
+pub record IsPlace (place : Place) : Type 0 where
+  pub line : IsCount place.line
+  pub column : IsCount place.column
+
+-- ---- what is seen
+
+-- Coefficients of 16 bits that make a format.
+pub record AreOfWords (d : Coefficients) : Type 0 where
+  pub slope : unsigned_abs d.m ≤ 2 ^ 15
+  pub offset : unsigned_abs d.b ≤ 2 ^ 15
+  pub format : MakeFormat d
+
+-- those of a kind in DIRECT
+abbrev pub IsOfWords : Kind → Type 0
+IsOfWords Raw = ⊤
+IsOfWords Linear11 = ⊤
+IsOfWords (Linear11Fixed exponent) = ⊤
+IsOfWords Vout = ⊤
+IsOfWords VoutSigned = ⊤
+IsOfWords (Direct d) = AreOfWords d
+IsOfWords Status = ⊤
+
+-- The profile is accepted, and PAGE of the device with an address is a byte.
+pub record IsSeen (seen : SeenData) (addr : ℕ) : Type 0 where
+  pub bus : IsBus seen.profile
+  pub page : IfSome (page_at seen addr) (λ page. page < 256)
+
+-- The coefficients of that device's output voltage, and of its command with a code, are such ones.
+pub record HasFormats (seen : SeenData) (addr code : ℕ) : Type 0 where
+  pub vout : IfSome (device_with addr seen.profile) (λ device. IfSome device.vout_direct AreOfWords)
+  pub kind : IfSome (entry_at seen addr code) (λ entry. IsOfWords entry.kind)
+
+-- Data of that command: bytes.
+pub record IsData (seen : SeenData) (addr code : ℕ) (bytes : List ℕ) : Type 0 where
+  pub device : IsSeen seen addr
+  pub formats : HasFormats seen addr code
+  pub small : AreBytes bytes
+
+-- ---- transactions
+
+abbrev pub AreParts : SeenData → List PartData → Type 0
+AreParts seen parts = AllByRecursion (λ part. IsData seen part.addr part.code part.bytes) parts
+
+-- Each device that it names is seen, its data are such, and the parts of a group can be counted.
+abbrev pub IsTransaction : SeenData → TransactionData → Type 0
+IsTransaction seen (Write parts) = AreParts seen parts × IsCount (length parts)
+IsTransaction seen (Read t) = IsData seen t.addr t.code t.reply
+IsTransaction seen (Call t) = IsSeen seen t.addr
+IsTransaction seen (Refused t) = AreParts seen t.parts × IsCount (length t.parts + 1) × IsSeen seen t.addr
+IsTransaction seen (Alert t) = ⊤
+IsTransaction seen NoAlert = ⊤

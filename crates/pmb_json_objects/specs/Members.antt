@@ -1,0 +1,56 @@
+-- The members that objects share.
+use Rattle.std.specs.Prelude.{ℕ, Bool, true, false, if◌then◌else◌, nat_eq, nat_le, Option, Some, None, List, [], ◌∷◌}
+use Rattle.std.specs.Prelude.{◌++◌, codes}
+use Rattle.pmb_command.specs.Entry.{EntryParts}
+use Rattle.pmb_note.specs.Paging.{all_pages}
+use Rattle.pmb_json_text.specs.Json.{Json, null, string}
+use Rattle.pmb_json_text.specs.Member.{Member, named, count, digits}
+use Rattle.pmb_places.specs.declared.places.Place.{Place}
+use Rattle.pmb_json_objects.specs.Seen.{SeenData, entry_at, page_at}
+
+-- where the object begins: the number of its first event, and the place of that one's word
+abbrev pub where_members : ℕ → Place → List Member
+where_members at place = named (codes "at") (count at) ∷ named (codes "line") (count place.line)
+    ∷ named (codes "column") (count place.column) ∷ []
+
+abbrev pub kind_member : List ℕ → List Member
+kind_member kind = named (codes "kind") (string kind) ∷ []
+
+-- where it begins, and its kind
+abbrev pub head_members : ℕ → Place → List ℕ → List Member
+head_members at place kind = where_members at place ++ kind_member kind
+
+abbrev pub device_member : ℕ → List Member
+device_member addr = named (codes "device") (digits (addr ∷ [])) ∷ []
+
+abbrev pub code_member : ℕ → List Member
+code_member code = named (codes "code") (digits (code ∷ [])) ∷ []
+
+-- the selected page, where it is known
+abbrev pub page_value : Option ℕ → Json
+page_value None = null
+page_value (Some page) = if nat_eq page all_pages then string (codes "all") else count page
+
+-- of a paged command alone
+abbrev pub page_member : Bool → Option ℕ → List Member
+page_member false page = []
+page_member true page = named (codes "page") (page_value page) ∷ []
+
+-- a command's name, and the page where it is paged; nothing where the device has no such command
+abbrev pub entry_members : Option ℕ → Option EntryParts → List Member
+entry_members page None = []
+entry_members page (Some entry) = named (codes "command") (string entry.name) ∷ page_member entry.paged page
+
+-- code, command and page
+abbrev pub command_members : SeenData → ℕ → ℕ → List Member
+command_members seen addr code = code_member code ++ entry_members (page_at seen addr) (entry_at seen addr code)
+
+-- .. of bytes that were sent, where there is a code
+abbrev pub sent_command : SeenData → ℕ → List ℕ → List Member
+sent_command seen addr [] = []
+sent_command seen addr (code ∷ bytes) = command_members seen addr code
+
+-- which part of how many; nothing where it is the only one
+abbrev pub part_members : ℕ → ℕ → List Member
+part_members part parts = if nat_le parts 1 then [] else named (codes "part") (count part)
+    ∷ named (codes "parts") (count parts) ∷ []

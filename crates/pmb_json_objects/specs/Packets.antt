@@ -1,0 +1,164 @@
+-- The objects of a packet: what it says, one for each part of a group.
+use Rattle.std.specs.Prelude.{ℕ, ◌+◌, ◌/◌, ◌&&◌, Bool, true, false, if◌then◌else◌, nat_eq, Option, Some, None, List, []}
+use Rattle.std.specs.Prelude.{◌∷◌, ◌++◌, codes, drop, length, map, take}
+use Rattle.pmb_bus.specs.declared.event.Event.{Event}
+use Rattle.pmb_bus.specs.declared.event.Event.TheVariants.{Start, Byte, Ack, Nack, Stop}
+use Rattle.pmb_bus.specs.Address.{write_address}
+use Rattle.pmb_bus.specs.Pec.{pec}
+use Rattle.pmb_command.specs.declared.form.Form.{Form}
+use Rattle.pmb_command.specs.declared.pec_mode.PecMode.{PecMode}
+use Rattle.pmb_command.specs.declared.pec_mode.PecMode.TheVariants.{Off, On, Optional}
+use Rattle.pmb_command.specs.Entry.{EntryParts}
+use Rattle.pmb_command.specs.Parts.{DeviceParts, device_with}
+use Rattle.pmb_command.specs.Wire.{wire_length}
+use Rattle.pmb_json_fields.specs.declared.access.Access.{Access}
+use Rattle.pmb_json_fields.specs.declared.access.Access.TheVariants as access
+use Rattle.pmb_json_fields.specs.Value.{data_members}
+use Rattle.pmb_io.specs.Count.{capped}
+use Rattle.pmb_json_text.specs.Json.{null, boolean, string}
+use Rattle.pmb_json_text.specs.Member.{Member, named, digits}
+use Rattle.pmb_places.specs.declared.places.Place.{Place}
+use Rattle.pmb_partial_packet.specs.PartialPacket.{but_last}
+use Rattle.pmb_transaction.specs.Body.{forms}
+use Rattle.pmb_transaction.specs.Transaction.{PartData, ReadData, CallData, RefusedData, AlertData, TransactionData}
+use Rattle.pmb_transaction.specs.Transaction.{Write, Read, Call, Refused, Alert, NoAlert}
+use Rattle.pmb_json_objects.specs.Members.{command_members, device_member, head_members, part_members, sent_command}
+use Rattle.pmb_json_objects.specs.Object.{Object, of_device, of_none}
+use Rattle.pmb_json_objects.specs.Seen.{SeenData, entry_of, mode_at}
+
+-- the number of each START among events, before the first of which n came
+abbrev pub starts : ℕ → List Event → List ℕ
+starts n [] = []
+starts n (Start ∷ events) = n ∷ starts (n + 1) events
+starts n (Byte b ∷ events) = starts (n + 1) events
+starts n (Ack ∷ events) = starts (n + 1) events
+starts n (Nack ∷ events) = starts (n + 1) events
+starts n (Stop ∷ events) = starts (n + 1) events
+
+-- ---- data
+
+-- of a command that a device has
+abbrev pub data_of_entry : SeenData → Access → ℕ → ℕ → DeviceParts → Option EntryParts → List ℕ → List Member
+data_of_entry seen access addr code device None bytes = []
+data_of_entry seen access addr code device (Some entry) bytes =
+    data_members seen.digits access (mode_at seen addr) device.vout_direct code entry.kind bytes
+
+abbrev pub data_of : SeenData → Access → ℕ → ℕ → Option DeviceParts → List ℕ → List Member
+data_of seen access addr code None bytes = []
+data_of seen access addr code (Some device) bytes = data_of_entry seen access addr code device
+    (entry_of (Some device) code) bytes
+
+-- what is said of what is read from a device, or written to it
+abbrev pub said_of : SeenData → Access → ℕ → ℕ → List ℕ → List Member
+said_of seen access addr code bytes = data_of seen access addr code (device_with addr seen.profile) bytes
+
+-- ---- a refused byte in the place of an error code
+
+-- whether a device may be sent an error code
+abbrev pub may_check : PecMode → Bool
+may_check Off = false
+may_check On = true
+may_check Optional = true
+
+-- whether the bytes after the code are all the data of the form in which the command is written
+abbrev pub is_whole_in : Option Form → List ℕ → Bool
+is_whole_in None bytes = false
+is_whole_in (Some form) bytes = nat_eq (wire_length form bytes) (length bytes)
+
+-- whether bytes are a whole write but for its error code
+abbrev pub is_whole_write : Option DeviceParts → List ℕ → Bool
+is_whole_write None bytes = false
+is_whole_write (Some device) [] = false
+is_whole_write (Some device) (code ∷ bytes) = may_check device.pec && is_whole_in (forms device code).write bytes
+
+-- what is said of an error code beside the right one
+abbrev pub right_members : ℕ → ℕ → List Member
+right_members code right = named (codes "pec") (string (if nat_eq code right then codes "right" else codes "wrong"))
+    ∷ named (codes "right_pec") (digits (right ∷ [])) ∷ []
+
+-- of the bytes before the refused one, and that one
+abbrev pub checked_members : ℕ → Option DeviceParts → List ℕ → Option ℕ → List Member
+checked_members addr device front None = []
+checked_members addr device front (Some last) = if is_whole_write device front then right_members last
+    (pec (write_address addr ∷ front)) else []
+
+-- what was refused, by what was sent
+abbrev pub refused_name : List ℕ → Bool → List ℕ
+refused_name sent true = codes "read address"
+refused_name [] false = codes "address"
+refused_name (code ∷ []) false = codes "code"
+refused_name (code ∷ b ∷ bytes) false = codes "byte"
+
+-- the byte that was refused
+abbrev pub last_byte : List ℕ → Option ℕ
+last_byte [] = None
+last_byte (b ∷ []) = Some b
+last_byte (b ∷ c ∷ bytes) = last_byte (c ∷ bytes)
+
+-- of a byte that was refused, not of an address
+abbrev pub refused_check : ℕ → Option DeviceParts → List ℕ → Bool → List Member
+refused_check addr device sent true = []
+refused_check addr device sent false = checked_members addr device (but_last sent) (last_byte sent)
+
+-- ---- objects, each by the number of its first event and the place of that one's word
+
+abbrev pub alert_object : ℕ → Place → AlertData → Object
+alert_object at place t = of_device (t.byte / 2) (
+    head_members at place (codes "alert") ++ device_member (t.byte / 2) ++ named (codes "byte") (digits (t.byte ∷ []))
+    ∷ named (codes "pec") (boolean t.pec) ∷ [])
+
+abbrev pub no_alert_object : ℕ → Place → Object
+no_alert_object at place = of_none (head_members at place (codes "alert") ++ named (codes "device") null ∷ [])
+
+module _ (seen : SeenData) where
+  abbrev pub write_object : ℕ → Place → ℕ → ℕ → PartData → Object
+  write_object at place part parts p = of_device p.addr (
+      head_members at place (codes "write") ++ part_members part parts ++ device_member p.addr
+      ++ command_members seen p.addr p.code
+      ++ named (codes "bytes") (digits p.bytes) ∷ named (codes "pec") (boolean p.pec)
+      ∷ said_of seen access.Write p.addr p.code p.bytes)
+
+  abbrev pub read_object : ℕ → Place → ReadData → Object
+  read_object at place t = of_device t.addr (
+      head_members at place (codes "read") ++ device_member t.addr ++ command_members seen t.addr t.code
+      ++ named (codes "bytes") (digits t.reply) ∷ named (codes "pec") (boolean t.pec)
+      ∷ said_of seen access.Read t.addr t.code t.reply)
+
+  abbrev pub call_object : ℕ → Place → CallData → Object
+  call_object at place t = of_device t.addr (
+      head_members at place (codes "call") ++ device_member t.addr ++ command_members seen t.addr t.code
+      ++ named (codes "sent") (digits t.bytes) ∷ named (codes "reply") (digits t.reply)
+      ∷ named (codes "pec") (boolean t.pec) ∷ [])
+
+  -- the leg that was refused, as the last of so many parts
+  abbrev pub refused_object : ℕ → Place → ℕ → ℕ → List ℕ → Bool → Object
+  refused_object at place parts addr sent at_read = of_device addr (
+      head_members at place (codes "refused") ++ part_members parts parts ++ device_member addr
+      ++ named (codes "refused") (string (refused_name sent at_read)) ∷ sent_command seen addr sent
+      ++ named (codes "sent") (digits sent) ∷ refused_check addr (device_with addr seen.profile) sent at_read)
+
+  -- ---- the objects of a packet
+
+  module _ (place : ℕ → Place) where
+    -- parts, from the one with this number on, each with the number of its START
+    abbrev pub write_objects : ℕ → ℕ → List ℕ → List PartData → List Object
+    write_objects part parts ats [] = []
+    write_objects part parts [] (p ∷ more) = []
+    write_objects part parts (at ∷ ats) (p ∷ more) = write_object (capped at) (place at) part parts p
+        ∷ write_objects (part + 1) parts ats more
+
+    -- the parts before a refused leg, and that leg as the last one
+    abbrev pub refused_objects : List ℕ → RefusedData → List Object
+    refused_objects ats t =
+        write_objects 1 (length t.parts + 1) ats t.parts
+        ++ map (λ at. refused_object (capped at) (place at) (length t.parts + 1) t.addr t.sent t.at_read)
+        (take 1 (drop (length t.parts) ats))
+
+    -- before the packet n events came
+    abbrev pub packet_objects : ℕ → List Event → TransactionData → List Object
+    packet_objects n events (Write parts) = write_objects 1 (length parts) (starts n events) parts
+    packet_objects n events (Read t) = read_object (capped n) (place n) t ∷ []
+    packet_objects n events (Call t) = call_object (capped n) (place n) t ∷ []
+    packet_objects n events (Refused t) = refused_objects (starts n events) t
+    packet_objects n events (Alert t) = alert_object (capped n) (place n) t ∷ []
+    packet_objects n events NoAlert = no_alert_object (capped n) (place n) ∷ []

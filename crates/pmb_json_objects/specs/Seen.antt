@@ -1,0 +1,32 @@
+-- What is known where a packet begins: the devices, and what the transactions before it have told.
+use Rattle.std.specs.Prelude.{ℕ, Option, Some, None, List, option_map}
+use Rattle.pmb_command.specs.Entry.{EntryParts}
+use Rattle.pmb_command.specs.Parts.{DeviceParts, command_with, device_with}
+use Rattle.pmb_unknown_start.specs.declared.mode.KnownMode.{KnownMode}
+use Rattle.pmb_unknown_start.specs.declared.start.Start.{Start}
+use Rattle.pmb_unknown_start.specs.Known.{mode, page}
+use Rattle.pmb_transaction.specs.Transaction.{TransactionData}
+
+-- The digits after a point, what is known of PAGE and VOUT_MODE at first, the devices, and the
+-- transactions before the packet.
+pub record SeenData : Type 0 where
+  pub digits : ℕ
+  pub start : Start
+  pub profile : List DeviceParts
+  pub before : List TransactionData
+
+-- a command of a device, if there are both
+abbrev pub entry_of : Option DeviceParts → ℕ → Option EntryParts
+entry_of None code = None
+entry_of (Some device) code = option_map (λ c. c.entry) (command_with code device.commands)
+
+-- the command with a code of the device with an address
+abbrev pub entry_at : SeenData → ℕ → ℕ → Option EntryParts
+entry_at seen addr code = entry_of (device_with addr seen.profile) code
+
+-- PAGE of the device with an address, and the VOUT_MODE that its output voltages are read by
+abbrev pub page_at : SeenData → ℕ → Option ℕ
+page_at seen addr = page seen.start seen.profile seen.before addr
+
+abbrev pub mode_at : SeenData → ℕ → KnownMode
+mode_at seen addr = mode seen.start seen.profile seen.before addr

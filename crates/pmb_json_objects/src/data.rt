@@ -1,0 +1,45 @@
+//! What is said of a command's data.
+
+ghost use Rattle.std.specs.Prelude.{◌≡◌, ◌+◌, ◌≤◌, ◌++◌, length};
+ghost use Rattle.pmb_json_text.specs.declared.item_order.ItemOrder.TheVariants.{Later};
+ghost use Rattle.pmb_json_text.specs.Member.{members_text};
+ghost use Rattle.pmb_json_objects.specs.Packets.{said_of};
+ghost use Rattle.pmb_json_objects.specs.Seen.{SeenData};
+ghost use Rattle.pmb_json_objects.specs.Sees.{Sees};
+
+use crate::seen::Seen;
+use arrayvec::ArrayVec;
+use pmb_json_fields::{Access, DATA_MEMBERS, data_members};
+
+/// Appends what is said of the data of a command, where a device has that address, and the command.
+pub(crate) fn append_data<const N: usize>(
+    out: &mut ArrayVec<u8, N>,
+    seen: &Seen<'_>,
+    access: Access,
+    addr: u8,
+    code: u8,
+    bytes: &[u8],
+)
+    requires room { length out.old.items + DATA_MEMBERS ≤ N }
+    ensures members { (known : SeenData) → Sees seen.now known → out.new.items ≡ out.old.items ++ members_text Later (said_of known access addr code bytes.now) }
+    ensures short { length out.new.items ≤ length out.old.items + DATA_MEMBERS }
+{
+    let Some(device) = seen.device(addr) else {
+        return;
+    };
+    let Some(entry) = device.entry(code) else {
+        return;
+    };
+    let mode = seen.mode(addr);
+    let coefficients = device.vout_direct();
+    data_members(
+        out,
+        seen.digits,
+        access,
+        mode,
+        coefficients,
+        code,
+        entry.kind,
+        bytes,
+    );
+}

@@ -1,0 +1,83 @@
+//! What the types of the parts of a [`Seen`] say of them. Each function ensures it, and changes nothing.
+
+ghost use Rattle.std.specs.Prelude.{◌<◌, IfSome, option_map};
+ghost use Rattle.pmb_command.specs.Entry.{entry_parts};
+ghost use Rattle.pmb_json_objects.specs.Laws.{AreOfWords, HasFormats, IsOfWords, IsSeen};
+ghost use Rattle.pmb_json_objects.specs.Seen.{SeenData};
+ghost use Rattle.pmb_json_objects.specs.Sees.{Sees};
+
+use crate::seen::Seen;
+use pmb_coefficients::Direct;
+use pmb_command::{Entry, Kind};
+use pmb_table::DeviceProfile;
+use pmb_table::laws::accepted_bus;
+
+/// The profile of a [`Seen`] is accepted, PAGE is a byte, and coefficients have 16 bits and make a
+/// format: what [`objects_are_json`](crate::laws::objects_are_json) needs of a device and its command.
+pub fn what_is_seen_fits(seen: &Seen<'_>, addr: u8, code: u8)
+    ensures seen { (known : SeenData) → Sees seen.now known → IsSeen known addr }
+    ensures formats { (known : SeenData) → Sees seen.now known → HasFormats known addr code }
+{
+    accepted_bus(seen.profile);
+    page_is_a_byte(seen.page(addr));
+    device_has_words(seen.device(addr));
+    entry_has_words(seen.entry(addr, code));
+}
+
+/// PAGE is a byte.
+fn page_is_a_byte(page: Option<u8>)
+    ensures { IfSome page (λ page. page < 256) }
+{
+    let _ = page;
+}
+
+/// The coefficients of a device's output voltage.
+fn device_has_words(device: Option<&DeviceProfile>)
+    ensures { IfSome (option_map (λ d. d.now) device.entry) (λ d. IfSome d.vout_direct AreOfWords) }
+{
+    if let Some(device) = device {
+        some_are_words(device.vout_direct());
+    }
+}
+
+/// Those of a command.
+fn entry_has_words(entry: Option<&Entry>)
+    ensures { IfSome (option_map (λ e. entry_parts e.now) entry.entry) (λ e. IsOfWords e.kind) }
+{
+    if let Some(entry) = entry {
+        kind_has_words(entry.kind);
+    }
+}
+
+/// Coefficients, where there are some.
+fn some_are_words(coefficients: Option<Direct>)
+    ensures { IfSome coefficients AreOfWords }
+{
+    if let Some(coefficients) = coefficients {
+        are_words(coefficients);
+    }
+}
+
+/// Those of a kind.
+fn kind_has_words(kind: Kind)
+    ensures { IsOfWords kind }
+{
+    match kind {
+        Kind::Direct(coefficients) => are_words(coefficients),
+        Kind::Raw
+        | Kind::Linear11
+        | Kind::Linear11Fixed(_)
+        | Kind::Vout
+        | Kind::VoutSigned
+        | Kind::Status => {}
+    }
+}
+
+/// They have 16 bits, and make a format.
+fn are_words(coefficients: Direct)
+    ensures { AreOfWords coefficients }
+{
+    let slope = coefficients.m();
+    let offset = coefficients.b();
+    let _ = (slope, offset);
+}

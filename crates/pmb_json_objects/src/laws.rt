@@ -1,0 +1,75 @@
+//! Laws over the definitions alone: each object is JSON with distinct keys. Each function is its
+//! contract, and does nothing.
+
+ghost use Rattle.std.specs.Prelude.{ℕ, Bool, IfSome, List, Option};
+ghost use Rattle.std.specs.List.{AllByRecursion};
+ghost use Rattle.pmb_bus.specs.declared.event.Event.{Event};
+ghost use Rattle.pmb_bus.specs.declared.kinds.Kinds.{Kinds};
+ghost use Rattle.pmb_json_text.specs.Json.{IsJsonText};
+ghost use Rattle.pmb_json_text.specs.Member.{Member, object_line, object_of};
+ghost use Rattle.pmb_json_text.specs.Spelling.{AreBytes, FitsInLine, spelled};
+ghost use Rattle.pmb_places.specs.declared.places.Place.{Place};
+ghost use Rattle.pmb_partial_packet.specs.PartialPacket.{written_to};
+ghost use Rattle.pmb_transaction.specs.declared.reason.Reason.{Reason};
+ghost use Rattle.pmb_transaction.specs.Transaction.{AlertData, CallData, PartData, ReadData, TransactionData};
+ghost use Rattle.pmb_json_objects.specs.BadToken.{bad_token_object};
+ghost use Rattle.pmb_json_objects.specs.Counts.{CountsData, DeviceData, counts_object, end_object, end_objects};
+ghost use Rattle.pmb_json_objects.specs.Laws.{IsCount, IsData, IsJsonObject, IsPlace, IsSeen, IsTransaction};
+ghost use Rattle.pmb_json_objects.specs.Packets.{alert_object, call_object, no_alert_object, packet_objects, read_object, refused_object, write_object};
+ghost use Rattle.pmb_json_objects.specs.Refusals.{refusal_object};
+ghost use Rattle.pmb_json_objects.specs.Seen.{SeenData};
+
+pub use crate::kept::what_is_seen_fits;
+use pmb_decimal::laws::decimals_are_numbers;
+use pmb_json_fields::laws::keys_are_some_of_five;
+use pmb_json_text::laws::{
+    digits_are_a_number, fewer_keys_are_distinct, line_is_json, spelling_fits_in_line,
+    tested_keys_are_distinct,
+};
+use pmb_quantity::laws::lowest_terms;
+
+/// The line of such an object is a JSON text that spells it, and, but for its LF, printable ASCII.
+pub fn objects_are_lines()
+    ensures json { (members : List Member) → IsJsonObject members → IsJsonText (object_line members) (object_of members) }
+    ensures line { (members : List Member) → IsJsonObject members → FitsInLine (spelled (object_of members)) }
+{
+    line_is_json();
+    spelling_fits_in_line();
+}
+
+/// Each object is JSON with distinct keys.
+pub fn objects_are_json()
+    ensures write { (seen : SeenData) (at : ℕ) (place : Place) (part parts : ℕ) (p : PartData)
+        → IsCount at → IsPlace place → IsCount part → IsCount parts → IsData seen p.addr p.code p.bytes
+        → IsJsonObject (write_object seen at place part parts p).members }
+    ensures read { (seen : SeenData) (at : ℕ) (place : Place) (t : ReadData)
+        → IsCount at → IsPlace place → IsData seen t.addr t.code t.reply → IsJsonObject (read_object seen at place t).members }
+    ensures call { (seen : SeenData) (at : ℕ) (place : Place) (t : CallData)
+        → IsCount at → IsPlace place → IsSeen seen t.addr → IsJsonObject (call_object seen at place t).members }
+    ensures refused { (seen : SeenData) (at : ℕ) (place : Place) (parts addr : ℕ) (sent : List ℕ) (at_read : Bool)
+        → IsCount at → IsPlace place → IsCount parts → IsSeen seen addr → IsJsonObject (refused_object seen at place parts addr sent at_read).members }
+    ensures alert { (at : ℕ) (place : Place) (t : AlertData) → IsCount at → IsPlace place → IsJsonObject (alert_object at place t).members }
+    ensures no_alert { (at : ℕ) (place : Place) → IsCount at → IsPlace place → IsJsonObject (no_alert_object at place).members }
+    ensures refusal { (seen : SeenData) (at : ℕ) (place : Place) (front : List Event) (event : Option Event) (reason : Reason) (expected : Kinds)
+        → IsCount at → IsPlace place → IfSome (written_to front) (IsSeen seen) → IsJsonObject (refusal_object seen at place front event reason expected).members }
+    ensures bad_token { (at : ℕ) (place : Place) (word : List ℕ) → IsCount at → IsPlace place → AreBytes word → IsJsonObject (bad_token_object at place word).members }
+    ensures counts { (addr : ℕ) (c : DeviceData) → IsJsonObject (counts_object addr c).members }
+    ensures end { (packets refusals bad_tokens : ℕ) → IsJsonObject (end_object packets refusals bad_tokens).members }
+{
+    keys_are_some_of_five();
+    digits_are_a_number();
+    decimals_are_numbers();
+    lowest_terms();
+    fewer_keys_are_distinct();
+    tested_keys_are_distinct();
+}
+
+/// So is each object of a packet, and each of the last ones.
+pub fn all_objects_are_json()
+    ensures packet { (seen : SeenData) (place : ℕ → Place) (n : ℕ) (events : List Event) (t : TransactionData)
+        → ((at : ℕ) → IsPlace (place at)) → IsTransaction seen t
+        → AllByRecursion (λ object. IsJsonObject object.members) (packet_objects seen place n events t) }
+    ensures last { (c : CountsData) → AllByRecursion (λ object. IsJsonObject object.members) (end_objects c) }
+{
+    objects_are_json();
+}

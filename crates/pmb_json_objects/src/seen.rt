@@ -1,0 +1,54 @@
+//! What is known where a packet begins.
+
+ghost use Rattle.std.specs.Prelude.{◌≡◌, option_map};
+ghost use Rattle.pmb_command.specs.Entry.{entry_parts};
+ghost use Rattle.pmb_command.specs.Parts.{device_with};
+ghost use Rattle.pmb_json_objects.specs.Seen.{SeenData, entry_at, mode_at, page_at};
+ghost use Rattle.pmb_json_objects.specs.Sees.{Sees};
+
+use pmb_command::Entry;
+use pmb_decimal::Digits;
+use pmb_table::{DeviceProfile, Profile};
+use pmb_unknown_start::{KnownMode, Late};
+
+/// What is known where a packet begins: the devices, and what the transactions before have told of
+/// PAGE and VOUT_MODE. Numbers get that many digits after the point.
+#[derive(Clone, Copy)]
+pub struct Seen<'s> {
+    pub digits: Digits,
+    pub profile: &'s Profile,
+    pub late: &'s Late<'s>,
+}
+
+impl<'s> Seen<'s> {
+    /// The device with an address.
+    pub(crate) fn device(&self, addr: u8) -> Option<&DeviceProfile>
+        ensures { (known : SeenData) → Sees self.now known → option_map (λ d. d.now) result ≡ device_with addr known.profile }
+    {
+        self.profile.device(addr)
+    }
+
+    /// The command with a code of the device with an address.
+    pub(crate) fn entry(&self, addr: u8, code: u8) -> Option<&Entry>
+        ensures { (known : SeenData) → Sees self.now known → option_map (λ e. entry_parts e.now) result ≡ entry_at known addr code }
+    {
+        match self.profile.device(addr) {
+            Some(device) => device.entry(code),
+            None => None,
+        }
+    }
+
+    /// PAGE of the device with an address, where it is known.
+    pub(crate) fn page(&self, addr: u8) -> Option<u8>
+        ensures { (known : SeenData) → Sees self.now known → result ≡ page_at known addr }
+    {
+        self.late.page(addr)
+    }
+
+    /// What is known of the VOUT_MODE that its output voltages are read by.
+    pub(crate) fn mode(&self, addr: u8) -> KnownMode
+        ensures { (known : SeenData) → Sees self.now known → result ≡ mode_at known addr }
+    {
+        self.late.mode(addr)
+    }
+}

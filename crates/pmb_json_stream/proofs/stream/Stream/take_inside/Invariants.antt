@@ -1,0 +1,22 @@
+use Rattle.std.proofs.Common.{◌≡◌, ℕ, List, [], ◌∷◌, ◌++◌, length}
+use Rattle.pmb_bus.specs.declared.event.Event.{Event}
+use Rattle.pmb_bus.specs.declared.event.Event.TheVariants.{Stop}
+use Rattle.pmb_bus.specs.Event.{canonical_text}
+use Rattle.pmb_bus.specs.Text.{EndsBetween, Spells}
+use Rattle.pmb_canonical.specs.Inside.{AreInside}
+use Rattle.pmb_reader.specs.Reader.{Open}
+use Rattle.pmb_scan.specs.Reached.{Reached}
+use Rattle.pmb_json_stream.specs.declared.stream.Stream.{Stream}
+use Rattle.pmb_json_stream.specs.Stream.{StreamStands}
+use Rattle.pmb_json_stream.specs.machine.Inside.{WalksOn}
+use Rattle.pmb_json_stream.proofs.stream.Stream.take_inside.Given as goal
+
+-- some of the events were taken, and the others stand in front
+abbrev pub invariant-loop-event : goal.invariant-loop-event
+invariant-loop-event l = (start : Stream) (reached : Reached) (put : List ℕ) (n : ℕ) (inside : List Event)
+    → StreamStands start l.fn.self reached put
+    → EndsBetween reached.text → Spells reached.text reached.events → reached.standing ≡ Open n [] → AreInside inside
+    → l.fn.text ≡ canonical_text (inside ++ Stop ∷ []) → WalksOn start l.self reached put n inside l.rest
+
+abbrev pub decreases-loop-event : goal.decreases-loop-event
+decreases-loop-event l = length l.rest

@@ -1,0 +1,47 @@
+-- What a `Stream` stands at, and what it puts out.
+--
+-- `StreamKnows b stream` says that a stream was given what `b` says; `StreamBegins b stream` that
+-- it stands between words, and no packet is under way; `StreamAt b stream reached` that it began
+-- there, and a scan that began with it has reached so much since. What they say of a stream's own
+-- fields is in `machine`, and nothing here needs it to be understood.
+use Rattle.std.specs.Prelude.{◌≡◌, ℕ, List, ◌++◌}
+use Rattle.pmb_command.specs.Parts.{DeviceParts}
+use Rattle.pmb_json_objects.specs.Object.{object_lines}
+use Rattle.pmb_scan.specs.Reached.{Reached}
+use Rattle.pmb_spans.specs.Spans.{moved_spans}
+use Rattle.pmb_json_stream.specs.declared.stream.Stream.{Stream}
+use Rattle.pmb_json_stream.specs.Before.{Before}
+use Rattle.pmb_json_stream.specs.Choice.{ChoiceData}
+use Rattle.pmb_json_stream.specs.Spans.{event_place, span_objects}
+pub use Rattle.pmb_json_stream.specs.machine.Knowing.{
+  StreamKnows,
+  StreamBegins,
+  StreamAt,
+  stream_choice,
+  stream_profile,
+  stream_tally,
+}
+
+-- the same choice, under the same profile
+pub record IsSame (start now : Stream) : Type 0 where
+  pub choice : stream_choice now ≡ stream_choice start
+  pub profile : stream_profile now ≡ stream_profile start
+
+-- The lines of what a scan has reached that began after `b`, whatever text follows: each place is
+-- known by then.
+abbrev pub AreLinesOf : ChoiceData → List DeviceParts → Before → Reached → List ℕ → Type 0
+AreLinesOf choice profile b reached text =
+    (more : List ℕ) → text ≡ object_lines choice.devices
+    (span_objects choice profile (event_place b.read b.n (reached.text ++ more)) b.ts (moved_spans b.n reached.spans))
+
+-- Where the stream began after `b`, it stands at what was reached, and has put out the lines of
+-- that.
+pub record HasToldOf (b : Before) (start now : Stream) (reached : Reached) (text : List ℕ) : Type 0 where
+  pub same : IsSame start now
+  pub at : StreamAt b now reached
+  pub lines : AreLinesOf (stream_choice start) (stream_profile start) b reached text
+
+-- As a visitor: it began somewhere, and this holds wherever it began.
+pub record StreamStands (start now : Stream) (reached : Reached) (text : List ℕ) : Type 0 where
+  pub begins : (b : Before) × StreamBegins b start
+  pub told : (b : Before) → StreamBegins b start → HasToldOf b start now reached text

@@ -1,0 +1,153 @@
+//! What is known of a capture so far.
+//!
+//! A `Stream` outlasts the scans of a capture: where a word is no token and reading begins anew,
+//! its places, its counts, and what it knows of PAGE and VOUT_MODE go on.
+
+ghost use Rattle.std.specs.Prelude.{◌≡◌, ◌+◌, ◌≤◌, length, take};
+ghost use Rattle.pmb_bus.specs.Text.{EndsBetween, open_word};
+ghost use Rattle.pmb_io.specs.Tally.{IsTallyOf};
+ghost use Rattle.pmb_json_objects.specs.Sees.{Sees};
+ghost use Rattle.pmb_json_stream.specs.Before.{Before, at_first, with_bytes};
+ghost use Rattle.pmb_json_stream.specs.Choice.{choice_data};
+ghost use Rattle.pmb_json_stream.specs.Stream.{IsSame, StreamBegins, StreamKnows, stream_choice, stream_profile, stream_tally};
+ghost use Rattle.pmb_json_stream.specs.machine.Knowing.{IsCleared, stream_seen};
+
+use crate::choice::Choice;
+use arrayvec::ArrayVec;
+use pmb_io::Tally;
+use pmb_json_objects::{Counts, Seen};
+use pmb_partial_packet::PartialPacket;
+use pmb_places::{OpenWord, Place, Places};
+use pmb_table::Profile;
+use pmb_unknown_start::Late;
+
+/// How many STARTs a packet has at most: those of 16 parts, and one more where it is refused.
+pub(crate) const STARTS: usize = 17;
+
+/// A START of the packet under way: how many events came before it, and where its word stands.
+#[derive(Clone, Copy)]
+pub(crate) struct Begun {
+    pub(crate) at: u64,
+    pub(crate) place: Place,
+}
+
+impl Default for Begun {
+    /// At the start of a text: what a place of an `ArrayVec` holds that is not in use.
+    fn default() -> Begun {
+        Begun {
+            at: 0,
+            place: Place { line: 1, column: 1 },
+        }
+    }
+}
+
+/// The objects of a capture as they come, and what they need of what came before.
+#[derive(Drop)]
+pub struct Stream<'p> {
+    pub(crate) profile: &'p Profile,
+    pub(crate) choice: Choice<'p>,
+    pub(crate) late: Late<'p>,
+    pub(crate) counts: Counts,
+    pub(crate) tally: Tally,
+    /// How many events came; it stays at the greatest `u64`.
+    pub(crate) count: u64,
+    pub(crate) places: Places,
+    pub(crate) word: OpenWord,
+    /// What the packet under way has said, and its STARTs.
+    pub(crate) said: PartialPacket,
+    pub(crate) begun: ArrayVec<Begun, 17>,
+    /// Whether events are passed over, after a refusal.
+    pub(crate) passing: bool,
+}
+
+impl<'p> Stream<'p> {
+    /// At the start of a capture.
+    pub fn new(profile: &'p Profile, choice: Choice<'p>) -> Stream<'p>
+        ensures profile { stream_profile result ≡ profile.now }
+        ensures choice { stream_choice result ≡ choice_data choice.entry }
+        ensures begins { StreamBegins at_first result }
+    {
+        let Choice {
+            digits,
+            start,
+            devices,
+        } = choice;
+        Stream {
+            profile,
+            choice: Choice {
+                digits,
+                start,
+                devices,
+            },
+            late: Late::new(profile, start),
+            counts: Counts::new(),
+            tally: Tally::new(),
+            count: 0,
+            places: Places::new(),
+            word: OpenWord::new(),
+            said: PartialPacket::new(),
+            begun: ArrayVec::new(),
+            passing: false,
+        }
+    }
+
+    /// How many packets came, and how many refusals and words that are no token.
+    pub fn tally(&self) -> Tally
+        ensures counted { (b : Before) → StreamKnows b self.now → IsTallyOf b.counts.packets (b.counts.refusals + b.counts.bad_tokens) result }
+        ensures told { result ≡ stream_tally self.now }
+    {
+        self.tally
+    }
+
+    /// How many bytes of the word under way are kept, at most 32.
+    pub fn word_length(&self) -> usize
+        ensures kept { (b : Before) → StreamKnows b self.now → result ≡ length (take 32 (open_word b.read)) }
+        ensures few { result ≤ 32 }
+    {
+        self.word.bytes().len()
+    }
+
+    /// Takes bytes of the text, of which no event is told.
+    #[inline]
+    pub fn take_text(&mut self, bytes: &[u8])
+        ensures knows { (b : Before) → StreamKnows b self.old → StreamKnows (with_bytes b bytes.now) self.new }
+        ensures same { IsSame self.old self.new }
+        ensures said { self.new.said ≡ self.old.said }
+        ensures begun { self.new.begun ≡ self.old.begun }
+        ensures passing { self.new.passing ≡ self.old.passing }
+    {
+        self.places.take(bytes);
+        self.word.take(bytes);
+    }
+
+    /// Begins anew between two words: the packet under way is dropped.
+    pub fn begin_anew(&mut self)
+        ensures begins { (b : Before) → StreamKnows b self.old → EndsBetween b.read → StreamBegins b self.new }
+        ensures same { IsSame self.old self.new }
+    {
+        self.clear();
+        self.passing = false;
+    }
+
+    /// Forgets the packet under way.
+    pub(crate) fn clear(&mut self)
+        ensures cleared { IsCleared self.new }
+        ensures knows { (b : Before) → StreamKnows b self.old → StreamKnows b self.new }
+        ensures same { IsSame self.old self.new }
+        ensures passing { self.new.passing ≡ self.old.passing }
+    {
+        self.said.begin();
+        self.begun.clear();
+    }
+
+    /// What is known where the next packet begins.
+    pub(crate) fn seen(&self) -> Seen<'_>
+        ensures { (b : Before) → StreamKnows b self.now → Sees result (stream_seen self.now b) }
+    {
+        Seen {
+            digits: self.choice.digits,
+            profile: self.profile,
+            late: &self.late,
+        }
+    }
+}

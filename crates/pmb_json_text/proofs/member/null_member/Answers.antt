@@ -1,0 +1,8 @@
+-- The text is a key and a name.
+use Rattle.pmb_json_text.specs.Json.{null}
+use Rattle.pmb_json_text.proofs.Pieces.{member_appended}
+use Rattle.pmb_json_text.proofs.member.null_member.Goals as goal
+
+pub returns-clause-member : goal.returns-clause-member
+returns-clause-member g c = member_appended c.args.place c.args.key.now null c.args.out.now.items
+    c.append_key.ensures.key c.append.ensures

@@ -1,0 +1,11 @@
+//! Where a member or a value stands among its like.
+
+/// Whether something comes before it in its object or array: a comma stands before each but the
+/// first.
+#[derive(Clone, Copy, Debug, PartialEq, Eq)]
+pub enum ItemOrder {
+    /// It is the first.
+    First,
+    /// Another comes before it.
+    Later,
+}

@@ -1,7 +1,0 @@
--- What a `Late` was given.
---
--- `HasSeen late profile start ts` says that since `new` with that start the `Late` of the profile was
--- given the transactions, in order. What that says of its own fields is in `machine`, and nothing
--- else needs it to be understood.
-pub use Rattle.pmb_late.specs.machine.Standing.{HasSeen}
-pub use Rattle.pmb_late.specs.Known.{page, mode}

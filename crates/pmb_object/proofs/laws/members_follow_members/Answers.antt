@@ -1,5 +1,0 @@
-use Rattle.pmb_object.proofs.Pieces.{members_in_parts}
-use Rattle.pmb_object.proofs.laws.members_follow_members.Goals as goal
-
-pub returns : goal.returns
-returns c = members_in_parts

@@ -1,5 +1,0 @@
-use Rattle.pmb_object.proofs.ReadBack.{read_back}
-use Rattle.pmb_object.proofs.laws.spelling_reads_back.Goals as goal
-
-pub returns : goal.returns
-returns c = read_back

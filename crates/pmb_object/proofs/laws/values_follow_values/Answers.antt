@@ -1,5 +1,0 @@
-use Rattle.pmb_object.proofs.Pieces.{items_in_parts}
-use Rattle.pmb_object.proofs.laws.values_follow_values.Goals as goal
-
-pub returns : goal.returns
-returns c = items_in_parts

@@ -1,7 +1,0 @@
--- The text is a key and a name.
-use Rattle.pmb_object.specs.Json.{null}
-use Rattle.pmb_object.proofs.Pieces.{member_appended}
-use Rattle.pmb_object.proofs.member.null_member.Goals as goal
-
-pub returns-clause-member : goal.returns-clause-member
-returns-clause-member g c = member_appended c.args.place c.args.key.now null c.args.out.now.items c.append_key.ensures.key c.append.ensures

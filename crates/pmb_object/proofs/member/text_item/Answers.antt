@@ -1,7 +1,0 @@
--- The text is a comma, or none, and a string.
-use Rattle.pmb_object.specs.Json.{string}
-use Rattle.pmb_object.proofs.Pieces.{item_appended}
-use Rattle.pmb_object.proofs.member.text_item.Goals as goal
-
-pub returns-clause-item : goal.returns-clause-item
-returns-clause-item g c = item_appended c.args.place (string c.args.text.now) c.args.out.now.items c.append_comma.ensures.text c.append_quoted.ensures.text

@@ -1,7 +1,0 @@
--- The text is a key and a string.
-use Rattle.pmb_object.specs.Json.{string}
-use Rattle.pmb_object.proofs.Pieces.{member_appended}
-use Rattle.pmb_object.proofs.member.text_member.Goals as goal
-
-pub returns-clause-member : goal.returns-clause-member
-returns-clause-member g c = member_appended c.args.place c.args.key.now (string c.args.text.now) c.args.out.now.items c.append_key.ensures.key c.append_quoted.ensures.text

@@ -1,6 +1,0 @@
--- The table tells.
-use Rattle.pmb_object.proofs.Plain.{plain_read}
-use Rattle.pmb_object.proofs.text.is_plain.Goals as goal
-
-pub returns : goal.returns
-returns c = plain_read c.args.byte c.ranges.byte.fits

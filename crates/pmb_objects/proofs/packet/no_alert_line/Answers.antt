@@ -1,8 +1,0 @@
--- The head, and one member.
-use Rattle.pmb_objects.proofs.Lists.{ended, joined_to_begun}
-use Rattle.pmb_objects.proofs.packet.no_alert_line.Goals as goal
-
-pub returns-clause-line : goal.returns-clause-line
-returns-clause-line g c =
-    let old = c.args.out.now.items in
-    ended old _ (joined_to_begun old _ _ _ c.begin_object.ensures.begun c.null_member.ensures.member) c.end.ensures.ended

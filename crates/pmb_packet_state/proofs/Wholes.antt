@@ -1,0 +1,21 @@
+-- A whole common packet that is taken at once.
+use Rattle.std.proofs.Common.{◌≡◌, ℕ, Option, Some, None, IsSome, IfSome, List, subst}
+use Rattle.pmb_command.specs.Parts.{DeviceParts}
+use Rattle.pmb_canonical.specs.declared.common.TakenPacket.{TakenPacket}
+use Rattle.pmb_canonical.specs.Common.{BeginsCommon, TakesPacket}
+use Rattle.pmb_transaction.specs.Transaction.{TransactionData}
+
+-- it is one of the profile
+pub takes_of_profile : (given profile : List DeviceParts) (text : List ℕ) (t : TransactionData)
+    (result : Option TakenPacket) → given ≡ profile
+    → IfSome result (λ taken. TakesPacket given text taken.used taken.events t)
+    → IfSome result (λ taken. TakesPacket profile text taken.used taken.events t)
+takes_of_profile given profile text t result same takes =
+    subst (λ (p : List DeviceParts). IfSome result (λ taken. TakesPacket p text taken.used taken.events t)) same takes
+
+-- where one is taken, one lies there
+pub takes_begin : (profile : List DeviceParts) (text : List ℕ) (t : TransactionData) (result : Option TakenPacket)
+    → IfSome result (λ taken. TakesPacket profile text taken.used taken.events t) → IsSome result
+    → BeginsCommon profile text
+takes_begin profile text t None takes some = absurd (cc some)
+takes_begin profile text t (Some taken) takes some = (taken.used, taken.events, t, takes)

@@ -1,0 +1,2 @@
+pub mod PacketState
+pub mod machine

@@ -1,0 +1,3 @@
+pub mod PartialPacket
+pub mod machine
+pub mod Standing

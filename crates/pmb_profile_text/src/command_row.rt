@@ -1,0 +1,49 @@
+//! The row of a command.
+
+ghost use Rattle.std.specs.Prelude.{◌≡◌, ◌+◌, ◌≤◌, ◌++◌, ◌∷◌, [], Some, length, option_map, slice_get};
+ghost use Rattle.pmb_command.specs.Bus.{IsEntry};
+ghost use Rattle.pmb_command.specs.Entry.{entry_parts};
+ghost use Rattle.pmb_command.specs.Parts.{CommandParts, command_with};
+ghost use Rattle.pmb_profile_text.specs.Table.{cell, command_row, heading};
+ghost use Rattle.pmb_profile_text.specs.Words.{digits, form_word, kind_word, paged_word};
+
+use crate::first_bytes::append_first;
+use crate::row::{Row, append, append_cell, digits_of};
+use crate::words::{form_word, kind_word, paged_word};
+use pmb_command::Entry;
+use pmb_table::DeviceProfile;
+
+/// The row that names the columns.
+pub(crate) fn heading() -> Row
+    ensures { result.items ≡ heading }
+{
+    let mut row = Row::new();
+    append_cell(&mut row, b"code", 5);
+    append_cell(&mut row, b"name", 33);
+    append_cell(&mut row, b"write", 6);
+    append_cell(&mut row, b"read", 6);
+    append_cell(&mut row, b"call", 6);
+    append_cell(&mut row, b"paged", 6);
+    append_cell(&mut row, b"kind", 26);
+    append(&mut row, b"at first\n");
+    row
+}
+
+/// The row of a command of a device.
+pub(crate) fn command_row(device: &DeviceProfile, entry: &Entry) -> Row
+    requires { IsEntry (entry_parts entry.now) }
+    ensures { (command : CommandParts) → command_with entry.now.code device.now.commands ≡ Some command → command.entry ≡ entry_parts entry.now
+        → result.items ≡ command_row device.now command }
+{
+    let mut row = Row::new();
+    append_cell(&mut row, &digits_of(entry.code), 5);
+    append_cell(&mut row, entry.name.as_str().as_bytes(), 33);
+    append_cell(&mut row, form_word(entry.shape.write), 6);
+    append_cell(&mut row, form_word(entry.shape.read), 6);
+    append_cell(&mut row, form_word(entry.shape.call), 6);
+    append_cell(&mut row, paged_word(entry.paged), 6);
+    append_cell(&mut row, kind_word(entry.kind).as_slice(), 26);
+    append_first(&mut row, device, entry);
+    append(&mut row, b"\n");
+    row
+}

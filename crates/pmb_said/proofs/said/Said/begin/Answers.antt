@@ -1,9 +1,0 @@
-use Rattle.std.proofs.Common.{refl, subst, sym, []}
-use Rattle.pmb_said.specs.machine.Legs.{KeepsLegs, LegsData}
-use Rattle.pmb_said.proofs.Stands.{stands_at_nothing}
-use Rattle.pmb_said.proofs.said.Said.begin.Goals as goal
-
-pub returns : goal.returns
-returns c =
-    stands_at_nothing c.clear.new.self
-    (subst (λ (k : LegsData). KeepsLegs k []) (sym c.clear.ensures) (record { last = refl; address = refl; written_address = refl; written = refl; reply = refl }))

@@ -1,5 +1,0 @@
-use Rattle.pmb_said.proofs.Stands.{stands_at_start}
-use Rattle.pmb_said.proofs.said.Said.start.Goals as goal
-
-pub returns : goal.returns
-returns c = λ events stands. stands_at_start c.args.self.now c.start.new.self events c.start.ensures stands

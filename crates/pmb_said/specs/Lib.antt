@@ -1,3 +1,0 @@
-pub mod Said
-pub mod machine
-pub mod Standing

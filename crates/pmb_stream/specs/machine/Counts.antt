@@ -1,8 +1,0 @@
--- The objects of some addresses.
-use Rattle.std.specs.Prelude.{ℕ, List, filter, map}
-use Rattle.pmb_objects.specs.Counts.{DeviceData, counts_object, has_come}
-use Rattle.pmb_objects.specs.Object.{Object}
-
--- of those that came, how often
-abbrev pub counts_of : (ℕ → DeviceData) → List ℕ → List Object
-counts_of counts addresses = map (λ addr. counts_object addr (counts addr)) (filter (λ addr. has_come (counts addr)) addresses)

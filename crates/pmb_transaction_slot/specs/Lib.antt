@@ -1,0 +1,3 @@
+pub mod TransactionKind
+pub mod TransactionSlot
+pub mod machine

@@ -1,7 +1,0 @@
-use Rattle.std.proofs.Common.{[], refl}
-use Rattle.pmb_under_way.proofs.Steps.{between_packets}
-use Rattle.pmb_under_way.proofs.under_way.UnderWay.new.Goals as goal
-
-pub returns : goal.returns
-returns c =
-    between_packets c.args.profile.now _ (λ packet. c.packet_is_not_empty.ensures c.args.profile.now packet.0 [] packet.1 refl) refl c.accepted_bus.ensures refl

@@ -1,0 +1,109 @@
+-- Where all is known from the start, all stays known.
+use Rattle.std.proofs.Common.{◌≡◌, ℕ, zero, suc, cond, slice_set, Bool, true, false, not, ◌||◌, ◌&&◌, Option, Some}
+use Rattle.std.proofs.Common.{None, List, [], ◌∷◌, length, map, nat_eq, replicate, slice_get, refl, sym, ap, ◌∙◌}
+use Rattle.std.specs.List.{list_all}
+use Rattle.std.specs.Option.{is_some, option_and_then, option_map}
+use Rattle.std.proofs.lemmas.Bool.{eq-eqb}
+use Rattle.std.proofs.lemmas.List.{length-map, map-set}
+use Rattle.pmb_command.specs.Parts.{DeviceParts, device_with}
+use Rattle.pmb_transaction.specs.Transaction.{TransactionData}
+use Rattle.pmb_note.specs.Paging.{PagingData, all_pages, common, first_paging, has_paged_mode, paging, selected_mode}
+use Rattle.pmb_note.specs.Paging.{mode as mode_of_whole, page as page_of_whole}
+use Rattle.pmb_unknown_start.specs.declared.mode.KnownMode.TheVariants.{Known, Unknown, NoPage}
+use Rattle.pmb_unknown_start.specs.declared.start.Start.TheVariants.{AllKnown}
+use Rattle.pmb_unknown_start.specs.Known.{KnownPaging, first_known, known, known_mode, learn_mode, may_be, mode}
+use Rattle.pmb_unknown_start.specs.Known.{mode_of, mode_on_page, modes_after, page, shared_by, shared_mode}
+use Rattle.pmb_unknown_start.specs.Certain.{known_as}
+use Rattle.pmb_unknown_start.proofs.Telling.{along, set_where}
+
+-- all is known
+abbrev pub full : PagingData → KnownPaging
+full p = record { page = Some p.page; modes = map Some p.modes }
+
+map_all : (n value : ℕ) → map Some (replicate n value) ≡ replicate n (Some value)
+map_all zero value = refl
+map_all (suc n) value = ap (λ (vs : List (Option ℕ)). Some value ∷ vs) (map_all n value)
+
+everywhere : (ns : List ℕ) (value : ℕ) → replicate (length (map Some ns)) (Some value)
+    ≡ map Some (replicate (length ns) value)
+everywhere ns value = ap (λ (n : ℕ). replicate n (Some value)) (length-map ns Some) ∙ sym (map_all (length ns) value)
+
+on_known : (b : Bool) (ns : List ℕ) (i value : ℕ)
+    → cond b (replicate (length (map Some ns)) (Some value)) (slice_set (map Some ns) i (Some value))
+    ≡ map Some (set_where b ns i value)
+on_known true ns i value = everywhere ns value
+on_known false ns i value = sym (map-set Some ns i value)
+
+modes_set : (paged : Bool) (p : PagingData) (value : ℕ)
+    → modes_after value (cond paged (Some p.page) (Some all_pages)) (map Some p.modes)
+    ≡ map Some (set_where (not paged || nat_eq p.page all_pages) p.modes p.page value)
+modes_set false p value = everywhere p.modes value
+modes_set true p value = on_known (nat_eq p.page all_pages) p.modes p.page value
+
+abbrev IsFull : KnownPaging → PagingData → Type 0
+IsFull k p = k ≡ full p
+
+pub all_is_known : (device : DeviceParts) (ts : List TransactionData)
+    → known AllKnown device ts ≡ full (paging device ts)
+all_is_known device ts = along device IsFull
+    (λ k p value is. ap (λ (l : KnownPaging). record { page = Some value; modes = l.modes }) is)
+    (λ k p value is. ap (learn_mode device value) is
+    ∙ ap (λ (modes : List (Option ℕ)). record { page = Some p.page; modes = modes })
+    (modes_set (has_paged_mode device) p value))
+    ts (first_known AllKnown device) (first_paging device)
+    (ap (λ (modes : List (Option ℕ)). record { page = Some 0; modes = modes })
+    (sym (map_all device.pages device.vout_mode)))
+
+-- ---- what is read of it
+
+each_some : (ns : List ℕ) → list_all is_some (map Some ns) ≡ true
+each_some [] = refl
+each_some (n ∷ ns) = each_some ns
+
+may_be_is : (mode : ℕ) (ns : List ℕ) → list_all (may_be mode) (map Some ns) ≡ list_all (nat_eq mode) ns
+may_be_is mode [] = refl
+may_be_is mode (n ∷ ns) = ap (λ (b : Bool). nat_eq mode n && b) (may_be_is mode ns)
+
+shared_if : (b : Bool) (n : ℕ) → cond (not b) NoPage (cond true (Known n) Unknown) ≡ known_as (cond b (Some n) None)
+shared_if true n = refl
+shared_if false n = refl
+
+shared_is : (ns : List ℕ) → shared_mode (map Some ns) ≡ known_as (common ns)
+shared_is [] = refl
+shared_is (n ∷ ns) =
+    ap (λ (complete : Bool). shared_by (map Some (n ∷ ns)) complete (Some n)) (each_some ns)
+    ∙ ap (λ (b : Bool). cond (not b) NoPage (cond true (Known n) Unknown))
+    (ap (λ (b : Bool). b && list_all (may_be n) (map Some ns)) (eq-eqb n n refl) ∙ may_be_is n ns)
+    ∙ shared_if (list_all (nat_eq n) ns) n
+
+on_page_is : (ns : List ℕ) (i : ℕ) → mode_on_page (slice_get (map Some ns) i) ≡ known_as (slice_get ns i)
+on_page_is [] i = refl
+on_page_is (n ∷ ns) zero = refl
+on_page_is (n ∷ ns) (suc i) = on_page_is ns i
+
+selected : (b : Bool) (ns : List ℕ) (i : ℕ)
+    → cond b (shared_mode (map Some ns)) (mode_on_page (slice_get (map Some ns) i))
+    ≡ known_as (cond b (common ns) (slice_get ns i))
+selected true ns i = shared_is ns
+selected false ns i = on_page_is ns i
+
+mode_found : (ts : List TransactionData) (found : Option DeviceParts)
+    → mode_of AllKnown ts found ≡ known_as (option_and_then (λ device. selected_mode (paging device ts)) found)
+mode_found ts None = refl
+mode_found ts (Some device) =
+    ap known_mode (all_is_known device ts) ∙ selected (nat_eq (paging device ts).page all_pages)
+    (paging device ts).modes (paging device ts).page
+
+pub mode_is_known : (profile : List DeviceParts) (ts : List TransactionData) (addr : ℕ)
+    → mode AllKnown profile ts addr ≡ known_as (mode_of_whole profile ts addr)
+mode_is_known profile ts addr = mode_found ts (device_with addr profile)
+
+page_found : (ts : List TransactionData) (found : Option DeviceParts)
+    → option_and_then (λ device. (known AllKnown device ts).page) found
+    ≡ option_map (λ device. (paging device ts).page) found
+page_found ts None = refl
+page_found ts (Some device) = ap (λ (k : KnownPaging). k.page) (all_is_known device ts)
+
+pub page_is_known : (profile : List DeviceParts) (ts : List TransactionData) (addr : ℕ)
+    → page AllKnown profile ts addr ≡ page_of_whole profile ts addr
+page_is_known profile ts addr = page_found ts (device_with addr profile)

@@ -1,0 +1,148 @@
+//! What is known of PAGE and VOUT_MODE of the devices of a bus.
+
+ghost use Rattle.std.specs.Prelude.{◌≡◌, ◌++◌, ◌∷◌, [], List, fold, map, option_map, Some};
+ghost use Rattle.pmb_command.specs.Parts.{DeviceParts, device_with};
+ghost use Rattle.pmb_transaction.specs.Transaction.{TransactionData, part_data, transaction_data};
+ghost use Rattle.pmb_note.specs.Paging.{told_by_part};
+ghost use Rattle.pmb_unknown_start.specs.declared.start.Start.{Start as StartData};
+ghost use Rattle.pmb_unknown_start.specs.Known.{KnownPaging, first_known, learn_told, learn_transaction};
+ghost use Rattle.pmb_unknown_start.specs.Late.{HasSeen, mode as mode_after, page as page_after};
+ghost use Rattle.pmb_unknown_start.specs.machine.Standing.{Keeps, known_in};
+
+use crate::known::{Known, is_paging};
+use crate::mode::KnownMode;
+use crate::start::Start;
+use arrayvec::ArrayVec;
+use pmb_table::Profile;
+use pmb_table::laws::accepted_bus;
+use pmb_transaction::{Part, Transaction};
+
+/// How many addresses of seven bits there are.
+const ADDRESSES: u8 = 128;
+
+/// What is known of PAGE and VOUT_MODE of each device of a profile, as the transactions on the bus
+/// tell them, where the first of them may not be the first on the bus. It takes no memory from an
+/// allocator, whatever it is given.
+///
+/// A PAGE that is not known is one of the device's pages, or ffh. So a VOUT_MODE that is told then is
+/// that of a device's only page, and of several pages those stay known that had the same one.
+#[derive(Drop)]
+pub struct Late<'p> {
+    profile: &'p Profile,
+    /// Of the device at each address; nothing that means anything where there is none.
+    known: ArrayVec<Known, 128>,
+}
+
+impl<'p> Late<'p> {
+    /// What is known before all transactions.
+    pub fn new(profile: &'p Profile, start: Start) -> Late<'p>
+        ensures { HasSeen result profile.now start [] }
+    {
+        accepted_bus(profile);
+        let mut known = ArrayVec::new();
+        for address in 0..ADDRESSES {
+            known.push(first_known(profile, address, start));
+        }
+        Late { profile, known }
+    }
+
+    /// Takes the next transaction.
+    pub fn observe(&mut self, transaction: &Transaction)
+        ensures { (profile : List DeviceParts) (start : StartData) (ts : List TransactionData) → HasSeen self.old profile start ts
+            → HasSeen self.new profile start (ts ++ transaction_data transaction.now ∷ []) }
+    {
+        learn_transaction(self.profile, self.known.as_mut_slice(), transaction);
+    }
+
+    /// The value of PAGE of the device with an address, ffh for all pages, also where it has no page of
+    /// that number; `None` where it is not known, and where the profile has no such device.
+    pub fn page(&self, addr: u8) -> Option<u8>
+        ensures { (profile : List DeviceParts) (start : StartData) (ts : List TransactionData) → HasSeen self.now profile start ts
+            → result ≡ page_after start profile ts addr }
+    {
+        match self.known(addr) {
+            Some(known) => known.page(),
+            None => None,
+        }
+    }
+
+    /// What is known of the VOUT_MODE of the device with an address, on the page that is selected;
+    /// where all are, or PAGE is not known, of the one that they share.
+    pub fn mode(&self, addr: u8) -> KnownMode
+        ensures { (profile : List DeviceParts) (start : StartData) (ts : List TransactionData) → HasSeen self.now profile start ts
+            → result ≡ mode_after start profile ts addr }
+    {
+        match self.known(addr) {
+            Some(known) => known.mode(),
+            None => KnownMode::NoPage,
+        }
+    }
+
+    // What is known of the device with an address.
+    fn known(&self, addr: u8) -> Option<&Known>
+        ensures { option_map (λ known. known.now) result ≡ known_in self.now addr }
+    {
+        match self.profile.device(addr) {
+            Some(_) => self.known.as_slice().get(usize::from(addr)),
+            None => None,
+        }
+    }
+}
+
+// What is known at first of the device with an address, if there is one.
+fn first_known(profile: &Profile, address: u8, start: Start) -> Known
+    ensures { (device : DeviceParts) → device_with address profile.now ≡ Some device → result ≡ first_known start device }
+{
+    match profile.device(address) {
+        Some(device) => Known::new(device, start),
+        None => Known::default(),
+    }
+}
+
+// Takes what a transaction tells.
+fn learn_transaction(profile: &Profile, known: &mut [Known], transaction: &Transaction)
+    ensures { (now : DeviceParts → KnownPaging) → Keeps known.old profile.now now
+        → Keeps known.new profile.now (λ device. learn_transaction device (now device) (transaction_data transaction.now)) }
+{
+    match transaction {
+        Transaction::Write { parts } => learn_parts(profile, known, parts.as_slice()),
+        Transaction::Refused { parts, .. } => learn_parts(profile, known, parts.as_slice()),
+        Transaction::Read {
+            addr,
+            code,
+            reply,
+            ..
+        } => learn_bytes(profile, known, *addr, *code, reply.as_slice()),
+        Transaction::Call { .. } | Transaction::Alert { .. } | Transaction::NoAlert => {}
+    }
+}
+
+// Takes what complete parts tell.
+fn learn_parts(profile: &Profile, known: &mut [Known], parts: &[Part])
+    ensures { (now : DeviceParts → KnownPaging) → Keeps known.old profile.now now
+        → Keeps known.new profile.now (λ device. fold (learn_told device) (now device) (map told_by_part (map part_data parts.now))) }
+{
+    for part in parts {
+        learn_bytes(profile, known, part.addr, part.code, part.bytes.as_slice());
+    }
+}
+
+// Takes bytes of the register with a code of the device with an address.
+fn learn_bytes(profile: &Profile, known: &mut [Known], addr: u8, code: u8, bytes: &[u8])
+    ensures { (now : DeviceParts → KnownPaging) → Keeps known.old profile.now now
+        → Keeps known.new profile.now (λ device. learn_told device (now device) (record { addr = addr; code = code; bytes = bytes.now })) }
+{
+    let [value] = bytes else {
+        return;
+    };
+    if !is_paging(code) {
+        return;
+    }
+    let Some(device) = profile.device(addr) else {
+        return;
+    };
+    let place = usize::from(addr);
+    if place < known.len() {
+        known[place].learn(device, code, *value);
+    }
+}

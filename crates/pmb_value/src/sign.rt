@@ -1,0 +1,9 @@
+//! The sign of an output voltage.
+
+/// Whether the words of an output voltage are signed, in the linear formats of VOUT_MODE (PMBus Part
+/// II 1.3 section 8.4.1).
+#[derive(Clone, Copy, Debug, PartialEq, Eq)]
+pub enum Sign {
+    Unsigned,
+    Signed,
+}

@@ -1,5 +1,0 @@
-pub mod Flags
-pub mod Words
-pub mod Json
-pub mod Asked
-pub mod Texts

@@ -1,0 +1,95 @@
+//! An output voltage by what transactions have told of PAGE and VOUT_MODE, told by hand.
+
+use crate::compare::same;
+use crate::fields::contexts::Says::{Raw, Value};
+use crate::fields::says::{Text, raw, said, under, value};
+use pmb_command::Kind;
+use pmb_line::parse_line;
+use pmb_table::Profile;
+use pmb_unknown_start::Start::{AllKnown, Late};
+use pmb_unknown_start::{KnownMode, Start};
+use std::test::Fail;
+
+/// What is said of the word 1800h: its value, which is the nearest number too, or why it has none.
+#[derive(Clone, Copy, Drop)]
+enum Says {
+    Value(&'static str),
+    Raw(&'static str),
+}
+
+/// What is known at first, lines, an address, and what is said of a voltage there after them.
+type Row = (Start, &'static str, u8, Says);
+
+/// The rows of the table. A call keeps the proof of a loop over them from carrying the table.
+fn rows() -> &'static [Row] {
+    &ROWS
+}
+
+/// 58h has two pages, 59h one. 12 is 1800h with the exponent -9, and 1.5 with -12.
+static PROFILE: &str = r#"[[device]]
+address = 0x58
+pec = "optional"
+pages = 2
+vout_mode = 0x17
+
+[[device]]
+address = 0x59
+pec = "off"
+vout_mode = 0x17
+"#;
+
+#[rattlefmt::skip]
+static ROWS: [Row; 17] = [
+    (AllKnown, "", 0x58, Value("12")),
+    (AllKnown, "", 0x20, Raw("page")),
+    (AllKnown, "write 58 00 05", 0x58, Raw("page")),
+    (AllKnown, "write 58 20 14\nwrite 58 00 ff", 0x58, Raw("page")),
+    (AllKnown, "write 58 00 ff", 0x58, Value("12")),
+    (AllKnown, "write 58 00 ff\nwrite 58 20 14", 0x58, Value("1.5")),
+    (AllKnown, "write 58 20 14", 0x58, Value("1.5")),
+    (AllKnown, "write 58 20 40", 0x58, Raw("coefficients")),
+    (Late, "", 0x58, Raw("unknown")),
+    (Late, "write 59 20 14", 0x59, Value("1.5")),
+    (Late, "write 58 20 14", 0x58, Raw("unknown")),
+    (Late, "write 58 00 01", 0x58, Raw("unknown")),
+    (Late, "write 58 00 01\nwrite 58 20 14", 0x58, Value("1.5")),
+    (Late, "write 58 00 ff\nwrite 58 20 17", 0x58, Value("12")),
+    (Late, "write 58 00 00\nwrite 58 20 14\nwrite 58 00 01\nwrite 58 20 17\nwrite 58 00 ff", 0x58, Raw("page")),
+    (Late, "write 58 00 01\nwrite 58 20 20", 0x58, Raw("vid")),
+    (Late, "write 58 00 05", 0x58, Raw("page")),
+];
+
+/// What is known of a device's VOUT_MODE after the transactions that lines spell; nothing where a line
+/// spells none.
+fn mode_after(profile: &Profile, start: Start, lines: &str, address: u8) -> Option<KnownMode> {
+    let mut known = pmb_unknown_start::Late::new(profile, start);
+    for line in lines.lines() {
+        known.observe(&parse_line(profile, line.as_bytes()).ok()?);
+    }
+    Some(known.mode(address))
+}
+
+/// What is said of the word 1800h under a VOUT_MODE.
+fn voltage(mode: KnownMode) -> Text {
+    said(&under(mode, None), 0x8b, Kind::Vout, &[0x00, 0x18])
+}
+
+#[test]
+fn contexts(rt: HostRuntime) -> Result<(), Fail> {
+    let profile = Profile::from_toml(rt.alloc(), PROFILE.as_bytes())?;
+    for &(start, lines, address, says) in rows() {
+        let mode = mode_after(&profile, start, lines, address).ok_or("a line")?;
+        let wanted = match says {
+            Value(exact) => value(exact, exact),
+            Raw(why) => raw(why),
+        };
+        let text = voltage(mode);
+        same(
+            &rt,
+            (start, address, "after", lines),
+            text.as_slice(),
+            wanted.as_slice(),
+        );
+    }
+    Ok(())
+}

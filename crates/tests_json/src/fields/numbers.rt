@@ -1,0 +1,188 @@
+//! LINEAR11, DIRECT, and data that are no number. The values are exact fractions by PMBus Part II 1.3
+//! section 7, worked out apart from the code.
+
+use crate::compare::same;
+use crate::fields::says::{plain, said, under, value};
+use pmb_command::Kind;
+use pmb_json_fields::Access;
+use pmb_unknown_start::KnownMode;
+use pmb_value::Direct;
+use std::test::Fail;
+
+/// A word, the digits, the exact value and the nearest number.
+type Word = (u16, u8, &'static str, &'static str);
+
+/// m, b and R, and the same.
+type DirectWord = ((i16, i16, i8), u16, u8, &'static str, &'static str);
+
+/// The rows of a table. A call keeps the proof of a loop over them from carrying the table.
+fn words() -> &'static [Word] {
+    &LINEAR11
+}
+
+fn direct_words() -> &'static [DirectWord] {
+    &DIRECT
+}
+
+static LINEAR11: [Word; 35] = [
+    (0x0000, 6, "0", "0"),
+    (0x0001, 6, "1", "1"),
+    (0x03ff, 6, "1023", "1023"),
+    (0x0400, 6, "-1024", "-1024"),
+    (0x07ff, 6, "-1", "-1"),
+    (0xd3f7, 6, "15.859375", "15.859375"),
+    (0xf3ff, 6, "255.75", "255.75"),
+    (0xfbff, 6, "511.5", "511.5"),
+    (0x8001, 6, "0.0000152587890625", "0.000015"),
+    (0x8000, 6, "0", "0"),
+    (0x7bff, 6, "33521664", "33521664"),
+    (0x7c00, 6, "-33554432", "-33554432"),
+    (0xdb48, 6, "26.25", "26.25"),
+    (0xe808, 6, "1", "1"),
+    (0x87ff, 6, "-0.0000152587890625", "-0.000015"),
+    (0xf802, 6, "1", "1"),
+    (0xf801, 6, "0.5", "0.5"),
+    (0xf803, 6, "1.5", "1.5"),
+    (0xf801, 0, "0.5", "0"),
+    (0xf803, 0, "1.5", "2"),
+    (0xf805, 0, "2.5", "2"),
+    (0xffff, 0, "-0.5", "0"),
+    (0xfffd, 0, "-1.5", "-2"),
+    (0x8001, 12, "0.0000152587890625", "0.000015258789"),
+    (0x87ff, 12, "-0.0000152587890625", "-0.000015258789"),
+    (0x83ff, 12, "0.0156097412109375", "0.015609741211"),
+    (0xd001, 12, "0.015625", "0.015625"),
+    (0xc7ff, 1, "-0.00390625", "0"),
+    (0xc7ff, 2, "-0.00390625", "0"),
+    (0xc7ff, 3, "-0.00390625", "-0.004"),
+    (0xc7ff, 4, "-0.00390625", "-0.0039"),
+    (0xc7ff, 5, "-0.00390625", "-0.00391"),
+    (0xc7ff, 7, "-0.00390625", "-0.0039062"),
+    (0xc7ff, 9, "-0.00390625", "-0.00390625"),
+    (0xc7ff, 11, "-0.00390625", "-0.00390625"),
+];
+
+#[rattlefmt::skip]
+static DIRECT: [DirectWord; 33] = [
+    ((1, 0, 0), 0x7fff, 6, "32767", "32767"),
+    ((1, 0, 0), 0x8000, 6, "-32768", "-32768"),
+    ((3, 0, 0), 0x0001, 6, "1/3", "0.333333"),
+    ((3, 0, 0), 0x0002, 6, "2/3", "0.666667"),
+    ((-3, 0, 0), 0x0001, 6, "-1/3", "-0.333333"),
+    ((7, 5, -2), 0x0064, 6, "9995/7", "1427.857143"),
+    ((850, 0, -3), 0x1f40, 6, "160000/17", "9411.764706"),
+    ((7, 0, 0), 0xfff9, 6, "-1", "-1"),
+    ((2, 1, 0), 0x0002, 6, "0.5", "0.5"),
+    ((2, 1, 0), 0x0000, 6, "-0.5", "-0.5"),
+    ((1, 0, 9), 0x0001, 6, "0.000000001", "0"),
+    ((1, 0, -9), 0x7fff, 6, "32767000000000", "32767000000000"),
+    ((-32768, 32767, 9), 0x8000, 6, "0.999969483421875", "0.999969"),
+    ((32767, -32768, -9), 0x8000, 6, "-32767999967232/32767", "-1000030517.509445"),
+    ((1, 0, 7), 0x0005, 6, "0.0000005", "0"),
+    ((1, 0, 7), 0x000f, 6, "0.0000015", "0.000002"),
+    ((1, 0, 7), 0x0019, 6, "0.0000025", "0.000002"),
+    ((1, 0, 7), 0xfffb, 6, "-0.0000005", "0"),
+    ((1, 0, 7), 0xfff1, 6, "-0.0000015", "-0.000002"),
+    ((1, 0, 7), 0x0004, 6, "0.0000004", "0"),
+    ((1, 0, 7), 0x0006, 6, "0.0000006", "0.000001"),
+    ((3, 0, 0), 0x0001, 0, "1/3", "0"),
+    ((3, 0, 0), 0x0001, 12, "1/3", "0.333333333333"),
+    ((3, 0, 0), 0x0002, 0, "2/3", "1"),
+    ((3, 0, 0), 0x0002, 12, "2/3", "0.666666666667"),
+    ((6, 0, 0), 0x0005, 0, "5/6", "1"),
+    ((6, 0, 0), 0x0005, 12, "5/6", "0.833333333333"),
+    ((6, 0, 0), 0xfffb, 0, "-5/6", "-1"),
+    ((6, 0, 0), 0xfffb, 12, "-5/6", "-0.833333333333"),
+    ((2, 0, 0), 0x0001, 0, "0.5", "0"),
+    ((2, 0, 0), 0x0001, 12, "0.5", "0.5"),
+    ((2, 0, 0), 0xffff, 0, "-0.5", "0"),
+    ((2, 0, 0), 0xffff, 12, "-0.5", "-0.5"),
+];
+
+// Under each fixed exponent a word has the same value, whether it is read or written.
+#[test]
+fn linear11(rt: HostRuntime) {
+    for (number, row) in words().iter().enumerate() {
+        let bytes = row.0.to_le_bytes();
+        let wanted = value(row.2, row.3);
+        let read = said(&plain(row.1, Access::Read), 0x88, Kind::Linear11, &bytes);
+        same(&rt, ("row", number), read.as_slice(), wanted.as_slice());
+        let kind = Kind::Linear11Fixed(-5);
+        let written = said(&plain(row.1, Access::Write), 0x35, kind, &bytes);
+        same(
+            &rt,
+            ("written, row", number),
+            written.as_slice(),
+            wanted.as_slice(),
+        );
+    }
+}
+
+// The same words in DIRECT of a command, and as an output voltage of a device with those coefficients.
+#[test]
+fn direct(rt: HostRuntime) -> Result<(), Fail> {
+    for (number, row) in direct_words().iter().enumerate() {
+        let (m, b, r) = row.0;
+        let direct = Direct::new(m, b, r).ok().ok_or("coefficients")?;
+        let bytes = row.1.to_le_bytes();
+        let wanted = value(row.3, row.4);
+        let case = plain(row.2, Access::Write);
+        let text = said(&case, 0xd0, Kind::Direct(direct), &bytes);
+        same(&rt, ("row", number), text.as_slice(), wanted.as_slice());
+        let mut voltage = under(KnownMode::Known(0x40), Some(direct));
+        voltage.digits = row.2;
+        let text = said(&voltage, 0x8b, Kind::Vout, &bytes);
+        same(
+            &rt,
+            ("voltage, row", number),
+            text.as_slice(),
+            wanted.as_slice(),
+        );
+        let text = said(&voltage, 0x22, Kind::VoutSigned, &bytes);
+        same(
+            &rt,
+            ("signed, row", number),
+            text.as_slice(),
+            wanted.as_slice(),
+        );
+    }
+    Ok(())
+}
+
+// One byte is no number, and three are none; bytes of no number have no value at any length.
+#[test]
+fn other_lengths(rt: HostRuntime) -> Result<(), Fail> {
+    let bytes = [0x12, 0x34, 0x56, 0x78];
+    let direct = Direct::new(1, 0, 0).ok().ok_or("coefficients")?;
+    let case = under(KnownMode::Known(0x17), Some(direct));
+    let two_bytes = [
+        Kind::Linear11,
+        Kind::Linear11Fixed(-5),
+        Kind::Vout,
+        Kind::VoutSigned,
+    ];
+    for count in 0..5usize {
+        let some = &bytes[..count];
+        let text = said(&case, 0x99, Kind::Raw, some);
+        same(&rt, (count, "bytes"), text.as_slice(), b":".as_slice());
+        if count != 2 {
+            for kind in &two_bytes {
+                let text = said(&case, 0x8b, *kind, some);
+                same(
+                    &rt,
+                    (count, "bytes of a number"),
+                    text.as_slice(),
+                    b":".as_slice(),
+                );
+            }
+            let text = said(&case, 0xd0, Kind::Direct(direct), some);
+            same(
+                &rt,
+                (count, "bytes of DIRECT"),
+                text.as_slice(),
+                b":".as_slice(),
+            );
+        }
+    }
+    Ok(())
+}

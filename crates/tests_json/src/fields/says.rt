@@ -1,0 +1,86 @@
+//! What is said of data, and what should be.
+
+use arrayvec::ArrayVec;
+use pmb_command::Kind;
+use pmb_decimal::Digits;
+use pmb_json_fields::{Access, data_members};
+use pmb_unknown_start::KnownMode;
+use pmb_value::Direct;
+
+/// The members of an object, as text.
+pub(crate) type Text = ArrayVec<u8, 2048>;
+
+/// What hangs on more than the command: digits, access, the device's VOUT_MODE and coefficients.
+#[derive(Clone, Copy, Drop)]
+pub(crate) struct Case {
+    pub digits: u8,
+    pub access: Access,
+    pub mode: KnownMode,
+    pub coefficients: Option<Direct>,
+}
+
+/// A case in which VOUT_MODE is of no matter.
+pub(crate) fn plain(digits: u8, access: Access) -> Case {
+    Case {
+        digits,
+        access,
+        mode: KnownMode::NoPage,
+        coefficients: None,
+    }
+}
+
+/// A reading with six digits under a VOUT_MODE.
+pub(crate) fn under(mode: KnownMode, coefficients: Option<Direct>) -> Case {
+    Case {
+        digits: 6,
+        access: Access::Read,
+        mode,
+        coefficients,
+    }
+}
+
+/// What is said of a command's data, after a `:`; `?` where there are no such digits.
+pub(crate) fn said(case: &Case, code: u8, kind: Kind, bytes: &[u8]) -> Text {
+    let mut text = Text::new();
+    let Some(digits) = Digits::new(case.digits) else {
+        let _ = text.try_push(b'?');
+        return text;
+    };
+    text.push(b':');
+    data_members(
+        &mut text,
+        digits,
+        case.access,
+        case.mode,
+        case.coefficients,
+        code,
+        kind,
+        bytes,
+    );
+    text
+}
+
+/// Adds a text, as far as there is room.
+pub(crate) fn push(text: &mut Text, part: &str) {
+    let _ = text.try_extend_from_slice(part.as_bytes());
+}
+
+/// Texts one after the other, after a `:`.
+pub(crate) fn joined(texts: &[&str]) -> Text {
+    let mut text = Text::new();
+    push(&mut text, ":");
+    for part in texts {
+        push(&mut text, part);
+    }
+    text
+}
+
+/// The members of a value and the nearest number.
+pub(crate) fn value(exact: &str, nearest: &str) -> Text {
+    joined(&[",\"value\":\"", exact, "\",\"number\":", nearest])
+}
+
+/// The member of a value that can't be read.
+pub(crate) fn raw(why: &str) -> Text {
+    joined(&[",\"raw\":\"", why, "\""])
+}

@@ -1,0 +1,12 @@
+//! Tests of lines of JSON: members (`pmb_json_text`), what is said of a command's data (`pmb_json_fields`), and
+//! the objects of a capture (`pmb_json_objects`).
+#![tactic(auto)]
+
+#[cfg(test)]
+mod compare;
+#[cfg(test)]
+mod fields;
+#[cfg(test)]
+mod object_lines;
+#[cfg(test)]
+mod objects;

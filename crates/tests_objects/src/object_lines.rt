@@ -1,8 +1,0 @@
-//! Tests of the objects of a capture, over the public names of `pmb_objects`: each object's line,
-//! told by hand.
-
-mod counts;
-mod packets;
-mod refusals;
-mod seen;
-mod words;
