@@ -169,7 +169,7 @@ asks_sampled name (Json choice) plain = subst
         _,
         refl,
         refl,
-        record { known = refl; after_bad_word = refl; digits = six; devices = no_device },
+        record { start = refl; after_bad_token = refl; digits = six; devices = no_device },
       );
     })
 asks_sampled name Build plain = record { no_fault = refl; asks = (_, refl, refl, tt) }
@@ -189,7 +189,7 @@ asks_unsampled name (Json choice) plain =
         _,
         refl,
         refl,
-        record { known = refl; after_bad_word = refl; digits = six; devices = no_device },
+        record { start = refl; after_bad_token = refl; digits = six; devices = no_device },
       );
     })
 asks_unsampled name Build plain = record { no_fault = refl; asks = (_, refl, refl, tt) }

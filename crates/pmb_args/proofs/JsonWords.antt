@@ -13,8 +13,8 @@ use Rattle.clap.proofs.OnLiterals.{clap_on_literals}
 use Rattle.pmb_args.specs.Asked.{AskFor, AskForNothing, Asking, Json, UnderProfile, place_in}
 use Rattle.pmb_args.specs.Json.{JsonAsks, JsonWanted, SpellDevices, SpellsAddress, SpellsDigits, at_first, devices_in}
 use Rattle.pmb_args.specs.Json.{digits_in}
-use Rattle.pmb_args.specs.declared.json_choice.AfterBadWord.TheVariants.{GoOn}
-use Rattle.pmb_args.specs.declared.json_choice.KnownAtFirst.TheVariants.{VoutMode, Neither}
+use Rattle.pmb_scan.specs.declared.after_bad_token.AfterBadToken.TheVariants.{Continue}
+use Rattle.pmb_unknown_start.specs.declared.start.Start.TheVariants.{LateFixedMode, Late}
 use Rattle.pmb_args.specs.declared.profile_place.ProfilePlace.TheVariants.{Sample, Front}
 use Rattle.pmb_args.specs.Words.{IsFlag, faults_of, json_app, pmb_app}
 use Rattle.pmb_args.proofs.AskedOnce.{json_nothing}
@@ -31,39 +31,39 @@ abbrev in_json : JsonWanted → Asking
 in_json choice = UnderProfile Front (Json choice)
 
 pub asks_late : (name : Text) → AskFor (json_words name (codes "--late" ∷ []))
-    (in_json (record at_first { known = Neither }))
+    (in_json (record at_first { start = Late }))
 unfolding clap_on_literals
 asks_late name = record {
   no_fault = refl;
   asks =
-      (_, refl, refl, record { known = refl; after_bad_word = refl; digits = six; devices = no_device });
+      (_, refl, refl, record { start = refl; after_bad_token = refl; digits = six; devices = no_device });
 }
 
 pub asks_late_fixed : (name : Text) → AskFor (json_words name (codes "--late" ∷ codes "--fixed-vout-mode" ∷ []))
-    (in_json (record at_first { known = VoutMode }))
+    (in_json (record at_first { start = LateFixedMode }))
 unfolding clap_on_literals
 asks_late_fixed name = record {
   no_fault = refl;
   asks =
-      (_, refl, refl, record { known = refl; after_bad_word = refl; digits = six; devices = no_device });
+      (_, refl, refl, record { start = refl; after_bad_token = refl; digits = six; devices = no_device });
 }
 
 pub asks_to_go_on : (name : Text) → AskFor (json_words name (codes "--keep-going" ∷ []))
-    (in_json (record at_first { after_bad_word = GoOn }))
+    (in_json (record at_first { after_bad_token = Continue }))
 unfolding clap_on_literals
 asks_to_go_on name = record {
   no_fault = refl;
   asks =
-      (_, refl, refl, record { known = refl; after_bad_word = refl; digits = six; devices = no_device });
+      (_, refl, refl, record { start = refl; after_bad_token = refl; digits = six; devices = no_device });
 }
 
 pub asks_two : (name : Text) → AskFor (json_words name (codes "--keep-going" ∷ codes "--sample" ∷ []))
-    (UnderProfile Sample (Json (record at_first { after_bad_word = GoOn })))
+    (UnderProfile Sample (Json (record at_first { after_bad_token = Continue })))
 unfolding clap_on_literals
 asks_two name = record {
   no_fault = refl;
   asks =
-      (_, refl, refl, record { known = refl; after_bad_word = refl; digits = six; devices = no_device });
+      (_, refl, refl, record { start = refl; after_bad_token = refl; digits = six; devices = no_device });
 }
 
 -- `--fixed-vout-mode` alone
@@ -71,7 +71,7 @@ pub alone_is_nothing : (name : Text) → AskForNothing (json_words name (codes "
 unfolding clap_on_literals
 alone_is_nothing name = record {
   no_fault = refl;
-  nothing = json_nothing _ _ refl (λ wanted asks. let clash : None ≡ Some wanted.known = asks.known in cc);
+  nothing = json_nothing _ _ refl (λ wanted asks. let clash : None ≡ Some wanted.start = asks.start in cc);
 }
 
 -- ---- a flag that a word follows
@@ -209,7 +209,7 @@ digits_given N = refl
 digits_ask : (N : Text) (n : ℕ) → SpellsDigits N n
     → JsonAsks (rows_given digits_flag N) (record at_first { digits = n })
 unfolding clap_on_literals
-digits_ask N n spells = record { known = refl; after_bad_word = refl; digits = spells; devices = no_device }
+digits_ask N n spells = record { start = refl; after_bad_token = refl; digits = spells; devices = no_device }
 
 digits_are_no_flag : (N : Text) (n : ℕ) → SpellsDigits N n → IsNoFlag N
 digits_are_no_flag [] n spells = tt
@@ -238,8 +238,8 @@ device_asks : (HH : Text) (address : ℕ) → SpellsAddress HH address
     → JsonAsks (rows_given device_flag HH) (record at_first { devices = address ∷ [] })
 unfolding clap_on_literals
 device_asks HH address spells = record {
-  known = refl;
-  after_bad_word = refl;
+  start = refl;
+  after_bad_token = refl;
   digits = six;
   devices = record { addresses = address ∷ []; spell = (spells, tt); once = refl };
 }

@@ -7,34 +7,34 @@ use Rattle.clap.specs.Words.{Row, Text, all_of, first_of}
 use Rattle.hex.specs.Hex.{hex_digit_value}
 use Rattle.pmb_args.specs.declared.json_fault.JsonFault.{JsonFault}
 use Rattle.pmb_args.specs.declared.json_fault.JsonFault.TheVariants.{NeedsLate, BadDigits, BadAddress}
-use Rattle.pmb_args.specs.declared.json_choice.AfterBadWord.{AfterBadWord}
-use Rattle.pmb_args.specs.declared.json_choice.AfterBadWord.TheVariants.{End, GoOn}
-use Rattle.pmb_args.specs.declared.json_choice.JsonChoice.{JsonChoice}
-use Rattle.pmb_args.specs.declared.json_choice.KnownAtFirst.{KnownAtFirst}
-use Rattle.pmb_args.specs.declared.json_choice.KnownAtFirst.TheVariants.{Both, VoutMode, Neither}
+use Rattle.pmb_scan.specs.declared.after_bad_token.AfterBadToken.{AfterBadToken}
+use Rattle.pmb_scan.specs.declared.after_bad_token.AfterBadToken.TheVariants.{End, Continue}
+use Rattle.pmb_args.specs.declared.json_arguments.JsonArguments.{JsonArguments}
+use Rattle.pmb_unknown_start.specs.declared.start.Start.{Start}
+use Rattle.pmb_unknown_start.specs.declared.start.Start.TheVariants.{AllKnown, LateFixedMode, Late}
 use Rattle.pmb_args.specs.Flags.{has_flag}
 
 -- What is wanted: what is known of PAGE and VOUT_MODE at first, what is done after a word that is
 -- no token, the most digits
 -- after a point, and the devices, all where there is none.
 pub record JsonWanted : Type 0 where
-  pub known : KnownAtFirst
-  pub after_bad_word : AfterBadWord
+  pub start : Start
+  pub after_bad_token : AfterBadToken
   pub digits : ℕ
   pub devices : List ℕ
 
 -- the same as it is kept
-abbrev pub json_wanted_of : JsonChoice → JsonWanted
+abbrev pub json_wanted_of : JsonArguments → JsonWanted
 json_wanted_of choice = record {
-  known = choice.known;
-  after_bad_word = choice.after_bad_word;
+  start = choice.start;
+  after_bad_token = choice.after_bad_token;
   digits = choice.digits;
   devices = choice.devices.items;
 }
 
 -- what is wanted where no flag is given
 abbrev pub at_first : JsonWanted
-at_first = record { known = Both; after_bad_word = End; digits = 6; devices = [] }
+at_first = record { start = AllKnown; after_bad_token = End; digits = 6; devices = [] }
 
 -- ---- N and HH
 
@@ -70,18 +70,18 @@ pub record SpellDevices (words : List Text) (devices : List ℕ) : Type 0 where
 -- ---- what is among the matches
 
 -- by `--late` and `--fixed-vout-mode`, which is nothing without the first
-abbrev pub known_by : (late fixed : Bool) → Option KnownAtFirst
-known_by false false = Some Both
-known_by true false = Some Neither
-known_by true true = Some VoutMode
-known_by false true = None
+abbrev pub start_by : (late fixed : Bool) → Option Start
+start_by false false = Some AllKnown
+start_by true false = Some Late
+start_by true true = Some LateFixedMode
+start_by false true = None
 
-abbrev pub known_in : List Row → Option KnownAtFirst
-known_in rows = known_by (has_flag (codes "late") rows) (has_flag (codes "fixed-vout-mode") rows)
+abbrev pub start_in : List Row → Option Start
+start_in rows = start_by (has_flag (codes "late") rows) (has_flag (codes "fixed-vout-mode") rows)
 
 -- reading continues with `--keep-going`
-abbrev pub after_bad_word_in : List Row → AfterBadWord
-after_bad_word_in rows = if has_flag (codes "keep-going") rows then GoOn else End
+abbrev pub after_bad_token_in : List Row → AfterBadToken
+after_bad_token_in rows = if has_flag (codes "keep-going") rows then Continue else End
 
 -- N, and 6 where there is none
 abbrev pub digits_in : List Row → Text
@@ -93,13 +93,13 @@ devices_in rows = unwrap_or (all_of (codes "device") rows) []
 
 -- The matches choose this.
 pub record JsonAsks (rows : List Row) (wanted : JsonWanted) : Type 0 where
-  pub known : known_in rows ≡ Some wanted.known
-  pub after_bad_word : wanted.after_bad_word ≡ after_bad_word_in rows
+  pub start : start_in rows ≡ Some wanted.start
+  pub after_bad_token : wanted.after_bad_token ≡ after_bad_token_in rows
   pub digits : SpellsDigits (digits_in rows) wanted.digits
   pub devices : SpellDevices (devices_in rows) wanted.devices
 
 -- what is wrong with matches that ask for nothing
 abbrev pub HasFault : List Row → JsonFault → Type 0
-HasFault rows NeedsLate = known_in rows ≡ None
+HasFault rows NeedsLate = start_in rows ≡ None
 HasFault rows BadDigits = (n : ℕ) → ¬ (SpellsDigits (digits_in rows) n)
 HasFault rows BadAddress = (devices : List ℕ) → ¬ (SpellDevices (devices_in rows) devices)

@@ -2,13 +2,16 @@
 
 ghost use Rattle.std.specs.Prelude.{◌≡◌, ◌<◌, ℕ, List, MatchOption, MatchResult, map, unwrap_or};
 ghost use Rattle.clap.specs.Words.{Text, found_of, rows_of};
-ghost use Rattle.pmb_args.specs.Json.{HasFault, JsonAsks, SpellDevices, SpellsAddress, SpellsDigits, after_bad_word_in, devices_in, digits_in, json_wanted_of, known_in};
+ghost use Rattle.pmb_args.specs.Json.{HasFault, JsonAsks, SpellDevices, SpellsAddress, SpellsDigits, after_bad_token_in, devices_in, digits_in, json_wanted_of, start_in};
 
 use crate::flags::has_flag;
-use crate::json_choice::{AfterBadWord, JsonChoice, KnownAtFirst};
+use crate::json_arguments::JsonArguments;
 use crate::json_fault::JsonFault;
 use arrayvec::ArrayVec;
 use clap::ArgMatches;
+use pmb_decimal::Digits;
+use pmb_scan::AfterBadToken;
+use pmb_unknown_start::Start;
 
 /// What the matches of `json` choose.
 ///
@@ -16,10 +19,10 @@ use clap::ArgMatches;
 ///
 /// The first of these: `NeedsLate` for `--fixed-vout-mode` without `--late`, `BadDigits` for N that is
 /// no number from 0 to 12, `BadAddress` for HH that is no address of seven bits.
-pub(crate) fn read_json(arguments: &ArgMatches<'_>) -> Result<JsonChoice, JsonFault>
+pub(crate) fn read_json(arguments: &ArgMatches<'_>) -> Result<JsonArguments, JsonFault>
     ensures { MatchResult result (λ choice. JsonAsks (rows_of (found_of arguments.now)) (json_wanted_of choice)) (HasFault (rows_of (found_of arguments.now))) }
 {
-    let Some(known) = known(arguments) else {
+    let Some(start) = start(arguments) else {
         return Err(JsonFault::NeedsLate);
     };
     let Some(digits) = read_digits(arguments.get_str("digits").unwrap_or("6")) else {
@@ -28,53 +31,53 @@ pub(crate) fn read_json(arguments: &ArgMatches<'_>) -> Result<JsonChoice, JsonFa
     let Some(devices) = read_devices(arguments.get_strs("device").unwrap_or(&[])) else {
         return Err(JsonFault::BadAddress);
     };
-    Ok(JsonChoice {
-        known,
-        after_bad_word: after_bad_word(arguments),
+    Ok(JsonArguments {
+        start,
+        after_bad_token: after_bad_token(arguments),
         digits,
         devices,
     })
 }
 
 // What is known at first, by `--late` and `--fixed-vout-mode`; nothing where the first is missing.
-fn known(arguments: &ArgMatches<'_>) -> Option<KnownAtFirst>
-    ensures { result ≡ known_in (rows_of (found_of arguments.now)) }
+fn start(arguments: &ArgMatches<'_>) -> Option<Start>
+    ensures { result ≡ start_in (rows_of (found_of arguments.now)) }
 {
     let is_fixed = has_flag(arguments, "fixed-vout-mode");
     if has_flag(arguments, "late") {
         Some(if is_fixed {
-            KnownAtFirst::VoutMode
+            Start::LateFixedMode
         } else {
-            KnownAtFirst::Neither
+            Start::Late
         })
     } else if is_fixed {
         None
     } else {
-        Some(KnownAtFirst::Both)
+        Some(Start::AllKnown)
     }
 }
 
 // What is done after a word that is no token, by `--keep-going`.
-fn after_bad_word(arguments: &ArgMatches<'_>) -> AfterBadWord
-    ensures { result ≡ after_bad_word_in (rows_of (found_of arguments.now)) }
+fn after_bad_token(arguments: &ArgMatches<'_>) -> AfterBadToken
+    ensures { result ≡ after_bad_token_in (rows_of (found_of arguments.now)) }
 {
     if has_flag(arguments, "keep-going") {
-        AfterBadWord::GoOn
+        AfterBadToken::Continue
     } else {
-        AfterBadWord::End
+        AfterBadToken::End
     }
 }
 
 // The number from 0 to 12 that a word spells.
-fn read_digits(word: &str) -> Option<u8>
+fn read_digits(word: &str) -> Option<Digits>
     ensures { MatchOption result ((n : ℕ) → ¬ (SpellsDigits word.now n)) (SpellsDigits word.now) }
 {
     if word.starts_with('+') {
         return None;
     }
     match word.parse::<u8>() {
-        Ok(digits) if digits <= 12 => Some(digits),
-        _ => None,
+        Ok(count) => Digits::new(count),
+        Err(_) => None,
     }
 }
 

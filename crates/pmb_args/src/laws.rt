@@ -7,8 +7,8 @@ ghost use Rattle.clap.specs.declared.error.kind.ErrorKind.TheVariants.{DisplayHe
 ghost use Rattle.pmb_args.specs.Json.{SpellsAddress, SpellsDigits, at_first};
 ghost use Rattle.pmb_args.specs.Words.{AreRefused, AskToTell, IsFlag, faults_of};
 ghost use Rattle.pmb_args.specs.declared.direction.Direction.{Direction};
-ghost use Rattle.pmb_args.specs.declared.json_choice.AfterBadWord.TheVariants.{GoOn};
-ghost use Rattle.pmb_args.specs.declared.json_choice.KnownAtFirst.TheVariants.{Neither, VoutMode};
+ghost use Rattle.pmb_scan.specs.declared.after_bad_token.AfterBadToken.TheVariants.{Continue};
+ghost use Rattle.pmb_unknown_start.specs.declared.start.Start.TheVariants.{Late, LateFixedMode};
 ghost use Rattle.pmb_args.specs.declared.profile_place.ProfilePlace.TheVariants.{Front, Sample};
 
 /// The words `pmb show`, `pmb check`, `pmb json`, `pmb build`, `pmb run` and `pmb profile`, each with
@@ -30,10 +30,10 @@ pub fn words_ask()
 /// from 0 to 12 and HH an address. With any other N or HH that does not begin with `-`, and with
 /// `--fixed-vout-mode` alone, it asks for nothing.
 pub fn json_words_ask()
-    ensures late { (name : Text) → AskFor (name ∷ codes "json" ∷ codes "--late" ∷ []) (UnderProfile Front (Json (record at_first { known = Neither }))) }
-    ensures late_fixed { (name : Text) → AskFor (name ∷ codes "json" ∷ codes "--late" ∷ codes "--fixed-vout-mode" ∷ []) (UnderProfile Front (Json (record at_first { known = VoutMode }))) }
-    ensures keep_going { (name : Text) → AskFor (name ∷ codes "json" ∷ codes "--keep-going" ∷ []) (UnderProfile Front (Json (record at_first { after_bad_word = GoOn }))) }
-    ensures two { (name : Text) → AskFor (name ∷ codes "json" ∷ codes "--keep-going" ∷ codes "--sample" ∷ []) (UnderProfile Sample (Json (record at_first { after_bad_word = GoOn }))) }
+    ensures late { (name : Text) → AskFor (name ∷ codes "json" ∷ codes "--late" ∷ []) (UnderProfile Front (Json (record at_first { start = Late }))) }
+    ensures late_fixed { (name : Text) → AskFor (name ∷ codes "json" ∷ codes "--late" ∷ codes "--fixed-vout-mode" ∷ []) (UnderProfile Front (Json (record at_first { start = LateFixedMode }))) }
+    ensures keep_going { (name : Text) → AskFor (name ∷ codes "json" ∷ codes "--keep-going" ∷ []) (UnderProfile Front (Json (record at_first { after_bad_token = Continue }))) }
+    ensures two { (name : Text) → AskFor (name ∷ codes "json" ∷ codes "--keep-going" ∷ codes "--sample" ∷ []) (UnderProfile Sample (Json (record at_first { after_bad_token = Continue }))) }
     ensures digits { (name N : Text) (n : ℕ) → SpellsDigits N n → AskFor (name ∷ codes "json" ∷ codes "--digits" ∷ N ∷ []) (UnderProfile Front (Json (record at_first { digits = n }))) }
     ensures device { (name HH : Text) (address : ℕ) → SpellsAddress HH address → AskFor (name ∷ codes "json" ∷ codes "--device" ∷ HH ∷ []) (UnderProfile Front (Json (record at_first { devices = address ∷ [] }))) }
     ensures fixed_alone { (name : Text) → AskForNothing (name ∷ codes "json" ∷ codes "--fixed-vout-mode" ∷ []) }

@@ -14,7 +14,7 @@
 mod direction;
 mod exit_status;
 mod flags;
-mod json_choice;
+mod json_arguments;
 mod json_fault;
 mod json_words;
 pub mod laws;
@@ -26,7 +26,7 @@ mod words;
 
 pub use direction::Direction;
 pub use exit_status::{ExitStatus, ended, report, report_format, report_nothing, report_text};
-pub use json_choice::{AfterBadWord, JsonChoice, KnownAtFirst};
+pub use json_arguments::JsonArguments;
 pub use profile_place::ProfilePlace;
 pub use subcommand::Subcommand;
 pub use tasks::{Task, parse_command};

@@ -3,8 +3,8 @@ use Rattle.std.specs.List.{list_all}
 use Rattle.std.specs.Prelude.{ℕ, Bool, ◌==◌, nat_le, nat_lt, if◌then◌else◌, List, Option, Some, None}
 use Rattle.pmb_c.specs.declared.choice.Chosen.{Chosen}
 use Rattle.pmb_c.specs.declared.choice.PmbChoice.{PmbChoice}
-use Rattle.pmb_json.specs.declared.after_bad_token.AfterBadToken.{AfterBadToken}
-use Rattle.pmb_json.specs.declared.after_bad_token.AfterBadToken.TheVariants.{End, GoOn}
+use Rattle.pmb_scan.specs.declared.after_bad_token.AfterBadToken.{AfterBadToken}
+use Rattle.pmb_scan.specs.declared.after_bad_token.AfterBadToken.TheVariants.{End, Continue}
 use Rattle.pmb_unknown_start.specs.declared.start.Start.{Start}
 use Rattle.pmb_unknown_start.specs.declared.start.Start.TheVariants.{AllKnown, Late, LateFixedMode}
 
@@ -19,7 +19,7 @@ start_of number =
 abbrev pub bad_words_of : ℕ → Option AfterBadToken
 bad_words_of number =
     if number == 0 then Some End else (
-    if number == 1 then Some GoOn else None)
+    if number == 1 then Some Continue else None)
 
 abbrev pub chosen_by : ℕ → Option Start → Option AfterBadToken → Option Chosen
 chosen_by digits (Some start) (Some bad_words) = Some (record { digits = digits; start = start; bad_words = bad_words })

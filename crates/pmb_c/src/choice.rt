@@ -80,7 +80,7 @@ fn bad_words(number: u8) -> Option<AfterBadToken>
 {
     match number {
         0 => Some(AfterBadToken::End),
-        1 => Some(AfterBadToken::GoOn),
+        1 => Some(AfterBadToken::Continue),
         _ => None,
     }
 }

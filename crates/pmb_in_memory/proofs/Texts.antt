@@ -7,7 +7,7 @@ use Rattle.pmb_command.specs.Parts.{DeviceParts}
 use Rattle.pmb_io.specs.declared.tally.Tally.{Tally}
 use Rattle.pmb_json.specs.Json.{json_job}
 use Rattle.pmb_json.specs.Text.{WritesJson}
-use Rattle.pmb_json.specs.declared.after_bad_token.AfterBadToken.{AfterBadToken}
+use Rattle.pmb_scan.specs.declared.after_bad_token.AfterBadToken.{AfterBadToken}
 use Rattle.pmb_run.specs.Lines.{RunsInput, running}
 use Rattle.pmb_json_stream.specs.Choice.{ChoiceData}
 use Rattle.pmb_in_memory.specs.Whole.{IsText}

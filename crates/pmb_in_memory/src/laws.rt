@@ -5,7 +5,7 @@ ghost use Rattle.pmb_command.specs.Bus.{IsBus};
 ghost use Rattle.pmb_command.specs.Parts.{DeviceParts};
 ghost use Rattle.pmb_io.specs.declared.tally.Tally.{Tally};
 ghost use Rattle.pmb_json.specs.Json.{json_job};
-ghost use Rattle.pmb_json.specs.declared.after_bad_token.AfterBadToken.{AfterBadToken};
+ghost use Rattle.pmb_scan.specs.declared.after_bad_token.AfterBadToken.{AfterBadToken};
 ghost use Rattle.pmb_json_stream.specs.Choice.{ChoiceData};
 ghost use Rattle.pmb_in_memory.specs.Whole.{IsText};
 ghost use Rattle.pmb_in_memory.specs.MemoryTask.{working};

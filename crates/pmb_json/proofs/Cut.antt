@@ -14,8 +14,8 @@ use Rattle.pmb_places.specs.declared.places.Place.{Place}
 use Rattle.pmb_spans.specs.Spans.{Span, Spans, SpansFrom, ReadSpan, RefusedSpan, TruncatedSpan, is_whole, moved_spans}
 use Rattle.pmb_transaction.specs.Cut.{EndsWithStop}
 use Rattle.pmb_transaction.specs.Transaction.{TransactionData}
-use Rattle.pmb_json.specs.declared.after_bad_token.AfterBadToken.{AfterBadToken}
-use Rattle.pmb_json.specs.declared.after_bad_token.AfterBadToken.TheVariants.{End, GoOn}
+use Rattle.pmb_scan.specs.declared.after_bad_token.AfterBadToken.{AfterBadToken}
+use Rattle.pmb_scan.specs.declared.after_bad_token.AfterBadToken.TheVariants.{End, Continue}
 use Rattle.pmb_json_objects.specs.BadToken.{bad_token_object}
 use Rattle.pmb_json_stream.specs.Before.{Before, at_first}
 use Rattle.pmb_json_stream.specs.Choice.{ChoiceData}
@@ -114,8 +114,8 @@ module _ (places : ℕ) (profile : List DeviceParts) (devices : List ℕ) (late 
 
   others_behind : (after : AfterBadToken) (b w : Before) (x y : BadLine) (rest : List ℕ) (more : List BadLine)
       (objects : List Object) (c : CountsData)
-      → ((bytes : List ℕ) → ObjectsFrom piece profile GoOn (behind_line b x) bytes more objects c
-      → Others GoOn (behind_line w y) bytes objects)
+      → ((bytes : List ℕ) → ObjectsFrom piece profile Continue (behind_line b x) bytes more objects c
+      → Others Continue (behind_line w y) bytes objects)
       → GoesOn after rest (λ bytes. ObjectsFrom piece profile after (behind_line b x) bytes more objects c)
       ((more ≡ []) × (objects ≡ []) × (c ≡ (behind_line b x).counts))
       → OthersBehind after w y rest objects
@@ -126,14 +126,14 @@ module _ (places : ℕ) (profile : List DeviceParts) (devices : List ℕ) (late 
     behind = (refl, refl, refl);
     no_more = subst (λ (os : List Object). EachSaysNoMore os []) (sym goes.1) tt;
   }
-  others_behind GoOn b w x y [] more objects c later goes = record {
+  others_behind Continue b w x y [] more objects c later goes = record {
     more = [];
     others = [];
     counts = (behind_line w y).counts;
     behind = (refl, refl, refl);
     no_more = subst (λ (os : List Object). EachSaysNoMore os []) (sym goes.1) tt;
   }
-  others_behind GoOn b w x y (lf ∷ bytes) more objects c later goes =
+  others_behind Continue b w x y (lf ∷ bytes) more objects c later goes =
       let there = later bytes goes in
       record {
         more = there.bad;
@@ -183,7 +183,7 @@ module _ (places : ℕ) (profile : List DeviceParts) (devices : List ℕ) (late 
       } in
       let line = x.4 in
       let there = others_behind after b w bad moved x.0 more x.1 c
-      (λ next y. onwards GoOn more (behind_line b bad) (behind_line w moved) (line_beside b w beside bad) next x.1 c y)
+      (λ next y. onwards Continue more (behind_line b bad) (behind_line w moved) (line_beside b w beside bad) next x.1 c y)
       x.6 in record {
         bad = moved ∷ there.more;
         others = bad_line_objects whole profile w moved ++ there.others;
@@ -321,7 +321,7 @@ module _ (places : ℕ) (profile : List DeviceParts) (devices : List ℕ) (late 
       let line = x.4 in
       let there = others_behind places profile devices late m before agree spans_move after at_first at_first bad
       (in_whole bad) x.0 more x.1 c
-      (λ next y. onwards places profile devices late m before agree spans_move GoOn more (behind_line at_first bad)
+      (λ next y. onwards places profile devices late m before agree spans_move Continue more (behind_line at_first bad)
       (behind_line at_first (in_whole bad)) (line_beside_there bad) next x.1 c y) x.6 in
       let near = event_place [] 0 (bad.front ++ bad.line) in
       let place = event_place [] 0 (front ++ bad.front ++ bad.line) in

@@ -9,7 +9,7 @@ use Rattle.pmb_io.specs.Count.{capped}
 use Rattle.pmb_io.specs.Lines.{HasNoLf}
 use Rattle.pmb_io.specs.Tally.{IsTallyOf}
 use Rattle.pmb_io.specs.declared.tally.Tally.{Tally}
-use Rattle.pmb_json.specs.declared.after_bad_token.AfterBadToken.{AfterBadToken}
+use Rattle.pmb_scan.specs.declared.after_bad_token.AfterBadToken.{AfterBadToken}
 use Rattle.pmb_json.specs.declared.engine.EngineState.{EngineState}
 use Rattle.pmb_json.specs.declared.engine.EngineState.TheVariants.{Words, BadWord, BadLine as InLine}
 use Rattle.pmb_json.specs.declared.engine.Json.{Json}

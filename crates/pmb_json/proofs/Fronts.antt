@@ -2,8 +2,8 @@
 use Rattle.std.proofs.Common.{◌≡◌, ◌⊎◌, ℕ, inl, inr, List, [], ◌++◌, length, refl, sym, ap, subst, ◌∙◌, append-nil}
 use Rattle.pmb_bus.specs.Text.{BeginsText, FirstBadWord}
 use Rattle.pmb_command.specs.Parts.{DeviceParts}
-use Rattle.pmb_json.specs.declared.after_bad_token.AfterBadToken.{AfterBadToken}
-use Rattle.pmb_json.specs.declared.after_bad_token.AfterBadToken.TheVariants.{End, GoOn}
+use Rattle.pmb_scan.specs.declared.after_bad_token.AfterBadToken.{AfterBadToken}
+use Rattle.pmb_scan.specs.declared.after_bad_token.AfterBadToken.TheVariants.{End, Continue}
 use Rattle.pmb_json.specs.declared.engine.EngineState.{EngineState}
 use Rattle.pmb_json.specs.declared.engine.EngineState.TheVariants.{Words, BadWord, BadLine as InLine}
 use Rattle.pmb_json.specs.declared.engine.Json.{Json}
@@ -77,13 +77,13 @@ so_far_in InLine start now bytes text move ends stands =
 is_open : (after : AfterBadToken) (bytes : List ℕ) → (after ≡ End → BeginsText bytes ⊎ EndsInShortBadWord bytes)
     → IsOpenJson after bytes
 is_open End bytes opens = opens refl
-is_open GoOn bytes opens = tt
+is_open Continue bytes opens = tt
 
 -- where reading ends at bad words all bytes stand after the first
-from_first : (after : AfterBadToken) (read used bytes : List ℕ) → after ≡ End → (read ≡ []) ⊎ (after ≡ GoOn)
+from_first : (after : AfterBadToken) (read used bytes : List ℕ) → after ≡ End → (read ≡ []) ⊎ (after ≡ Continue)
     → bytes ≡ read ++ used → bytes ≡ used
 from_first after read used bytes ends (inl none) is = is ∙ ap (λ (l : List ℕ). l ++ used) none
-from_first after read used bytes ends (inr goes) is = let differ : End ≡ GoOn = sym ends ∙ goes in absurd (cc differ)
+from_first after read used bytes ends (inr goes) is = let differ : End ≡ Continue = sym ends ∙ goes in absurd (cc differ)
 
 pub opens_in : (inside : EngineState) (start now : Json) (bytes text : List ℕ) → StandsIn inside start now bytes text
     → IsOpenJson (json_bad_words start) bytes
@@ -113,4 +113,4 @@ opens_in BadWord start now bytes text stands =
       short = behind.holds.short refl;
     }))
 opens_in InLine start now bytes text stands = is_open (json_bad_words start) bytes
-    (λ ends. let differ : End ≡ GoOn = sym ends ∙ stands.0 in absurd (cc differ))
+    (λ ends. let differ : End ≡ Continue = sym ends ∙ stands.0 in absurd (cc differ))

@@ -8,8 +8,8 @@ use Rattle.pmb_command.specs.Bus.{IsBus}
 use Rattle.pmb_command.specs.Parts.{DeviceParts}
 use Rattle.pmb_io.specs.Count.{capped}
 use Rattle.pmb_io.specs.declared.tally.Tally.{Tally}
-use Rattle.pmb_json.specs.declared.after_bad_token.AfterBadToken.{AfterBadToken}
-use Rattle.pmb_json.specs.declared.after_bad_token.AfterBadToken.TheVariants.{End, GoOn}
+use Rattle.pmb_scan.specs.declared.after_bad_token.AfterBadToken.{AfterBadToken}
+use Rattle.pmb_scan.specs.declared.after_bad_token.AfterBadToken.TheVariants.{End, Continue}
 use Rattle.pmb_json.specs.Lines.{AllMakeFormats, AreJsonLines, IsJsonLine}
 use Rattle.pmb_json.specs.machine.Ends.{ends_word}
 use Rattle.pmb_json.specs.SoFar.{HasWrittenJson, IsOutOf, SoFarFrom}
@@ -126,14 +126,14 @@ module _ (below : Below) (choice : ChoiceData) (profile : List DeviceParts) (bus
 
   rest_is_json : (after : AfterBadToken) (b : Before) (bad : BadLine) (more : List BadLine) (rest : List ℕ)
       (others : List Object) (counts : CountsData)
-      → ((behind : List ℕ) → AreBytes behind → ObjectsFrom choice profile GoOn (behind_line b bad) behind more others
+      → ((behind : List ℕ) → AreBytes behind → ObjectsFrom choice profile Continue (behind_line b bad) behind more others
       counts → AreJson others) → AreBytes rest
       → GoesOn after rest (λ behind. ObjectsFrom choice profile after (behind_line b bad) behind more others counts)
       ((more ≡ []) × (others ≡ []) × (counts ≡ (behind_line b bad).counts))
       → AreJson others
   rest_is_json End b bad more rest others counts later small is = subst AreJson (sym is.1) tt
-  rest_is_json GoOn b bad more [] others counts later small is = subst AreJson (sym is.1) tt
-  rest_is_json GoOn b bad more (lf ∷ bytes) others counts later small is = later bytes small.1 is
+  rest_is_json Continue b bad more [] others counts later small is = subst AreJson (sym is.1) tt
+  rest_is_json Continue b bad more (lf ∷ bytes) others counts later small is = later bytes small.1 is
 
   objects_are_json : (after : AfterBadToken) (b : Before) (bytes : List ℕ) (bad : List BadLine) (objects : List Object)
       (counts : CountsData) → AllTellBytes b.ts → AreBytes bytes
@@ -147,7 +147,7 @@ module _ (below : Below) (choice : ChoiceData) (profile : List DeviceParts) (bus
       (each_of_both IsJson (bad_line_objects choice profile b bad) reads.1
       (bad_line_is_json b bad tell reads.4 cut.in_line)
       (rest_is_json after b bad more reads.0 reads.1 counts
-      (λ behind behind_small is. objects_are_json GoOn (behind_line b bad) behind more reads.1 counts
+      (λ behind behind_small is. objects_are_json Continue (behind_line b bad) behind more reads.1 counts
       (behind_tells_bytes b bad tell reads.4) behind_small is) cut.behind reads.6))
 
   pub text_is_json : SpellsJson → (after : AfterBadToken) (bytes text : List ℕ) (tally : Tally) → AreBytes bytes
@@ -170,7 +170,7 @@ module _ (below : Below) (choice : ChoiceData) (profile : List DeviceParts) (bus
   rest_so_far_is_json : (after : AfterBadToken) (b : Before) (bad : BadLine) (more : List BadLine) (rest : List ℕ)
       (objects : List Object)
       → ((behind : List ℕ) (others : List Object) → AreBytes behind
-      → SoFarFrom choice profile GoOn (behind_line b bad) behind more others → AreJson others)
+      → SoFarFrom choice profile Continue (behind_line b bad) behind more others → AreJson others)
       → AllTellBytes b.ts → IsBadLine choice profile b bad → AreBytes bad.line → AreBytes rest
       → GoesOn after rest (λ behind. (others : List Object)
       × (objects ≡ bad_line_objects choice profile b bad ++ others)
@@ -179,9 +179,9 @@ module _ (below : Below) (choice : ChoiceData) (profile : List DeviceParts) (bus
       → AreJson objects
   rest_so_far_is_json End b bad more rest objects later tell is line small so_far =
       out_is_json b bad rest objects tell is line so_far.1
-  rest_so_far_is_json GoOn b bad more [] objects later tell is line small so_far =
+  rest_so_far_is_json Continue b bad more [] objects later tell is line small so_far =
       out_is_json b bad [] objects tell is line so_far.1
-  rest_so_far_is_json GoOn b bad more (lf ∷ bytes) objects later tell is line small so_far =
+  rest_so_far_is_json Continue b bad more (lf ∷ bytes) objects later tell is line small so_far =
       subst AreJson (sym so_far.1)
       (each_of_both IsJson (bad_line_objects choice profile b bad) so_far.0 (bad_line_is_json b bad tell is line)
       (later bytes so_far.0 small.1 so_far.2))
@@ -197,7 +197,7 @@ module _ (below : Below) (choice : ChoiceData) (profile : List DeviceParts) (bus
   so_far_is_json after b bytes (bad ∷ more) objects tell small reads =
       let cut = bytes_of bytes bad.front bad.line reads.0 reads.1 small in
       rest_so_far_is_json after b bad more reads.0 objects
-      (λ behind others behind_small is. so_far_is_json GoOn (behind_line b bad) behind more others
+      (λ behind others behind_small is. so_far_is_json Continue (behind_line b bad) behind more others
       (behind_tells_bytes b bad tell reads.3) behind_small is)
       tell reads.3 cut.in_line cut.behind reads.5
 

@@ -6,8 +6,8 @@ use Rattle.pmb_command.specs.Parts.{DeviceParts}
 use Rattle.pmb_io.specs.Lines.{HasNoLf}
 use Rattle.pmb_io.specs.Tally.{IsTallyOf}
 use Rattle.pmb_io.specs.declared.tally.Tally.{Tally}
-use Rattle.pmb_json.specs.declared.after_bad_token.AfterBadToken.{AfterBadToken}
-use Rattle.pmb_json.specs.declared.after_bad_token.AfterBadToken.TheVariants.{End, GoOn}
+use Rattle.pmb_scan.specs.declared.after_bad_token.AfterBadToken.{AfterBadToken}
+use Rattle.pmb_scan.specs.declared.after_bad_token.AfterBadToken.TheVariants.{End, Continue}
 use Rattle.pmb_json.specs.SoFar.{HasWrittenJson, IsOutOf, SoFarFrom, StaysBad}
 use Rattle.pmb_json.specs.Text.{BadLine, GoesOn, IsBadLine, IsBehindLine, ObjectsFrom, WritesJson, bad_line_objects}
 use Rattle.pmb_json.specs.Text.{behind_line}
@@ -24,9 +24,9 @@ use Rattle.pmb_json_stream.specs.Choice.{ChoiceData}
 pub goes_nowhere : (after : AfterBadToken) (rest : List ℕ) (Holds : List ℕ → Type 0) (Else : Type 0)
     → (after ≡ End) ⊎ (rest ≡ []) → Else → GoesOn after rest Holds Else
 goes_nowhere End rest Holds Else nowhere holds = holds
-goes_nowhere GoOn [] Holds Else nowhere holds = holds
-goes_nowhere GoOn (b ∷ rest) Holds Else (inl is) holds = absurd (cc is)
-goes_nowhere GoOn (b ∷ rest) Holds Else (inr is) holds = absurd (cc is)
+goes_nowhere Continue [] Holds Else nowhere holds = holds
+goes_nowhere Continue (b ∷ rest) Holds Else (inl is) holds = absurd (cc is)
+goes_nowhere Continue (b ∷ rest) Holds Else (inr is) holds = absurd (cc is)
 
 module _ (choice : ChoiceData) (profile : List DeviceParts) where
   -- a bad line so far is one where its line ends, or nothing follows
@@ -51,8 +51,8 @@ module _ (choice : ChoiceData) (profile : List DeviceParts) where
 
   -- a bad line more, and its LF
   leads_on : (b : Before) (bads : List BadLine) (objects : List Object) (bad : BadLine)
-      → LeadsTo choice profile GoOn b bads objects → IsBadLine choice profile b bad
-      → LeadsTo choice profile GoOn (behind_line b bad) (bads ++ bad ∷ [])
+      → LeadsTo choice profile Continue b bads objects → IsBadLine choice profile b bad
+      → LeadsTo choice profile Continue (behind_line b bad) (bads ++ bad ∷ [])
       (objects ++ bad_line_objects choice profile b bad)
   leads_on b bads objects bad leads is_bad =
       let own = bad_line_objects choice profile b bad in
@@ -62,23 +62,23 @@ module _ (choice : ChoiceData) (profile : List DeviceParts) where
       ∙ (ap (λ (l : List ℕ). l ++ (10 ∷ rest)) (sym (append_assoc b.read bad.front bad.line))
       ∙ sym (append_assoc ((b.read ++ bad.front) ++ bad.line) (10 ∷ []) rest)) in record {
         whole = λ rest more others counts from.
-            subst (λ (bytes : List ℕ). ObjectsFrom choice profile GoOn at_first bytes ((bads ++ bad ∷ []) ++ more)
+            subst (λ (bytes : List ℕ). ObjectsFrom choice profile Continue at_first bytes ((bads ++ bad ∷ []) ++ more)
             ((objects ++ own) ++ others) counts) (bytes_are rest)
-            (subst (λ (all : List BadLine). ObjectsFrom choice profile GoOn at_first
+            (subst (λ (all : List BadLine). ObjectsFrom choice profile Continue at_first
             (b.read ++ ((bad.front ++ bad.line) ++ (10 ∷ rest))) all ((objects ++ own) ++ others) counts)
             (sym (append_assoc bads (bad ∷ []) more))
-            (subst (λ (all : List Object). ObjectsFrom choice profile GoOn at_first
+            (subst (λ (all : List Object). ObjectsFrom choice profile Continue at_first
             (b.read ++ ((bad.front ++ bad.line) ++ (10 ∷ rest))) (bads ++ (bad ∷ more)) all counts)
             (sym (append_assoc objects own others))
             (leads.whole ((bad.front ++ bad.line) ++ (10 ∷ rest)) (bad ∷ more) (own ++ others) counts
             (10 ∷ rest, others, refl, refl, is_bad, refl, from))));
         so_far = λ rest more others from.
-            subst (λ (bytes : List ℕ). SoFarFrom choice profile GoOn at_first bytes ((bads ++ bad ∷ []) ++ more)
+            subst (λ (bytes : List ℕ). SoFarFrom choice profile Continue at_first bytes ((bads ++ bad ∷ []) ++ more)
             ((objects ++ own) ++ others)) (bytes_are rest)
-            (subst (λ (all : List BadLine). SoFarFrom choice profile GoOn at_first
+            (subst (λ (all : List BadLine). SoFarFrom choice profile Continue at_first
             (b.read ++ ((bad.front ++ bad.line) ++ (10 ∷ rest))) all ((objects ++ own) ++ others))
             (sym (append_assoc bads (bad ∷ []) more))
-            (subst (λ (all : List Object). SoFarFrom choice profile GoOn at_first
+            (subst (λ (all : List Object). SoFarFrom choice profile Continue at_first
             (b.read ++ ((bad.front ++ bad.line) ++ (10 ∷ rest))) (bads ++ (bad ∷ more)) all)
             (sym (append_assoc objects own others))
             (leads.so_far ((bad.front ++ bad.line) ++ (10 ∷ rest)) (bad ∷ more) (own ++ others)
@@ -86,7 +86,7 @@ module _ (choice : ChoiceData) (profile : List DeviceParts) where
       }
 
   pub leads_line : (after : AfterBadToken) (b : Before) (bads : List BadLine) (objects : List Object) (bad : BadLine)
-      → after ≡ GoOn → LeadsTo choice profile after b bads objects
+      → after ≡ Continue → LeadsTo choice profile after b bads objects
       → IsBadLine choice profile b bad → LeadsTo choice profile after (behind_line b bad) (bads ++ bad ∷ [])
       (objects ++ bad_line_objects choice profile b bad)
   leads_line after b bads objects bad goes leads is_bad =

@@ -5,8 +5,8 @@ use Rattle.pmb_bus.specs.declared.event.Event.{Event}
 use Rattle.pmb_bus.specs.Text.{BeginsText, EndedWordsSpell, FirstBadWord, Spells}
 use Rattle.pmb_command.specs.Parts.{DeviceParts}
 use Rattle.pmb_spans.specs.Spans.{Span, SpansFrom, is_whole}
-use Rattle.pmb_json.specs.declared.after_bad_token.AfterBadToken.{AfterBadToken}
-use Rattle.pmb_json.specs.declared.after_bad_token.AfterBadToken.TheVariants.{End, GoOn}
+use Rattle.pmb_scan.specs.declared.after_bad_token.AfterBadToken.{AfterBadToken}
+use Rattle.pmb_scan.specs.declared.after_bad_token.AfterBadToken.TheVariants.{End, Continue}
 use Rattle.pmb_json_stream.specs.Before.{Before, at_first}
 use Rattle.pmb_json_stream.specs.Choice.{ChoiceData}
 use Rattle.pmb_json_objects.specs.Object.{Object, object_lines}
@@ -86,12 +86,12 @@ module _ (choice : ChoiceData) (profile : List DeviceParts)
 
   one_behind : (after : AfterBadToken) (b : Before) (xs ys : List BadLine) (o p : List Object) (bad : BadLine)
       (rest : List ℕ)
-      → ((there : Before) (bytes : List ℕ) (q r : List Object) → SoFarFrom choice profile GoOn there bytes xs q
-      → SoFarFrom choice profile GoOn there bytes ys r → q ≡ r)
+      → ((there : Before) (bytes : List ℕ) (q r : List Object) → SoFarFrom choice profile Continue there bytes xs q
+      → SoFarFrom choice profile Continue there bytes ys r → q ≡ r)
       → Behind after b xs o bad rest → Behind after b ys p bad rest → o ≡ p
   one_behind End b xs ys o p bad rest later x y = one_out b bad rest o p x.1 y.1
-  one_behind GoOn b xs ys o p bad [] later x y = one_out b bad [] o p x.1 y.1
-  one_behind GoOn b xs ys o p bad (lf ∷ bytes) later x y =
+  one_behind Continue b xs ys o p bad [] later x y = one_out b bad [] o p x.1 y.1
+  one_behind Continue b xs ys o p bad (lf ∷ bytes) later x y =
       x.1 ∙ ap (λ (os : List Object). bad_line_objects choice profile b bad ++ os)
       (later (behind_line b bad) bytes x.0 y.0 x.2 y.2) ∙ sym y.1
 
@@ -108,7 +108,7 @@ module _ (choice : ChoiceData) (profile : List DeviceParts)
       y.0 x.1 y.1 x.2 y.2 x.3 y.3 in
       let there = subst (λ (rest : List ℕ). Behind after b ys others bad rest) (sym same.1)
       (subst (λ (line : BadLine). Behind after b ys others line y.0) (sym same.0) y.5) in
-      one_behind after b xs ys objects others bad x.0 (λ next behind q r u v. one_list GoOn next behind xs ys q r u v)
+      one_behind after b xs ys objects others bad x.0 (λ next behind q r u v. one_list Continue next behind xs ys q r u v)
       x.5 there
 
   pub one_front : (after : AfterBadToken) (bytes a b : List ℕ) → HasWrittenJson choice profile after bytes a

@@ -6,8 +6,8 @@ use Rattle.pmb_command.specs.Parts.{DeviceParts}
 use Rattle.pmb_io.specs.Tally.{IsTallyOf}
 use Rattle.pmb_io.specs.declared.tally.Tally.{Tally}
 use Rattle.pmb_spans.specs.Spans.{Span, SpansFrom, is_whole}
-use Rattle.pmb_json.specs.declared.after_bad_token.AfterBadToken.{AfterBadToken}
-use Rattle.pmb_json.specs.declared.after_bad_token.AfterBadToken.TheVariants.{End, GoOn}
+use Rattle.pmb_scan.specs.declared.after_bad_token.AfterBadToken.{AfterBadToken}
+use Rattle.pmb_scan.specs.declared.after_bad_token.AfterBadToken.TheVariants.{End, Continue}
 use Rattle.pmb_json_stream.specs.Before.{Before, at_first}
 use Rattle.pmb_json_stream.specs.Choice.{ChoiceData}
 use Rattle.pmb_json_objects.specs.Counts.{CountsData, end_objects}
@@ -85,12 +85,12 @@ module _ (choice : ChoiceData) (profile : List DeviceParts)
   -- the objects after the same bad line, if so after the next LF
   one_behind : (after : AfterBadToken) (b : Before) (xs ys : List BadLine) (o p : List Object) (c d : CountsData)
       (bad : BadLine) (rest : List ℕ)
-      → ((there : Before) (bytes : List ℕ) → ObjectsFrom choice profile GoOn there bytes xs o c
-      → ObjectsFrom choice profile GoOn there bytes ys p d → (o ≡ p) × (c ≡ d))
+      → ((there : Before) (bytes : List ℕ) → ObjectsFrom choice profile Continue there bytes xs o c
+      → ObjectsFrom choice profile Continue there bytes ys p d → (o ≡ p) × (c ≡ d))
       → Behind after b xs o c bad rest → Behind after b ys p d bad rest → (o ≡ p) × (c ≡ d)
   one_behind End b xs ys o p c d bad rest later x y = (x.1 ∙ sym y.1, x.2 ∙ sym y.2)
-  one_behind GoOn b xs ys o p c d bad [] later x y = (x.1 ∙ sym y.1, x.2 ∙ sym y.2)
-  one_behind GoOn b xs ys o p c d bad (lf ∷ bytes) later x y = later (behind_line b bad) bytes x y
+  one_behind Continue b xs ys o p c d bad [] later x y = (x.1 ∙ sym y.1, x.2 ∙ sym y.2)
+  one_behind Continue b xs ys o p c d bad (lf ∷ bytes) later x y = later (behind_line b bad) bytes x y
 
   -- bytes have the same objects and counts, whatever their bad lines are said to be
   pub one_list : (after : AfterBadToken) (b : Before) (bytes : List ℕ) (xs ys : List BadLine)
@@ -107,7 +107,7 @@ module _ (choice : ChoiceData) (profile : List DeviceParts)
       let there = subst (λ (rest : List ℕ). Behind after b ys y.1 d bad rest) (sym same.1)
       (subst (λ (line : BadLine). Behind after b ys y.1 d line y.0) (sym same.0) y.6) in
       let both = one_behind after b xs ys x.1 y.1 c d bad x.0
-      (λ next behind p q. one_list GoOn next behind xs ys x.1 y.1 c d p q) x.6 there in (
+      (λ next behind p q. one_list Continue next behind xs ys x.1 y.1 c d p q) x.6 there in (
         x.5 ∙ ap (λ (os : List Object). bad_line_objects choice profile b bad ++ os) both.0
             ∙ ap (λ (line : BadLine). bad_line_objects choice profile b line ++ y.1) same.0 ∙ sym y.5,
         both.1,

@@ -9,7 +9,7 @@ use Rattle.pmb_bus.specs.Text.{BeginsText, EndedWordsSpell, Spells, front_word, 
 use Rattle.pmb_command.specs.Parts.{DeviceParts}
 use Rattle.pmb_io.specs.Tally.{IsTallyOf}
 use Rattle.pmb_io.specs.declared.tally.Tally.{Tally}
-use Rattle.pmb_json.specs.declared.after_bad_token.AfterBadToken.{AfterBadToken}
+use Rattle.pmb_scan.specs.declared.after_bad_token.AfterBadToken.{AfterBadToken}
 use Rattle.pmb_json.specs.declared.engine.Json.{Json}
 use Rattle.pmb_json.specs.SoFar.{ReadsSoFar}
 use Rattle.pmb_json.specs.Text.{IsBadLine, ReadsToEnd, WritesJson, front_objects}

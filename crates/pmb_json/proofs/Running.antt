@@ -8,7 +8,7 @@ use Rattle.pmb_io.specs.declared.tally.Tally.{Tally}
 use Rattle.pmb_io.specs.Runs.{Job, Ran}
 use Rattle.pmb_io.specs.Told.{ReaderTold, WriterTold}
 use Rattle.pmb_io.proofs.RunLemmas.{failed_as, ran_as}
-use Rattle.pmb_json.specs.declared.after_bad_token.AfterBadToken.{AfterBadToken}
+use Rattle.pmb_scan.specs.declared.after_bad_token.AfterBadToken.{AfterBadToken}
 use Rattle.pmb_json.specs.declared.engine.Json.{Json}
 use Rattle.pmb_json.specs.Json.{WritesJsonFront, json_job}
 use Rattle.pmb_json.specs.machine.Standing.{HasEnded, HasPutOut, HasStopped, json_bad_words, json_choice, json_profile}

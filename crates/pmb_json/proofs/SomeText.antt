@@ -7,8 +7,8 @@ use Rattle.pmb_command.specs.Parts.{DeviceParts}
 use Rattle.pmb_io.specs.Count.{capped}
 use Rattle.pmb_io.specs.declared.tally.Tally.{Tally}
 use Rattle.pmb_spans.specs.Spans.{Span, SpansFrom, is_whole}
-use Rattle.pmb_json.specs.declared.after_bad_token.AfterBadToken.{AfterBadToken}
-use Rattle.pmb_json.specs.declared.after_bad_token.AfterBadToken.TheVariants.{End, GoOn}
+use Rattle.pmb_scan.specs.declared.after_bad_token.AfterBadToken.{AfterBadToken}
+use Rattle.pmb_scan.specs.declared.after_bad_token.AfterBadToken.TheVariants.{End, Continue}
 use Rattle.pmb_json_stream.specs.Before.{Before, at_first}
 use Rattle.pmb_json_stream.specs.Choice.{ChoiceData}
 use Rattle.pmb_json_objects.specs.Counts.{CountsData, end_objects}
@@ -39,11 +39,11 @@ module _ (choice : ChoiceData) (profile : List DeviceParts) (some_spans : (n : �
       ((more ≡ []) × (others ≡ []) × (counts ≡ (behind_line b bad).counts))
 
   objects_behind : (after : AfterBadToken) (b : Before) (bad : BadLine) (rest : List ℕ)
-      → ((bytes : List ℕ) → length bytes < length rest → HasObjects GoOn (behind_line b bad) bytes)
+      → ((bytes : List ℕ) → length bytes < length rest → HasObjects Continue (behind_line b bad) bytes)
       → HasObjectsBehind after b bad rest
   objects_behind End b bad rest later = ([], [], (behind_line b bad).counts, (refl, refl, refl))
-  objects_behind GoOn b bad [] later = ([], [], (behind_line b bad).counts, (refl, refl, refl))
-  objects_behind GoOn b bad (lf ∷ bytes) later = later bytes (omega arith)
+  objects_behind Continue b bad [] later = ([], [], (behind_line b bad).counts, (refl, refl, refl))
+  objects_behind Continue b bad (lf ∷ bytes) later = later bytes (omega arith)
 
   -- bytes that spell events
   all_read : (after : AfterBadToken) (b : Before) (bytes : List ℕ) (events : List Event) → Spells bytes events
@@ -59,7 +59,7 @@ module _ (choice : ChoiceData) (profile : List DeviceParts) (some_spans : (n : �
   -- bytes with a bad word
   up_to_bad_word : (after : AfterBadToken) (b : Before) (bytes : List ℕ) (events : List Event) (place : ℕ)
       → FirstBadWord bytes events place
-      → ((there : Before) (behind : List ℕ) → length behind < length bytes → HasObjects GoOn there behind)
+      → ((there : Before) (behind : List ℕ) → length behind < length bytes → HasObjects Continue there behind)
       → HasObjects after b bytes
   up_to_bad_word after b bytes events place word later =
       let here : SplitsLine word.rest = split_line word.rest in
@@ -105,7 +105,7 @@ module _ (choice : ChoiceData) (profile : List DeviceParts) (some_spans : (n : �
       elim (each_text_is_read bytes) [
         | inl all ↦ all_read after b bytes all.0 all.1
         | inr bad ↦ up_to_bad_word after b bytes bad.0 bad.1 bad.2
-            (λ there behind less. some_objects most GoOn there behind (omega (arith, less, short)))
+            (λ there behind less. some_objects most Continue there behind (omega (arith, less, short)))
       ]
 
   pub some_text : (after : AfterBadToken) (bytes : List ℕ) → (text : List ℕ) × (tally : Tally)

@@ -7,8 +7,8 @@ use Rattle.pmb_command.specs.Parts.{DeviceParts}
 use Rattle.pmb_io.specs.Count.{capped}
 use Rattle.pmb_io.specs.Tally.{IsTallyOf}
 use Rattle.pmb_io.specs.declared.tally.Tally.{Tally}
-use Rattle.pmb_json.specs.declared.after_bad_token.AfterBadToken.{AfterBadToken}
-use Rattle.pmb_json.specs.declared.after_bad_token.AfterBadToken.TheVariants.{End, GoOn}
+use Rattle.pmb_scan.specs.declared.after_bad_token.AfterBadToken.{AfterBadToken}
+use Rattle.pmb_scan.specs.declared.after_bad_token.AfterBadToken.TheVariants.{End, Continue}
 use Rattle.pmb_json.specs.declared.engine.Json.{Json}
 use Rattle.pmb_json.specs.Json.{StopsJson}
 use Rattle.pmb_json.specs.Text.{BadLine, IsBadLine, IsBehindLine, WritesJson, bad_line_objects, behind_line}
@@ -380,7 +380,7 @@ with_lf bytes count ends =
 
 -- reading begins anew after it
 pub begins_anew : (choice : ChoiceData) (profile : List DeviceParts) (after : AfterBadToken)
-    (given text at_hand : List ℕ) (count : ℕ) (old mid new : Stream) (scan : Scan) → after ≡ GoOn
+    (given text at_hand : List ℕ) (count : ℕ) (old mid new : Stream) (scan : Scan) → after ≡ Continue
     → EndsLine at_hand count
     → ((text : List ℕ) → EndsBetween (text ++ 10 ∷ [])) → stream_choice new ≡ choice → stream_profile new ≡ profile
     → ScanStandsAt scan (at_start profile)

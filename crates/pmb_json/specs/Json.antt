@@ -5,8 +5,8 @@ use Rattle.pmb_bus.specs.Text.{BeginsText, FirstBadWord, front_word}
 use Rattle.pmb_command.specs.Parts.{DeviceParts}
 use Rattle.pmb_io.specs.Runs.{Job}
 use Rattle.pmb_io.specs.declared.tally.Tally.{Tally}
-use Rattle.pmb_json.specs.declared.after_bad_token.AfterBadToken.{AfterBadToken}
-use Rattle.pmb_json.specs.declared.after_bad_token.AfterBadToken.TheVariants.{End, GoOn}
+use Rattle.pmb_scan.specs.declared.after_bad_token.AfterBadToken.{AfterBadToken}
+use Rattle.pmb_scan.specs.declared.after_bad_token.AfterBadToken.TheVariants.{End, Continue}
 use Rattle.pmb_json.specs.SoFar.{HasWrittenJson}
 use Rattle.pmb_json.specs.Text.{WritesJson}
 use Rattle.pmb_json_stream.specs.Choice.{ChoiceData}
@@ -26,7 +26,7 @@ pub record EndsInShortBadWord (bytes : List ℕ) : Type 0 where
 -- word; and always where reading goes on after bad words.
 abbrev pub IsOpenJson : AfterBadToken → List ℕ → Type 0
 IsOpenJson End bytes = BeginsText bytes ⊎ EndsInShortBadWord bytes
-IsOpenJson GoOn bytes = Unit {0}
+IsOpenJson Continue bytes = Unit {0}
 
 module _ (choice : ChoiceData) (profile : List DeviceParts) (after : AfterBadToken) where
   -- No more is wanted: this is all that is written, whatever follows.

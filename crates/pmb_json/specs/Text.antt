@@ -8,8 +8,8 @@ use Rattle.pmb_io.specs.Count.{capped}
 use Rattle.pmb_io.specs.Lines.{HasNoLf}
 use Rattle.pmb_io.specs.Tally.{IsTallyOf}
 use Rattle.pmb_io.specs.declared.tally.Tally.{Tally}
-use Rattle.pmb_json.specs.declared.after_bad_token.AfterBadToken.{AfterBadToken}
-use Rattle.pmb_json.specs.declared.after_bad_token.AfterBadToken.TheVariants.{End, GoOn}
+use Rattle.pmb_scan.specs.declared.after_bad_token.AfterBadToken.{AfterBadToken}
+use Rattle.pmb_scan.specs.declared.after_bad_token.AfterBadToken.TheVariants.{End, Continue}
 use Rattle.pmb_json_objects.specs.BadToken.{bad_token_object}
 use Rattle.pmb_json_objects.specs.Counts.{CountsData, after_bad_token, end_objects}
 use Rattle.pmb_json_objects.specs.Object.{Object, object_lines}
@@ -56,8 +56,8 @@ IsBehindLine (byte ∷ bytes) = byte ≡ character "\n"
 -- else.
 abbrev pub GoesOn : AfterBadToken → List ℕ → (List ℕ → Type 0) → Type 0 → Type 0
 GoesOn End rest Holds Else = Else
-GoesOn GoOn [] Holds Else = Else
-GoesOn GoOn (lf ∷ bytes) Holds Else = Holds bytes
+GoesOn Continue [] Holds Else = Else
+GoesOn Continue (lf ∷ bytes) Holds Else = Holds bytes
 
 -- ---- objects
 

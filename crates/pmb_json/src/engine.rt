@@ -19,14 +19,13 @@ ghost use Rattle.pmb_json_stream.specs.Before.{Before};
 ghost use Rattle.pmb_json_stream.specs.Choice.{choice_data};
 ghost use Rattle.pmb_json_stream.specs.Stream.{StreamKnows, stream_choice};
 
-use crate::after_bad_token::AfterBadToken;
 use crate::word_end::{behind, is_over, line_bytes, word_bytes};
 use crate::word_laws::bad_words_stand_there;
 use pmb_bus::laws::{ended_words_lead_on, spelled_has_no_bad_word, texts_may_be_cut_between_words};
 use pmb_io::{Engine, Flow, RunFault, Sink, Tally, Waiting};
 use pmb_json_stream::{Choice, Stream};
 use pmb_scan::laws::scans_lead_on;
-use pmb_scan::{PieceEnd, Scan};
+use pmb_scan::{AfterBadToken, PieceEnd, Scan};
 use pmb_spans::laws::spans_move;
 use pmb_table::Profile;
 
@@ -193,7 +192,7 @@ impl<'p> Json<'p> {
                 self.put_last_word(waiting, writer)?;
                 Ok(PieceRest::Stop)
             }
-            AfterBadToken::GoOn => {
+            AfterBadToken::Continue => {
                 self.stream.put_bad_word(waiting, writer)?;
                 self.inside = EngineState::BadLine;
                 Ok(self.drop_line(rest))

@@ -22,7 +22,7 @@ ghost use Rattle.pmb_json.specs.Pieces.{CanBeCutBehind, EachSaysNoMore, IsNumber
 ghost use Rattle.pmb_json.specs.SoFar.{HasWrittenJson};
 ghost use Rattle.pmb_json_stream.specs.Spans.{after_spans, span_objects, transactions_in};
 ghost use Rattle.pmb_json.specs.Text.{BadLine, ObjectsFrom, WritesJson};
-ghost use Rattle.pmb_json.specs.declared.after_bad_token.AfterBadToken.{AfterBadToken};
+ghost use Rattle.pmb_scan.specs.declared.after_bad_token.AfterBadToken.{AfterBadToken};
 
 use pmb_bus::laws::{
     each_text_is_read, one_bad_word, one_spelling, spelled_has_no_bad_word,

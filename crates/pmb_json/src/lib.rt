@@ -14,12 +14,11 @@
 //! ```
 #![tactic(auto)]
 
-mod after_bad_token;
 mod engine;
 pub mod laws;
 mod run;
 mod word_end;
 mod word_laws;
 
-pub use after_bad_token::AfterBadToken;
+pub use pmb_scan::AfterBadToken;
 pub use run::json;

@@ -4,10 +4,10 @@ ghost use Rattle.pmb_io.specs.Runs.{AsTool, Ran};
 ghost use Rattle.pmb_json_stream.specs.Choice.{choice_data};
 ghost use Rattle.pmb_json.specs.Json.{json_job};
 
-use crate::after_bad_token::AfterBadToken;
 use crate::engine::{Json, fronts_are_written};
 use pmb_io::{Sink, Source, Tally, ToolFault, each_piece};
 use pmb_json_stream::Choice;
+use pmb_scan::AfterBadToken;
 use pmb_table::Profile;
 use pmb_table::laws::accepted_bus;
 

@@ -18,11 +18,13 @@
 //! ```
 #![tactic(auto)]
 
+mod after_bad_token;
 mod blank;
 pub mod laws;
 mod reported;
 mod scan;
 mod visitor;
 
+pub use after_bad_token::AfterBadToken;
 pub use scan::{PieceEnd, Scan};
 pub use visitor::Visitor;

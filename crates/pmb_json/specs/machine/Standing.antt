@@ -5,8 +5,8 @@ use Rattle.pmb_bus.specs.Text.{EndsBetween, FirstBadWord, front_word, open_word}
 use Rattle.pmb_command.specs.Parts.{DeviceParts}
 use Rattle.pmb_io.specs.Lines.{HasNoLf}
 use Rattle.pmb_io.specs.declared.tally.Tally.{Tally}
-use Rattle.pmb_json.specs.declared.after_bad_token.AfterBadToken.{AfterBadToken}
-use Rattle.pmb_json.specs.declared.after_bad_token.AfterBadToken.TheVariants.{GoOn}
+use Rattle.pmb_scan.specs.declared.after_bad_token.AfterBadToken.{AfterBadToken}
+use Rattle.pmb_scan.specs.declared.after_bad_token.AfterBadToken.TheVariants.{Continue}
 use Rattle.pmb_json.specs.declared.engine.EngineState.{EngineState}
 use Rattle.pmb_json.specs.declared.engine.EngineState.TheVariants as inside
 use Rattle.pmb_json.specs.declared.engine.Json.{Json}
@@ -147,7 +147,7 @@ module _ (choice : ChoiceData) (profile : List DeviceParts) where
       pub leads : LeadsTo b bads objects
       pub between : EndsBetween b.read
       -- where reading ends at bad words it never began anew
-      pub first : (b.read ≡ []) ⊎ (after ≡ GoOn)
+      pub first : (b.read ≡ []) ⊎ (after ≡ Continue)
       pub used : List ℕ
       pub put : List ℕ
       pub bytes_are : bytes ≡ b.read ++ used
@@ -174,7 +174,7 @@ StandsBehindBadWord at_hand start now = Standing
 
 abbrev pub StandsInBadLine : List ℕ → Json → Json → List ℕ → List ℕ → Type 0
 StandsInBadLine at_hand start now bytes text =
-    (json_bad_words start ≡ GoOn) × Standing (InBadLine (json_choice start) (json_profile start) at_hand now.stream)
+    (json_bad_words start ≡ Continue) × Standing (InBadLine (json_choice start) (json_profile start) at_hand now.stream)
     start now bytes text
 
 abbrev pub StandsIn : EngineState → Json → Json → List ℕ → List ℕ → Type 0

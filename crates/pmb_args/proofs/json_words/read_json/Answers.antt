@@ -47,8 +47,8 @@ returns c =
     (c.get_strs.ensures ∙ raw_values-rows (found_of c.args.arguments.now) (codes "device")) c.unwrap_or-2.ensures
     refl in
     record {
-      known = sym c.known.ensures ∙ c.in-Some.is;
-      after_bad_word = c.after_bad_word.ensures;
+      start = sym c.start.ensures ∙ c.in-Some.is;
+      after_bad_token = c.after_bad_token.ensures;
       digits = subst (λ w. SpellsDigits w c.in-Some-read_digits.digits) word
           (at_some c.read_digits.result c.in-Some-read_digits.digits
           ((n : ℕ) → ¬ (SpellsDigits c.unwrap_or.result.now n)) (SpellsDigits c.unwrap_or.result.now)

@@ -34,15 +34,15 @@ returns-in_ok-put_last_word-in-End-clause-takes g c start given text stands =
     }
 
 -- or goes on after its line
-pub returns-in_ok-put_bad_word-in-GoOn-clause-takes : goal.returns-in_ok-put_bad_word-in-GoOn-clause-takes
-returns-in_ok-put_bad_word-in-GoOn-clause-takes g c start given text stands =
+pub returns-in_ok-put_bad_word-in-Continue-clause-takes : goal.returns-in_ok-put_bad_word-in-Continue-clause-takes
+returns-in_ok-put_bad_word-in-Continue-clause-takes g c start given text stands =
     let choice = json_choice start in
     let laws = c.bad_words_stand_there.ensures in
     let old = c.args.self.now in
     let behind = stands.behind in
     let b = behind_bytes behind.b behind.holds.word.bad in
     let knows = behind.holds.word.knows in
-    let put = c.in_ok-put_bad_word-in-GoOn.ensures in
+    let put = c.in_ok-put_bad_word-in-Continue.ensures in
     let word : List Object = bad_token_object (capped b.n) (place_of_last_word b.read) (open_word b.read) ∷ [] in
     let said = object_lines choice.devices word in
     let new : Json = record old { stream = c.put_bad_word.new.self; inside = inside.BadLine } in record {
@@ -51,7 +51,7 @@ returns-in_ok-put_bad_word-in-GoOn-clause-takes g c start given text stands =
           (g.W.Sink.told c.put_bad_word.new.writer).held c.put_bad_word.new.waiting.items (object_lines k.devices word))
           stands.made.choice (put.puts b knows);
       holds = c.drop_line.ensures.takes start given (text ++ said) refl (
-        sym stands.made.bad_words ∙ c.in-GoOn.is,
+        sym stands.made.bad_words ∙ c.in-Continue.is,
         record {
           made = made_on start old new stands.made refl refl put.same;
           behind = drops_line choice (json_profile start) (json_bad_words start) given text laws.opened laws.placed

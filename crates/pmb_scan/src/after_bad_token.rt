@@ -1,3 +1,5 @@
+//! What is done after a bad token.
+
 /// What is done after a word that is no token.
 #[derive(Clone, Copy, Debug, PartialEq, Eq)]
 pub enum AfterBadToken {
@@ -5,5 +7,5 @@ pub enum AfterBadToken {
     End,
     /// The rest of its line and the packet under way are dropped, and reading begins anew with the
     /// next line.
-    GoOn,
+    Continue,
 }
