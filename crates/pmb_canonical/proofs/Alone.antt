@@ -11,7 +11,7 @@ use Rattle.pmb_transaction.specs.Body.{checked}
 use Rattle.pmb_transaction.specs.Packet.{Packet}
 use Rattle.pmb_canonical.specs.Alerts.{SaysAlert, alert_bytes}
 use Rattle.pmb_canonical.specs.Codes.{code_behind}
-use Rattle.pmb_canonical.specs.Common.{IsCommon, TakesPacket, device_alerted, nacked_leg, none_alerted}
+use Rattle.pmb_canonical.specs.Canonical.{TakesPacket, nacked_leg}
 use Rattle.pmb_canonical.specs.Legs.{SaysAlone}
 use Rattle.pmb_canonical.specs.Nacked.{SaysNacked}
 use Rattle.pmb_canonical.proofs.Ends.{length-nacked_leg_text, second_leg}
@@ -76,11 +76,9 @@ refused_there profile bytes none (inr (t, says)) = absurd (none t says)
 -- ---- its packet
 
 takes_alone : (profile : List DeviceParts) (text rest : List ℕ) (t : TransactionData) (bytes : List ℕ) (used count : ℕ)
-    → IsCommon t
     → Packet profile t (nacked_leg bytes ++ Stop ∷ []) → text ≡ canonical_text (nacked_leg bytes ++ Stop ∷ []) ++ rest
     → used ≡ 4 + 5 * length bytes → count ≡ 2 + 2 * length bytes → TakesPacket profile text used count t
-takes_alone profile text rest t bytes used count common packet split used_bytes many = record {
-  common = common;
+takes_alone profile text rest t bytes used count packet split used_bytes many = record {
   events = nacked_leg bytes ++ Stop ∷ [];
   packet = packet;
   rest = rest;
@@ -102,11 +100,11 @@ takes_alert profile text rest t bytes used count (inl (answer, small, is, own)) 
           (second_leg to_alert reply (some_answer answer));
     } in
     subst (TakesPacket profile text used count) (sym is)
-    (takes_alone profile text rest (Alert answer) bytes used count (device_alerted answer)
+    (takes_alone profile text rest (Alert answer) bytes used count
     (subst (λ (l : List ℕ). Packet profile (Alert answer) (nacked_leg l ++ Stop ∷ [])) (sym own) packet) split
     used_bytes many)
 takes_alert profile text rest t bytes used count (inr (is, own)) split used_bytes many =
     let packet : Packet profile NoAlert (nacked_leg (to_alert ∷ []) ++ Stop ∷ []) = refl in
     subst (TakesPacket profile text used count) (sym is)
-    (takes_alone profile text rest NoAlert bytes used count none_alerted
+    (takes_alone profile text rest NoAlert bytes used count
     (subst (λ (l : List ℕ). Packet profile NoAlert (nacked_leg l ++ Stop ∷ [])) (sym own) packet) split used_bytes many)

@@ -9,7 +9,7 @@ use Rattle.pmb_command.specs.declared.form.Form.{Form}
 use Rattle.pmb_command.specs.Parts.{DeviceParts}
 use Rattle.pmb_command.specs.Wire.{wire}
 use Rattle.pmb_transaction.specs.Body.{checked}
-use Rattle.pmb_canonical.specs.Common.{OneCalled, OneRead, OneWritten}
+use Rattle.pmb_canonical.specs.Canonical.{OneCalled, OneRead, OneWritten}
 use Rattle.pmb_canonical.proofs.Found.{address_of_found}
 
 behind_two : (with_pec : Bool) (to_write code : ℕ) (data_wire bytes : List ℕ)

@@ -10,8 +10,8 @@ use Rattle.pmb_bus.specs.Text.{EndsBetween}
 use Rattle.pmb_command.specs.Parts.{DeviceParts}
 use Rattle.pmb_transaction.specs.Capture.{EndsAtFirstStop}
 use Rattle.pmb_transaction.specs.Transaction.{TransactionData}
-use Rattle.pmb_canonical.specs.declared.common.TakenPacket.{TakenPacket}
-use Rattle.pmb_canonical.specs.Common.{TakesPacket}
+use Rattle.pmb_canonical.specs.declared.canonical_reader.TakenPacket.{TakenPacket}
+use Rattle.pmb_canonical.specs.Canonical.{TakesPacket}
 use Rattle.pmb_canonical.proofs.Texts.{text-append}
 
 -- the bytes that are used are the text of the packet

@@ -7,7 +7,7 @@ use Rattle.pmb_bus.specs.declared.event.Event.{Event}
 use Rattle.pmb_bus.specs.declared.event.Event.TheVariants.{Start, Byte, Ack, Nack, Stop}
 use Rattle.pmb_bus.specs.Event.{canonical_text}
 use Rattle.pmb_transaction.specs.Packet.{acked, nacked, leg}
-use Rattle.pmb_canonical.specs.Common.{nacked_leg, read_events}
+use Rattle.pmb_canonical.specs.Canonical.{nacked_leg, read_events}
 use Rattle.pmb_canonical.specs.Front.{acked_text, end_text}
 use Rattle.pmb_canonical.proofs.Texts.{text-append, length-acked_text}
 

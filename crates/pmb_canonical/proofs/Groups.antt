@@ -15,7 +15,7 @@ use Rattle.pmb_command.specs.Parts.{DeviceParts, IsNew}
 use Rattle.pmb_command.specs.Wire.{AreByteValues}
 use Rattle.pmb_transaction.specs.Transaction.{PartData, Write}
 use Rattle.pmb_transaction.specs.Packet.{PartEvents, PartsEvents, acked, addresses, leg, nacked}
-use Rattle.pmb_canonical.specs.Common.{OneWritten, TakesPacket, parts_written}
+use Rattle.pmb_canonical.specs.Canonical.{OneWritten, TakesPacket}
 use Rattle.pmb_canonical.specs.Front.{NoneAcked, TakenFront, acked_text, end_text}
 use Rattle.pmb_canonical.specs.Groups.{AddsPart, EndsGroup, MoreParts, RefusedAfter, SayGroup, TakenParts}
 use Rattle.pmb_canonical.specs.Nacked.{SaysNacked}
@@ -158,7 +158,6 @@ takes_parts profile text parts rest behind used count taken some ends long =
     ∙ sym (append_assoc (canonical_text taken.legs) stop behind)
     ∙ ap (λ (l : List ℕ). l ++ behind) (sym (text-append taken.legs (Stop ∷ []))) in
     record {
-      common = parts_written parts;
       events = taken.legs ++ Stop ∷ [];
       packet = record {
         some = some;

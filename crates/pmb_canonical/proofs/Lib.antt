@@ -9,7 +9,7 @@ pub mod Ends
 pub mod LegBytes
 pub mod Wires
 pub mod Found
-pub mod CommonLegs
+pub mod PacketLegs
 pub mod Spelled
 pub mod Alone
 pub mod RefusedLegs

@@ -12,7 +12,7 @@ use Rattle.pmb_command.specs.Wire.{AreByteValues}
 use Rattle.pmb_transaction.specs.Transaction.{PartData, TransactionData, Refused}
 use Rattle.pmb_transaction.specs.Body.{IsInsideBody}
 use Rattle.pmb_transaction.specs.Packet.{RefusedLeg, addresses}
-use Rattle.pmb_canonical.specs.Common.{IsCommon, OneByteRefused, TakesPacket, address_refused, byte_refused, nacked_leg}
+use Rattle.pmb_canonical.specs.Canonical.{OneByteRefused, TakesPacket, nacked_leg}
 use Rattle.pmb_canonical.specs.Front.{acked_text, end_text}
 use Rattle.pmb_canonical.specs.Groups.{TakenParts}
 use Rattle.pmb_canonical.specs.Nacked.{IsOfNacked, IsRefused, SaysNacked}
@@ -140,11 +140,6 @@ refused_sent parts address sent at_read =
 
 -- ---- its packet
 
-common_refused : (parts : List PartData) (address : ℕ) (sent : List ℕ)
-    → IsCommon (Refused (record { parts = parts; addr = address; sent = sent; at_read = false }))
-common_refused parts address [] = address_refused parts address
-common_refused parts address (first ∷ more) = byte_refused parts address first more
-
 -- after the parts that were taken
 pub takes_refused : (profile : List DeviceParts) (text : List ℕ) (parts : List PartData) (before : ℕ)
     (behind bytes rest : List ℕ) (t : TransactionData) (used count : ℕ)
@@ -162,7 +157,6 @@ takes_refused profile text parts before behind bytes rest t used count taken of_
     ∙ ap (λ (l : List Event). canonical_text l ++ rest) (sym (append_assoc taken.legs last (Stop ∷ []))) in
     subst (TakesPacket profile text used count) (sym of_leg.is)
     (record {
-      common = common_refused parts of_leg.address of_leg.sent;
       events = events;
       packet = record {
         few = of_leg.few;

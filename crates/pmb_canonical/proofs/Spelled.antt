@@ -6,7 +6,7 @@ use Rattle.pmb_bus.specs.declared.event.Event.TheVariants.{Start, Stop}
 use Rattle.pmb_bus.specs.Event.{canonical_text}
 use Rattle.pmb_canonical.specs.declared.legs.PacketShape.{PacketShape}
 use Rattle.pmb_canonical.specs.declared.legs.PacketShape.TheVariants.{Written, Group, Nacked}
-use Rattle.pmb_canonical.specs.Common.{read_events}
+use Rattle.pmb_canonical.specs.Canonical.{read_events}
 use Rattle.pmb_canonical.specs.Front.{TakenFront, acked_text, end_text}
 use Rattle.pmb_canonical.specs.Legs.{BeginsWithLegs, TakenNacked, TakenSecond, least, leg_events}
 use Rattle.pmb_canonical.proofs.Ends.{nacked_text, read_text, written_text}

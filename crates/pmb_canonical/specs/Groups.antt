@@ -8,7 +8,7 @@ use Rattle.pmb_command.specs.Parts.{DeviceParts, IsNew}
 use Rattle.pmb_command.specs.Wire.{AreByteValues}
 use Rattle.pmb_transaction.specs.Transaction.{PartData}
 use Rattle.pmb_transaction.specs.Packet.{PartsEvents, addresses, leg}
-use Rattle.pmb_canonical.specs.Common.{OneWritten, nacked_leg}
+use Rattle.pmb_canonical.specs.Canonical.{OneWritten, nacked_leg}
 use Rattle.pmb_canonical.specs.Nacked.{SaysNacked}
 
 -- what a written leg with these bytes says

@@ -1,4 +1,4 @@
--- The legs of a common packet: their bytes, address bytes too, and their events.
+-- The legs of a canonical packet: their bytes, address bytes too, and their events.
 use Rattle.std.specs.Prelude.{◌≡◌, ◌≤◌, ◌<◌, ℕ, ◌+◌, ◌%◌, ◌⊎◌, ⊤, Bool, Option, Some, List, [], ◌∷◌, ◌++◌, drop, length}
 use Rattle.pmb_bus.specs.declared.event.Event.{Event}
 use Rattle.pmb_bus.specs.declared.event.Event.TheVariants.{Start, Byte, Stop}
@@ -10,7 +10,7 @@ use Rattle.pmb_transaction.specs.Packet.{leg}
 use Rattle.pmb_canonical.specs.declared.legs.PacketShape.{PacketShape}
 use Rattle.pmb_canonical.specs.declared.legs.PacketShape.TheVariants.{Written, Both, Group, Nacked}
 use Rattle.pmb_canonical.specs.Front.{acked_text, end_text}
-use Rattle.pmb_canonical.specs.Common.{OneCalled, OneRead, OneReadRefused, nacked_leg, read_events}
+use Rattle.pmb_canonical.specs.Canonical.{OneCalled, OneRead, OneReadRefused, nacked_leg, read_events}
 use Rattle.pmb_canonical.specs.Groups.{SayGroup, SaysPart}
 use Rattle.pmb_canonical.specs.Alerts.{SaysAlert}
 use Rattle.pmb_canonical.specs.Nacked.{SaysNacked}

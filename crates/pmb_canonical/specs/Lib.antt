@@ -1,6 +1,6 @@
 pub mod Alerts
 pub mod Codes
-pub mod Common
+pub mod Canonical
 pub mod Front
 pub mod Groups
 pub mod Inside

@@ -5,7 +5,7 @@ use Rattle.pmb_bus.specs.Address.{write_address}
 use Rattle.pmb_command.specs.Parts.{DeviceParts, IsNew}
 use Rattle.pmb_transaction.specs.Transaction.{PartData, TransactionData, Refused}
 use Rattle.pmb_transaction.specs.Packet.{RefusedLeg, addresses}
-use Rattle.pmb_canonical.specs.Common.{OneByteRefused, nacked_leg}
+use Rattle.pmb_canonical.specs.Canonical.{OneByteRefused, nacked_leg}
 
 -- What is refused in a leg with these bytes: its address, or the last one of the bytes sent.
 abbrev pub IsRefused : List DeviceParts → List PartData → ℕ → List ℕ → Type 0

@@ -8,12 +8,12 @@ ghost use Rattle.pmb_command.specs.Parts.{IsNew};
 ghost use Rattle.pmb_transaction.specs.Packet.{addresses};
 ghost use Rattle.pmb_transaction.specs.Transaction.{PartData};
 ghost use Rattle.pmb_canonical.specs.declared.legs.PacketShape.TheVariants.{Group};
-ghost use Rattle.pmb_canonical.specs.Common.{OneWritten, TakesPacket};
+ghost use Rattle.pmb_canonical.specs.Canonical.{OneWritten, TakesPacket};
 ghost use Rattle.pmb_canonical.specs.Groups.{AddsPart, SayGroup};
 ghost use Rattle.pmb_canonical.specs.Legs.{BeginsWithLegs};
 ghost use Rattle.pmb_canonical.specs.Nacked.{IsOfNacked, SaysNacked};
 
-use crate::common::TakenPacket;
+use crate::canonical_reader::TakenPacket;
 use crate::nacked::keep_refused;
 use crate::packet_bytes::PacketBytes;
 use crate::packets::written;

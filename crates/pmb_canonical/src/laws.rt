@@ -1,4 +1,4 @@
-//! The laws of common packets: each function is its contract, and does nothing.
+//! The laws of canonical packets: each function is its contract, and does nothing.
 
 ghost use Rattle.std.specs.Prelude.{◌≡◌, ◌∷◌, [], List, ℕ, take};
 ghost use Rattle.pmb_bus.specs.Event.{canonical_text};
@@ -9,14 +9,14 @@ ghost use Rattle.pmb_bus.specs.declared.event.Event.{Event};
 ghost use Rattle.pmb_transaction.specs.Packet.{Packet};
 ghost use Rattle.pmb_transaction.specs.Reading.{Accepted, Reading};
 ghost use Rattle.pmb_transaction.specs.Transaction.{TransactionData};
-ghost use Rattle.pmb_canonical.specs.Common.{IsCommon, TakesPacket};
+ghost use Rattle.pmb_canonical.specs.Canonical.{TakesPacket};
 
 use pmb_bus::laws::{canonical_text_spells, texts_may_be_cut_between_words};
 use pmb_transaction::laws::{captures_read_as_written, packet_ends_with_stop, packets_are_bytes};
 
-/// The text of a common packet spells its events, and ends between words; from between two packets
+/// The text of a canonical packet spells its events, and ends between words; from between two packets
 /// these read as its transaction, and as nothing else.
-pub fn common_packets_are_read()
+pub fn canonical_packets_are_read()
     ensures spells { (profile : List DeviceParts) (text : List ℕ) (used count : ℕ) (t : TransactionData) → IsBus profile
         → (taken : TakesPacket profile text used count t) → Spells (take used text) taken.events }
     ensures text { (profile : List DeviceParts) (text : List ℕ) (used count : ℕ) (t : TransactionData)
@@ -32,8 +32,3 @@ pub fn common_packets_are_read()
     packet_ends_with_stop();
     captures_read_as_written();
 }
-
-/// Each packet is a common one: it is taken at once where its canonical text lies whole in front.
-pub fn packets_are_common()
-    ensures { (profile : List DeviceParts) (t : TransactionData) (events : List Event) → Packet profile t events → IsCommon t }
-{}

@@ -20,7 +20,7 @@ pub(crate) enum PacketShape {
     Nacked,
 }
 
-/// The legs at the front of a text, up to STOP, where they are those of a common packet; of a group
+/// The legs at the front of a text, up to STOP, where they are those of a canonical packet; of a group
 /// only the first. Their bytes are put in place of others.
 #[inline]
 pub(crate) fn front_legs(text: &[u8], bytes: &mut PacketBytes) -> Option<PacketShape>

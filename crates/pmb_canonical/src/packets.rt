@@ -1,12 +1,12 @@
 //! The table of the packets that are taken at once: what the bytes of each say. Those in which
 //! something is refused are in `refused`, and alerts are in `alerts`.
 //!
-//! A packet that is to be taken so joins by a function here and its row in `IsCommon` of the specs.
+//! A new kind of packet needs a function here.
 
 ghost use Rattle.std.specs.Prelude.{◌≡◌, Bool, IfSome, IsSome, List, Some, ℕ, option_map};
 ghost use Rattle.pmb_bus.specs.Address.{write_address};
 ghost use Rattle.pmb_command.specs.Parts.{DeviceParts, device_with};
-ghost use Rattle.pmb_canonical.specs.Common.{OneWritten, OneRead, OneCalled};
+ghost use Rattle.pmb_canonical.specs.Canonical.{OneWritten, OneRead, OneCalled};
 
 use crate::checked::{Data, data_from, whole_data};
 use pmb_bus::read_address;

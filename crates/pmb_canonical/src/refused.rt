@@ -7,7 +7,7 @@ ghost use Rattle.std.specs.Prelude.{◌≡◌, ◌↔◌, ◌≤◌, ◌<◌, �
 ghost use Rattle.pmb_bus.specs.Address.{write_address};
 ghost use Rattle.pmb_transaction.specs.Transaction.{PartData};
 ghost use Rattle.pmb_transaction.specs.Body.{IsInsideBody, IsRequest, forms};
-ghost use Rattle.pmb_canonical.specs.Common.{OneByteRefused, OneReadRefused};
+ghost use Rattle.pmb_canonical.specs.Canonical.{OneByteRefused, OneReadRefused};
 ghost use Rattle.pmb_canonical.specs.Refused.{AreData, IsInsideData, is_read};
 
 use crate::packets::addressed;

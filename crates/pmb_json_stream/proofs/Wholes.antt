@@ -1,4 +1,4 @@
--- A whole common packet, told at once.
+-- A whole canonical packet, told at once.
 use Rattle.std.proofs.Common.{◌≡◌, ℕ, true, false, zero, suc, ◌+◌, ◌<◌, ◌≤◌, List, [], ◌∷◌, ◌++◌, codes, length}
 use Rattle.std.proofs.Common.{slice_index_or, append-nil, append_assoc, length-append, refl, sym, ap, ◌∙◌, subst, arith}
 use Rattle.std.specs.List.{Contains}
@@ -8,8 +8,6 @@ use Rattle.pmb_bus.specs.declared.event.Event.TheVariants.{Start, Byte, Ack, Nac
 use Rattle.pmb_bus.specs.Event.{AreBytes, canonical_text, character, text_of}
 use Rattle.pmb_bus.specs.Text.{EndsBetween}
 use Rattle.pmb_command.specs.Parts.{DeviceParts}
-use Rattle.pmb_canonical.specs.Common.{IsCommon, address_refused, byte_refused, device_alerted, device_called}
-use Rattle.pmb_canonical.specs.Common.{device_read, none_alerted, parts_written, read_refused}
 use Rattle.pmb_json_objects.specs.Counts.{after_packet}
 use Rattle.pmb_json_objects.specs.Object.{object_lines}
 use Rattle.pmb_json_objects.specs.Packets.{packet_objects}
@@ -64,7 +62,7 @@ bytes_before (Ack ∷ front) more small = bytes_before front more small
 bytes_before (Nack ∷ front) more small = bytes_before front more small
 bytes_before (Stop ∷ front) more small = bytes_before front more small
 
--- a common packet begins with START
+-- a canonical packet begins with START
 abbrev pub BeginsWithStart : List Event → Type 0
 BeginsWithStart events = (more : List Event) × (events ≡ Start ∷ more)
 
@@ -94,30 +92,31 @@ begins_refused profile t events packet (more, is) =
     (begins_behind profile t.parts packet.legs (packet.last ++ Stop ∷ []) packet.each
     (more ++ Stop ∷ [], ap (λ (l : List Event). l ++ Stop ∷ []) is))
 
-begins_unread : (profile : List DeviceParts) (addr : ℕ) (sent : List ℕ) (events : List Event)
-    → Packet profile (Refused (record { parts = []; addr = addr; sent = sent; at_read = true })) events
+begins_refusal : (profile : List DeviceParts) (parts : List PartData) (addr : ℕ) (sent : List ℕ) (at_read : Bool)
+    (events : List Event)
+    → Packet profile (Refused (record { parts = parts; addr = addr; sent = sent; at_read = at_read })) events
     → BeginsWithStart events
-begins_unread profile addr [] events packet =
-    begins_refused profile (record { parts = []; addr = addr; sent = []; at_read = true }) events packet
-    (_, packet.refused.spelled)
-begins_unread profile addr (first ∷ more) events packet =
-    begins_refused profile (record { parts = []; addr = addr; sent = first ∷ more; at_read = true }) events packet
-    (_, packet.refused.spelled)
-
-begins : (profile : List DeviceParts) (t : TransactionData) (events : List Event) → IsCommon t → Packet profile t events
-    → BeginsWithStart events
-begins profile t events (parts_written parts) packet = begins_write profile parts events packet
-begins profile t events (device_read read) packet = (_, packet.spelled)
-begins profile t events (device_called call) packet = (_, packet.spelled)
-begins profile t events (address_refused parts addr) packet =
+begins_refusal profile parts addr [] false events packet =
     begins_refused profile (record { parts = parts; addr = addr; sent = []; at_read = false }) events packet
     (_, packet.refused.spelled)
-begins profile t events (byte_refused parts addr first more) packet =
+begins_refusal profile parts addr (first ∷ more) false events packet =
     begins_refused profile (record { parts = parts; addr = addr; sent = first ∷ more; at_read = false }) events packet
     (_, packet.refused.spelled)
-begins profile t events (read_refused addr sent) packet = begins_unread profile addr sent events packet
-begins profile t events (device_alerted alert) packet = (_, packet.spelled)
-begins profile t events none_alerted packet = (_, packet)
+begins_refusal profile parts addr [] true events packet =
+    begins_refused profile (record { parts = parts; addr = addr; sent = []; at_read = true }) events packet
+    (_, packet.refused.spelled)
+begins_refusal profile parts addr (first ∷ more) true events packet =
+    begins_refused profile (record { parts = parts; addr = addr; sent = first ∷ more; at_read = true }) events packet
+    (_, packet.refused.spelled)
+
+begins : (profile : List DeviceParts) (t : TransactionData) (events : List Event) → Packet profile t events
+    → BeginsWithStart events
+begins profile (Write parts) events packet = begins_write profile parts events packet
+begins profile (Read read) events packet = (_, packet.spelled)
+begins profile (Call call) events packet = (_, packet.spelled)
+begins profile (Refused t) events packet = begins_refusal profile t.parts t.addr t.sent t.at_read events packet
+begins profile (Alert alert) events packet = (_, packet.spelled)
+begins profile NoAlert events packet = (_, packet)
 
 line_by : (front more : List Event) → HasNoStop front → AreBytes (front ++ Stop ∷ [])
     → front ++ Stop ∷ [] ≡ Start ∷ more → IsLine (front ++ Stop ∷ [])
@@ -131,10 +130,10 @@ line_by (e ∷ rest) more none small same =
           small);
     }
 
-pub is_line : (profile : List DeviceParts) (t : TransactionData) (events : List Event) → IsCommon t
-    → Packet profile t events → EndsAtFirstStop events → AreBytes events → IsLine events
-is_line profile t events common packet ends small =
-    let begun = begins profile t events common packet in
+pub is_line : (profile : List DeviceParts) (t : TransactionData) (events : List Event) → Packet profile t events
+    → EndsAtFirstStop events → AreBytes events → IsLine events
+is_line profile t events packet ends small =
+    let begun = begins profile t events packet in
     subst IsLine (sym ends.split) (line_by ends.front begun.0 ends.no_stop (subst AreBytes ends.split small)
     (sym ends.split ∙ begun.1))
 
@@ -149,27 +148,23 @@ write_objects_whole seen place n rest (part ∷ []) one = refl
 write_objects_whole seen place n rest (part ∷ next ∷ parts) one = absurd (omega (arith, one))
 
 refused_objects_whole : (seen : SeenData) (place : ℕ → Place) (n : ℕ) (rest : List Event) (parts : List PartData)
-    (addr : ℕ) (sent : List ℕ) → length parts ≡ 0
+    (addr : ℕ) (sent : List ℕ) (at_read : Bool) → length parts ≡ 0
     → kept_objects seen (begun_legs place n (Start ∷ []))
-    (Refused (record { parts = parts; addr = addr; sent = sent; at_read = false }))
+    (Refused (record { parts = parts; addr = addr; sent = sent; at_read = at_read }))
     ≡ packet_objects seen place n (Start ∷ rest)
-    (Refused (record { parts = parts; addr = addr; sent = sent; at_read = false }))
-refused_objects_whole seen place n rest [] addr sent none = refl
-refused_objects_whole seen place n rest (part ∷ parts) addr sent none = absurd (omega (arith, none))
+    (Refused (record { parts = parts; addr = addr; sent = sent; at_read = at_read }))
+refused_objects_whole seen place n rest [] addr sent at_read none = refl
+refused_objects_whole seen place n rest (part ∷ parts) addr sent at_read none = absurd (omega (arith, none))
 
-objects_whole : (seen : SeenData) (place : ℕ → Place) (n : ℕ) (rest : List Event) (t : TransactionData) → IsCommon t
-    → HasOneStart t
+objects_whole : (seen : SeenData) (place : ℕ → Place) (n : ℕ) (rest : List Event) (t : TransactionData) → HasOneStart t
     → kept_objects seen (begun_legs place n (Start ∷ [])) t ≡ packet_objects seen place n (Start ∷ rest) t
-objects_whole seen place n rest t (parts_written parts) one = write_objects_whole seen place n rest parts one
-objects_whole seen place n rest t (device_read read) one = refl
-objects_whole seen place n rest t (device_called call) one = refl
-objects_whole seen place n rest t (address_refused parts addr) one =
-    refused_objects_whole seen place n rest parts addr [] one
-objects_whole seen place n rest t (byte_refused parts addr first more) one =
-    refused_objects_whole seen place n rest parts addr (first ∷ more) one
-objects_whole seen place n rest t (read_refused addr sent) one = refl
-objects_whole seen place n rest t (device_alerted alert) one = refl
-objects_whole seen place n rest t none_alerted one = refl
+objects_whole seen place n rest (Write parts) one = write_objects_whole seen place n rest parts one
+objects_whole seen place n rest (Read read) one = refl
+objects_whole seen place n rest (Call call) one = refl
+objects_whole seen place n rest (Refused t) one =
+    refused_objects_whole seen place n rest t.parts t.addr t.sent t.at_read one
+objects_whole seen place n rest (Alert alert) one = refl
+objects_whole seen place n rest NoAlert one = refl
 
 -- ---- its text
 
@@ -213,13 +208,13 @@ bytes_in_line events bytes is text =
 
 -- its lines, by what was kept of its START
 whole_adds : (choice : ChoiceData) (profile : List DeviceParts) (b : Before) (reached : Reached) (begun : List Begun)
-    (n : ℕ) (rest : List Event) (t : TransactionData) → IsCommon t → HasOneStart t
+    (n : ℕ) (rest : List Event) (t : TransactionData) → HasOneStart t
     → ((more : List ℕ) → begun ≡ begun_legs (event_place b.read b.n ((reached.text ++ codes "S ") ++ more)) (b.n + n)
     (Start ∷ []))
     → AddsLines choice profile b (reached.text ++ canonical_text (line rest)) reached.spans (ReadSpan n (line rest) t)
     (object_lines choice.devices (kept_objects (seen_behind choice profile (b.ts ++ transactions_in reached.spans))
     begun t))
-whole_adds choice profile b reached begun n rest t common one kept more =
+whole_adds choice profile b reached begun n rest t one kept more =
     let seen = seen_behind choice profile (b.ts ++ transactions_in reached.spans) in
     let place = event_place b.read b.n ((reached.text ++ canonical_text (line rest)) ++ more) in
     let all : (reached.text ++ codes "S ") ++ (rest_text rest ++ more) ≡ (reached.text ++ canonical_text (line rest))
@@ -230,7 +225,7 @@ whole_adds choice profile b reached begun n rest t common one kept more =
     (ap (λ (l : List Begun). kept_objects seen l t)
     (kept (rest_text rest ++ more) ∙ ap (λ (text : List ℕ). begun_legs (event_place b.read b.n text) (b.n + n)
     (Start ∷ [])) all)
-    ∙ objects_whole seen place (b.n + n) (rest ++ Stop ∷ []) t common one
+    ∙ objects_whole seen place (b.n + n) (rest ++ Stop ∷ []) t one
     ∙ sym (append-nil (packet_objects seen place (b.n + n) (line rest) t)))
 
 -- ---- the visit
@@ -241,7 +236,7 @@ begun_whole reached = behind_event (behind_bytes reached (codes "S ")) Start
 
 module _ (b : Before) (start mid new : Stream) (reached : Reached) (text : List ℕ) (n : ℕ) (rest : List Event)
     (t : TransactionData) where
-  pub told_whole : HasToldOf b start mid (begun_whole reached) text → reached.standing ≡ Open n [] → IsCommon t
+  pub told_whole : HasToldOf b start mid (begun_whole reached) text → reached.standing ≡ Open n []
       → HasOneStart t → IsSame mid new → new.passing ≡ mid.passing → IsCleared new
       → StreamKnows (record {
         read = (b.read ++ (reached.text ++ codes "S ")) ++ rest_text rest;
@@ -252,7 +247,7 @@ module _ (b : Before) (start mid new : Stream) (reached : Reached) (text : List 
       → (added : List ℕ) → added ≡ object_lines (stream_choice mid).devices
       (kept_objects (stream_seen mid (with_reached b (begun_whole reached))) mid.begun.items t)
       → HasToldOf b start new (behind_whole reached n (canonical_text (line rest)) (line rest) t) (text ++ added)
-  told_whole told standing common one same passing cleared knows added added_is =
+  told_whole told standing one same passing cleared knows added added_is =
       let there = behind_whole reached n (canonical_text (line rest)) (line rest) t in
       let bytes = reached.text ++ canonical_text (line rest) in
       let span = ReadSpan n (line rest) t in
@@ -298,6 +293,6 @@ module _ (b : Before) (start mid new : Stream) (reached : Reached) (text : List 
             (object_lines (stream_choice start).devices
             (kept_objects (seen_behind (stream_choice start) p (b.ts ++ transactions_in reached.spans))
             mid.begun.items t))) (sym told.same.profile)
-            (whole_adds (stream_choice start) (stream_profile start) b reached mid.begun.items n rest t common one
+            (whole_adds (stream_choice start) (stream_profile start) b reached mid.begun.items n rest t one
             kept.begun))));
       }

@@ -4,7 +4,7 @@ use Rattle.std.proofs.Common.{refl, sym, ap, ap₂, ◌∙◌, append_assoc, app
 use Rattle.json.specs.Token.{Token, bad}
 use Rattle.json.specs.Token as tokens
 use Rattle.json.specs.Word.{ends_word, word}
-use Rattle.json.specs.Lex.{Lexeme, ItemOrder as TokenPlace, token, comma, colon, lex, between, fresh, after_value}
+use Rattle.json.specs.Lex.{Lexeme, Place as TokenPlace, token, comma, colon, lex, between, fresh, after_value}
 use Rattle.json.specs.Lex.{after_comma, begins_colon, place_token, punctuate}
 use Rattle.json.specs.Json.{value, if_last, max_depth, document}
 use Rattle.json.specs.Tree.{json_tokens, items_tokens, members_tokens, depth}

@@ -1,8 +1,8 @@
--- A whole common packet that is taken at once.
+-- A whole canonical packet that is taken at once.
 use Rattle.std.proofs.Common.{◌≡◌, ℕ, Option, Some, None, IsSome, IfSome, List, subst}
 use Rattle.pmb_command.specs.Parts.{DeviceParts}
-use Rattle.pmb_canonical.specs.declared.common.TakenPacket.{TakenPacket}
-use Rattle.pmb_canonical.specs.Common.{BeginsCommon, TakesPacket}
+use Rattle.pmb_canonical.specs.declared.canonical_reader.TakenPacket.{TakenPacket}
+use Rattle.pmb_canonical.specs.Canonical.{BeginsWithPacket, TakesPacket}
 use Rattle.pmb_transaction.specs.Transaction.{TransactionData}
 
 -- it is one of the profile
@@ -16,6 +16,6 @@ takes_of_profile given profile text t result same takes =
 -- where one is taken, one lies there
 pub takes_begin : (profile : List DeviceParts) (text : List ℕ) (t : TransactionData) (result : Option TakenPacket)
     → IfSome result (λ taken. TakesPacket profile text taken.used taken.events t) → IsSome result
-    → BeginsCommon profile text
+    → BeginsWithPacket profile text
 takes_begin profile text t None takes some = absurd (cc some)
 takes_begin profile text t (Some taken) takes some = (taken.used, taken.events, t, takes)

@@ -8,13 +8,13 @@
 ghost use Rattle.std.specs.Prelude.{◌≡◌, ◌≢◌, ◌<◌, ◌≤◌, ◌↔◌, IfSome, IsSome, true, List, [], length};
 ghost use Rattle.pmb_bus.specs.declared.event.Event.{Event as BusEvent};
 ghost use Rattle.pmb_command.specs.Parts.{DeviceParts};
-ghost use Rattle.pmb_canonical.specs.Common.{BeginsCommon, TakesPacket};
+ghost use Rattle.pmb_canonical.specs.Canonical.{BeginsWithPacket, TakesPacket};
 ghost use Rattle.pmb_transaction.specs.Transaction.{transaction_data};
 ghost use Rattle.pmb_packet_state.specs.PacketState.{Moves, StandsIn, packet_of};
 ghost use Rattle.pmb_packet_state.specs.machine.PacketState.{Steps};
 
 use pmb_bus::Event;
-use pmb_canonical::{Common, TakenPacket};
+use pmb_canonical::{CanonicalReader, TakenPacket};
 use pmb_leg::{Answer, WrittenLeg};
 use pmb_table::Profile;
 use pmb_table::laws::accepted_bus;
@@ -139,26 +139,30 @@ impl<'p> PacketState<'p> {
         self.kept.take_last()
     }
 
-    /// Takes the common packet at the front of a text whole, between packets. It returns `None`
+    /// Takes the canonical packet at the front of a text whole, between packets. It returns `None`
     /// where none lies there, and inside a packet, which stays as it is.
     #[inline(always)]
-    pub fn take_common(&mut self, common: &mut Common, text: &[u8]) -> Option<TakenPacket>
+    pub fn take_canonical(
+        &mut self,
+        canonical: &mut CanonicalReader,
+        text: &[u8],
+    ) -> Option<TakenPacket>
         ensures takes { (profile : List DeviceParts) → StandsIn profile self.old []
             → IfSome result (λ taken. TakesPacket profile text.now taken.used taken.events (packet_of self.new)) }
         ensures some { IfSome result (λ taken. 0 < taken.used) }
         ensures within { IfSome result (λ taken. taken.used ≤ length text.now) }
         ensures stands { (profile : List DeviceParts) → StandsIn profile self.old [] → StandsIn profile self.new [] }
 
-        // Between packets a common packet that lies whole in front is taken.
+        // Between packets a canonical packet that lies whole in front is taken.
         ensures answers { (profile : List DeviceParts) (events : List BusEvent) → StandsIn profile self.old events
-            → (IsSome result ↔ ((events ≡ []) × BeginsCommon profile text.now)) }
+            → (IsSome result ↔ ((events ≡ []) × BeginsWithPacket profile text.now)) }
         ensures inside { (profile : List DeviceParts) (events : List BusEvent) → StandsIn profile self.old events
             → events ≢ [] → self.new ≡ self.old }
     {
         let PacketPlace::Between = self.place else {
             return None;
         };
-        common.take(&mut self.kept, self.profile, text)
+        canonical.take(&mut self.kept, self.profile, text)
     }
 
     /// Takes an event.

@@ -8,7 +8,7 @@ ghost use Rattle.std.specs.Prelude.{◌≡◌, ◌<◌, ◌≤◌, ◌↔◌, �
 ghost use Rattle.pmb_bus.specs.declared.event.Event.{Event as BusEvent};
 ghost use Rattle.pmb_bus.specs.Kinds.{AreKindsOf};
 ghost use Rattle.pmb_command.specs.Parts.{DeviceParts};
-ghost use Rattle.pmb_canonical.specs.Common.{BeginsCommon, TakesPacket};
+ghost use Rattle.pmb_canonical.specs.Canonical.{BeginsWithPacket, TakesPacket};
 ghost use Rattle.pmb_transaction.specs.Capture.{MayFollow};
 ghost use Rattle.pmb_transaction.specs.Reading.{RefusedAt};
 ghost use Rattle.pmb_transaction.specs.Transaction.{transaction_data};
@@ -17,7 +17,7 @@ ghost use Rattle.pmb_reader.specs.Reader.{Standing, Open, Held, Passing, ReaderS
 
 use crate::refusal::Refusal;
 use pmb_bus::{Event, Kinds};
-use pmb_canonical::{Common, TakenPacket};
+use pmb_canonical::{CanonicalReader, TakenPacket};
 use pmb_packet_state::{Move, PacketState};
 use pmb_table::Profile;
 use pmb_transaction::{Reason, Transaction};
@@ -148,11 +148,15 @@ impl<'p> Reader<'p> {
         }
     }
 
-    /// Takes the common packet at the front of a text whole, between two packets. It returns `None`
+    /// Takes the canonical packet at the front of a text whole, between two packets. It returns `None`
     /// where none lies there and where it doesn't stand between two packets, and stands where it
     /// stood.
     #[inline(always)]
-    pub fn take_common(&mut self, common: &mut Common, text: &[u8]) -> Option<TakenPacket>
+    pub fn take_canonical(
+        &mut self,
+        canonical: &mut CanonicalReader,
+        text: &[u8],
+    ) -> Option<TakenPacket>
         ensures takes { (profile : List DeviceParts) (n : ℕ) → ReaderStandsAt profile self.old (Open n [])
             → IfSome result (λ taken. TakesPacket profile text.now taken.used taken.events (last_read self.new)) }
         ensures some { IfSome result (λ taken. 0 < taken.used) }
@@ -162,16 +166,16 @@ impl<'p> Reader<'p> {
         ensures same { (profile : List DeviceParts) (n : ℕ) → ReaderStandsAt profile self.old (Open n []) → result ≡ None
             → ReaderStandsAt profile self.new (Open n []) }
 
-        // Between two packets a common packet that lies whole in front is taken.
+        // Between two packets a canonical packet that lies whole in front is taken.
         ensures answers { (profile : List DeviceParts) (standing : Standing) → ReaderStandsAt profile self.old standing
-            → (IsSome result ↔ (IsBetween standing × BeginsCommon profile text.now)) }
+            → (IsSome result ↔ (IsBetween standing × BeginsWithPacket profile text.now)) }
         ensures elsewhere { (profile : List DeviceParts) (standing : Standing) → ReaderStandsAt profile self.old standing
             → ¬ (IsBetween standing) → self.new ≡ self.old }
     {
         let Mode::Open = self.mode else {
             return None;
         };
-        let taken = self.under_way.take_common(common, text)?;
+        let taken = self.under_way.take_canonical(canonical, text)?;
         self.used = self.used.saturating_add(taken.events as u64);
         Some(taken)
     }

@@ -1,4 +1,4 @@
--- A whole common packet that is taken at once, between two packets.
+-- A whole canonical packet that is taken at once, between two packets.
 use Rattle.std.proofs.Common.{◌≡◌, ℕ, ◌+◌, List, [], ◌++◌, length, take, sym, ap, subst, length-append}
 use Rattle.pmb_bus.specs.declared.event.Event.{Event}
 use Rattle.pmb_bus.specs.Event.{canonical_text}
@@ -6,7 +6,7 @@ use Rattle.pmb_bus.specs.declared.lexer.Lexer.{Lexer}
 use Rattle.pmb_bus.specs.Lexer.{LexerStandsAt}
 use Rattle.pmb_bus.specs.Text.{EndsBetween}
 use Rattle.pmb_bus.proofs.Spelling.{spells_ended}
-use Rattle.pmb_canonical.specs.Common.{TakesPacket}
+use Rattle.pmb_canonical.specs.Canonical.{TakesPacket}
 use Rattle.pmb_reader.specs.Reader.{Standing, Open, Held, Passing, IsBetween, ReaderStandsAt, last_read}
 use Rattle.pmb_scan.specs.declared.scan.Scan.{Scan}
 use Rattle.pmb_scan.specs.Reached.{Reached}
@@ -36,7 +36,7 @@ takes_whole reached piece used count scan after stands between n at taken text l
       standing = at;
       between = between;
       spells = spells_ended reached.text reached.events stands.lexer.ended between.0;
-      whole = record { common = taken.common; packet = taken.packet; text = text };
+      whole = record { packet = taken.packet; text = text };
       counted = taken.all;
       stands = record {
         lexer = subst (λ (k : ℕ). LexerStandsAt after.lexer k (reached.text ++ bytes) (reached.events ++ taken.events))

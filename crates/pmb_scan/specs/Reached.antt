@@ -3,7 +3,6 @@ use Rattle.std.specs.Prelude.{◌≡◌, ℕ, ◌+◌, List, [], ◌∷◌, ◌+
 use Rattle.pmb_bus.specs.declared.event.Event.{Event}
 use Rattle.pmb_bus.specs.Event.{canonical_text}
 use Rattle.pmb_command.specs.Parts.{DeviceParts}
-use Rattle.pmb_canonical.specs.Common.{IsCommon}
 use Rattle.pmb_reader.specs.Reader.{Standing, Open, Held, Passing, behind_passed}
 use Rattle.pmb_spans.specs.Spans.{Span, ReadSpan, RefusedSpan, Spans, SpansAfterStop, SpansFrom, is_whole}
 use Rattle.pmb_transaction.specs.Packet.{Packet}
@@ -70,10 +69,9 @@ behind_refusal reached n front event refusal = record reached {
   standing = behind_passed (n + length front) event;
 }
 
--- These bytes are the canonical text of these events, the packet of a common transaction.
+-- These bytes are the canonical text of these events, the packet of a transaction.
 pub record IsWhole (profile : List DeviceParts) (t : TransactionData) (events : List Event)
     (bytes : List ℕ) : Type 0 where
-  pub common : IsCommon t
   pub packet : Packet profile t events
   pub text : bytes ≡ canonical_text events
 

@@ -2,7 +2,7 @@
 //!
 //! Most events complete nothing. What is done for a packet or a refusal is in functions of its own
 //! that are not inlined, so that no other event pays for it. In each turn `take_words` takes a
-//! whole common packet, where one lies in front, or the separators and comments there, or a byte and
+//! whole canonical packet, where one lies in front, or the separators and comments there, or a byte and
 //! its ACK, or one word.
 
 ghost use Rattle.std.specs.Prelude.{◌≡◌, ◌++◌, ◌∷◌, [], ◌≤◌, ◌<◌, ℕ, List, None, OnOk, IfOk, IfSome, length, drop, take};
@@ -23,8 +23,8 @@ use crate::blank::{begins_blank, front_blank};
 use crate::reported::report;
 use crate::visitor::Visitor;
 use pmb_bus::{Event, LexFault, Lexer, Step};
-use pmb_canonical::laws::common_packets_are_read;
-use pmb_canonical::{Common, TakenPacket as Whole};
+use pmb_canonical::laws::canonical_packets_are_read;
+use pmb_canonical::{CanonicalReader, TakenPacket as Whole};
 use pmb_io::{RunFault, Sink, Waiting};
 use pmb_reader::{Reader, Refusal, Took};
 use pmb_table::Profile;
@@ -45,7 +45,7 @@ pub enum PieceEnd {
 pub struct Scan<'p> {
     lexer: Lexer,
     reader: Reader<'p>,
-    common: Common,
+    canonical: CanonicalReader,
 }
 
 impl<'p> Scan<'p> {
@@ -57,7 +57,7 @@ impl<'p> Scan<'p> {
         Scan {
             lexer: Lexer::new(),
             reader: Reader::new(profile),
-            common: Common::new(),
+            canonical: CanonicalReader::new(),
         }
     }
 
@@ -130,7 +130,7 @@ impl<'p> Scan<'p> {
         }
     }
 
-    /// Takes the common packet at the front of a piece at once, between two packets and two words.
+    /// Takes the canonical packet at the front of a piece at once, between two packets and two words.
     /// It returns `None` where no such packet lies whole in front, and then all stands where it
     /// stood.
     #[inline(always)]
@@ -141,15 +141,15 @@ impl<'p> Scan<'p> {
         ensures some { IfSome result (λ whole. 0 < whole.used) }
         ensures same { (reached : Reached) → ScanStandsAt self.old reached → result ≡ None → ScanStandsAt self.new reached }
     {
-        common_packets_are_read();
-        if !begins_common(piece) {
+        canonical_packets_are_read();
+        if !begins_packet(piece) {
             return None;
         }
         if !self.lexer.is_between() || !self.reader.is_between() {
             return None;
         }
         accepted_bus(self.reader.profile());
-        let whole = self.reader.take_common(&mut self.common, piece)?;
+        let whole = self.reader.take_canonical(&mut self.canonical, piece)?;
         self.lexer.skip(&piece[..whole.used]);
         Some(whole)
     }
@@ -270,10 +270,10 @@ impl<'p> Scan<'p> {
     }
 }
 
-/// Whether a piece begins as a common packet does: with START, an address byte that has ACK and a
+/// Whether a piece begins as a canonical packet does: with START, an address byte that has ACK and a
 /// byte with its answer, or an address byte that has NACK. Most begin with two bytes that have ACK.
 #[inline(always)]
-fn begins_common(piece: &[u8]) -> bool {
+fn begins_packet(piece: &[u8]) -> bool {
     match piece {
         [b'S', _, _, _, _, b'A', _, _, _, _, b'A', ..] => true,
         _ => begins_refused(piece),

@@ -20,7 +20,7 @@ use pmb_transaction::Transaction;
 /// Is told what a scan comes upon, in its order, and may put out a text for each packet and refusal.
 ///
 /// Bytes come first, then what their word's end comes to: an event, a packet or a refusal. So the text
-/// up to there spells the events with this one: the word of this event is the text's last. A common
+/// up to there spells the events with this one: the word of this event is the text's last. A canonical
 /// packet whose text lies whole in front may come at once instead.
 pub trait Visitor {
     /// A visitor that began as the first has become the second. Meanwhile it was told what was
@@ -51,7 +51,7 @@ pub trait Visitor {
             (W.told writer.old).held waiting.old.items (W.told writer.new).held waiting.new.items) }
         ensures failed { WriterTells (W.told writer.old) (W.told writer.new) result };
 
-    /// A whole common packet came at once, between two packets: the bytes of its text, how many events
+    /// A whole canonical packet came at once, between two packets: the bytes of its text, how many events
     /// these spell, and its transaction. Nothing else is told of it.
     fn visit_whole<W: Sink>(
         &mut self,

@@ -1,4 +1,4 @@
-//! Tests of `pmb_canonical`: packets by hand, texts that are no whole common packet, and every capture
+//! Tests of `pmb_canonical`: packets by hand, texts that are no whole canonical packet, and every capture
 //! with whole packets at once compared with event by event.
 
 mod compared;

@@ -3,7 +3,7 @@
 #![tactic(auto)]
 
 #[cfg(test)]
-mod common;
+mod canonical;
 #[cfg(test)]
 mod compare;
 #[cfg(test)]

@@ -1,4 +1,4 @@
--- What a whole common packet comes to that is taken at once.
+-- What a whole canonical packet comes to that is taken at once.
 use Rattle.std.specs.Prelude.{◌≡◌, ℕ, List, [], length, take}
 use Rattle.pmb_bus.specs.declared.event.Event.{Event}
 use Rattle.pmb_bus.specs.Text.{EndsBetween, Spells}

@@ -7,7 +7,7 @@ use Rattle.pmb_bus.specs.Event.{canonical_text}
 use Rattle.pmb_command.specs.Parts.{IsNew}
 use Rattle.pmb_transaction.specs.Transaction.{PartData}
 use Rattle.pmb_transaction.specs.Packet.{addresses, leg}
-use Rattle.pmb_canonical.specs.Common.{OneWritten}
+use Rattle.pmb_canonical.specs.Canonical.{OneWritten}
 use Rattle.pmb_canonical.specs.Front.{acked_text, end_text}
 use Rattle.pmb_canonical.specs.Groups.{MoreParts, SayGroup, TakenParts}
 use Rattle.pmb_canonical.proofs.Beginnings.{not_there}

@@ -2,7 +2,7 @@ use Rattle.std.proofs.Common.{sym, subst, ◌∙◌}
 use Rattle.pmb_bus.specs.declared.lexer.LexerState.{LexerState}
 use Rattle.pmb_bus.specs.machine.Standing.{IsPlace}
 use Rattle.pmb_bus.proofs.Lengthens.{opens_none, lengthens_first, lengthens_no_first, lengthens_digit}
-use Rattle.pmb_bus.proofs.lexer.Place.lengthened.Goals as goal
+use Rattle.pmb_bus.proofs.lexer.LexerState.lengthened.Goals as goal
 
 pub returns-then-starts_token-clause-lengthens : goal.returns-then-starts_token-clause-lengthens
 returns-then-starts_token-clause-lengthens c = λ n text counted is outside goes_on.

@@ -3,7 +3,7 @@ use Rattle.pmb_reader.specs.declared.reader.Took.{Took}
 use Rattle.pmb_reader.specs.Refusal.{refusal_data}
 use Rattle.pmb_count.specs.Count.{IsAdded}
 use Rattle.pmb_count.proofs.Sums.{none_more, packet_more, refusal_more}
-use Rattle.pmb_count.proofs.capture_counts.Counts.add.Goals as goal
+use Rattle.pmb_count.proofs.capture_counts.CaptureCounts.add.Goals as goal
 
 pub returns-in-More : goal.returns-in-More
 returns-in-More c = λ outcomes added is more.

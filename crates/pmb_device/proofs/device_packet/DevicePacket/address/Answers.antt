@@ -1,6 +1,6 @@
 use Rattle.std.proofs.Common.{arith}
 use Rattle.pmb_device.proofs.Addresses.{hears_others}
-use Rattle.pmb_device.proofs.device_packet.Exchange.address.Goals as goal
+use Rattle.pmb_device.proofs.device_packet.DevicePacket.address.Goals as goal
 
 pub returns-else-byte-address : goal.returns-else-byte-address
 returns-else-byte-address c =

@@ -2,7 +2,7 @@ use Rattle.std.proofs.Common.{List, ℕ, ◌≤◌, length, refl, sym, ap, subst
 use Rattle.std.specs.List.{slice_get}
 use Rattle.std.proofs.lemmas.Option.{slice_get_read}
 use Rattle.pmb_device.proofs.Asking.{behind_ask, gives_byte, gives_no_more, gives_none_yet}
-use Rattle.pmb_device.proofs.device_packet.Exchange.ask.Goals as goal
+use Rattle.pmb_device.proofs.device_packet.DevicePacket.ask.Goals as goal
 
 pub returns-in_default : goal.returns-in_default
 returns-in_default c = λ device state legs stands. behind_ask c.args.self.now device state legs c.in_default.not-Reply

@@ -1,5 +1,5 @@
 use Rattle.pmb_device.proofs.ReadAddresses.{hears_no_request, hears_request}
-use Rattle.pmb_device.proofs.device_packet.Exchange.be_read.Goals as goal
+use Rattle.pmb_device.proofs.device_packet.DevicePacket.be_read.Goals as goal
 
 pub returns-else-asked : goal.returns-else-asked
 returns-else-asked c = hears_no_request c.args.self.now c.requires.phase c.requires.own

@@ -1,6 +1,6 @@
 use Rattle.std.proofs.Common.{refl}
 use Rattle.pmb_device.proofs.Writing.{refuses_data, takes_data}
-use Rattle.pmb_device.proofs.device_packet.Exchange.data_byte.Goals as goal
+use Rattle.pmb_device.proofs.device_packet.DevicePacket.data_byte.Goals as goal
 
 pub returns-then-take_byte : goal.returns-then-take_byte
 returns-then-take_byte c = takes_data c.args.self.now c.args.byte c.take_byte.new.leg c.requires

@@ -2,9 +2,9 @@ use Rattle.std.proofs.Common.{sym, ◌∙◌}
 use Rattle.pmb_device.proofs.Outcomes.{ends_outside, ends_so, no_own_outcome, no_write_outcome, noted_outcome}
 use Rattle.pmb_device.proofs.Outcomes.{silent_outcome, write_outcome}
 use Rattle.pmb_device.proofs.TakenWrites.{few_bytes, write_is_taken}
-use Rattle.pmb_device.proofs.device_packet.Exchange.outcome.Goals as goal
-use Rattle.pmb_device.proofs.device_packet.Exchange.outcome.Goals.{then-self-via-else-self+then-self-2}
-use Rattle.pmb_device.proofs.device_packet.Exchange.outcome.Goals.{then-self-via-then-self}
+use Rattle.pmb_device.proofs.device_packet.DevicePacket.outcome.Goals as goal
+use Rattle.pmb_device.proofs.device_packet.DevicePacket.outcome.Goals.{then-self-via-else-self+then-self-2}
+use Rattle.pmb_device.proofs.device_packet.DevicePacket.outcome.Goals.{then-self-via-then-self}
 
 pub returns-in-Outside-clause-ends : goal.returns-in-Outside-clause-ends
 returns-in-Outside-clause-ends c = λ device state legs stands. ends_outside c.args.self.now device state legs stands

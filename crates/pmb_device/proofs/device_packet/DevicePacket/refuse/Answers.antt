@@ -1,6 +1,6 @@
 use Rattle.std.proofs.Common.{refl}
 use Rattle.pmb_device.proofs.ReadAddresses.{hears_refusal}
-use Rattle.pmb_device.proofs.device_packet.Exchange.refuse.Goals as goal
+use Rattle.pmb_device.proofs.device_packet.DevicePacket.refuse.Goals as goal
 
 pub returns : goal.returns
 returns c = λ device state legs byte body asked err.

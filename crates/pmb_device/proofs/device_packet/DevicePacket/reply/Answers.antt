@@ -1,6 +1,6 @@
 use Rattle.std.proofs.Common.{refl}
 use Rattle.pmb_device.proofs.ReadAddresses.{hears_answer, reply_to_body}
-use Rattle.pmb_device.proofs.device_packet.Exchange.reply.Goals as goal
+use Rattle.pmb_device.proofs.device_packet.DevicePacket.reply.Goals as goal
 
 pub returns : goal.returns
 returns c = λ device state legs byte body asked ok.

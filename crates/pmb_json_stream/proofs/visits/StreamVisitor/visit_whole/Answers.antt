@@ -17,7 +17,7 @@ returns-clause-visits g c start reached text n events stands between spells stan
     let mid = c.visit_event.new.self in
     let new = c.take_packet.new.self in
     let bus = subst IsBus (sym (stands.told stands.begins.0 stands.begins.1).at.profile) c.accepted_bus.ensures in
-    let is = is_line reached.profile t events whole.common whole.packet
+    let is = is_line reached.profile t events whole.packet
     (c.packet_ends_with_stop.ensures reached.profile t events whole.packet)
     (c.packets_are_bytes.ensures reached.profile t events bus whole.packet) in
     let bytes_of = bytes_in_line events c.args.bytes.now is whole.text in
@@ -44,7 +44,7 @@ returns-clause-visits g c start reached text n events stands between spells stan
             (sym whole.text)
             (subst (λ (es : List Event). HasToldOf b start new (behind_whole reached n (canonical_text es) es t)
             (text ++ puts.text)) (sym is.split)
-            (told_whole b start mid new reached text n is.rest t told standing whole.common
+            (told_whole b start mid new reached text n is.rest t told standing
             (c.is_group.ensures c.if-is_group.false) (same_then _ _ _ line.same packet.same)
             (packet.passing ∙ line.passing) packet.cleared
             (packet.knows _

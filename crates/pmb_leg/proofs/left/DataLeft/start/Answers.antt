@@ -2,7 +2,7 @@ use Rattle.std.proofs.Common.{◌∙◌, Option, ap, sym}
 use Rattle.pmb_command.specs.declared.form.Form.{Form}
 use Rattle.pmb_leg.specs.machine.DataLeft.{start}
 use Rattle.pmb_leg.proofs.Lefts.{starts_data, starts_whole}
-use Rattle.pmb_leg.proofs.left.Left.start.Goals as goal
+use Rattle.pmb_leg.proofs.left.DataLeft.start.Goals as goal
 
 pub returns-in-Some-eq0 : goal.returns-in-Some-eq0
 returns-in-Some-eq0 c =

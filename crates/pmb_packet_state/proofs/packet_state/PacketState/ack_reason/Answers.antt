@@ -2,7 +2,7 @@ use Rattle.pmb_transaction.specs.Reason.{too_long, unknown_device}
 use Rattle.pmb_packet_state.specs.declared.packet_state.PacketPlace.TheVariants as places
 use Rattle.pmb_packet_state.proofs.Reasons.{ack_elsewhere, plain_here}
 use Rattle.pmb_packet_state.proofs.Steps.{at_place}
-use Rattle.pmb_packet_state.proofs.packet_state.UnderWay.ack_reason.Goals as goal
+use Rattle.pmb_packet_state.proofs.packet_state.PacketState.ack_reason.Goals as goal
 
 pub returns-in-Address : goal.returns-in-Address
 returns-in-Address c = λ profile events stands alone.

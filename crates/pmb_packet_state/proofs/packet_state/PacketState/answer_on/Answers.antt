@@ -7,7 +7,7 @@ use Rattle.pmb_transaction.specs.Following.{IsInsideAnswer}
 use Rattle.pmb_packet_state.specs.declared.packet_state.PacketPlace.TheVariants as places
 use Rattle.pmb_packet_state.proofs.Steps.{at_place, leg_grows, moves_on}
 use Rattle.pmb_packet_state.proofs.AnsweredLegs.{answer_byte_law, answers_on, asked_on, inside_same}
-use Rattle.pmb_packet_state.proofs.packet_state.UnderWay.answer_on.Goals as goal
+use Rattle.pmb_packet_state.proofs.packet_state.PacketState.answer_on.Goals as goal
 
 pub returns-then-not-goes_on : goal.returns-then-not-goes_on
 returns-then-not-goes_on c = λ profile events at stands.

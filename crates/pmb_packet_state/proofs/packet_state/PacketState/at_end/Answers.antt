@@ -6,7 +6,7 @@ use Rattle.pmb_packet_state.specs.declared.packet_state.PacketPlace.{PacketPlace
 use Rattle.pmb_packet_state.specs.declared.packet_state.PacketPlace.TheVariants as places
 use Rattle.pmb_packet_state.specs.machine.PacketState.{has_turn}
 use Rattle.pmb_packet_state.proofs.Steps.{at_place, other_than_stop, restarts}
-use Rattle.pmb_packet_state.proofs.packet_state.UnderWay.at_end.Goals as goal
+use Rattle.pmb_packet_state.proofs.packet_state.PacketState.at_end.Goals as goal
 
 pub returns-in_default : goal.returns-in_default
 returns-in_default c = λ profile events at stands. (

@@ -11,7 +11,7 @@ use Rattle.pmb_packet_state.specs.machine.PacketState.{has_turn}
 use Rattle.pmb_packet_state.specs.declared.packet_state.Answerer.TheVariants as sources
 use Rattle.pmb_packet_state.proofs.Steps.{at_place, byte_is_no_stop, moves_to, other_than_byte}
 use Rattle.pmb_packet_state.proofs.WrittenLegs.{even_address, first_address, first_follows, no_first_address}
-use Rattle.pmb_packet_state.proofs.packet_state.UnderWay.at_start.Goals as goal
+use Rattle.pmb_packet_state.proofs.packet_state.PacketState.at_start.Goals as goal
 
 pub returns-in_default : goal.returns-in_default
 returns-in_default c = λ profile events at stands. (

@@ -4,7 +4,7 @@ use Rattle.pmb_bus.specs.declared.event.Event.TheVariants.{Start}
 use Rattle.pmb_transaction.specs.Capture.{MayFollow}
 use Rattle.pmb_packet_state.specs.declared.packet_state.PacketPlace.TheVariants as places
 use Rattle.pmb_packet_state.proofs.Steps.{at_place, moves_on}
-use Rattle.pmb_packet_state.proofs.packet_state.UnderWay.begin.Goals as goal
+use Rattle.pmb_packet_state.proofs.packet_state.PacketState.begin.Goals as goal
 
 pub returns-in_default : goal.returns-in_default
 returns-in_default c = λ profile events at stands.

@@ -7,7 +7,7 @@ use Rattle.pmb_packet_state.specs.declared.packet_state.PacketPlace.TheVariants 
 use Rattle.pmb_transaction.specs.Following.{next_leg}
 use Rattle.pmb_packet_state.proofs.Steps.{at_place, moves_on}
 use Rattle.pmb_packet_state.proofs.WrittenLegs.{NextPart, is_next_part, kept_start, part_begins, restart_law}
-use Rattle.pmb_packet_state.proofs.packet_state.UnderWay.begin_part.Goals as goal
+use Rattle.pmb_packet_state.proofs.packet_state.PacketState.begin_part.Goals as goal
 
 pub returns-then-part_count-ge-MOST_BEFORE : goal.returns-then-part_count-ge-MOST_BEFORE
 returns-then-part_count-ge-MOST_BEFORE c = λ profile events at stands.

@@ -3,7 +3,7 @@ use Rattle.pmb_transaction.specs.Turns.{is_answer}
 use Rattle.pmb_packet_state.specs.declared.packet_state.PacketPlace.{PacketPlace}
 use Rattle.pmb_packet_state.specs.machine.PacketState.{has_turn}
 use Rattle.pmb_packet_state.proofs.Steps.{no_answer_here}
-use Rattle.pmb_packet_state.proofs.packet_state.UnderWay.behind_leg_byte.Goals as goal
+use Rattle.pmb_packet_state.proofs.packet_state.PacketState.behind_leg_byte.Goals as goal
 
 pub returns-in-Start : goal.returns-in-Start
 returns-in-Start c = λ profile events at stands. (

@@ -3,7 +3,7 @@ use Rattle.pmb_transaction.specs.Reason.{read_first}
 use Rattle.pmb_packet_state.specs.declared.packet_state.PacketPlace.TheVariants as places
 use Rattle.pmb_packet_state.proofs.Steps.{at_place}
 use Rattle.pmb_packet_state.proofs.Reasons.{bad_pec_late, late_here, none_between, restart_is_bad}
-use Rattle.pmb_packet_state.proofs.packet_state.UnderWay.byte_reason.Goals as goal
+use Rattle.pmb_packet_state.proofs.packet_state.PacketState.byte_reason.Goals as goal
 
 pub returns-in-Between : goal.returns-in-Between
 returns-in-Between c = λ profile events stands some. elim c.in-Between.is [

@@ -8,7 +8,7 @@ use Rattle.pmb_packet_state.specs.declared.packet_state.Answerer.TheVariants as 
 use Rattle.std.specs.Prelude.{slice_get}
 use Rattle.pmb_packet_state.proofs.Steps.{at_place, moves_to_end}
 use Rattle.pmb_packet_state.proofs.AnsweredLegs.{alert_ends, alert_reply, answer_byte_law}
-use Rattle.pmb_packet_state.proofs.packet_state.UnderWay.end_alert.Goals as goal
+use Rattle.pmb_packet_state.proofs.packet_state.PacketState.end_alert.Goals as goal
 
 pub returns-in_default : goal.returns-in_default
 returns-in_default c = λ profile events at stands.

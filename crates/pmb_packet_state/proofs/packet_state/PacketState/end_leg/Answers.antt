@@ -5,7 +5,7 @@ use Rattle.pmb_packet_state.specs.declared.packet_state.PacketPlace.TheVariants 
 use Rattle.pmb_transaction.specs.Following.{LegMayFollow}
 use Rattle.pmb_packet_state.proofs.Steps.{at_place, moves_to}
 use Rattle.pmb_packet_state.proofs.WrittenLegs.{kept_leg, leg_law}
-use Rattle.pmb_packet_state.proofs.packet_state.UnderWay.end_leg.Goals as goal
+use Rattle.pmb_packet_state.proofs.packet_state.PacketState.end_leg.Goals as goal
 
 pub returns-then-not-leg_may_follow : goal.returns-then-not-leg_may_follow
 returns-then-not-leg_may_follow c = λ profile events at stands.

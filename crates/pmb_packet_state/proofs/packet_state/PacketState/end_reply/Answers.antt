@@ -9,7 +9,7 @@ use Rattle.pmb_leg.specs.declared.content.Asked.{Asked}
 use Rattle.pmb_leg.specs.Leg.{Asks}
 use Rattle.pmb_packet_state.proofs.Steps.{at_place, moves_to_end}
 use Rattle.pmb_packet_state.proofs.AnsweredLegs.{answer_byte_law, asking_before, reply_ends}
-use Rattle.pmb_packet_state.proofs.packet_state.UnderWay.end_reply.Goals as goal
+use Rattle.pmb_packet_state.proofs.packet_state.PacketState.end_reply.Goals as goal
 
 pub returns-in_default : goal.returns-in_default
 returns-in_default c = λ profile events at stands.

@@ -6,7 +6,7 @@ use Rattle.pmb_packet_state.specs.declared.packet_state.PacketPlace.TheVariants 
 use Rattle.pmb_transaction.specs.Body.{IsWriteBody}
 use Rattle.pmb_packet_state.proofs.Steps.{at_place, restarts}
 use Rattle.pmb_packet_state.proofs.WrittenLegs.{kept_leg, leg_law, write_ends}
-use Rattle.pmb_packet_state.proofs.packet_state.UnderWay.end_write.Goals as goal
+use Rattle.pmb_packet_state.proofs.packet_state.PacketState.end_write.Goals as goal
 
 pub returns-then-push_part : goal.returns-then-push_part
 returns-then-push_part c = λ profile events at stands.

@@ -6,7 +6,7 @@ use Rattle.pmb_packet_state.specs.declared.packet_state.PacketPlace.TheVariants 
 use Rattle.pmb_packet_state.proofs.Ends.{some_events}
 use Rattle.pmb_packet_state.proofs.OneKind.{bytes_alone, bytes_alone_here, not_between, start_alone, stop_alone}
 use Rattle.pmb_packet_state.proofs.Steps.{at_place}
-use Rattle.pmb_packet_state.proofs.packet_state.UnderWay.expected.Goals as goal
+use Rattle.pmb_packet_state.proofs.packet_state.PacketState.expected.Goals as goal
 
 pub returns-in-Between : goal.returns-in-Between
 returns-in-Between c = λ profile events stands.

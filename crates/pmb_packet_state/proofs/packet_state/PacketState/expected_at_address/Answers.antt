@@ -4,7 +4,7 @@ use Rattle.pmb_packet_state.specs.declared.packet_state.PacketPlace.TheVariants 
 use Rattle.pmb_packet_state.proofs.Expected.{answers_may_follow, found_known}
 use Rattle.pmb_packet_state.proofs.Steps.{at_place}
 use Rattle.pmb_packet_state.proofs.WrittenLegs.{address_ends, address_law, address_refused_follows}
-use Rattle.pmb_packet_state.proofs.packet_state.UnderWay.expected_at_address.Goals as goal
+use Rattle.pmb_packet_state.proofs.packet_state.PacketState.expected_at_address.Goals as goal
 
 pub returns : goal.returns
 returns c profile events at stands =

@@ -6,7 +6,7 @@ use Rattle.pmb_packet_state.proofs.Steps.{at_place}
 use Rattle.pmb_packet_state.proofs.Expected.{answers_may_follow}
 use Rattle.pmb_packet_state.proofs.AnsweredLegs.{read_address_ends}
 use Rattle.pmb_packet_state.proofs.Reasons.{read_may_be_answered}
-use Rattle.pmb_packet_state.proofs.packet_state.UnderWay.expected_at_read_address.Goals as goal
+use Rattle.pmb_packet_state.proofs.packet_state.PacketState.expected_at_read_address.Goals as goal
 
 pub returns : goal.returns
 returns c = λ profile events at stands.

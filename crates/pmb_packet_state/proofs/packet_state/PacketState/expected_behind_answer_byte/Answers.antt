@@ -4,7 +4,7 @@ use Rattle.pmb_packet_state.specs.declared.packet_state.PacketPlace.TheVariants 
 use Rattle.pmb_packet_state.proofs.Steps.{at_place}
 use Rattle.pmb_packet_state.proofs.Expected.{answers_may_follow}
 use Rattle.pmb_packet_state.proofs.AnsweredLegs.{answer_byte_ends, answer_byte_law, inside_same}
-use Rattle.pmb_packet_state.proofs.packet_state.UnderWay.expected_behind_answer_byte.Goals as goal
+use Rattle.pmb_packet_state.proofs.packet_state.PacketState.expected_behind_answer_byte.Goals as goal
 
 pub returns : goal.returns
 returns c = λ profile events at stands.

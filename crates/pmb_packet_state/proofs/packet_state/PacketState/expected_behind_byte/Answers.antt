@@ -6,7 +6,7 @@ use Rattle.pmb_packet_state.specs.declared.packet_state.PacketPlace.TheVariants 
 use Rattle.pmb_packet_state.proofs.Expected.{answers_may_follow}
 use Rattle.pmb_packet_state.proofs.Steps.{at_place}
 use Rattle.pmb_packet_state.proofs.WrittenLegs.{byte_ends, kept_byte, tail_law}
-use Rattle.pmb_packet_state.proofs.packet_state.UnderWay.expected_behind_byte.Goals as goal
+use Rattle.pmb_packet_state.proofs.packet_state.PacketState.expected_behind_byte.Goals as goal
 
 pub returns : goal.returns
 returns c profile events at stands =

@@ -9,7 +9,7 @@ use Rattle.pmb_packet_state.specs.declared.packet_state.PacketPlace.TheVariants 
 use Rattle.pmb_packet_state.proofs.NoAnswers.{no_answers_may_follow}
 use Rattle.pmb_packet_state.proofs.Steps.{at_place}
 use Rattle.pmb_packet_state.proofs.WrittenLegs.{in_leg_ends, kept_leg, leg_law}
-use Rattle.pmb_packet_state.proofs.packet_state.UnderWay.expected_in_leg.Goals as goal
+use Rattle.pmb_packet_state.proofs.packet_state.PacketState.expected_in_leg.Goals as goal
 
 pub returns : goal.returns
 returns c = λ profile events at stands.

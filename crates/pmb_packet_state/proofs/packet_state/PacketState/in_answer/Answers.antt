@@ -8,7 +8,7 @@ use Rattle.pmb_transaction.specs.Following.{BeginsAnswer}
 use Rattle.pmb_packet_state.specs.declared.packet_state.PacketPlace.TheVariants as places
 use Rattle.pmb_packet_state.proofs.Steps.{at_place, byte_is_no_stop, moves_on, other_than_byte}
 use Rattle.pmb_packet_state.proofs.AnsweredLegs.{answer_law, answers_on, asked_on, begins_with_same}
-use Rattle.pmb_packet_state.proofs.packet_state.UnderWay.in_answer.Goals as goal
+use Rattle.pmb_packet_state.proofs.packet_state.PacketState.in_answer.Goals as goal
 
 pub returns-in_default : goal.returns-in_default
 returns-in_default c = λ profile events at stands.

@@ -3,7 +3,7 @@ use Rattle.pmb_transaction.specs.Turns.{is_no_answer}
 use Rattle.pmb_packet_state.specs.declared.packet_state.PacketPlace.{PacketPlace}
 use Rattle.pmb_packet_state.specs.machine.PacketState.{has_turn}
 use Rattle.pmb_packet_state.proofs.Steps.{answer_here}
-use Rattle.pmb_packet_state.proofs.packet_state.UnderWay.in_leg.Goals as goal
+use Rattle.pmb_packet_state.proofs.packet_state.PacketState.in_leg.Goals as goal
 
 pub returns-in-Ack : goal.returns-in-Ack
 returns-in-Ack c = λ profile events at stands. (

@@ -1,5 +1,5 @@
 use Rattle.pmb_packet_state.proofs.Ends.{some_events}
-use Rattle.pmb_packet_state.proofs.packet_state.UnderWay.is_between.Goals as goal
+use Rattle.pmb_packet_state.proofs.packet_state.PacketState.is_between.Goals as goal
 
 pub returns-in_default : goal.returns-in_default
 returns-in_default c = λ profile events stands. (

@@ -1,6 +1,6 @@
 use Rattle.std.proofs.Common.{[], refl}
 use Rattle.pmb_packet_state.proofs.Steps.{between_packets}
-use Rattle.pmb_packet_state.proofs.packet_state.UnderWay.new.Goals as goal
+use Rattle.pmb_packet_state.proofs.packet_state.PacketState.new.Goals as goal
 
 pub returns : goal.returns
 returns c =

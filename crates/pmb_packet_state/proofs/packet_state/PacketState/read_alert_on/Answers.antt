@@ -7,7 +7,7 @@ use Rattle.pmb_transaction.specs.Capture.{MayFollow}
 use Rattle.pmb_packet_state.specs.declared.packet_state.PacketPlace.TheVariants as places
 use Rattle.pmb_packet_state.specs.declared.packet_state.Answerer.TheVariants as sources
 use Rattle.pmb_packet_state.proofs.Steps.{at_place, moves_on}
-use Rattle.pmb_packet_state.proofs.packet_state.UnderWay.read_alert_on.Goals as goal
+use Rattle.pmb_packet_state.proofs.packet_state.PacketState.read_alert_on.Goals as goal
 
 pub returns : goal.returns
 returns c = λ profile events at stands.

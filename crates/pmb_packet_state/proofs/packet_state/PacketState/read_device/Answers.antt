@@ -6,7 +6,7 @@ use Rattle.pmb_transaction.specs.Following.{reply_leg}
 use Rattle.pmb_packet_state.proofs.Steps.{at_place, moves_to}
 use Rattle.pmb_packet_state.proofs.WrittenLegs.{AskedLeg, alone_in_packet, first_leg_asked, is_asked_leg, kept_start}
 use Rattle.pmb_packet_state.proofs.WrittenLegs.{reads_device, restart_law}
-use Rattle.pmb_packet_state.proofs.packet_state.UnderWay.read_device.Goals as goal
+use Rattle.pmb_packet_state.proofs.packet_state.PacketState.read_device.Goals as goal
 
 pub returns-then-address-addr : goal.returns-then-address-addr
 returns-then-address-addr c = λ profile events at stands.

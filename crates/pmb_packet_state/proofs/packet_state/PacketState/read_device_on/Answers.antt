@@ -6,7 +6,7 @@ use Rattle.pmb_packet_state.specs.declared.packet_state.PacketPlace.TheVariants 
 use Rattle.pmb_packet_state.specs.declared.packet_state.Answerer.TheVariants as sources
 use Rattle.pmb_packet_state.proofs.Steps.{at_place, moves_on}
 use Rattle.pmb_packet_state.proofs.AnsweredLegs.{asked_with, asking_before, leg_begins_answer}
-use Rattle.pmb_packet_state.proofs.packet_state.UnderWay.read_device_on.Goals as goal
+use Rattle.pmb_packet_state.proofs.packet_state.PacketState.read_device_on.Goals as goal
 
 pub returns-then-not-is_asking : goal.returns-then-not-is_asking
 returns-then-not-is_asking c = λ profile events at stands.

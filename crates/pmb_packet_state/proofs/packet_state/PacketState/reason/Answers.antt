@@ -1,7 +1,7 @@
 use Rattle.std.proofs.Common.{subst, sym}
 use Rattle.pmb_bus.specs.declared.event.Event.{Event}
 use Rattle.pmb_transaction.specs.Reason.{IsReason}
-use Rattle.pmb_packet_state.proofs.packet_state.UnderWay.reason.Goals as goal
+use Rattle.pmb_packet_state.proofs.packet_state.PacketState.reason.Goals as goal
 
 pub returns-in-Byte : goal.returns-in-Byte
 returns-in-Byte c = λ profile events stands.

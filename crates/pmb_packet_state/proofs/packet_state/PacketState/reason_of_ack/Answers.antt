@@ -1,6 +1,6 @@
 use Rattle.std.proofs.Common.{inl, inr, refl, sym, ◌∙◌}
 use Rattle.pmb_packet_state.proofs.Reasons.{nack_alone, nack_bits}
-use Rattle.pmb_packet_state.proofs.packet_state.UnderWay.reason_of_ack.Goals as goal
+use Rattle.pmb_packet_state.proofs.packet_state.PacketState.reason_of_ack.Goals as goal
 
 pub returns-then-bits-eq-NACK_ALONE : goal.returns-then-bits-eq-NACK_ALONE
 returns-then-bits-eq-NACK_ALONE c = λ profile events stands.

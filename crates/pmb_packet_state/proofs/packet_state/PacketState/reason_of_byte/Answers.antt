@@ -2,7 +2,7 @@ use Rattle.std.proofs.Common.{◌≡◌, inl, inr, true, refl, sym, ◌∙◌}
 use Rattle.pmb_bus.specs.declared.event.Event.TheVariants.{Byte}
 use Rattle.pmb_bus.specs.Kinds.{holds}
 use Rattle.pmb_packet_state.proofs.Reasons.{no_byte, some_byte}
-use Rattle.pmb_packet_state.proofs.packet_state.UnderWay.reason_of_byte.Goals as goal
+use Rattle.pmb_packet_state.proofs.packet_state.PacketState.reason_of_byte.Goals as goal
 
 pub returns-then-contains : goal.returns-then-contains
 returns-then-contains c = λ profile events stands.

@@ -5,7 +5,7 @@ use Rattle.pmb_transaction.specs.Packet.{Packet}
 use Rattle.pmb_packet_state.specs.declared.packet_state.PacketPlace.TheVariants as places
 use Rattle.pmb_packet_state.proofs.Steps.{at_place, moves_to_end}
 use Rattle.pmb_packet_state.proofs.WrittenLegs.{address_refused_follows, refused_address_ends}
-use Rattle.pmb_packet_state.proofs.packet_state.UnderWay.refuse_address.Goals as goal
+use Rattle.pmb_packet_state.proofs.packet_state.PacketState.refuse_address.Goals as goal
 
 pub returns-then-part_count-gt-MOST_BEFORE : goal.returns-then-part_count-gt-MOST_BEFORE
 returns-then-part_count-gt-MOST_BEFORE c = λ profile events at stands.

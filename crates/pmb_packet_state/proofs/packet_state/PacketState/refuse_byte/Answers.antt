@@ -7,7 +7,7 @@ use Rattle.pmb_packet_state.specs.declared.packet_state.PacketPlace.TheVariants 
 use Rattle.pmb_transaction.specs.Viable.{IsInsideBody}
 use Rattle.pmb_packet_state.proofs.Steps.{at_place, moves_to_end}
 use Rattle.pmb_packet_state.proofs.WrittenLegs.{kept_byte, refused_byte_ends, refused_said, tail_law}
-use Rattle.pmb_packet_state.proofs.packet_state.UnderWay.refuse_byte.Goals as goal
+use Rattle.pmb_packet_state.proofs.packet_state.PacketState.refuse_byte.Goals as goal
 
 pub returns-then-part_count-gt-MOST_BEFORE : goal.returns-then-part_count-gt-MOST_BEFORE
 returns-then-part_count-gt-MOST_BEFORE c = λ profile events at stands.

@@ -9,7 +9,7 @@ use Rattle.pmb_packet_state.specs.declared.packet_state.Answerer.TheVariants as 
 use Rattle.pmb_transaction.specs.Transaction.{Refused}
 use Rattle.pmb_packet_state.proofs.Steps.{at_place, moves_to_end}
 use Rattle.pmb_packet_state.proofs.AnsweredLegs.{asked_with, read_refused_said, same_kept_leg}
-use Rattle.pmb_packet_state.proofs.packet_state.UnderWay.refuse_read.Goals as goal
+use Rattle.pmb_packet_state.proofs.packet_state.PacketState.refuse_read.Goals as goal
 
 pub returns-then-part_count-gt0 : goal.returns-then-part_count-gt0
 returns-then-part_count-gt0 c = λ profile events at stands.

@@ -5,7 +5,7 @@ use Rattle.pmb_packet_state.specs.declared.packet_state.PacketPlace.TheVariants 
 use Rattle.pmb_transaction.specs.Viable.{IsInsideBody}
 use Rattle.pmb_packet_state.proofs.Steps.{at_place, moves_to}
 use Rattle.pmb_packet_state.proofs.WrittenLegs.{kept_leg, leg_law}
-use Rattle.pmb_packet_state.proofs.packet_state.UnderWay.send_byte.Goals as goal
+use Rattle.pmb_packet_state.proofs.packet_state.PacketState.send_byte.Goals as goal
 
 pub returns-then-not-goes_on : goal.returns-then-not-goes_on
 returns-then-not-goes_on c = λ profile events at stands.

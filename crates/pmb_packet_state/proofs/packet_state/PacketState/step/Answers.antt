@@ -1,7 +1,7 @@
 use Rattle.std.proofs.Common.{refl}
 use Rattle.pmb_bus.specs.declared.event.Event.TheVariants.{Byte, Ack}
 use Rattle.pmb_packet_state.proofs.Turns.{given_moves}
-use Rattle.pmb_packet_state.proofs.packet_state.UnderWay.step.Goals as goal
+use Rattle.pmb_packet_state.proofs.packet_state.PacketState.step.Goals as goal
 
 pub returns-in-Leg : goal.returns-in-Leg
 returns-in-Leg c = λ profile events stands.

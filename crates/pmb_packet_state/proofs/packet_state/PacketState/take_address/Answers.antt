@@ -5,7 +5,7 @@ use Rattle.pmb_command.specs.Parts.{device_with}
 use Rattle.pmb_packet_state.proofs.Devices.{found_device, has_address, no_device}
 use Rattle.pmb_packet_state.proofs.Steps.{at_place, moves_on}
 use Rattle.pmb_packet_state.proofs.WrittenLegs.{address_law, leg_begins}
-use Rattle.pmb_packet_state.proofs.packet_state.UnderWay.take_address.Goals as goal
+use Rattle.pmb_packet_state.proofs.packet_state.PacketState.take_address.Goals as goal
 
 pub returns-in_default : goal.returns-in_default
 returns-in_default c = λ profile events at stands.

@@ -4,7 +4,7 @@ use Rattle.pmb_packet_state.specs.declared.packet_state.PacketPlace.TheVariants 
 use Rattle.pmb_transaction.specs.Viable.{BeginsBody}
 use Rattle.pmb_packet_state.proofs.Steps.{at_place, moves_on}
 use Rattle.pmb_packet_state.proofs.WrittenLegs.{kept_byte, leg_goes_on, tail_law}
-use Rattle.pmb_packet_state.proofs.packet_state.UnderWay.take_byte.Goals as goal
+use Rattle.pmb_packet_state.proofs.packet_state.PacketState.take_byte.Goals as goal
 
 pub returns-then-not-take : goal.returns-then-not-take
 returns-then-not-take c = λ profile events at stands.

@@ -1,7 +1,7 @@
 use Rattle.std.proofs.Common.{[]}
 use Rattle.pmb_packet_state.proofs.Ends.{at_none}
 use Rattle.pmb_packet_state.proofs.Steps.{restarts}
-use Rattle.pmb_packet_state.proofs.packet_state.UnderWay.take_packet.Goals as goal
+use Rattle.pmb_packet_state.proofs.packet_state.PacketState.take_packet.Goals as goal
 
 pub returns-clause-stands : goal.returns-clause-stands
 returns-clause-stands c = λ profile stands.

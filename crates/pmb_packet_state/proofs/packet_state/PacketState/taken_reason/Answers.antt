@@ -4,7 +4,7 @@ use Rattle.pmb_packet_state.specs.declared.packet_state.PacketPlace.TheVariants 
 use Rattle.pmb_packet_state.proofs.Steps.{at_place}
 use Rattle.pmb_packet_state.proofs.Reasons.{code_is_unknown, pec_is_wrong}
 use Rattle.pmb_packet_state.proofs.WrittenLegs.{same_leg}
-use Rattle.pmb_packet_state.proofs.packet_state.UnderWay.taken_reason.Goals as goal
+use Rattle.pmb_packet_state.proofs.packet_state.PacketState.taken_reason.Goals as goal
 
 pub returns-then-bytes-gt0 : goal.returns-then-bytes-gt0
 returns-then-bytes-gt0 c = λ profile events at stands.

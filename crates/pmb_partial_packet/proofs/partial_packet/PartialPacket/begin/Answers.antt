@@ -1,7 +1,7 @@
 use Rattle.std.proofs.Common.{refl, subst, sym, []}
 use Rattle.pmb_partial_packet.specs.machine.KeptLegs.{KeepsLegs, LegsData}
 use Rattle.pmb_partial_packet.proofs.Stands.{stands_at_nothing}
-use Rattle.pmb_partial_packet.proofs.partial_packet.Said.begin.Goals as goal
+use Rattle.pmb_partial_packet.proofs.partial_packet.PartialPacket.begin.Goals as goal
 
 pub returns : goal.returns
 returns c =

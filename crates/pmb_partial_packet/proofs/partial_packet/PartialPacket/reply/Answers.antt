@@ -1,7 +1,7 @@
 use Rattle.std.proofs.Common.{ap, reverse, sym, ◌∙◌, List, ℕ, Some}
 use Rattle.pmb_partial_packet.specs.PartialPacket.{legs}
 use Rattle.pmb_partial_packet.proofs.Answers.{reply_is, short_backwards}
-use Rattle.pmb_partial_packet.proofs.partial_packet.Said.reply.Goals as goal
+use Rattle.pmb_partial_packet.proofs.partial_packet.PartialPacket.reply.Goals as goal
 
 pub returns-in-Read-clause-bytes : goal.returns-in-Read-clause-bytes
 returns-in-Read-clause-bytes c = λ profile events viable stands.

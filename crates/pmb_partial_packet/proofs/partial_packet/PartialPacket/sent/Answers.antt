@@ -1,7 +1,7 @@
 use Rattle.std.proofs.Common.{ap, reverse, sym, ◌∙◌, List, ℕ, Some}
 use Rattle.pmb_partial_packet.specs.PartialPacket.{legs}
 use Rattle.pmb_partial_packet.proofs.Answers.{none_sent, sent_is, short_backwards}
-use Rattle.pmb_partial_packet.proofs.partial_packet.Said.sent.Goals as goal
+use Rattle.pmb_partial_packet.proofs.partial_packet.PartialPacket.sent.Goals as goal
 
 pub returns-in-Some-clause-bytes : goal.returns-in-Some-clause-bytes
 returns-in-Some-clause-bytes c = λ profile events viable stands.

@@ -2,7 +2,7 @@ use Rattle.std.proofs.Common.{◌++◌, ◌∷◌, [], inl, inr, subst, sym}
 use Rattle.pmb_bus.specs.declared.event.Event.{Event}
 use Rattle.pmb_partial_packet.specs.machine.Keeping.{SaidStandsAt}
 use Rattle.pmb_partial_packet.proofs.Stands.{stands_at_ack, stands_at_nack, stands_at_stop}
-use Rattle.pmb_partial_packet.proofs.partial_packet.Said.take.Goals as goal
+use Rattle.pmb_partial_packet.proofs.partial_packet.PartialPacket.take.Goals as goal
 
 pub returns-in-Ack : goal.returns-in-Ack
 returns-in-Ack c = λ events stands.

@@ -1,6 +1,6 @@
 use Rattle.std.proofs.Common.{sym, ◌∙◌}
 use Rattle.pmb_partial_packet.proofs.Stands.{stands_at_byte, stands_at_lone_byte}
-use Rattle.pmb_partial_packet.proofs.partial_packet.Said.take_byte.Goals as goal
+use Rattle.pmb_partial_packet.proofs.partial_packet.PartialPacket.take_byte.Goals as goal
 
 pub returns-in-Absent : goal.returns-in-Absent
 returns-in-Absent c = λ events stands.

@@ -5,7 +5,7 @@ use Rattle.pmb_transaction.specs.declared.transaction.Transaction.{Transaction}
 use Rattle.pmb_transaction.specs.Transaction.{PartData, Write, part_data}
 use Rattle.pmb_transaction_slot.specs.TransactionSlot.{KeptData}
 use Rattle.pmb_transaction_slot.specs.TransactionKind.{parts_of}
-use Rattle.pmb_transaction_slot.proofs.transaction_slot.Kept.end_write.Goals as goal
+use Rattle.pmb_transaction_slot.proofs.transaction_slot.TransactionSlot.end_write.Goals as goal
 
 pub returns : goal.returns
 returns c =

@@ -4,7 +4,7 @@ use Rattle.pmb_transaction.specs.Transaction.{PartData}
 use Rattle.pmb_transaction.specs.Packet.{addresses}
 use Rattle.pmb_transaction_slot.specs.TransactionSlot.{KeptData}
 use Rattle.pmb_transaction_slot.proofs.FoundParts.{found_part}
-use Rattle.pmb_transaction_slot.proofs.transaction_slot.Kept.has_part_at.Goals as goal
+use Rattle.pmb_transaction_slot.proofs.transaction_slot.TransactionSlot.has_part_at.Goals as goal
 
 pub returns-then-part-addr : goal.returns-then-part-addr
 returns-then-part-addr c =

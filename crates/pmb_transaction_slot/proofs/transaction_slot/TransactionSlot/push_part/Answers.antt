@@ -4,7 +4,7 @@ use Rattle.pmb_transaction.specs.declared.transaction.Transaction.{Transaction}
 use Rattle.pmb_transaction.specs.Transaction.{PartData, part_data}
 use Rattle.pmb_transaction_slot.specs.TransactionSlot.{KeptData}
 use Rattle.pmb_transaction_slot.specs.TransactionKind.{parts_of}
-use Rattle.pmb_transaction_slot.proofs.transaction_slot.Kept.push_part.Goals as goal
+use Rattle.pmb_transaction_slot.proofs.transaction_slot.TransactionSlot.push_part.Goals as goal
 
 pub returns : goal.returns
 returns c =

@@ -6,7 +6,7 @@ use Rattle.pmb_bus.specs.Event.{canonical_text, text_of}
 use Rattle.pmb_bus.specs.declared.event.Event.TheVariants.{Stop}
 use Rattle.pmb_transaction.specs.Transaction.{part_data}
 use Rattle.pmb_writer.specs.machine.Legs.{LegData, leg_data, legs_events, part_leg}
-use Rattle.pmb_writer.proofs.legs.Legs.append.Goals as goal
+use Rattle.pmb_writer.proofs.legs.LegsToCome.append.Goals as goal
 
 -- STOP is left after the last leg
 stop_left : (text : List ℕ) (crc : ℕ) → text ++ text_of Stop ≡ text ++ canonical_text (legs_events true crc [])

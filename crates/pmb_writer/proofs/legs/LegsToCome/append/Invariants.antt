@@ -2,7 +2,7 @@ use Rattle.std.proofs.Common.{◌≡◌, ◌++◌, ◌+◌, ◌*◌, ◌≤◌, 
 use Rattle.pmb_bus.specs.Event.{canonical_text}
 use Rattle.pmb_transaction.specs.Transaction.{part_data}
 use Rattle.pmb_writer.specs.machine.Legs.{LegData, legs_events, part_leg}
-use Rattle.pmb_writer.proofs.legs.Legs.append.Given as goal
+use Rattle.pmb_writer.proofs.legs.LegsToCome.append.Given as goal
 
 -- The text so far and that of the legs that are left is the text of all.
 abbrev pub invariant-loop-part : goal.invariant-loop-part

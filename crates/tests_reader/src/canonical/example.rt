@@ -1,7 +1,7 @@
 //! The program of `pmb_canonical`'s documentation, and its law.
 
 use crate::compare::same;
-use pmb_canonical::{Common, TakenPacket, laws};
+use pmb_canonical::{CanonicalReader, TakenPacket, laws};
 use pmb_line::line_of;
 use pmb_table::{Profile, SAMPLE};
 use pmb_transaction_slot::TransactionSlot;
@@ -10,9 +10,9 @@ use std::test::Fail;
 #[test]
 fn takes_a_write(rt: HostRuntime) -> Result<(), Fail> {
     let profile = Profile::from_toml(rt.alloc(), SAMPLE.as_bytes())?;
-    let mut common = Common::new();
+    let mut canonical = CanonicalReader::new();
     let mut kept = TransactionSlot::new();
-    let taken = common.take(&mut kept, &profile, b"S b0 A 03 A P\nS b0 ");
+    let taken = canonical.take(&mut kept, &profile, b"S b0 A 03 A P\nS b0 ");
     same(
         &rt,
         "a packet",
@@ -31,7 +31,7 @@ fn takes_a_write(rt: HostRuntime) -> Result<(), Fail> {
     same(
         &rt,
         "no whole packet",
-        common.take(&mut kept, &profile, b"S b0 "),
+        canonical.take(&mut kept, &profile, b"S b0 "),
         None,
     );
     Ok(())
@@ -39,5 +39,5 @@ fn takes_a_write(rt: HostRuntime) -> Result<(), Fail> {
 
 #[test]
 fn calls_the_law() {
-    laws::common_packets_are_read();
+    laws::canonical_packets_are_read();
 }

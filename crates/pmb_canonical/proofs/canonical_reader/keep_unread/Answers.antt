@@ -1,7 +1,7 @@
 use Rattle.std.proofs.Common.{◌≡◌, true, [], ◌∙◌}
 use Rattle.pmb_transaction.specs.Transaction.{Refused}
-use Rattle.pmb_canonical.proofs.CommonLegs.{refused_alone, takes_unread}
-use Rattle.pmb_canonical.proofs.common.keep_unread.Goals as goal
+use Rattle.pmb_canonical.proofs.PacketLegs.{refused_alone, takes_unread}
+use Rattle.pmb_canonical.proofs.canonical_reader.keep_unread.Goals as goal
 
 pub returns-in_err-sent-clause-answers : goal.returns-in_err-sent-clause-answers
 returns-in_err-sent-clause-answers c say = absurd (cc (c.in_err-sent.ensures.found say.0 say.1 say.2))

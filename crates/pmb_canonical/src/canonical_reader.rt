@@ -6,7 +6,7 @@
 
 ghost use Rattle.std.specs.Prelude.{◌≡◌, ◌<◌, ◌≤◌, ◌+◌, ◌*◌, ◌++◌, List, ℕ, IsSome, IfSome, length};
 ghost use Rattle.pmb_bus.specs.Event.{canonical_text};
-ghost use Rattle.pmb_canonical.specs.Common.{BeginsCommon, TakesPacket};
+ghost use Rattle.pmb_canonical.specs.Canonical.{BeginsWithPacket, TakesPacket};
 ghost use Rattle.pmb_canonical.specs.declared.legs.PacketShape.TheVariants.{Both, Nacked, Written};
 ghost use Rattle.pmb_canonical.specs.Groups.{SaysPart};
 ghost use Rattle.pmb_canonical.specs.Legs.{BeginsWithLegs, SayBoth, SayLegs, SayUnread, SaysAlone, least, leg_events};
@@ -32,22 +32,22 @@ pub struct TakenPacket {
     pub events: usize,
 }
 
-/// Takes common packets at once. What is kept of one is kept elsewhere: this has the room in which
+/// Takes canonical packets at once. What is kept of one is kept elsewhere: this has the room in which
 /// the bytes of a packet are collected.
 #[derive(Drop)]
-pub struct Common {
+pub struct CanonicalReader {
     bytes: PacketBytes,
 }
 
-impl Common {
+impl CanonicalReader {
     /// Nothing is collected.
-    pub fn new() -> Common {
-        Common {
+    pub fn new() -> CanonicalReader {
+        CanonicalReader {
             bytes: PacketBytes::new(),
         }
     }
 
-    /// Takes the common packet at the front of a text that begins between two packets, and keeps
+    /// Takes the canonical packet at the front of a text that begins between two packets, and keeps
     /// its transaction as the one that ended last. It returns `None` where none lies whole in
     /// front; what is kept can have changed then too.
     pub fn take(
@@ -59,8 +59,8 @@ impl Common {
         ensures takes { IfSome result (λ taken. TakesPacket profile.now text.now taken.used taken.events kept.new.last) }
         ensures some { IfSome result (λ taken. 0 < taken.used) }
         ensures within { IfSome result (λ taken. taken.used ≤ length text.now) }
-        // A common packet that lies whole in front is taken.
-        ensures answers { BeginsCommon profile.now text.now → IsSome result }
+        // A canonical packet that lies whole in front is taken.
+        ensures answers { BeginsWithPacket profile.now text.now → IsSome result }
     {
         accepted_bus(profile);
         packets_are_bytes();

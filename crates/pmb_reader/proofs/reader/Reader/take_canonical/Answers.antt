@@ -1,9 +1,9 @@
 use Rattle.std.proofs.Common.{◌≡◌, Option, Some, None, ◌↔◌, IsSome, ap, refl, subst, sym}
-use Rattle.pmb_canonical.specs.declared.common.TakenPacket.{TakenPacket}
-use Rattle.pmb_canonical.specs.Common.{BeginsCommon}
+use Rattle.pmb_canonical.specs.declared.canonical_reader.TakenPacket.{TakenPacket}
+use Rattle.pmb_canonical.specs.Canonical.{BeginsWithPacket}
 use Rattle.pmb_reader.specs.Reader.{IsBetween}
 use Rattle.pmb_reader.proofs.Modes.{not_between, while_open}
-use Rattle.pmb_reader.proofs.reader.Reader.take_common.Goals as goal
+use Rattle.pmb_reader.proofs.reader.Reader.take_canonical.Goals as goal
 
 pub returns-in_default-clause-answers : goal.returns-in_default-clause-answers
 returns-in_default-clause-answers c = λ profile standing stands. (
@@ -14,11 +14,11 @@ returns-in_default-clause-answers c = λ profile standing stands. (
 
 pub returns-in_err-taken-clause-answers : goal.returns-in_err-taken-clause-answers
 returns-in_err-taken-clause-answers c = λ profile standing stands.
-    subst (λ (o : Option TakenPacket). IsSome o ↔ (IsBetween standing × BeginsCommon profile c.args.text.now))
+    subst (λ (o : Option TakenPacket). IsSome o ↔ (IsBetween standing × BeginsWithPacket profile c.args.text.now))
     (sym c.from_residual.ensures)
     (
     while_open profile c.args.self.now (λ s. IsSome {T = TakenPacket} None
-    ↔ (IsBetween s × BeginsCommon profile c.args.text.now)) c.in-Open.is
+    ↔ (IsBetween s × BeginsWithPacket profile c.args.text.now)) c.in-Open.is
     (λ n events at. c.in_err-taken.ensures.answers profile events at.inside) standing stands
     )
 
@@ -26,7 +26,7 @@ pub returns-in_err-taken-clause-elsewhere : goal.returns-in_err-taken-clause-els
 returns-in_err-taken-clause-elsewhere c = λ profile standing stands other.
     ap (λ u. record c.args.self.now { under_way = u })
     (
-    while_open profile c.args.self.now (λ s. (IsBetween s → ⊥) → c.take_common.new.self ≡ c.args.self.now.under_way)
+    while_open profile c.args.self.now (λ s. (IsBetween s → ⊥) → c.take_canonical.new.self ≡ c.args.self.now.under_way)
     c.in-Open.is
     (λ n events at inside. c.in_err-taken.ensures.inside profile events at.inside inside) standing stands other
     )
@@ -34,7 +34,7 @@ returns-in_err-taken-clause-elsewhere c = λ profile standing stands other.
 pub returns-clause-answers : goal.returns-clause-answers
 returns-clause-answers c = λ profile.
     while_open profile c.args.self.now (λ s. IsSome (Some c.in_ok-taken.taken)
-    ↔ (IsBetween s × BeginsCommon profile c.args.text.now)) c.in-Open.is
+    ↔ (IsBetween s × BeginsWithPacket profile c.args.text.now)) c.in-Open.is
     (λ n events stands. c.in_ok-taken.ensures.answers profile events stands.inside)
 
 pub returns-clause-elsewhere : goal.returns-clause-elsewhere

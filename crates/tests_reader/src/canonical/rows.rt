@@ -5,7 +5,7 @@
 //! over the bytes before them (SMBus 3.0 section 6.4), in a group over those of their own part.
 
 use crate::compare::same;
-use pmb_canonical::{Common, TakenPacket};
+use pmb_canonical::{CanonicalReader, TakenPacket};
 use pmb_line::line_of;
 use pmb_table::{Profile, SAMPLE};
 use pmb_transaction_slot::TransactionSlot;
@@ -235,10 +235,10 @@ const NOT_TAKEN: [&str; 74] = [
 #[test]
 fn takes_each_row(rt: HostRuntime) -> Result<(), Fail> {
     let profile = Profile::from_toml(rt.alloc(), SAMPLE.as_bytes())?;
-    let mut common = Common::new();
+    let mut canonical = CanonicalReader::new();
     let mut kept = TransactionSlot::new();
     for (text, used, events, line) in TAKEN {
-        let taken = common.take(&mut kept, &profile, text.as_bytes());
+        let taken = canonical.take(&mut kept, &profile, text.as_bytes());
         same(&rt, text, taken, Some(TakenPacket { used, events }));
         same(&rt, text, line_of(kept.last()).as_str(), line);
     }
@@ -248,13 +248,13 @@ fn takes_each_row(rt: HostRuntime) -> Result<(), Fail> {
 #[test]
 fn leaves_each_row(rt: HostRuntime) -> Result<(), Fail> {
     let profile = Profile::from_toml(rt.alloc(), SAMPLE.as_bytes())?;
-    let mut common = Common::new();
+    let mut canonical = CanonicalReader::new();
     let mut kept = TransactionSlot::new();
     for text in NOT_TAKEN {
         same(
             &rt,
             text,
-            common.take(&mut kept, &profile, text.as_bytes()),
+            canonical.take(&mut kept, &profile, text.as_bytes()),
             None,
         );
     }
@@ -288,7 +288,7 @@ fn group(alloc: Global, count: u8, end: &str) -> Result<String, AllocError> {
 fn takes_sixteen_parts(rt: HostRuntime) -> Result<(), Fail> {
     let alloc = rt.alloc();
     let profile = Profile::from_toml(alloc, devices(alloc, 17)?.as_bytes())?;
-    let mut common = Common::new();
+    let mut canonical = CanonicalReader::new();
     let mut kept = TransactionSlot::new();
     let sixteen = TakenPacket {
         used: 194,
@@ -297,13 +297,13 @@ fn takes_sixteen_parts(rt: HostRuntime) -> Result<(), Fail> {
     same(
         &rt,
         "16 parts",
-        common.take(&mut kept, &profile, group(alloc, 16, "P\n")?.as_bytes()),
+        canonical.take(&mut kept, &profile, group(alloc, 16, "P\n")?.as_bytes()),
         Some(sixteen),
     );
     same(
         &rt,
         "17 parts",
-        common.take(&mut kept, &profile, group(alloc, 17, "P\n")?.as_bytes()),
+        canonical.take(&mut kept, &profile, group(alloc, 17, "P\n")?.as_bytes()),
         None,
     );
     Ok(())
@@ -313,7 +313,7 @@ fn takes_sixteen_parts(rt: HostRuntime) -> Result<(), Fail> {
 fn takes_what_is_refused_after_fifteen_parts(rt: HostRuntime) -> Result<(), Fail> {
     let alloc = rt.alloc();
     let profile = Profile::from_toml(alloc, devices(alloc, 17)?.as_bytes())?;
-    let mut common = Common::new();
+    let mut canonical = CanonicalReader::new();
     let mut kept = TransactionSlot::new();
     let refused = TakenPacket {
         used: 189,
@@ -322,7 +322,7 @@ fn takes_what_is_refused_after_fifteen_parts(rt: HostRuntime) -> Result<(), Fail
     same(
         &rt,
         "15 parts and a refused one",
-        common.take(
+        canonical.take(
             &mut kept,
             &profile,
             group(alloc, 15, "S 40 N P\n")?.as_bytes(),
@@ -332,7 +332,7 @@ fn takes_what_is_refused_after_fifteen_parts(rt: HostRuntime) -> Result<(), Fail
     same(
         &rt,
         "16 parts and a refused one",
-        common.take(
+        canonical.take(
             &mut kept,
             &profile,
             group(alloc, 16, "S 40 N P\n")?.as_bytes(),
@@ -349,7 +349,7 @@ const FULL_BLOCKS_PEC: &str = "ad";
 #[test]
 fn takes_two_full_blocks(rt: HostRuntime) -> Result<(), Fail> {
     let profile = Profile::from_toml(rt.alloc(), SAMPLE.as_bytes())?;
-    let mut common = Common::new();
+    let mut canonical = CanonicalReader::new();
     let mut kept = TransactionSlot::new();
     let mut text = String::new(rt.alloc());
     text.push_str("S b0 A 30 A ff A ")?;
@@ -366,7 +366,7 @@ fn takes_two_full_blocks(rt: HostRuntime) -> Result<(), Fail> {
     same(
         &rt,
         "the longest packet",
-        common.take(&mut kept, &profile, text.as_bytes()),
+        canonical.take(&mut kept, &profile, text.as_bytes()),
         Some(TakenPacket {
             used: 2586,
             events: 1035,

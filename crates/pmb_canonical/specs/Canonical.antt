@@ -1,4 +1,4 @@
--- Common packets, and what it means that one is taken at once from a text.
+-- What it means that a packet is taken at once from a text.
 use Rattle.std.specs.Prelude.{◌≡◌, ℕ, ◌+◌, Bool, true, false, Some, List, [], ◌∷◌, ◌++◌, length, take, drop}
 use Rattle.pmb_bus.specs.declared.event.Event.{Event}
 use Rattle.pmb_bus.specs.declared.event.Event.TheVariants.{Start, Stop}
@@ -13,38 +13,10 @@ use Rattle.pmb_transaction.specs.Transaction.{Call, Refused, Alert, NoAlert}
 use Rattle.pmb_transaction.specs.Body.{forms, checked, WriteBody, IsInsideBody, IsRequest}
 use Rattle.pmb_transaction.specs.Packet.{Packet, leg, nacked}
 
--- The table of the transactions whose packets are taken at once. Each packet has its row, as the law
--- `packets_are_common` says. Data have any form, with or without a packet error code (SMBus 3.0
--- section 6.5). Each byte is acknowledged, but for the last one that is read, and for what a row says
--- is refused. Parts of a group may come before that, but not before a device that refuses to be read.
--- At the Alert Response Address a device answers, or none does.
-pub data IsCommon : TransactionData → Type 0 where
-  -- S addr+W A code A data A .. [pec A] [S addr+W A code A data A .. [pec A]] .. P
-  parts_written : (parts : List PartData) → IsCommon (Write parts)
-  -- S addr+W A code A S addr+R A reply A .. [pec] N P
-  device_read : (t : ReadData) → IsCommon (Read t)
-  -- S addr+W A code A data A .. S addr+R A reply A .. [pec] N P
-  device_called : (t : CallData) → IsCommon (Call t)
-  -- [S addr+W A code A data A .. [pec A]] .. S addr+W N P
-  address_refused : (parts : List PartData) (addr : ℕ)
-      → IsCommon (Refused (record { parts = parts; addr = addr; sent = []; at_read = false }))
-  -- [S addr+W A code A data A .. [pec A]] .. S addr+W A sent A .. sent N P
-  byte_refused : (parts : List PartData) (addr : ℕ) (first : ℕ) (more : List ℕ)
-      → IsCommon (Refused (record { parts = parts; addr = addr; sent = first ∷ more; at_read = false }))
-  -- S addr+W A sent A .. S addr+R N P
-  read_refused : (addr : ℕ) (sent : List ℕ)
-      → IsCommon (Refused (record { parts = []; addr = addr; sent = sent; at_read = true }))
-  -- S 19 A byte N P
-  -- S 19 A byte A pec N P
-  device_alerted : (t : AlertData) → IsCommon (Alert t)
-  -- S 19 N P
-  none_alerted : IsCommon NoAlert
-
--- A text begins with the text of a common packet, the canonical text of its events: so many bytes,
--- and so many events.
+-- A text begins with the canonical text of a packet: that many bytes, and that many events. Each
+-- packet can stand there.
 pub record TakesPacket (profile : List DeviceParts) (text : List ℕ) (used : ℕ) (count : ℕ)
     (t : TransactionData) : Type 0 where
-  pub common : IsCommon t
   pub events : List Event
   pub packet : Packet profile t events
   pub rest : List ℕ
@@ -52,9 +24,9 @@ pub record TakesPacket (profile : List DeviceParts) (text : List ℕ) (used : �
   pub bytes : used ≡ length (canonical_text events)
   pub all : count ≡ length events
 
--- a text begins with the text of some common packet
-abbrev pub BeginsCommon : List DeviceParts → List ℕ → Type 0
-BeginsCommon profile text = (used : ℕ) × (count : ℕ) × (t : TransactionData) × TakesPacket profile text used count t
+-- a text begins with the canonical text of some packet
+abbrev pub BeginsWithPacket : List DeviceParts → List ℕ → Type 0
+BeginsWithPacket profile text = (used : ℕ) × (count : ℕ) × (t : TransactionData) × TakesPacket profile text used count t
 
 -- ---- the bytes of a packet, its address bytes too
 

@@ -3,13 +3,13 @@ use Rattle.std.proofs.lemmas.Option.{same_Some}
 use Rattle.pmb_canonical.specs.declared.legs.PacketShape.{PacketShape}
 use Rattle.pmb_canonical.specs.Legs.{SayLegs}
 use Rattle.pmb_canonical.proofs.Between.{within_text}
-use Rattle.pmb_canonical.proofs.CommonLegs.{common_legs}
-use Rattle.pmb_canonical.proofs.common.Common.take.Goals as goal
+use Rattle.pmb_canonical.proofs.PacketLegs.{packet_legs}
+use Rattle.pmb_canonical.proofs.canonical_reader.CanonicalReader.take.Goals as goal
 
 pub returns-in_err-legs-clause-answers : goal.returns-in_err-legs-clause-answers
 returns-in_err-legs-clause-answers c begins =
     let bus = c.accepted_bus.ensures in
-    let there = common_legs c.args.profile.now bus
+    let there = packet_legs c.args.profile.now bus
     (λ t events packet. c.packets_are_bytes.ensures c.args.profile.now t events bus packet)
     c.bodies_are_short.ensures.front c.bodies_are_short.ensures.body c.args.text.now begins in
     absurd (cc ((c.in_err-legs.ensures.found there.legs there.all there.rest there.are there.follows there.split).0))
@@ -17,7 +17,7 @@ returns-in_err-legs-clause-answers c begins =
 pub returns-clause-answers : goal.returns-clause-answers
 returns-clause-answers c begins =
     let bus = c.accepted_bus.ensures in
-    let there = common_legs c.args.profile.now bus
+    let there = packet_legs c.args.profile.now bus
     (λ t events packet. c.packets_are_bytes.ensures c.args.profile.now t events bus packet)
     c.bodies_are_short.ensures.front c.bodies_are_short.ensures.body c.args.text.now begins in
     let found = c.in_ok-legs.ensures.found there.legs there.all there.rest there.are there.follows there.split in

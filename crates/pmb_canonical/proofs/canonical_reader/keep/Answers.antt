@@ -4,7 +4,7 @@ use Rattle.pmb_canonical.specs.declared.legs.PacketShape.{PacketShape}
 use Rattle.pmb_canonical.specs.declared.legs.PacketShape.TheVariants.{Both, Nacked, Written}
 use Rattle.pmb_canonical.specs.Groups.{SaysPart}
 use Rattle.pmb_canonical.specs.Legs.{BeginsWithLegs, SayBoth, SayLegs, SaysAlone, least, leg_events}
-use Rattle.pmb_canonical.proofs.common.keep.Goals as goal
+use Rattle.pmb_canonical.proofs.canonical_reader.keep.Goals as goal
 
 pub returns-in-Written-clause-takes : goal.returns-in-Written-clause-takes
 returns-in-Written-clause-takes c =

@@ -1,11 +1,11 @@
 use Rattle.std.proofs.Common.{List, [], subst, sym}
 use Rattle.pmb_command.specs.Parts.{DeviceParts}
-use Rattle.pmb_canonical.specs.Common.{BeginsCommon}
+use Rattle.pmb_canonical.specs.Canonical.{BeginsWithPacket}
 use Rattle.pmb_packet_state.specs.declared.packet_state.PacketPlace.TheVariants as places
 use Rattle.pmb_packet_state.proofs.Ends.{some_events}
 use Rattle.pmb_packet_state.proofs.Steps.{at_place, restarts}
 use Rattle.pmb_packet_state.proofs.Wholes.{takes_begin, takes_of_profile}
-use Rattle.pmb_packet_state.proofs.packet_state.UnderWay.take_common.Goals as goal
+use Rattle.pmb_packet_state.proofs.packet_state.PacketState.take_canonical.Goals as goal
 
 pub returns-in_default-clause-answers : goal.returns-in_default-clause-answers
 returns-in_default-clause-answers c = λ profile events stands. (
@@ -25,7 +25,7 @@ returns-clause-answers c = λ profile events stands.
     let takes = takes_of_profile c.args.self.now.profile.now profile c.args.text.now c.take.new.kept.last c.take.result
     stands.known c.take.ensures.takes in (
       λ some. (none, takes_begin profile c.args.text.now c.take.new.kept.last c.take.result takes some),
-      λ both. c.take.ensures.answers (subst (λ (p : List DeviceParts). BeginsCommon p c.args.text.now)
+      λ both. c.take.ensures.answers (subst (λ (p : List DeviceParts). BeginsWithPacket p c.args.text.now)
           (sym stands.known) both.1),
     )
 

@@ -1,4 +1,4 @@
--- The legs of common packets, and the packets of such legs.
+-- The legs of canonical packets, and the packets of such legs.
 use Rattle.std.proofs.Common.{◌≡◌, ℕ, ◌+◌, ◌*◌, ◌%◌, ◌≤◌, ◌<◌, inl, inr, Bool, true, false, List, [], ◌∷◌, ◌++◌, length}
 use Rattle.std.proofs.Common.{nat_eq, refl, sym, ap, subst, ◌∙◌, arith, append_assoc, length-append}
 use Rattle.std.proofs.lemmas.List.{append-nil}
@@ -20,9 +20,8 @@ use Rattle.pmb_transaction.specs.Packet.{Packet, PartEvents, PartsEvents, ReadRe
 use Rattle.pmb_canonical.specs.declared.legs.PacketShape.{PacketShape}
 use Rattle.pmb_canonical.specs.declared.legs.PacketShape.TheVariants.{Written, Both, Group, Nacked}
 use Rattle.pmb_canonical.specs.Alerts.{alert_bytes}
-use Rattle.pmb_canonical.specs.Common.{BeginsCommon, IsCommon, OneCalled, OneRead, OneReadRefused, OneWritten}
-use Rattle.pmb_canonical.specs.Common.{TakesPacket, address_refused, byte_refused, device_alerted, device_called}
-use Rattle.pmb_canonical.specs.Common.{device_read, nacked_leg, none_alerted, parts_written, read_events, read_refused}
+use Rattle.pmb_canonical.specs.Canonical.{BeginsWithPacket, OneCalled, OneRead, OneReadRefused, OneWritten}
+use Rattle.pmb_canonical.specs.Canonical.{TakesPacket, nacked_leg, read_events}
 use Rattle.pmb_canonical.specs.Groups.{MoreParts}
 use Rattle.pmb_canonical.specs.Legs.{BeginsOdd, Follows, IsOfLegs, SayBoth, SayLegs, SaysAlone, leg_events}
 use Rattle.pmb_canonical.specs.Nacked.{SaysNacked}
@@ -49,7 +48,6 @@ pub takes_write : (profile : List DeviceParts) (text rest : List ℕ) (address c
     → TakesPacket profile text used count (Write
     (record { addr = address; code = code; bytes = data_bytes; pec = with_pec } ∷ []))
 takes_write profile text rest address code data_bytes with_pec bytes used count says split long many = record {
-  common = parts_written (record { addr = address; code = code; bytes = data_bytes; pec = with_pec } ∷ []);
   events = leg bytes ++ Stop ∷ [];
   packet = record {
     some = omega arith;
@@ -89,18 +87,17 @@ length-both front second = omega (
 
 -- the packet of both legs
 takes_both : (profile : List DeviceParts) (text rest : List ℕ) (t : TransactionData) (front second bytes : List ℕ)
-    (written used count : ℕ) → IsCommon t → Packet profile t (both front second) → bytes ≡ front ++ second
+    (written used count : ℕ) → Packet profile t (both front second) → bytes ≡ front ++ second
     → written ≡ length front
     → text ≡ canonical_text (leg_events (Both written) bytes) ++ rest → used ≡ 6 + 5 * length bytes
     → count ≡ 3 + 2 * length bytes
     → TakesPacket profile text used count t
-takes_both profile text rest t front second bytes written used count common packet spelled long split used_bytes many =
+takes_both profile text rest t front second bytes written used count packet spelled long split used_bytes many =
     let same : read_events written bytes ≡ both front second =
     ap (λ (n : ℕ). read_events n bytes) long ∙ ap (read_events (length front)) spelled ∙ both_events front second in
     let bytes_long : length bytes ≡ length front + length second =
     omega (arith, ap length spelled, length-append front second) in
     record {
-      common = common;
       events = both front second;
       packet = packet;
       rest = rest;
@@ -130,7 +127,7 @@ takes_read profile text rest address code data_bytes with_pec bytes written used
     let front = write_address address ∷ code ∷ [] in
     let reply = checked with_pec (front ++ read_address address ∷ []) (wire says.form data_bytes) in
     let some_reply : 1 ≤ length reply = omega (arith, two, some, ap length says.spelled) in
-    takes_both profile text rest (Read t) front (read_address address ∷ reply) bytes written used count (device_read t)
+    takes_both profile text rest (Read t) front (read_address address ∷ reply) bytes written used count
     (record {
       device = says.device;
       form = says.form;
@@ -159,7 +156,6 @@ takes_call profile text rest address code sent data_bytes with_pec bytes written
     let some_reply : 1 ≤ length reply = omega
     (arith, long, some, ap length says.spelled, length-append front (read_address address ∷ reply)) in
     takes_both profile text rest (Call t) front (read_address address ∷ reply) bytes written used count
-    (device_called t)
     (record {
       device = says.device;
       form = says.form;
@@ -217,13 +213,13 @@ pub takes_unread : (profile : List DeviceParts) (text rest : List ℕ) (address 
 takes_unread profile text rest address sent bytes written used count says split used_bytes many =
     takes_both profile text rest (Refused (record { parts = []; addr = address; sent = sent; at_read = true }))
     (write_address address ∷ sent) (read_address address ∷ []) bytes
-    written used count (read_refused address sent) (read_packet profile address sent bytes written says)
+    written used count (read_packet profile address sent bytes written says)
     says.spelled (omega (arith, says.first)) split used_bytes many
 
 -- ---- from the packet to its legs
 
 -- The legs that stand at the front of a text, and what they say.
-pub record CommonLegs (profile : List DeviceParts) (text : List ℕ) : Type 0 where
+pub record PacketLegs (profile : List DeviceParts) (text : List ℕ) : Type 0 where
   pub legs : PacketShape
   pub all : List ℕ
   pub rest : List ℕ
@@ -295,7 +291,7 @@ module _ (profile : List DeviceParts) (bus : IsBus profile)
   -- that of a write of one part
   write_legs : (part : PartData) (events : List Event) (rest : List ℕ) → Packet profile (Write (part ∷ [])) events
       → text ≡ canonical_text events ++ rest
-      → CommonLegs profile text
+      → PacketLegs profile text
   write_legs part events rest packet split =
       let here = packet.each.3 in
       let all = write_address part.addr ∷ here.body in
@@ -331,7 +327,7 @@ module _ (profile : List DeviceParts) (bus : IsBus profile)
       (rest : List ℕ)
       → AreBytes (leg (write_address part.addr ∷ here.body) ++ behind) → BeginsLeg behind
       → MoreParts profile (part.addr ∷ []) (canonical_text behind ++ rest)
-      → text ≡ canonical_text (leg (write_address part.addr ∷ here.body) ++ behind) ++ rest → CommonLegs profile text
+      → text ≡ canonical_text (leg (write_address part.addr ∷ here.body) ++ behind) ++ rest → PacketLegs profile text
   first_leg part own here behind rest small begins more split =
       let all = write_address part.addr ∷ here.body in
       let begun = write_address begins.0 in
@@ -378,7 +374,7 @@ module _ (profile : List DeviceParts) (bus : IsBus profile)
 
   group_legs : (part next : PartData) (more : List PartData) (events : List Event) (rest : List ℕ)
       → Packet profile (Write (part ∷ next ∷ more)) events
-      → text ≡ canonical_text events ++ rest → CommonLegs profile text
+      → text ≡ canonical_text events ++ rest → PacketLegs profile text
   group_legs part next more events rest packet split =
       let here = packet.each.3 in
       let later = packet.each.1 in
@@ -410,7 +406,7 @@ module _ (profile : List DeviceParts) (bus : IsBus profile)
       (reply : List ℕ) → Packet profile t events
       → events ≡ both front (to_read ∷ reply) → length front + length reply ≤ 515
       → to_read % 2 ≡ 1 → SayBoth profile (length front) (front ++ to_read ∷ reply)
-      → text ≡ canonical_text events ++ rest → CommonLegs profile text
+      → text ≡ canonical_text events ++ rest → PacketLegs profile text
   both_legs t events rest front to_read reply packet spelled few odd say split =
       let all = front ++ to_read ∷ reply in
       let long : length all ≡ length front + 1 + length reply = omega (arith, length-append front (to_read ∷ reply)) in
@@ -433,7 +429,7 @@ module _ (profile : List DeviceParts) (bus : IsBus profile)
   -- those of a read
   read_legs : (t : ReadData) (events : List Event) (rest : List ℕ) → Packet profile (Read t) events
       → text ≡ canonical_text events ++ rest
-      → CommonLegs profile text
+      → PacketLegs profile text
   read_legs t events rest packet split =
       let front = write_address t.addr ∷ t.code ∷ [] in
       let before = front ++ read_address t.addr ∷ [] in
@@ -470,7 +466,7 @@ module _ (profile : List DeviceParts) (bus : IsBus profile)
   -- those of a call
   call_legs : (t : CallData) (events : List Event) (rest : List ℕ) → Packet profile (Call t) events
       → text ≡ canonical_text events ++ rest
-      → CommonLegs profile text
+      → PacketLegs profile text
   call_legs t events rest packet split =
       let front = write_address t.addr ∷ t.code ∷ wire packet.form t.bytes in
       let before = front ++ read_address t.addr ∷ [] in
@@ -518,7 +514,7 @@ module _ (profile : List DeviceParts) (bus : IsBus profile)
   nacked_legs : (t : TransactionData) (events : List Event) (rest : List ℕ) (all : List ℕ) → Packet profile t events
       → events ≡ nacked_leg all ++ Stop ∷ []
       → 1 ≤ length all → length all ≤ 516 → SaysAlone profile all → text ≡ canonical_text events ++ rest
-      → CommonLegs profile text
+      → PacketLegs profile text
   nacked_legs t events rest all packet spelled some few say split =
       let small : AreBytes (nacked all ++ Stop ∷ []) = subst AreBytes spelled (are_bytes t events packet) in
       record {
@@ -537,7 +533,7 @@ module _ (profile : List DeviceParts) (bus : IsBus profile)
       events)
       → packet.last ≡ nacked_leg (write_address address ∷ sent) → length sent ≤ 515
       → SaysNacked profile parts (write_address address ∷ sent)
-      → text ≡ canonical_text events ++ rest → CommonLegs profile text
+      → text ≡ canonical_text events ++ rest → PacketLegs profile text
   refused_legs [] address sent events rest packet spelled few says split =
       nacked_legs (Refused (record { parts = []; addr = address; sent = sent; at_read = false })) events rest
       (write_address address ∷ sent) packet
@@ -590,7 +586,7 @@ module _ (profile : List DeviceParts) (bus : IsBus profile)
   address_legs : (parts : List PartData) (address : ℕ) (events : List Event) (rest : List ℕ)
       → Packet profile (Refused (record { parts = parts; addr = address; sent = []; at_read = false })) events
       → text ≡ canonical_text events ++ rest
-      → CommonLegs profile text
+      → PacketLegs profile text
   address_legs parts address events rest packet split =
       refused_legs parts address [] events rest packet packet.refused.spelled (omega arith)
       (record {
@@ -606,7 +602,7 @@ module _ (profile : List DeviceParts) (bus : IsBus profile)
   byte_legs : (parts : List PartData) (address first : ℕ) (more : List ℕ) (events : List Event) (rest : List ℕ)
       → Packet profile (Refused (record { parts = parts; addr = address; sent = first ∷ more; at_read = false })) events
       → text ≡ canonical_text events ++ rest
-      → CommonLegs profile text
+      → PacketLegs profile text
   byte_legs parts address first more events rest packet split =
       let here = packet.refused in
       let few : length (first ∷ more) ≤ 258 =
@@ -639,7 +635,7 @@ module _ (profile : List DeviceParts) (bus : IsBus profile)
 
   -- of an alert
   alert_legs : (t : AlertData) (events : List Event) (rest : List ℕ) → Packet profile (Alert t) events
-      → text ≡ canonical_text events ++ rest → CommonLegs profile text
+      → text ≡ canonical_text events ++ rest → PacketLegs profile text
   alert_legs t events rest packet split =
       let reply = checked t.pec (to_alert ∷ []) (t.byte ∷ []) in
       nacked_legs (Alert t) events rest (alert_bytes t) packet
@@ -652,7 +648,7 @@ module _ (profile : List DeviceParts) (bus : IsBus profile)
       → Packet profile (Refused (record { parts = []; addr = address; sent = sent; at_read = true })) events
       → (refused : ReadRefused profile [] address sent last) → events ≡ last ++ Stop ∷ []
       → text ≡ canonical_text events ++ rest
-      → CommonLegs profile text
+      → PacketLegs profile text
   unread_legs address sent events rest last packet here spelled split =
       let front = write_address address ∷ sent in
       let few : length sent ≤ 258 = few_asked here.device [] sent (inr here.body) in
@@ -681,7 +677,7 @@ module _ (profile : List DeviceParts) (bus : IsBus profile)
   legs_of_unread : (address : ℕ) (sent : List ℕ) (events : List Event) (rest : List ℕ)
       → Packet profile (Refused (record { parts = []; addr = address; sent = sent; at_read = true })) events
       → text ≡ canonical_text events ++ rest
-      → CommonLegs profile text
+      → PacketLegs profile text
   legs_of_unread address [] events rest packet split =
       unread_legs address [] events rest packet.last packet packet.refused
       (packet.spelled ∙ ap (λ (l : List Event). l ++ packet.last ++ Stop ∷ []) packet.each) split
@@ -692,27 +688,41 @@ module _ (profile : List DeviceParts) (bus : IsBus profile)
   -- those of a write
   legs_of_write : (parts : List PartData) (events : List Event) (rest : List ℕ) → Packet profile (Write parts) events
       → text ≡ canonical_text events ++ rest
-      → CommonLegs profile text
+      → PacketLegs profile text
   legs_of_write [] events rest packet split = absurd (omega (arith, packet.some))
   legs_of_write (part ∷ []) events rest packet split = write_legs part events rest packet split
   legs_of_write (part ∷ next ∷ more) events rest packet split = group_legs part next more events rest packet split
 
-  legs_of : (t : TransactionData) (events : List Event) (rest : List ℕ) → IsCommon t → Packet profile t events
+  -- those of a refusal, by what was sent and whether reading was refused
+  legs_of_refused : (parts : List PartData) (address : ℕ) (sent : List ℕ) (at_read : Bool) (events : List Event)
+      (rest : List ℕ)
+      → Packet profile (Refused (record { parts = parts; addr = address; sent = sent; at_read = at_read })) events
       → text ≡ canonical_text events ++ rest
-      → CommonLegs profile text
-  legs_of t events rest (parts_written parts) packet split = legs_of_write parts events rest packet split
-  legs_of t events rest (device_read read) packet split = read_legs read events rest packet split
-  legs_of t events rest (device_called call) packet split = call_legs call events rest packet split
-  legs_of t events rest (address_refused parts address) packet split =
+      → PacketLegs profile text
+  legs_of_refused parts address [] false events rest packet split =
       address_legs parts address events rest packet split
-  legs_of t events rest (byte_refused parts address first more) packet split =
+  legs_of_refused parts address (first ∷ more) false events rest packet split =
       byte_legs parts address first more events rest packet split
-  legs_of t events rest (device_alerted alert) packet split = alert_legs alert events rest packet split
-  legs_of t events rest none_alerted packet split =
+  legs_of_refused [] address sent true events rest packet split =
+      legs_of_unread address sent events rest packet split
+  legs_of_refused (part ∷ parts) address [] true events rest packet split =
+      let clash : part ∷ parts ≡ [] = packet.refused.alone in absurd (cc clash)
+  legs_of_refused (part ∷ parts) address (first ∷ more) true events rest packet split =
+      let clash : part ∷ parts ≡ [] = packet.refused.alone in absurd (cc clash)
+
+  legs_of : (t : TransactionData) (events : List Event) (rest : List ℕ) → Packet profile t events
+      → text ≡ canonical_text events ++ rest
+      → PacketLegs profile text
+  legs_of (Write parts) events rest packet split = legs_of_write parts events rest packet split
+  legs_of (Read read) events rest packet split = read_legs read events rest packet split
+  legs_of (Call call) events rest packet split = call_legs call events rest packet split
+  legs_of (Refused t) events rest packet split =
+      legs_of_refused t.parts t.addr t.sent t.at_read events rest packet split
+  legs_of (Alert alert) events rest packet split = alert_legs alert events rest packet split
+  legs_of NoAlert events rest packet split =
       nacked_legs NoAlert events rest (to_alert ∷ []) packet packet (omega arith) (omega arith)
       (inr (NoAlert, inr (refl, refl))) split
-  legs_of t events rest (read_refused address sent) packet split = legs_of_unread address sent events rest packet split
 
-  -- The legs of a common packet at the front of a text.
-  pub common_legs : BeginsCommon profile text → CommonLegs profile text
-  common_legs begins = legs_of begins.2 begins.3.events begins.3.rest begins.3.common begins.3.packet begins.3.split
+  -- The legs of the packet at the front of a text.
+  pub packet_legs : BeginsWithPacket profile text → PacketLegs profile text
+  packet_legs begins = legs_of begins.2 begins.3.events begins.3.rest begins.3.packet begins.3.split

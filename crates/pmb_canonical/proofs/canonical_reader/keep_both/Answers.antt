@@ -1,9 +1,9 @@
 use Rattle.std.proofs.Common.{◌≡◌, ◌+◌, ℕ, Bool, List, inl, inr, length, arith}
 use Rattle.pmb_command.specs.Parts.{DeviceParts}
-use Rattle.pmb_canonical.specs.Common.{OneCalled, OneRead}
+use Rattle.pmb_canonical.specs.Canonical.{OneCalled, OneRead}
 use Rattle.pmb_canonical.specs.Legs.{SayBoth, SayRead, SayUnread}
-use Rattle.pmb_canonical.proofs.CommonLegs.{takes_call, takes_read}
-use Rattle.pmb_canonical.proofs.common.keep_both.Goals as goal
+use Rattle.pmb_canonical.proofs.PacketLegs.{takes_call, takes_read}
+use Rattle.pmb_canonical.proofs.canonical_reader.keep_both.Goals as goal
 
 -- both legs say that something is read, where there is more than an address byte in the second
 say_read : (profile : List DeviceParts) (written : ℕ) (bytes : List ℕ) → (length bytes ≡ written + 1 → ⊥)

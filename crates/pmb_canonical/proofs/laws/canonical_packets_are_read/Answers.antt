@@ -1,5 +1,5 @@
 use Rattle.pmb_canonical.proofs.Between.{ends_between, used_text}
-use Rattle.pmb_canonical.proofs.laws.common_packets_are_read.Goals as goal
+use Rattle.pmb_canonical.proofs.laws.canonical_packets_are_read.Goals as goal
 
 pub returns-clause-between : goal.returns-clause-between
 returns-clause-between c profile text used count t taken =

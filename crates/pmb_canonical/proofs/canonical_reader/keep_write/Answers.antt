@@ -1,5 +1,5 @@
-use Rattle.pmb_canonical.proofs.CommonLegs.{takes_write}
-use Rattle.pmb_canonical.proofs.common.keep_write.Goals as goal
+use Rattle.pmb_canonical.proofs.PacketLegs.{takes_write}
+use Rattle.pmb_canonical.proofs.canonical_reader.keep_write.Goals as goal
 
 pub returns-in_err-said-clause-answers : goal.returns-in_err-said-clause-answers
 returns-in_err-said-clause-answers c say = absurd (cc (c.in_err-said.ensures.found say.0 say.1 say.2 say.3 say.4))

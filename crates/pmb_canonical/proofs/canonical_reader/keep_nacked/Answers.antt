@@ -2,13 +2,13 @@ use Rattle.std.proofs.Common.{List, [], ◌∷◌, ◌++◌, ap, length, length-
 use Rattle.pmb_bus.specs.declared.event.Event.TheVariants.{Stop}
 use Rattle.pmb_bus.specs.Event.{canonical_text}
 use Rattle.pmb_transaction.specs.Transaction.{PartData}
-use Rattle.pmb_canonical.specs.Common.{nacked_leg}
+use Rattle.pmb_canonical.specs.Canonical.{nacked_leg}
 use Rattle.pmb_canonical.specs.Nacked.{IsOfNacked, SaysNacked}
 use Rattle.pmb_canonical.proofs.Alone.{refused_there, takes_alert}
 use Rattle.pmb_canonical.proofs.Ends.{length-nacked_leg_text}
 use Rattle.pmb_canonical.proofs.Groups.{none_taken}
 use Rattle.pmb_canonical.proofs.RefusedLegs.{takes_refused}
-use Rattle.pmb_canonical.proofs.common.keep_nacked.Goals as goal
+use Rattle.pmb_canonical.proofs.canonical_reader.keep_nacked.Goals as goal
 
 pub returns-then-keep_alert-clause-takes : goal.returns-then-keep_alert-clause-takes
 returns-then-keep_alert-clause-takes c text rest split =

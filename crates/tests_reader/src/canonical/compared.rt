@@ -4,7 +4,7 @@
 use crate::compare::{ensure, same};
 use plain_packets::{CapturedRow, LONG, LONG_FORMS, PACKETS, REFUSALS, events};
 use pmb_bus::{Event, Lexer, Step, event_text};
-use pmb_canonical::Common;
+use pmb_canonical::CanonicalReader;
 use pmb_line::line_of;
 use pmb_reader::{Reader, Took};
 use pmb_table::{Profile, SAMPLE};
@@ -45,13 +45,13 @@ fn first_packet<'p>(reader: &mut Reader<'p>, text: &[u8]) -> Option<(usize, usiz
 fn agree<R: Abort>(
     rt: &R,
     profile: &Profile,
-    common: &mut Common,
+    canonical: &mut CanonicalReader,
     kept: &mut TransactionSlot,
     text: &[u8],
 ) -> usize {
     let mut reader = Reader::new(profile);
     let slow = first_packet(&mut reader, text);
-    let fast = common.take(kept, profile, text);
+    let fast = canonical.take(kept, profile, text);
     match (slow, fast) {
         (Some((used, count)), Some(taken)) => {
             same(rt, "bytes used", taken.used, used);
@@ -84,7 +84,7 @@ fn compare<R: Abort>(
     rows: &[CapturedRow],
 ) -> Result<usize, Fail> {
     let profile = Profile::from_toml(alloc, profile.as_bytes())?;
-    let mut common = Common::new();
+    let mut canonical = CanonicalReader::new();
     let mut kept = TransactionSlot::new();
     let mut taken = 0usize;
     for row in rows {
@@ -96,7 +96,7 @@ fn compare<R: Abort>(
             taken = taken.saturating_add(agree(
                 rt,
                 &profile,
-                &mut common,
+                &mut canonical,
                 &mut kept,
                 text.as_bytes(),
             ));
