@@ -14,7 +14,6 @@
 #![tactic(auto)]
 
 mod coded;
-mod explanation;
 mod forms;
 mod initial;
 mod keyed;
@@ -22,10 +21,11 @@ mod keys;
 mod lines;
 mod mistakes;
 mod numbers;
+mod report;
 mod spelling;
 mod syntax;
 mod values;
 mod words;
 
-pub use explanation::{Explanation, FaultText, explanation, fault_text};
 pub use lines::{Hints, hints};
+pub use report::{Explanation, FaultText, explanation, fault_text};

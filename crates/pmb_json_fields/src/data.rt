@@ -14,7 +14,7 @@ use arrayvec::ArrayVec;
 use pmb_command::Kind;
 use pmb_decimal::Digits;
 use pmb_unknown_start::KnownMode;
-use pmb_value::{Direct, Linear11};
+use pmb_value::{Direct, Linear11, Sign};
 
 /// The most bytes of the members that [`data_members`] appends: those of 16 status bits.
 pub const DATA_MEMBERS: usize = 1702;

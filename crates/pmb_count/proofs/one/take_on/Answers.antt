@@ -7,14 +7,14 @@ use Rattle.pmb_reader.specs.Refusal.{refusal_data}
 use Rattle.pmb_count.proofs.Passed.{passed}
 use Rattle.pmb_count.proofs.one.take_on.Goals as goal
 
-pub returns-in-Continues : goal.returns-in-More
+pub returns-in-Continues : goal.returns-in-Continues
 returns-in-Continues c = λ profile events outcomes read. (
   [],
   refl,
   subst (λ (os : List Outcome). HasRead profile c.take.new.self (events ++ c.args.event ∷ []) AnyEvent os)
       (sym (append-nil outcomes))
       (c.reading_goes_on.ensures profile c.args.reader.now c.take.new.self events AnyEvent outcomes c.args.event read tt
-      (c.in-More.ensures profile)),
+      (c.in-Continues.ensures profile)),
 )
 
 pub returns-in-Packet : goal.returns-in-Packet

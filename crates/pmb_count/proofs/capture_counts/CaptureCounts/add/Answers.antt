@@ -5,9 +5,9 @@ use Rattle.pmb_count.specs.Count.{IsAdded}
 use Rattle.pmb_count.proofs.Sums.{none_more, packet_more, refusal_more}
 use Rattle.pmb_count.proofs.capture_counts.CaptureCounts.add.Goals as goal
 
-pub returns-in-More : goal.returns-in-More
-returns-in-More c = λ outcomes added is more.
-    none_more c.args.self outcomes added is (subst (λ (t : Took). IsAdded t added) c.in-More.is more)
+pub returns-in-Continues : goal.returns-in-Continues
+returns-in-Continues c = λ outcomes added is more.
+    none_more c.args.self outcomes added is (subst (λ (t : Took). IsAdded t added) c.in-Continues.is more)
 
 pub returns-in-Packet : goal.returns-in-Packet
 returns-in-Packet c = λ outcomes added is more.

@@ -8,7 +8,7 @@ loop-i-init c = fed_none c.args.self.now c.args.events.now (c.in_default.ensures
 pub loop-i-preserved : goal.loop-i-preserved
 loop-i-preserved c =
     fed_more c.args.self.now c.loop-i.self c.args.events.now c.loop-i.i _ c.loop-i.invariant c.loop-i-test.true
-    c.take.new.self c.in-More.ensures
+    c.take.new.self c.in-Continues.ensures
 
 pub returns-in-Packet : goal.returns-in-Packet
 returns-in-Packet c =

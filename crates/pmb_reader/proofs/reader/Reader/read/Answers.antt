@@ -25,8 +25,8 @@ returns-in-Packet c = λ profile n events stands.
       },
     )
 
-pub returns-in-No : goal.returns-in-No
-returns-in-No c = λ profile n events stands.
-    let moved = c.in-No.ensures profile events stands.inside in
+pub returns-in-Refused : goal.returns-in-Refused
+returns-in-Refused c = λ profile n events stands.
+    let moved = c.in-Refused.ensures profile events stands.inside in
     let inside = subst (λ u. StandsIn profile u events) (sym moved.1) stands.inside in
     c.refuse.ensures profile n events (record { mode = stands.mode; counted = stands.counted; inside = inside }) moved.0

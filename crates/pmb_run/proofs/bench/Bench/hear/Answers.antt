@@ -7,7 +7,7 @@ use Rattle.pmb_run.specs.machine.Bench.{HaveHeard, bench_profile}
 use Rattle.pmb_run.specs.declared.bench.Bench.{Bench}
 use Rattle.pmb_run.proofs.Hearing.{ends_none, event_at, heard_as, heard_other, heard_packet}
 use Rattle.pmb_run.proofs.bench.Bench.hear.Goals as goal
-use Rattle.pmb_run.proofs.bench.Bench.hear.Goals.{in-Packet, in-More}
+use Rattle.pmb_run.proofs.bench.Bench.hear.Goals.{in-Packet, in-Continues}
 
 -- The event goes on with what was heard, or ends its packet, which the context is then given.
 pub loop-event-preserved : goal.loop-event-preserved
@@ -34,7 +34,7 @@ loop-event-preserved c =
                 c.one_transaction.ensures c.no_packet_begins_another.ensures bus c.take.result w.in-Packet.is c.take.ensures
                 w.packet.ensures w.observe.ensures));
           }
-      | in-More w ↦ let now : Bench = record bench { reader = c.take.new.self } in record {
+      | in-Continues w ↦ let now : Bench = record bench { reader = c.take.new.self } in record {
         profile = ap (λ (b : Bench). b.profile) w.self-is ∙ c.loop-event.invariant.profile;
         bus = ap (λ (b : Bench). b.bus) w.self-is ∙ c.loop-event.invariant.bus;
         heard = λ ts n before heard.
@@ -42,7 +42,7 @@ loop-event-preserved c =
             (heard_as now ts n _ _ (grown before)
             (heard_other bench c.take.new.self event ts n (before ++ take i events)
             (c.loop-event.invariant.heard ts n before heard)
-            c.some_packet_is_read.ensures c.take.result (ends_none c.take.result w.in-More.is) c.take.ensures));
+            c.some_packet_is_read.ensures c.take.result (ends_none c.take.result w.in-Continues.is) c.take.ensures));
       }
     ]
 

@@ -7,8 +7,8 @@ use Rattle.pmb_scan.specs.Reached.{behind_event, behind_packet, behind_refusal}
 use Rattle.pmb_scan.proofs.scan.Scan.take_event.Goals as goal
 
 -- no text goes out
-pub returns-in-More-clause-takes : goal.returns-in-More-clause-takes
-returns-in-More-clause-takes g c start reached text read visited spells = record {
+pub returns-in-Continues-clause-takes : goal.returns-in-Continues-clause-takes
+returns-in-Continues-clause-takes g c start reached text read visited spells = record {
   text = [];
   writes = writes_nothing _ _;
   holds = record {
@@ -16,7 +16,7 @@ returns-in-More-clause-takes g c start reached text read visited spells = record
     profile = refl;
     same_text = refl;
     events = refl;
-    reads = c.in-More.ensures reached read;
+    reads = c.in-Continues.ensures reached read;
     visited = subst (λ t. g.V.Visitor.Stands start c.visit_event.new.self (behind_event reached c.args.event) t)
         (sym (append-nil text)) (c.visit_event.ensures start reached text visited spells);
   };
