@@ -62,7 +62,7 @@ pub fn report_text<E: Sink>(text: &str, err: &mut E)
 }
 
 /// Reports a fault on `err`, and returns its status.
-pub fn tell<E: Sink>(fault: ToolFault, err: &mut E) -> ExitStatus
+pub fn report<E: Sink>(fault: ToolFault, err: &mut E) -> ExitStatus
     ensures status { result ≡ status_of fault }
     ensures err_told { IsTold (E.told err.old) (E.told err.new) }
 {

@@ -1,5 +1,5 @@
 -- A whole canonical packet, told at once.
-use Rattle.std.proofs.Common.{◌≡◌, ℕ, true, false, zero, suc, ◌+◌, ◌<◌, ◌≤◌, List, [], ◌∷◌, ◌++◌, codes, length}
+use Rattle.std.proofs.Common.{◌≡◌, ℕ, Bool, true, false, zero, suc, ◌+◌, ◌<◌, ◌≤◌, List, [], ◌∷◌, ◌++◌, codes, length}
 use Rattle.std.proofs.Common.{slice_index_or, append-nil, append_assoc, length-append, refl, sym, ap, ◌∙◌, subst, arith}
 use Rattle.std.specs.List.{Contains}
 use Rattle.std.proofs.lemmas.Grind.{flat_map-append}
@@ -18,7 +18,8 @@ use Rattle.pmb_scan.specs.Reached.{Reached, behind_bytes, behind_event, behind_w
 use Rattle.pmb_spans.specs.Spans.{ReadSpan}
 use Rattle.pmb_transaction.specs.Capture.{EndsAtFirstStop, HasNoStop}
 use Rattle.pmb_transaction.specs.Packet.{Packet, PartsEvents}
-use Rattle.pmb_transaction.specs.Transaction.{PartData, RefusedData, TransactionData, Refused, Write}
+use Rattle.pmb_transaction.specs.Transaction.{PartData, RefusedData, TransactionData, Alert, Call, NoAlert, Read}
+use Rattle.pmb_transaction.specs.Transaction.{Refused, Write}
 use Rattle.pmb_json_stream.specs.declared.stream.Begun.{Begun}
 use Rattle.pmb_json_stream.specs.declared.stream.Stream.{Stream}
 use Rattle.pmb_json_stream.specs.Before.{Before, with_reached}
