@@ -154,7 +154,7 @@ def refused(rng):
 
 
 def broken(rng):
-    """What no packet goes on with, once for each reason."""
+    """Events that no packet can have there, once for each reason."""
     at = device(rng)
     address = 2 * DEVICES[at].address
     first, form = asked(rng, at)

@@ -35,7 +35,7 @@ extern "C" {
 /* The version of the library that is linked. */
 uint32_t pmb_version(void);
 
-/* What a call came to. */
+/* The status of a call. */
 enum pmb_status {
     PMB_OK = 0,
     /* The quantity is below every value, or above every value, of the format. */
@@ -75,8 +75,8 @@ enum pmb_status {
     PMB_BAD_PROFILE = 17,
     /* malloc or realloc had no memory. */
     PMB_NO_MEMORY = 18,
-    /* The choice: one of its numbers is none that its field has, or the address of a device that is
-     * wanted has more than seven bits. */
+    /* A field of pmb_choice is out of range, or the address of a wanted device has more than seven
+     * bits. */
     PMB_BAD_CHOICE = 19,
     /* No event has ended in the text so far. */
     PMB_NO_EVENT = 20,
@@ -105,7 +105,7 @@ enum pmb_kind {
     PMB_VOUT_SIGNED = 6
 };
 
-/* A number format: its kind, and the numbers that the kind asks for. Others count for nothing. */
+/* A number format: its kind, and the fields that the kind asks for. Other fields are ignored. */
 typedef struct pmb_format {
     uint8_t kind;    /* one of enum pmb_kind */
     int8_t exponent; /* of two, -16 to 15: PMB_LINEAR11_FIXED, PMB_ULINEAR16, PMB_SLINEAR16 */
@@ -231,7 +231,7 @@ enum pmb_fault {
     PMB_BAD_INITIAL = 15
 };
 
-/* What a call over a whole input came to. */
+/* The result of a call over a whole input. */
 typedef struct pmb_result {
     int32_t status;
     /* One of enum pmb_fault where the status is PMB_BAD_PROFILE, and else 0. */
@@ -269,7 +269,7 @@ size_t pmb_run(const char *profile, size_t profile_length, const char *requests,
  * their power-up; VOUT_MODE alone, which is the profile's on each page; or nothing. */
 enum pmb_start { PMB_ALL_KNOWN = 0, PMB_LATE_FIXED_MODE = 1, PMB_LATE = 2 };
 
-/* What is done after a word that is no token: reading ends, or goes on with the next line. */
+/* What is done after a word that is no token: reading ends, or continues with the next line. */
 enum pmb_bad_words { PMB_END = 0, PMB_GO_ON = 1 };
 
 /* How the objects of a capture are wanted. */
@@ -282,8 +282,8 @@ typedef struct pmb_choice {
 /* Writes the objects of a capture (docs/json.md), each as a line of JSON. Of packets and refusals
  * those of devices at the given addresses are wanted, and all where no address is given. An address
  * has seven bits: 58h, and not b0h.
- * The status is PMB_BAD_CHOICE, before all others, for a choice that says nothing, and for an
- * address over 7fh. */
+ * The status is PMB_BAD_CHOICE, before all others, for a choice with a field out of range, and for
+ * an address over 7fh. */
 size_t pmb_json(const char *profile, size_t profile_length, const char *capture,
                 size_t capture_length, const pmb_choice *choice, const uint8_t *devices,
                 size_t devices_length, char *out, size_t room, pmb_result *told);

@@ -118,7 +118,7 @@ def read_form(device, body):
 
 
 def may_follow(device, body, is_first_leg):
-    """The bytes with which some body goes on that is allowed in the leg."""
+    """The bytes that some body which is allowed in the leg can have here."""
     if not body:
         return {
             entry.code

@@ -35,7 +35,7 @@ def reply_form(profile, legs):
 
 
 def may_come(profile, legs, last):
-    """The events with which some packet goes on. `legs` has the bytes from each START, and `last`
+    """The events that some packet can have next. `legs` has the bytes from each START, and `last`
     is the last event; each byte before has its ACK."""
     if last is None:
         return {START}
@@ -136,7 +136,7 @@ def transaction_of(profile, legs, last):
 
 
 def reason_of(legs, last, event, allowed):
-    """Why no packet goes on with an event."""
+    """Why no packet can have an event at its place."""
     if is_byte(event) and any(is_byte(other) for other in allowed):
         if legs[-1]:
             return "BadPec"
@@ -164,7 +164,7 @@ class Packet(NamedTuple):
 
 
 class Refusal(NamedTuple):
-    """An event, or the end, that no packet goes on with, after legs of a packet under way."""
+    """An event, or the end, that no packet can have there, after legs of an unfinished packet."""
     at: int
     reason: str
     expected: list

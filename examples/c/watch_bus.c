@@ -18,7 +18,7 @@ static void take_event(pmb_event event)
 {
     switch (event.kind) {
     case PMB_START:
-        /* (a repeated START goes on with the packet) */
+        /* (a repeated START continues the packet) */
         break;
     case PMB_BYTE:
         crc = pmb_pec_next(crc, event.byte);

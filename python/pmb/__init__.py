@@ -521,9 +521,9 @@ def json(
 
     The objects of these devices are wanted, and all where none is named: addresses of seven bits,
     as 0x58, or in two hexadecimal digits, as an object has its `device`, "58". Numbers have at most
-    so many digits after the point, 0 to 12. `late` says that the capture begins in the middle, so
+    `digits` digits after the point, 0 to 12. `late` says that the capture begins in the middle, so
     that PAGE and VOUT_MODE are unknown at first; `fixed_vout_mode`, beside it, that VOUT_MODE is
-    the profile's; `keep_going` that reading goes on with the next line after a word that is no
+    the profile's; `keep_going` that reading continues with the next line after a word that is no
     token. Raises a `ProfileError`.
     """
     choice = _choice(devices, digits, late, fixed_vout_mode, keep_going)

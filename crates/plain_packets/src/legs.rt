@@ -190,7 +190,7 @@ pub fn leg_like(
     leg_bytes(alloc, device, body, code, data.as_slice())
 }
 
-/// A leg of one of these sorts begins with the bytes given, and goes on.
+/// A leg of one of these sorts begins with the bytes given, and continues.
 pub fn goes_on(
     alloc: Global,
     device: &DeviceProfile,

@@ -1,4 +1,4 @@
-//! Whether events may go on, found by trying transactions.
+//! Whether some packet begins with events, found by trying transactions.
 //!
 //! A list of events is viable if it is empty or some packet begins with it. Transactions are tried
 //! whose addresses, codes and data are those of the events as far as they go. Where an address or a

@@ -1,4 +1,6 @@
--- What `clap` found in the words, as what they ask for.
+-- What `clap` found in the words, as what they ask for: the subcommand's name, its matches, and a
+-- text or texts with what stands for none. For `task_of`, `work_of`, `direction_of`, `read_json`
+-- and `has_flag`. The types that clap lends are read as the texts they point to.
 use Rattle.std.proofs.Common.{◌≡◌, Bool, true, Option, Some, None, List, [], map, refl, sym, ap, ◌∙◌}
 use Rattle.std.specs.Borrow.{Bor}
 use Rattle.std.specs.Option.{option_map, unwrap_or}

@@ -1,4 +1,7 @@
--- The words ask for one thing.
+-- The words ask for one thing at most: the law `one_asking`, and for `parse_command`, `task_of`
+-- and `work_of`. One subcommand was met, with one name, whose first letter tells it from all
+-- others (106, `j`, is that of `json`); its flags choose one thing. A fault, help or the version
+-- ask for nothing else.
 use Rattle.std.proofs.Common.{◌≡◌, ◌⊎◌, ◌≤◌, ℕ, ◌==◌, if◌then◌else◌, Option, Some, None, List, [], ◌∷◌, get_or, codes}
 use Rattle.std.proofs.Common.{inl, inr, refl, sym, ap, ◌∙◌, subst, arith}
 use Rattle.clap.specs.Words.{IsAmong, Kinds, Row, Text, subcommand_of}

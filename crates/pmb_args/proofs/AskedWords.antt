@@ -1,5 +1,7 @@
--- What `clap` finds in the words of a subcommand without more flags than `--sample`, and in `pmb
--- encode FORMAT` and `pmb decode FORMAT`.
+-- What `clap` finds in the words of a subcommand without more flags than `--sample`, in `pmb
+-- encode FORMAT` and `pmb decode FORMAT`, and in calls for help and the version: the law
+-- `words_ask`. A word that doesn't begin with a hyphen (byte 45) is a value of the subcommand;
+-- words that are known are computed.
 use Rattle.std.proofs.Common.{◌≡◌, ◌≢◌, ℕ, false, eqb, Some, None, List, [], ◌∷◌, codes, refl, sym, ap, ap₂, ◌∙◌, subst}
 use Rattle.std.proofs.Common.{arith}
 use Rattle.std.specs.Str.{bytes_eq}
@@ -158,6 +160,7 @@ no_device = record { addresses = []; spell = tt; once = refl }
 pub asks_sampled : (name : Text) (wanted : Wanted) → NeedsNoFlag wanted
     → AskFor (name ∷ name_of wanted ∷ codes "--sample" ∷ []) (UnderProfile Sample wanted)
 unfolding clap_on_literals
+-- each subcommand: no fault, and the matches that clap builds of these words
 asks_sampled name Show plain = record { no_fault = refl; asks = (_, refl, refl, tt) }
 asks_sampled name Check plain = record { no_fault = refl; asks = (_, refl, refl, tt) }
 asks_sampled name (Json choice) plain = subst
@@ -179,6 +182,7 @@ asks_sampled name Profile plain = record { no_fault = refl; asks = (_, refl, ref
 pub asks_unsampled : (name : Text) (wanted : Wanted) → NeedsNoFlag wanted
     → AskFor (name ∷ name_of wanted ∷ []) (UnderProfile Front wanted)
 unfolding clap_on_literals
+-- the same without the flag
 asks_unsampled name Show plain = record { no_fault = refl; asks = (_, refl, refl, tt) }
 asks_unsampled name Check plain = record { no_fault = refl; asks = (_, refl, refl, tt) }
 asks_unsampled name (Json choice) plain =

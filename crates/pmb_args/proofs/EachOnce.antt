@@ -1,4 +1,7 @@
--- Numbers, each of them once.
+-- A list of numbers without those that stand earlier in it: for `--device`, which may name a
+-- device more than once (`read_devices` and `read_address`, through `JsonAddresses`). A number
+-- more is added if it is not there yet, as the code does it; and of numbers below n at most n are
+-- left, so that 128 addresses are enough.
 use Rattle.std.proofs.Common.{◌≡◌, ◌≢◌, ℕ, zero, suc, ◌+◌, ◌<◌, ◌≤◌, ◌==◌, ◌||◌, Bool, true, false, cond, not, List, []}
 use Rattle.std.proofs.Common.{◌∷◌, ◌++◌, length, refl, sym, ap, ◌∙◌, subst, arith, eq-eqb}
 use Rattle.std.specs.List.{filter, list_any}

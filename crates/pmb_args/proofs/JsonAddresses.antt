@@ -1,4 +1,7 @@
--- HH of `--device`, as `hex` reads it, and the devices that they come to.
+-- HH of `--device`, as `hex` reads it, and the devices that they come to: for `read_address`,
+-- `read_devices` and the laws `json_words_ask` and `one_asking`. Two digits below 80h (128, the
+-- addresses of seven bits) spell one address; of the words one by one, each address is kept the
+-- first time.
 use Rattle.std.proofs.Common.{◌≡◌, ℕ, zero, suc, ◌+◌, ◌*◌, ◌<◌, ◌≤◌, ◌/◌, ◌%◌, ◌==◌, if◌then◌else◌, Bool, true, false}
 use Rattle.std.proofs.Common.{cond, Option, Some, None, Result, Ok, Err, List, [], ◌∷◌, ◌++◌, length, map, take, get_or}
 use Rattle.std.proofs.Common.{refl, sym, ap, ap₂, ◌∙◌, subst, arith, length-append, MatchResult}

@@ -1,4 +1,5 @@
--- The matches of `json` choose one thing, or have a fault and choose nothing.
+-- The matches of `json` choose one thing, or have a fault and choose nothing: for `work_of` and
+-- the law `one_asking`. Each part of the choice is known from the matches.
 use Rattle.std.proofs.Common.{◌≡◌, ℕ, Some, None, List, sym, ap, ◌∙◌}
 use Rattle.clap.specs.Words.{Row}
 use Rattle.pmb_args.specs.Json.{HasFault, JsonAsks, JsonWanted, devices_in}

@@ -1,4 +1,7 @@
--- What `clap` finds in the words of `pmb json`.
+-- What `clap` finds in the words of `pmb json`: the law `json_words_ask`. Flags without a value
+-- are computed from the words; for `--digits N` and `--device HH` the walk over the words is
+-- followed to the value, which begins with no hyphen, and the matches then choose what N or HH
+-- spells.
 use Rattle.std.proofs.Common.{◌≡◌, ℕ, ◌<◌, false, Some, None, List, [], ◌∷◌, codes, refl, sym, ap, ap₂, ◌∙◌, subst}
 use Rattle.std.proofs.Common.{arith}
 use Rattle.std.specs.Char.{digit_value}

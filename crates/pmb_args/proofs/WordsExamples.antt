@@ -1,4 +1,5 @@
--- What `clap` finds in some words, computed: the words of the contracts are not empty.
+-- What `clap` finds in some words, computed: no function needs it, but it shows that the cases
+-- that the contracts speak of are there.
 use Rattle.std.proofs.Common.{◌≡◌, [], ◌∷◌, codes, refl}
 use Rattle.clap.proofs.OnLiterals.{clap_on_literals}
 use Rattle.clap.specs.declared.error.kind.ErrorKind.TheVariants.{DisplayHelp, DisplayHelpOnMissingArgumentOrSubcommand}

@@ -38,7 +38,7 @@ format_rule = record (new_rule (codes "FORMAT")) { action = Some Set; required =
 abbrev pub lines_app : Text → App
 lines_app name = with_rule (new_app name) format_rule
 
--- a subcommand has to be there, with no words at all help is told, and there is a version to tell
+-- a subcommand has to be there; no arguments prints help; --version exists
 abbrev pub top_app : App → App
 top_app a = record a {
   top = record a.top {

@@ -1,4 +1,6 @@
 //! Why the words of `json` ask for nothing.
+//!
+//! Its rows: `tests/rows/words.txt`.
 
 ghost use Rattle.std.specs.Prelude.{◌≡◌};
 ghost use Rattle.pmb_args.specs.ExitStatus.{IsTold};

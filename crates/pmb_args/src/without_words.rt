@@ -1,4 +1,6 @@
 //! Where the process's words can't be had.
+//!
+//! Its rows: `tests_tasks`, `src/program.rt`.
 
 ghost use Rattle.std.specs.Prelude.{◌≡◌, ◌≢◌};
 ghost use Rattle.std.specs.declared.io.ErrorKind.TheVariants.{OutOfMemory};

@@ -1,4 +1,6 @@
--- The canonical text of events spells them.
+-- The canonical text of events spells them: the law `canonical_text_spells`. The text of an event
+-- is one token and its end, a letter or two digits, and such texts one after the other are a text
+-- of the events.
 use Rattle.std.proofs.Common.{◌≡◌, ℕ, ◌+◌, ◌*◌, ◌/◌, ◌%◌, ◌<◌, Bool, false, Option, Some, slice_index, List, [], ◌∷◌}
 use Rattle.std.proofs.Common.{◌++◌, map, refl, sym, ap, subst, ◌∙◌, arith}
 use Rattle.std.specs.List.{filter, onto_first}
@@ -15,8 +17,11 @@ use Rattle.pmb_bus.proofs.Fronts.{words_between}
 
 -- a text that is one token and its end
 record IsOne (text : List ℕ) (event : Event) : Type 0 where
+  -- the text's words are this one token,
   token : AreTokens (words text) (event ∷ [])
+  -- its end is in the text,
   opened : open_word text ≡ []
+  -- and it opens no comment
   outside : ends_in_comment text ≡ false
 
 -- a token at the front of a text that spells events
@@ -28,6 +33,7 @@ one_more text rest event events one spells =
 
 -- the text of two digits
 two_digits : (a b high low : ℕ) → hex_digit_value a ≡ Some high → hex_digit_value b ≡ Some low
+    -- 32 is a space
     → IsOne (a ∷ b ∷ 32 ∷ []) (Byte (high * 16 + low))
 two_digits a b high low first second =
     let one = word_byte a (digit_goes_on a high first) in

@@ -1,4 +1,6 @@
--- The table of byte classes, computed as a whole and told of each byte.
+-- The table of byte classes, `CLASSES`, computed as a whole and read for each byte. For `digit` and
+-- `is_separator`. A class below 16 is a digit's value, 16 is that of a separator, 255 of any other
+-- byte.
 use Rattle.std.proofs.Common.{◌≡◌, ℕ, ◌<◌, ◌≤◌, Bool, true, false, ◌==◌, Option, Some, None, get_or, refl, sym, ap}
 use Rattle.std.proofs.Common.{arith}
 use Rattle.std.specs.Prelude.{if◌then◌else◌, unwrap_or}

@@ -1,4 +1,7 @@
--- Packet error codes as numbers and as the bits of bytes; one byte more, and more bytes after.
+-- Packet error codes as numbers and as the bits of bytes, one byte more, and more bytes after. For
+-- `pec_next`, `pec_of` and the laws on packet error codes. The code of bytes is the number of the
+-- remainder of their message; eight bits and the byte that they are come back to each other,
+-- computed for each, so that a remainder after more bytes needs the code so far alone.
 use Rattle.std.proofs.Common.{◌≡◌, ℕ, ◌+◌, ◌<◌, ◌%◌, ◌^◌, zero, suc, Bool, true, false, ◌&&◌, ◌==◌, List, [], ◌∷◌, ◌++◌}
 use Rattle.std.proofs.Common.{length, refl, sym, ap, subst, ◌∙◌, append_assoc, arith}
 use Rattle.std.specs.Prelude.{bit_xor}

@@ -1,4 +1,6 @@
--- Each text spells events, or has a first word that is no token.
+-- Each text spells events, or has a first word that is no token: the law `each_text_is_read`. Byte
+-- by byte from the front: the words that have ended are tokens or one is not, and the word under
+-- way is looked at when a byte ends it, or the text does.
 use Rattle.std.proofs.Common.{◌≡◌, ℕ, Bool, true, false, ◌⊎◌, inl, inr, None, List, [], ◌∷◌, ◌++◌, refl, sym, ◌∙◌, ap}
 use Rattle.std.proofs.Common.{subst, append-nil, append_assoc, arith}
 use Rattle.std.proofs.lemmas.Bool.{cases_Bool}

@@ -1,4 +1,7 @@
--- Sums of polynomials, and long division by the generator.
+-- Sums of polynomials over two elements, and long division by the generator of the packet error
+-- code. For `pec_next`, `pec_of` and the laws on packet error codes (`Codes` uses it). A
+-- polynomial is its list of coefficients; dividing undoes multiplying, and what is left after n
+-- steps is the one remainder of eight coefficients.
 use Rattle.std.proofs.Common.{◌≡◌, ℕ, ◌+◌, ◌≤◌, zero, suc, Bool, true, false, List, [], ◌∷◌, ◌++◌, length, replicate}
 use Rattle.std.proofs.Common.{refl, sym, ap, ◌∙◌, append_assoc, arith, length-append}
 use Rattle.pmb_bus.specs.Pec.{generator, differ, plus, behind_highest, divide_step, left_after, times_x8, remainder}
@@ -109,6 +112,7 @@ unfolding plus divide_step left_after times
 left_behind_product zero [] t as_many long = plus-nil t
 left_behind_product (suc n) [] t as_many long = absurd (omega arith)
 left_behind_product zero (c ∷ q) t as_many long = absurd (omega arith)
+-- the highest coefficient of the quotient is 0: the step drops it
 left_behind_product (suc n) (false ∷ q) t as_many long =
     let back = replicate n false ++ t in
     let enough : 8 ≤ length (plus (times q generator) back) =
@@ -116,6 +120,7 @@ left_behind_product (suc n) (false ∷ q) t as_many long =
     ap (left_after n) (plus-assoc (replicate 8 false) (times q generator) back
     ∙ plus_zeros 8 (plus (times q generator) back) enough)
     ∙ left_behind_product n q t (omega arith) long
+-- it is 1: the step adds the generator, which is gone with that of the product
 left_behind_product (suc n) (true ∷ q) t as_many long =
     let back = replicate n false ++ t in
     let enough : 8 ≤ length (plus (times q generator) back) =
@@ -163,6 +168,7 @@ product_and_left : (n : ℕ) (p : List Bool) → length p ≡ n + 8
 unfolding plus divide_step left_after times
 product_and_left zero p long = sym (plus-nil p)
 product_and_left (suc n) [] long = absurd (omega arith)
+-- nothing is subtracted in this step
 product_and_left (suc n) (false ∷ p) long =
     let part = times (quotient n p) generator in
     let back = replicate n false ++ left_after n p in
@@ -170,6 +176,7 @@ product_and_left (suc n) (false ∷ p) long =
     let enough : 8 ≤ length p = omega arith in
     ap (λ q. false ∷ q) (sym (plus-assoc (replicate 8 false) part back ∙ ap (plus (replicate 8 false)) (sym rest)
     ∙ plus_zeros 8 p enough))
+-- the generator is subtracted, and added again by the product
 product_and_left (suc n) (true ∷ p) long =
     let next = plus p low in
     let part = times (quotient n next) generator in

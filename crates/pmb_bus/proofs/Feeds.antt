@@ -1,4 +1,6 @@
--- What a piece of a text comes to, one byte after the other.
+-- What a lexer returns for a piece of text, byte by byte: for the loop of `Lexer::feed_bytes`.
+-- After i bytes no word has ended and the lexer stands after them; the next byte goes on, ends a
+-- word or is refused, and the end of the piece needs more.
 use Rattle.std.proofs.Common.{◌≡◌, ℕ, ◌+◌, ◌-◌, ◌<◌, List, [], ◌∷◌, ◌++◌, length, take, drop, get_or, refl, sym, ap}
 use Rattle.std.proofs.Common.{subst, ◌∙◌, arith}
 use Rattle.std.proofs.lemmas.List.{append_assoc, take_more, take_all, drop_more, take-append-drop}

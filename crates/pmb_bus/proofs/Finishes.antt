@@ -1,4 +1,6 @@
--- What the end of a text comes to.
+-- What a lexer returns at the end of a text: for `Lexer::finish`. The end is as a space of no
+-- bytes: it ends the word under way and leaves a comment, and so is the text with a space (byte
+-- 32) after it read.
 use Rattle.std.proofs.Common.{◌≡◌, ℕ, Bool, true, false, Some, Err, List, [], ◌∷◌, ◌++◌, refl, subst, ◌∙◌}
 use Rattle.std.specs.List.{filter}
 use Rattle.std.proofs.lemmas.List.{append-nil}

@@ -1,4 +1,6 @@
--- A token at the front of a piece of text, and its separator, taken at once.
+-- A token at the front of a piece of text, and its separator, taken at once. For `front_token`,
+-- `front_acked`, `Lexer::feed_acked` and `Lexer::feed`. Taking a token at once comes to its two or
+-- three steps, byte by byte; a byte with its ACK comes to five.
 use Rattle.std.proofs.Common.{◌≡◌, ◌↔◌, ℕ, ◌+◌, ◌-◌, ◌*◌, ◌≤◌, inl, inr, true, false, Option, Some, None, is_some}
 use Rattle.std.proofs.Common.{IsSome, IfSome, List, [], ◌∷◌, ◌++◌, length, take, drop, get_or, refl, sym, ap, subst}
 use Rattle.std.proofs.Common.{◌∙◌, arith}
@@ -42,6 +44,7 @@ front_digits (a ∷ b ∷ c ∷ rest) byte long token separates = record {
 -- the same, and ACK and a separator after it
 pub front_digits_acked : (text : List ℕ) (byte : ℕ) → 5 ≤ length text
     → byte_event (hex_digit_value (get_or text 0 0)) (hex_digit_value (get_or text 1 0)) ≡ Some (Byte byte)
+    -- 65 is the letter A, 32 a space
     → is_separator (get_or text 2 0) ≡ true → get_or text 3 0 ≡ 65 → is_separator (get_or text 4 0) ≡ true
     → BeginsWithToken text (Byte byte) 3 × BeginsWithToken (drop 3 text) Ack 2
 front_digits_acked [] byte long token separates letter separates_again = absurd (omega arith)
@@ -80,11 +83,13 @@ two_digits None low first second none = cc first
 pub front_acked_exactly : (text : List ℕ) (found : Option ℕ) → 5 ≤ length text
     → option_event found ≡ byte_event (hex_digit_value (get_or text 0 0)) (hex_digit_value (get_or text 1 0))
     → get_or text 2 0 ≡ 32 → get_or text 3 0 ≡ 65 → get_or text 4 0 ≡ 32 → IsSome found ↔ BeginsAcked text
+-- five bytes are needed
 front_acked_exactly [] found long token space letter last = absurd (omega arith)
 front_acked_exactly (a ∷ []) found long token space letter last = absurd (omega arith)
 front_acked_exactly (a ∷ b ∷ []) found long token space letter last = absurd (omega arith)
 front_acked_exactly (a ∷ b ∷ c ∷ []) found long token space letter last = absurd (omega arith)
 front_acked_exactly (a ∷ b ∷ c ∷ d ∷ []) found long token space letter last = absurd (omega arith)
+-- the digits are there, so the text begins so
 front_acked_exactly (a ∷ b ∷ c ∷ d ∷ e ∷ rest) (Some byte) long token space letter last =
     let digits = digits_of (hex_digit_value a) (hex_digit_value b) (Byte byte) (sym token) in
     let begins : BeginsAcked (a ∷ b ∷ c ∷ d ∷ e ∷ rest) = record {
@@ -96,6 +101,7 @@ front_acked_exactly (a ∷ b ∷ c ∷ d ∷ e ∷ rest) (Some byte) long token 
       low_digit = ap is_some digits.low_is;
     } in
     ((λ some. begins), (λ begun. refl))
+-- one of them is no digit, so it does not
 front_acked_exactly (a ∷ b ∷ c ∷ d ∷ e ∷ rest) None long token space letter last = (
   (λ some. cc some),
   (
@@ -123,9 +129,13 @@ separator_ends b separates = rw separates refl
 -- a lexer stands after a word that is a token, and that no byte has ended
 record BehindWord (now : Lexer) (n : ℕ) (text : List ℕ) (events : List Event) (word : List ℕ) (event : Event)
     (used : ℕ) : Type 0 where
+  -- the lexer after the word,
   stands : LexerStandsAt now (n + length word) (text ++ word) events
+  -- which is in no comment,
   outside : ends_in_comment (text ++ word) ≡ false
+  -- is a token,
   token : event_of (open_word (text ++ word)) ≡ Some event
+  -- and is counted
   counted : now.used ≡ capped (used + length word)
 
 module _ (before : Lexer) (n : ℕ) (text : List ℕ) (events : List Event) (stands : LexerStandsAt before n text events)
@@ -158,15 +168,18 @@ module _ (before : Lexer) (n : ℕ) (text : List ℕ) (events : List Event) (sta
       → LexerStandsAt (advanced (advanced before (places.One before.used a)) (places.Two before.used (high * 16 + low)))
       (n + 2) (text ++ a ∷ b ∷ []) events
   behind_second a b high low is_high is_low =
+      -- the value of both digits, and the lexer after each
       let value = high * 16 + low in
       let byte : byte_event (hex_digit_value a) (hex_digit_value b) ≡ Some (Byte value) = cc (is_high, is_low) in
       let one = advanced before (places.One before.used a) in
       let two = advanced one (places.Two before.used value) in
+      -- the first digit begins a token, the second makes it longer
       let first = behind_first a (digit_goes_on a high is_high) (digit_starts a high is_high) in
       let goes_on = digit_goes_on b low is_low in
       let second = stands_longer one two (n + 1) (text ++ a ∷ []) b events (places.Two before.used value) first refl
       first.place.1 goes_on
       (lengthens_digit (n + 1) (text ++ a ∷ []) b before.used a value first.place first.place.1 goes_on (sym byte)) in
+      -- the two bytes in one piece of text, and counted together
       let whole : (text ++ a ∷ []) ++ b ∷ [] ≡ text ++ a ∷ b ∷ [] = append_assoc text (a ∷ []) (b ∷ []) in
       let count : (n + 1) + 1 ≡ n + 2 = omega arith in
       subst (λ (m : ℕ). LexerStandsAt two m (text ++ a ∷ b ∷ []) events) count
@@ -214,10 +227,13 @@ ends_behind : (now after : Lexer) (n : ℕ) (text : List ℕ) (events : List Eve
     → after ≡ record { place = places.Between; used = capped (start + used) }
     → EndsWord n text events piece used after event
 ends_behind now after n text events word event start piece rest separator used behind separates split counted is =
+    -- the token and the separator in the piece
     let took = took_token piece word rest separator used split counted in
     let count : capped (start + used) ≡ capped (now.used + 1) = omega (arith, behind.counted, counted) in
+    -- the count, and the place after the separator
     let lexer : after ≡ advanced now (place_behind_word separator) = is
     ∙ cc (count, separator_behind separator separates) in
+    -- the word has ended there
     let stands : LexerStandsAt after ((n + length word) + 1) ((text ++ word) ++ separator ∷ []) (events ++ event ∷ []) =
     stands_end now after (n + length word) (text ++ word) separator events
     (event ∷ []) behind.stands lexer behind.outside
@@ -244,11 +260,14 @@ front_token_ends before after n text events piece used event stands between begi
     by_word : (word : List ℕ) → piece ≡ word ++ begins.separator ∷ begins.rest → event_of word ≡ Some event
         → used ≡ length word + 1
         → EndsWord n text events piece used after event
+    -- a token has a byte at least
     by_word [] split token counted = cc token
+    -- a letter
     by_word (b ∷ []) split token counted =
         ends_behind (advanced before (places.One before.used b)) after n text events
         (b ∷ []) event before.used piece begins.rest begins.separator used
         (behind_letter before n text events stands between b event token) begins.separates split counted is
+    -- two digits
     by_word (a ∷ b ∷ []) split token counted =
         let digits = digits_of (hex_digit_value a) (hex_digit_value b) event token in
         let value = digits.first * 16 + digits.second in
@@ -260,6 +279,7 @@ front_token_ends before after n text events piece used event stands between begi
         digits.second digits.high_is digits.low_is)
         begins.separates split counted is
         )
+    -- and two at most
     by_word (a ∷ b ∷ c ∷ more) split token counted = cc token
 
 -- A lexer that stands at a text between words is between words,

@@ -1,4 +1,6 @@
--- What stands before the word under way, and the first word of a text that is no token.
+-- What stands before the word under way, and the first word of a text that is no token. For the
+-- laws on texts and all steps of the lexer. A text outside comments is a front and the word under
+-- way; going on with the text makes that word longer, or ends it and begins others.
 use Rattle.std.proofs.Common.{◌≡◌, ℕ, Bool, true, false, inl, inr, None, List, [], ◌∷◌, ◌++◌, length, refl, sym, ap}
 use Rattle.std.proofs.Common.{subst, ◌∙◌}
 use Rattle.std.specs.List.{filter}
@@ -40,11 +42,15 @@ open_word_in_comment =
 
 -- what stands before the word under way at the end of a text
 pub record InFront (text : List ℕ) : Type 0 where
+  -- what stands before it
   pub front : List ℕ
   pub split : text ≡ front ++ open_word text
+  -- the front ends between words,
   pub opened : open_word front ≡ []
   pub outside : ends_in_comment front ≡ false
+  -- its words are those that have ended,
   pub spelled : words front ≡ ended_words text
+  -- and the word under way is one run, without a comment
   pub solid : runs (open_word text) ≡ open_word text ∷ []
   pub clear : ends_in_comment (open_word text) ≡ false
 

@@ -1,4 +1,6 @@
--- Two texts end to end, of which the first ends between words.
+-- Two texts end to end, of which the first ends between words: events and first bad words of the
+-- second come after those of the first. For `Lexer::skip` and the law
+-- `texts_may_be_cut_between_words`.
 use Rattle.std.proofs.Common.{◌≡◌, ℕ, ◌+◌, ◌-◌, ◌^◌, min, Bool, false, List, [], ◌∷◌, ◌++◌, length, refl, sym, ap}
 use Rattle.std.proofs.Common.{subst, ◌∙◌, arith}
 use Rattle.std.proofs.lemmas.List.{append_assoc, length-append}

@@ -1,4 +1,7 @@
--- Sets of kinds, bit by bit.
+-- Sets of kinds of events, bit by bit: for `Kinds::union`, `Kinds::insert`, `Kinds::all` and the
+-- law `kinds_are_told_by_events`. Each of the five kinds has a bit, so 31 is the set of all; a
+-- union has each bit that one of the two has, and a set below 32 is the sum of its bits, computed
+-- for each.
 use Rattle.std.proofs.Common.{◌≡◌, ℕ, ◌+◌, ◌*◌, ◌<◌, ◌^◌, zero, suc, max, Bool, true, ◌==◌, ◌||◌, refl, sym, ap, ◌∙◌}
 use Rattle.std.proofs.Common.{arith}
 use Rattle.std.specs.Prelude.{bit_and, bit_or, if◌then◌else◌}

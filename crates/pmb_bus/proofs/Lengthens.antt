@@ -1,4 +1,6 @@
--- What one more byte of a word comes to.
+-- What one more byte does to a word: it begins a token, is its second digit, or makes the word
+-- one with which no token begins. For `LexerState::lengthened`, `Lexer::feed` and
+-- `Lexer::feed_acked`.
 use Rattle.std.proofs.Common.{◌≡◌, ℕ, Bool, true, false, ◌⊎◌, inl, inr, None, Some, Ok, Err, List, [], ◌∷◌, ◌++◌}
 use Rattle.std.proofs.Common.{length, sym, ap, subst, ◌∙◌, arith}
 use Rattle.pmb_bus.specs.declared.lexer.LexFault.TheVariants.{BadToken}

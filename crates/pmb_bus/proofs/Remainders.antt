@@ -1,4 +1,6 @@
--- The table of remainders, computed as a whole and told of each byte.
+-- The table of remainders, `REMAINDERS`, computed as a whole and read for each byte. For
+-- `pec_next`. Each entry is the code of its byte alone, and the code of one byte more is that of
+-- the old code xor the byte (`pec_step`).
 use Rattle.std.proofs.Common.{◌≡◌, ℕ, ◌<◌, true, ◌==◌, get_or, List, [], ◌∷◌, ◌++◌, refl, sym, ap, ◌∙◌}
 use Rattle.std.specs.Prelude.{bit_xor}
 use Rattle.std.proofs.lemmas.Bool.{agree_below, agree_below_at, eqb-true}

@@ -1,4 +1,7 @@
--- A text spells one row of events, or has one first bad word, or neither yet.
+-- A text spells one row of events, or has one first bad word, or neither yet. For the laws
+-- `one_spelling`, `one_bad_word`, `ended_words_lead_on` and the steps of the lexer. Of two fronts
+-- that end before a bad word the shorter one would have a word after it that is a token of the
+-- longer.
 use Rattle.std.proofs.Common.{◌≡◌, ℕ, ◌+◌, ◌<◌, ◌≤◌, Bool, true, false, ◌⊎◌, inl, inr, Option, None, Some, map, List}
 use Rattle.std.proofs.Common.{[], ◌∷◌, ◌++◌, length, take, drop, refl, sym, ap, subst, ◌∙◌, arith, cond}
 use Rattle.std.specs.List.{filter, onto_first, slice_split}
@@ -84,6 +87,7 @@ ended_words_lead_on text events ended =
 
 -- what one front of a text has that a shorter one has not
 record Between (text front rest longer after : List ℕ) : Type 0 where
+  -- what stands between their ends
   more : List ℕ
   onwards : longer ≡ front ++ more
   left : rest ≡ more ++ after

@@ -1,4 +1,6 @@
--- The runs that separators cut a list into, and those of two lists end to end.
+-- The runs that separators cut a list into, and those of two lists end to end: the last run of the
+-- first goes on with the first run of the second. For the laws on texts and all steps of the
+-- lexer.
 use Rattle.std.proofs.Common.{◌≡◌, ℕ, Bool, true, false, cond, List, [], ◌∷◌, ◌++◌, refl, sym, ap, ◌∙◌}
 use Rattle.std.specs.List.{slice_split, onto_first}
 use Rattle.pmb_bus.specs.Text.{all_but_last, last_run}

@@ -1,4 +1,6 @@
--- Where a lexer stands after one byte more, and at the end of a text.
+-- Where a lexer stands after one byte more, and at the end of a text. For `Lexer::step` with its
+-- parts, `Lexer::finish` and `Lexer::skip`. A byte ends the word under way, makes it longer or is
+-- one of a comment; events and count go on with the text, and a bad word stops it.
 use Rattle.std.proofs.Common.{◌≡◌, ℕ, ◌+◌, ◌-◌, ◌^◌, min, Bool, true, false, inl, inr, Ok, Err, List, [], ◌∷◌, ◌++◌}
 use Rattle.std.proofs.Common.{refl, sym, ap, subst, ◌∙◌, arith}
 use Rattle.std.specs.List.{filter, onto_first}

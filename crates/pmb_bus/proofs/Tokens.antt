@@ -1,4 +1,6 @@
--- Which words are tokens, and rows of words that are.
+-- Which words are tokens, and rows of words that are. For the laws on texts and all steps of the
+-- lexer. A token is a letter, which starts no other one, or two hexadecimal digits; a row of words
+-- spells one row of events, none if one of its words is no token.
 use Rattle.std.proofs.Common.{◌≡◌, ℕ, ◌+◌, ◌*◌, Bool, true, false, ◌||◌, ◌⊎◌, inl, inr, Option, Some, None, is_some}
 use Rattle.std.proofs.Common.{List, [], ◌∷◌, ◌++◌, map, refl, sym, ap, ◌∙◌, arith}
 use Rattle.std.proofs.lemmas.List.{map-append}

@@ -1,4 +1,6 @@
--- The words of a text and of what goes on with it.
+-- The words of a text and of what goes on with it. For the laws on texts and all steps of the
+-- lexer. Comments are blanked with spaces (byte 32) and separators cut what is left into runs; a
+-- byte more leaves the words that have ended, ends the word under way or makes it longer.
 use Rattle.std.proofs.Common.{◌≡◌, ℕ, Bool, true, false, ◌==◌, inl, inr, cond, List, [], ◌∷◌, ◌++◌, refl, ap, ◌∙◌}
 use Rattle.std.specs.List.{slice_split, onto_first, filter}
 use Rattle.std.proofs.lemmas.List.{append-nil}
@@ -143,6 +145,7 @@ ends_in_comment_by text b = ends_in_comment_from-append false text (b ∷ [])
 
 -- ---- bytes outside comments
 
+-- 35 is `#`
 -- `#` begins a comment, and no other byte does
 pub in_comment_from_out : (b : ℕ) → (b ≡ 35 → in_comment false b ≡ true) × (((b ≡ 35) → ⊥) → in_comment false b ≡ false)
 in_comment_from_out b = (
@@ -152,6 +155,7 @@ in_comment_from_out b = (
       elim (cases_eq b 10) [ inl line ↦ rw line refl | inr more ↦ rw (ne_eqb b 10 more, apart) refl ],
 )
 
+-- 10 is LF
 -- a LF ends a comment, and no other byte does
 pub in_comment_from_in : (b : ℕ) → (b ≡ 10 → in_comment true b ≡ false) × (((b ≡ 10) → ⊥) → in_comment true b ≡ true)
 in_comment_from_in b = (λ is. rw is refl, λ other. rw (ne_eqb b 10 other) refl)

@@ -1,4 +1,6 @@
 //! The bytes that address a device, and the address at which alerts are answered.
+//!
+//! Its rows: `tests_bytes`, `src/bus/addresses.rt`.
 
 ghost use Rattle.std.specs.Prelude.{◌≡◌, ◌<◌, ◌%◌};
 ghost use Rattle.pmb_bus.specs.Address.{write_address, read_address};

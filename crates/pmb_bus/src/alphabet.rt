@@ -3,6 +3,8 @@
 //! A token is one of four letters, or two hexadecimal digits. `CLASSES` is drawn as the code charts
 //! are, 16 bytes a row, so that it is checked by looking at it; the proofs of `digit` and
 //! `is_separator` compute over the whole table that it is what the definitions say.
+//!
+//! Its rows: `tests_bytes`, `src/bus/tokens.rt`, `src/bus/steps.rt`.
 
 ghost use Rattle.std.specs.Prelude.{◌≡◌, ◌↔◌, ℕ, ◌<◌, ◌≤◌, IsSome, IfSome, None, drop, length};
 ghost use Rattle.pmb_bus.specs.declared.event.Event.{Event as BusEvent};

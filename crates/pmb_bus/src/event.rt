@@ -1,3 +1,7 @@
+//! An event of a capture, and its text.
+//!
+//! Its rows: `tests_bytes`, `src/bus/event_text.rt`, `src/bus/tokens.rt`.
+
 ghost use Rattle.std.specs.Prelude.{◌≡◌, ◌≤◌, length};
 ghost use Rattle.pmb_bus.specs.Event.{text_of};
 

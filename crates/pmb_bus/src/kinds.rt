@@ -2,6 +2,8 @@
 //!
 //! The bits, their names and the operations on sets are those of `bitflags`. The methods here say
 //! what they do to bits and to kinds, and spare a caller the trait.
+//!
+//! Its rows: `tests_bytes`, `src/bus/kinds.rt`.
 
 ghost use Rattle.std.specs.Prelude.{⊤, ◌≡◌, ◌==◌, ◌||◌, true, false, [], ◌∷◌, bit_and, bit_or, codes};
 ghost use Rattle.pmb_bus.specs.declared.event.Event.{Event as BusEvent};

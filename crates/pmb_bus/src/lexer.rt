@@ -8,6 +8,8 @@
 //! Most of a capture is tokens with one separator each. Between words `feed` takes such a token at
 //! once, where it and its separator lie in the next three bytes, and `feed_acked` a byte and its
 //! ACK, in five. All else goes byte by byte.
+//!
+//! Its rows: `tests_bytes`, `src/bus/rows.rt`, `src/bus/steps.rt`, `src/bus/cuts.rt`.
 
 ghost use Rattle.std.specs.Prelude.{◌≡◌, ◌↔◌, ◌+◌, ◌<◌, ◌≤◌, ◌++◌, ℕ, IsSome, IfSome, None, length, true, false, List, [], Err};
 ghost use Rattle.pmb_bus.specs.declared.event.Event.{Event as BusEvent};
@@ -29,23 +31,23 @@ pub enum LexFault {
     BadToken { at: u64 },
 }
 
-/// What a piece of text came to.
+/// The result of a piece of text.
 #[derive(Clone, Copy, Debug, PartialEq, Eq)]
 pub enum Step {
     /// All of the piece is used. A word may be under way.
     Need,
     /// A word has ended: the last byte used is the separator or the `#` after it.
     Event(Event),
-    /// The next byte is not used: no text of events goes on with it.
+    /// The next byte is not used: no valid text has this byte here.
     Fault(LexFault),
 }
 
-/// How many bytes of a piece were used, and what they came to.
+/// How many bytes of a piece were used, and the result.
 #[derive(Clone, Copy, Debug, PartialEq, Eq)]
 pub struct Lexed {
     /// How many bytes of the piece were used.
     pub used: usize,
-    /// What they came to.
+    /// The result of these bytes.
     pub step: Step,
 }
 
@@ -339,7 +341,7 @@ impl Lexer {
         }
     }
 
-    // Counts a byte that was used, and goes on at `place`.
+    // Counts a byte that was used, and continues at `place`.
     #[inline]
     fn advance(&mut self, place: LexerState)
         ensures { self.new ≡ record { place = place; used = capped (self.old.used + 1) } }

@@ -5,6 +5,8 @@
 //! of the remainders of single bytes. `REMAINDERS` is laid out 16 bytes a row, the high digit of
 //! the byte down and the low digit across; the proof of `pec_next` computes that each entry is the
 //! code of its byte.
+//!
+//! Its rows: `tests_bytes`, `src/bus/packet_error_codes.rt`.
 
 ghost use Rattle.std.specs.Prelude.{◌≡◌, ℕ, List, [], ◌∷◌, ◌++◌, bit_xor};
 ghost use Rattle.pmb_bus.specs.Pec.{pec};

@@ -1,4 +1,6 @@
 //! What C chooses of JSON.
+//!
+//! Its rows: `tests/rows/objects.txt`.
 
 ghost use Rattle.std.specs.List.{list_all};
 ghost use Rattle.std.specs.Prelude.{◌≡◌, option_map};
@@ -17,7 +19,8 @@ pub struct PmbChoice {
     /// What is known of PAGE and VOUT_MODE where the capture begins: 0 for both, 1 for VOUT_MODE
     /// alone, 2 for neither.
     pub start: u8,
-    /// What is done after a word that is no token: 0 to end there, 1 to go on with the next line.
+    /// What is done after a word that is no token: 0 to end there, 1 to continue with the next
+    /// line.
     pub bad_words: u8,
 }
 

@@ -1,4 +1,4 @@
-//! What helps with a fault of a profile, in the caller's room.
+//! Hints for mistakes in a profile, in the caller's buffer.
 
 ghost use Rattle.std.specs.Prelude.{◌≡◌};
 ghost use Rattle.pmb_c.specs.Explain.{Explains, IsLaid};

@@ -1,4 +1,4 @@
-//! What firmware calls: numbers, codes, names and events, without memory.
+//! C functions that allocate nothing: numbers, error codes, names and events.
 //!
 //! Each export is the function of `pmb_firmware` of that name, and has its clauses.
 

@@ -1,10 +1,10 @@
 //! The library for C: thin exports over the crates that do the work.
 //!
-//! Without memory there are packet error codes, every number format in both directions, the texts
-//! of quantities, the names of commands and of status bits, and the events of a capture's text
-//! ([`firmware`]), with the library's version ([`version`]). With memory for a profile, and the
-//! caller's room for what is written, there are `show`, `check`, `build`, `run` and `json` over
-//! whole inputs ([`whole`]), and what helps with a fault of a profile ([`explain`]).
+//! Functions that allocate nothing: packet error codes, every number format in both directions, the
+//! texts of quantities, the names of commands and of status bits, and the events of a capture's
+//! text ([`firmware`]), with the library's version ([`version`]). Functions that take memory for a
+//! profile, and write to the caller's buffer: `show`, `check`, `build`, `run` and `json` over whole
+//! inputs ([`whole`]), and hints for mistakes in a profile ([`explain`]).
 //!
 //! A C caller is checked by nobody, so no export has a premise on values: each is itself the test
 //! of what it is given. What a C type can't say is the header's to say: no pointer is null, and

@@ -1,4 +1,6 @@
 //! What is told of a whole input.
+//!
+//! Its rows: `tests/rows/captures.txt`, `lines.txt`, `requests.txt`, `objects.txt`.
 
 ghost use Rattle.std.specs.Prelude.{◌≡◌, ℤ, negsuc, pos};
 ghost use Rattle.pmb_c.specs.Result.{fault_number, place_of, result_of, result_of_fault, result_of_put, result_of_status};
@@ -7,11 +9,11 @@ use pmb_firmware::CallStatus;
 use pmb_in_memory::{Put, WholeFault};
 use pmb_table::{FaultKind, ProfileFault};
 
-/// What a call over a whole input came to, and what it tells of it.
+/// The result of a call over a whole input.
 #[repr(C)]
 #[derive(Clone, Copy)]
 pub struct PmbResult {
-    /// What the call came to.
+    /// The status of the call.
     pub status: i32,
     /// What is wrong with the profile, from 1 on; 0 where nothing is.
     pub fault: i32,

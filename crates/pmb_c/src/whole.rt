@@ -5,6 +5,8 @@
 //! room. Each call returns how many bytes the text has, also where they don't fit: then those that
 //! do stand in the room. What stands in the room after the text stays, and all does where the
 //! status is neither that all went well nor that there was no room.
+//!
+//! Its rows: `tests/rows/captures.txt`, `lines.txt`, `requests.txt`, `objects.txt`.
 
 ghost use Rattle.std.specs.Prelude.{◌≡◌};
 ghost use Rattle.pmb_c.specs.Choice.{chosen};
@@ -117,7 +119,7 @@ pub extern "C" fn pmb_json(
     told.length
 }
 
-/// Does a work on an input, and tells what it came to.
+/// Does a task on an input, and reports its result.
 fn answer(
     work: MemoryTask,
     alloc: Global,

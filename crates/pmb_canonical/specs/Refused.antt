@@ -12,8 +12,8 @@ abbrev pub AreData : Option Form → List ℕ → Type 0
 AreData None bytes = ⊥
 AreData (Some form) bytes = (data_bytes : List ℕ) × Fits form data_bytes × (bytes ≡ wire form data_bytes)
 
--- Data in a form, where there is one, begin with some bytes and go on, be it with a packet error code
--- alone, which the mode has to allow. It covers what stands before them too.
+-- Data in a form, where there is one, begin with some bytes and continue, if only with a packet
+-- error code, which the mode has to allow. It covers what stands before them too.
 abbrev pub IsInsideData : Option Form → PecMode → List ℕ → List ℕ → Type 0
 IsInsideData None mode before bytes = ⊥
 IsInsideData (Some form) mode before bytes =

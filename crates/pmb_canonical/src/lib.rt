@@ -9,7 +9,7 @@
 //! ```rust
 //! let profile = Profile::from_toml(rt.alloc(), SAMPLE.as_bytes())?;
 //! let mut canonical = CanonicalReader::new();
-//! let mut kept = Kept::new();
+//! let mut kept = TransactionSlot::new();
 //! let taken = canonical.take(&mut kept, &profile, b"S b0 A 03 A P\nS b0 ");
 //! assert_eq!(rt; taken, Some(TakenPacket { used: 14, events: 6 }));
 //! assert_eq!(rt; line_of(kept.last()).as_str(), "write 58 03");

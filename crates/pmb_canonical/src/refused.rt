@@ -40,8 +40,8 @@ fn forms_of(device: &DeviceProfile, code: u8) -> Shape
     }
 }
 
-/// Whether data in a form, where there is one, begin with these bytes and go on, be it with a packet
-/// error code that the mode allows.
+/// Whether data in a form, where there is one, begin with these bytes and continue, if only with a
+/// packet error code that the mode allows.
 fn go_on(wanted: Option<Form>, mode: PecMode, bytes: &[u8]) -> bool
     ensures { (before : List ℕ) → (IsTrue result ↔ IsInsideData wanted mode before bytes.now) }
 {
@@ -75,8 +75,8 @@ fn is_read(forms: Shape, behind: &[u8]) -> bool
     behind.is_empty() && forms.read.is_some()
 }
 
-/// Whether a body that is allowed after so many parts begins with these bytes and goes on: a call only
-/// after none.
+/// Whether a body that is allowed after `before` parts begins with these bytes and continues: a
+/// call only after none.
 fn is_inside_body(device: &DeviceProfile, bytes: &[u8], before: usize) -> bool
     ensures { (parts : List PartData) → length parts ≡ before → (IsTrue result ↔ IsInsideBody device.now parts bytes.now) }
 {

@@ -1,4 +1,5 @@
--- The number of a status.
+-- The number of an exit status is 4 at most, so that `tool` returns a code that a process can end
+-- with. Each status is looked at.
 use Rattle.std.proofs.Common.{◌≡◌, ◌≤◌, ℕ, sym, subst, arith}
 use Rattle.pmb_args.specs.ExitStatus.{code_of}
 use Rattle.pmb_args.specs.declared.exit_status.ExitStatus.{ExitStatus}

@@ -1,4 +1,5 @@
--- A text names one format at most.
+-- A text names one number format at most, so that one which names a format has no fault: for
+-- `run_lines`. It follows from the law `one_format` of pmb_convert.
 use Rattle.std.proofs.Common.{◌≡◌, ℕ, List, Result, Ok, Err}
 use Rattle.pmb_convert.specs.Spelling.{Names}
 use Rattle.pmb_convert.specs.declared.format_fault.FormatFault.{FormatFault}

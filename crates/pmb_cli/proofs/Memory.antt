@@ -1,4 +1,5 @@
--- What was read where there was no memory.
+-- What was read where there was no memory: nothing, or the profile that comes first and nothing
+-- after it. For `tool` and `run_under_front`. Only the fault Memory has the status NoMemory.
 use Rattle.std.proofs.Common.{◌≡◌, true, inl, inr, refl, sym, subst}
 use Rattle.pmb_preamble.specs.Front.{Parts, ReadFront}
 use Rattle.pmb_io.specs.Told.{ReaderTold}

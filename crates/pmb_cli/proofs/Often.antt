@@ -1,4 +1,6 @@
--- How often is read in all.
+-- How often is read in all: the reads of the profile that comes first, at most most_profile + 4,
+-- and then those of the work. For `tool`, `run_lines`, `run_under_front`, `run_under_sample` and
+-- `do_work`.
 use Rattle.std.proofs.Common.{◌≡◌, ◌∙◌, ap, ℕ, ◌+◌, ◌≤◌, sym, arith}
 use Rattle.pmb_preamble.specs.Front.{most_profile}
 use Rattle.pmb_io.specs.Count.{raised}

@@ -1,4 +1,7 @@
--- What the status of a run says of its outcome.
+-- What the status of a run says of its outcome: for `tool`, `run_lines`, `do_work`,
+-- `run_under_front` and `run_under_sample`. By the outcome: the job was done, a read failed, a
+-- write failed, or there were too many reads; reads and failures of the profile that comes first
+-- are counted before (`IsBefore`).
 use Rattle.std.proofs.Common.{◌≡◌, ◌≢◌, ◌∙◌, ap, ℕ, ◌+◌, ◌⊎◌, ◌==◌, if◌then◌else◌, Bool, true, false, Result, Ok, Err}
 use Rattle.std.proofs.Common.{Some, List, [], ◌++◌, length-append, subst, inl, inr, refl, sym, arith}
 use Rattle.std.specs.Io.KnownBytes.{Consumes}
@@ -70,9 +73,12 @@ no_failed_read answer Memory other is also = let clash : Err Memory ≡ Err Read
 
 -- what was read of a reader before
 pub record IsBefore (start mid : ReaderTold) : Type 0 where
+  -- no read failed, and the end was not reached
   pub none_failed : mid.failures ≡ start.failures
   pub not_ended : mid.ended ≡ start.ended
+  -- how often was read,
   pub few : MadeFrontReads start.reads mid.reads
+  -- and what
   pub read : List ℕ
   pub consumed : Consumes start.left mid.left read
 
@@ -93,14 +99,19 @@ module _ {R W : Type 0} (reader_told : R → ReaderTold) (writer_told : W → Wr
       → Does (λ tally. Done reader_told writer_told job tally first old new)
       (PartDone reader_told writer_told job first old new) (writer_told old.1) (writer_told new.1)
       (run_status outcome)
+  -- the job is done
   did (Ok tally) ran = record {
     wrote = λ _. (tally, refl, ran.ok);
     part =
         λ failed. absurd (not_well tally IoFailed failed);
   }
+  -- a read failed
   did (Err Read) ran = record { wrote = λ ended. absurd ended; part = λ _. inr (ran.before (inl refl)) }
+  -- a write failed
   did (Err Write) ran = record { wrote = λ ended. absurd ended; part = λ _. inl (ran.write refl) }
+  -- there were too many reads
   did (Err TooManyReads) ran = record { wrote = λ ended. absurd ended; part = λ _. inr (ran.before (inr refl)) }
+  -- a run has neither of the last two
   did (Err ProfileTooLong) ran = absurd ran
   did (Err Memory) ran = absurd ran
 
@@ -134,12 +145,14 @@ module _ {R W : Type 0} (reader_told : R → ReaderTold) (writer_told : W → Wr
   tells : (start : R) → IsBefore (reader_told start) (reader_told old.0) → (outcome : Result Tally ToolFault)
       → AsTool (Ran reader_told writer_told job first old new) outcome
       → StatusTells reader_told writer_told (start, old.1) new (run_status outcome)
+  -- it ended: the tally says how well
   tells start before (Ok tally) ran = record {
     unwritten = λ refused. absurd (run_unrefused (Ok tally) ran refused);
     none_failed = λ _. (ran.no_read (λ is. cc) ∙ before.none_failed, ran.no_write (λ is. cc));
     io_failed = λ failed. absurd (not_well tally IoFailed failed);
     reads = reads_after _ _ _ before.few ran.reads;
   }
+  -- a read failed: one failure more
   tells start before (Err Read) ran = record {
     unwritten = λ refused. absurd (run_unrefused (Err Read) ran refused);
     none_failed = λ other. absurd (other refl);
@@ -150,12 +163,14 @@ module _ {R W : Type 0} (reader_told : R → ReaderTold) (writer_told : W → Wr
     );
     reads = reads_after _ _ _ before.few ran.reads;
   }
+  -- a write failed
   tells start before (Err Write) ran = record {
     unwritten = λ refused. absurd (run_unrefused (Err Write) ran refused);
     none_failed = λ other. absurd (other refl);
     io_failed = λ _. inr (inl (ran.write refl));
     reads = reads_after _ _ _ before.few ran.reads;
   }
+  -- too many reads: those before and those of the run together
   tells start before (Err TooManyReads) ran = record {
     unwritten = λ refused. absurd (run_unrefused (Err TooManyReads) ran refused);
     none_failed = λ other. absurd (other refl);
@@ -246,12 +261,15 @@ module _ {R W : Type 0} (reader_told : R → ReaderTold) (writer_told : W → Wr
     -- what was written for all profile, by its own status
     all_did : (outcome : Result Tally ToolFault) → NothingRan outcome
         → Does Wrote WrotePart (writer_told out) (writer_told out_new) (run_status outcome)
+    -- it ended: what it did is what was asked for
     all_did (Ok tally) ran = record {
       wrote = λ _. (tally, refl, wrote tally ran.ok);
       part =
           λ failed. absurd (not_well tally IoFailed failed);
     }
+    -- nothing is read of a reader that has nothing
     all_did (Err Read) ran = absurd (no_read_of_nothing ran)
+    -- a write failed
     all_did (Err Write) ran = record { wrote = λ ended. absurd ended; part = λ _. inl (ran.write refl) }
     all_did (Err TooManyReads) ran = absurd (nothing_is_few ran)
     all_did (Err ProfileTooLong) ran = absurd ran

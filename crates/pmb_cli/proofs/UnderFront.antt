@@ -1,4 +1,6 @@
--- What is done with what follows the profile that comes first.
+-- What is done with what follows the profile that comes first: for `run_under_front`. What was
+-- read is the profile, its line `%%` and what follows, or all of it is the profile; more after the
+-- line leaves it the first one, so that the job's text belongs to the bytes after it.
 use Rattle.std.proofs.Common.{◌≡◌, ◌∙◌, ◌⊎◌, ℕ, true, false, Option, Some, None, Ok, List, [], ◌∷◌, ◌++◌, length, inl}
 use Rattle.std.proofs.Common.{inr, refl, sym, ap, subst, length-append, append-nil, append_assoc}
 use Rattle.std.specs.Io.KnownBytes.{Consumes}
@@ -50,6 +52,7 @@ module _ {R : Type 0} (told : R → ReaderTold) (stays : Stays) where
       → BeginsWithProfile IsCut (record { reader = told old; writer = held_old })
       (record { reader = new; writer = held_new })
   begins IsCut devices old mid new Ran held_old held_new parts before marked says through cuts = record {
+    -- profile and rest: what was read of both, and what was put out
     read = before.read ++ through.read;
     text = through.text;
     profile = parts.profile;
@@ -80,6 +83,7 @@ module _ {R : Type 0} (told : R → ReaderTold) (stays : Stays) where
       (record { reader = told new; writer = held_new })
   all_profile Holds devices old new Ran empty_old empty_new held_old held_new parts before unmarked says empty through
       holds =
+      -- the reader ended in the profile, so the work has no bytes
       let ends = at_end before.read parts _ before.ends unmarked in
       let none = none_read empty_new.left through.read
       (subst (λ (e : Option (List ℕ)). Consumes e empty_new.left through.read) empty through.consumed) in record {
@@ -104,6 +108,7 @@ module _ {R : Type 0} (told : R → ReaderTold) (stays : Stays) where
       → parts.marked ≡ true → (read : List ℕ) → Gave (told mid) (told new) read
       → OpenBefore told IsOpen parts.rest mid new read
       → OpenBefore told (OpenUnderFront IsOpen) [] old new (before.read ++ read)
+  -- nothing was read after the profile: its last piece was the last
   stopped_in_time IsOpen old mid new parts before marked read gave (inl none) =
       subst (λ (t : List ℕ). OpenBefore told (OpenUnderFront IsOpen) [] old new t)
       (sym (ap (λ (t : List ℕ). before.read ++ t) none.0 ∙ append-nil before.read))
@@ -122,6 +127,7 @@ module _ {R : Type 0} (told : R → ReaderTold) (stays : Stays) where
           small = last.small;
         })
       ])
+  -- the last piece came after it
   stopped_in_time IsOpen old mid new parts before marked read gave (inr last) = inr (record {
     before = before.read ++ last.before;
     piece = last.piece;
@@ -148,11 +154,13 @@ module _ {R : Type 0} (told : R → ReaderTold) (stays : Stays) where
     pub done_after_mark : (new : R) (tally : Tally) → parts.marked ≡ true → Says parts.profile (Ok devices)
         → Done told writer_told (job devices) tally parts.rest (mid, out) (new, out_new)
         → DoneUnderFront told writer_told job tally (old, out) (new, out_new)
+    -- the work took all that follows
     done_after_mark new tally marked says (inl ended) = record {
       begins = begins IsFront devices old mid (told new) ((job devices).Whole tally) (writer_told out)
           (writer_told out_new) parts before marked says ended.through (λ first. inl first);
       holds = inl (ended.through.holds, ended.ended, ended.at_end);
     }
+    -- or wanted no more of it
     done_after_mark new tally marked says (inr stopped) = record {
       begins = begins IsFront devices old mid (told new) ((job devices).Stops tally) (writer_told out)
           (writer_told out_new) parts before marked says stopped.through (λ first. inl first);

@@ -1,4 +1,5 @@
--- A run that reads nothing.
+-- A run that reads nothing: for `describe_bus`, whose job needs no input. It fails in no read and
+-- makes none, so that its end is that of the writes.
 use Rattle.std.proofs.Common.{◌≡◌, ◌≢◌, Result, Err, IfOk, List, ℕ, inl, inr, refl}
 use Rattle.pmb_io.specs.Count.{raised}
 use Rattle.pmb_io.specs.Runs.{Done, Job, Ran}

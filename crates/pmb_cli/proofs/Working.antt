@@ -1,4 +1,6 @@
--- A work that may lack memory: what its outcome and its status say.
+-- A work that may lack memory: what its outcome and its status say. For `do_work`,
+-- `run_under_front` and `run_under_sample`. Its outcome is that of a run (`Statuses`), or there
+-- was no memory before anything was read or written.
 use Rattle.std.proofs.Common.{◌≡◌, ◌∙◌, ℕ, Result, Ok, Err, List, [], inl, inr, refl, sym, ap, subst}
 use Rattle.pmb_preamble.specs.Front.{MadeFrontReads}
 use Rattle.pmb_io.specs.Runs.{AsTool, Done, Job, PartDone, Ran}

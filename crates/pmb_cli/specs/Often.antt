@@ -1,4 +1,4 @@
--- How often is read: for the profile that comes first, and for what follows it.
+-- How many reads are made: for the profile that comes first, and for what follows it.
 use Rattle.std.specs.Prelude.{◌≡◌, ◌≤◌, ◌+◌, ℕ}
 use Rattle.pmb_preamble.specs.Front.{most_profile}
 use Rattle.pmb_io.specs.Count.{raised}

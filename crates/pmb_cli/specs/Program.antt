@@ -34,9 +34,8 @@ pub record RanProgram {R W E : Type 0} (reader_told : R → ReaderTold) (out_tol
   pub bad : status ≡ BadArguments → (MayBeRefused words ⊎ AskForNothing words)
       ⊎ (HasBadFormat words ⊎ ((asking : Asking) × AskFor words asking × IsUnderFront asking
       × HasBadProfile reader_told old.0 new.0))
-  -- Whatever the words, the status says what failed, and how often was read; standard error gets
-  -- some text where anything went
-  -- wrong, and else stays as it is.
+  -- Whatever the words, the status says what failed, and how many reads were made; standard error
+  -- gets some text where anything went wrong, and else stays as it is.
   pub tells : StatusTells reader_told out_told (old.0, old.1) (new.0, new.1) status
   pub err_text : Failed status → IsTold (err_told old.2) (err_told new.2)
   pub quiet : EndedWell status → new.2 ≡ old.2

@@ -38,15 +38,14 @@ pub record InFormat (direction : Direction) (Holds : Conversion → Type 0) (tex
 
 module _ {R W : Type 0} (reader_told : R → ReaderTold) (out_told : W → WriterTold) (sample : List ℕ) where
   -- All was written: for a capture or lines under the sample profile, or under the one that comes
-  -- first, or the answers to
-  -- all lines in a format.
+  -- first, or the answers to all lines in a format.
   abbrev pub WroteTask : Asking → R × W → R × W → Tally → Type 0
   WroteTask (UnderProfile place wanted) old new tally =
       DoneUnder reader_told out_told (working wanted) place sample tally old new
   WroteTask (Convert direction text) old new tally =
       InFormat direction (λ conversion. Done reader_told out_told (converting conversion) tally [] old new) text
 
-  -- Where a read failed, or there were too many, the part of it that is sure by what was read.
+  -- Where a read failed, or there were too many, the part determined by the bytes read.
   abbrev pub WroteTaskPart : Asking → R × W → R × W → Type 0
   WroteTaskPart (UnderProfile place wanted) old new =
       PartDoneUnder reader_told out_told (working wanted) place sample old new
@@ -63,7 +62,7 @@ pub record DidTask {R W E : Type 0} (reader_told : R → ReaderTold) (out_told :
   pub did : Does (WroteTask reader_told out_told sample asking (old.0, old.1) (new.0, new.1))
       (WroteTaskPart reader_told out_told sample asking (old.0, old.1) (new.0, new.1)) (out_told old.1)
       (out_told new.1) status
-  -- The status says what failed, and how often was read.
+  -- The status says what failed, and how many reads were made.
   pub tells : StatusTells reader_told out_told (old.0, old.1) (new.0, new.1) status
   -- It is BadArguments only where a text names no format, or the profile that comes first is too long or has a fault.
   pub bad : status ≡ BadArguments → NamesNone asking ⊎ (IsUnderFront asking × HasBadProfile reader_told old.0 new.0)

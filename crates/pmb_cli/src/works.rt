@@ -1,5 +1,7 @@
 //! What is done under a profile: `pmb show`, `pmb check`, `pmb json`, `pmb build`, `pmb run` and
 //! `pmb profile`, under the sample profile or under the one that comes first in the input.
+//!
+//! Its rows: `tests/rows/fronts.txt`, `captures.txt`, `lines.txt`, `requests.txt`.
 
 ghost use Rattle.std.specs.Prelude.{◌≡◌};
 ghost use Rattle.pmb_cli.specs.ProfileFault.{IsReported};
@@ -96,8 +98,8 @@ fn do_work<R: Source, W: Sink>(
     }
 }
 
-/// Reports a fault of a profile, and to who asked for `profile` what helps with it, and returns the
-/// exit status.
+/// Reports a fault of a profile, with hints if `profile` was asked for, and returns the exit
+/// status.
 fn report_fault<E: Sink>(
     work: &Subcommand,
     alloc: Global,

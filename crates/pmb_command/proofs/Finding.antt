@@ -1,4 +1,5 @@
--- What a search of a list finds.
+-- What a search of a list finds: an element that passes the test, and whatever all elements pass.
+-- For `standard`, `by_name` and the laws on the standard commands.
 use Rattle.std.proofs.Common.{◌≡◌, Bool, true, false, cond, Option, Some, List, [], ◌∷◌, map, ◌⊎◌, inl, inr, refl, sym}
 use Rattle.std.proofs.Common.{ap, ◌∙◌, subst}
 use Rattle.std.specs.Prelude.{find, option_map}

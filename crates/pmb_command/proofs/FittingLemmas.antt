@@ -1,4 +1,6 @@
--- What the test of a command's parts says of each of them.
+-- What the test of a command's parts says of each of them: that a command that fits keeps each
+-- rule. For `standard`, `by_name` and the laws on the standard commands. The test is a
+-- conjunction, taken apart from the front.
 use Rattle.std.proofs.Common.{◌≡◌, Bool, true, false, ℤ, pos, negsuc, not, ◌&&◌, ◌||◌, nat_eq, refl, subst, sym}
 use Rattle.std.specs.Prelude.{int_le}
 use Rattle.std.proofs.lemmas.Bool.{and_parts}
@@ -45,6 +47,7 @@ taken_exponent kind fits exponent is =
 
 pub fitting_parts : (e : EntryParts) → is_fitting e ≡ true → IsFitting e
 fitting_parts e fits =
+    -- each part of the test
     let some_form = has_form e.shape in
     let one_form = ways_agree e.shape.write e.shape.read in
     let read_data = reads_data e.shape.read in
@@ -54,6 +57,7 @@ fitting_parts e fits =
     let page = not (nat_eq e.code 0x00 && e.paged) in
     let kind = kind_fits e.kind (value_form e.shape) in
     let exponent = exponent_fits e.kind in
+    -- the conjunction, taken apart from the front
     let one = and_parts some_form (one_form &&
     (read_data && (call_form && (fixed && (raw && (page && (kind && exponent))))))) fits in
     let two = and_parts one_form (read_data && (call_form && (fixed && (raw && (page && (kind && exponent)))))) one.1 in
@@ -70,6 +74,7 @@ fitting_parts e fits =
       call_form = four.0;
       fixed = asked (is_fixed e.code) (are_kept e.shape (standard_entry e.code)) five.0;
       raw = λ is. raw_kind e.kind (asked (is_always_raw e.code) (is_raw e.kind) six.0 is);
+      -- 0x00 is PAGE, which is never paged
       page = λ is. not_both (nat_eq e.code 0x00) e.paged seven.0 (subst (λ c. nat_eq c 0x00 ≡ true) (sym is) refl);
       kind = eight.0;
       exponent = taken_exponent e.kind eight.1;

@@ -1,4 +1,5 @@
--- Forms are told apart by their numbers.
+-- Forms are told apart by their numbers: for the law `forms_are_told_apart`. The form with a
+-- form's number is that form.
 use Rattle.std.proofs.Common.{◌≡◌, ℕ, true, [], ◌∷◌, refl, sym, ap, ◌∙◌, subst}
 use Rattle.std.specs.Prelude.{slice_index_or}
 use Rattle.std.specs.Bool.{Decides}

@@ -1,4 +1,5 @@
--- What names are.
+-- What names are: a name that fits is one of any code, and so is the one that is made of the
+-- code's digits. For `name_of_code` and the law `names_are_of_entries`.
 use Rattle.std.proofs.Common.{◌≡◌, ℕ, true, ◌&&◌, List, length, nat_le, inl, inr, refl, lit≤}
 use Rattle.std.specs.List.{list_all}
 use Rattle.std.proofs.lemmas.Bool.{and_parts, leb-true}

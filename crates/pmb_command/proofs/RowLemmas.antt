@@ -1,4 +1,6 @@
--- What the rows of the code's table say of the standard commands.
+-- What the rows of the code's table say of the standard commands: for `standard` and `by_name`. A
+-- row that is found by its code or its name is the standard's entry, since the rows are its
+-- entries one by one.
 use Rattle.std.proofs.Common.{◌≡◌, ℕ, nat_eq, Option, Some, None, List, map, refl, sym, ap, ◌∙◌}
 use Rattle.std.specs.Prelude.{find, option_map}
 use Rattle.std.specs.Str.{bytes_eq}

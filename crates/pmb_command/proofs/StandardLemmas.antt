@@ -1,5 +1,7 @@
--- What the table of the standard commands is: computed over the whole table, and told of each
--- entry.
+-- What the table of the standard commands is, computed over the whole table and read for each
+-- entry. For `standard`, `by_name` and the laws `standard_entries_are_sound` and
+-- `names_are_of_entries`. An entry is found by its code, and its name leads back to it, so no two
+-- have one name.
 use Rattle.std.proofs.Common.{◌≡◌, ℕ, ◌<◌, Bool, true, false, cond, nat_eq, nat_lt, Option, Some, None, List, [], ◌∷◌}
 use Rattle.std.proofs.Common.{refl, sym, ap, ◌∙◌, subst}
 use Rattle.std.specs.Prelude.{find, filter_map, option_map}

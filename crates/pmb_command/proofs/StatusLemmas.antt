@@ -1,4 +1,6 @@
--- Which standard commands have names for their bits: computed over the whole table.
+-- Which standard commands have names for their bits, computed over the whole table: the law
+-- `status_commands_have_names`. Each bit of such a command is named, and no other command has
+-- names.
 use Rattle.std.proofs.Common.{◌≡◌, ◌≢◌, ℕ, Bool, true, false, cond, nat_eq, [], refl, sym, ap, ◌∙◌, subst}
 use Rattle.std.specs.List.{list_all}
 use Rattle.std.proofs.lemmas.Bool.{eqb-true}

@@ -1,4 +1,5 @@
--- What a form's length says of its wire.
+-- What a form's length says of its wire: for `Form::wire_length`. A form of a fixed length takes
+-- that alone.
 use Rattle.std.proofs.Common.{◌≡◌, ℕ, ◌↔◌, List, arith, refl, sym}
 use Rattle.pmb_command.specs.declared.form.Form.{Form}
 use Rattle.pmb_command.specs.declared.form.Form.TheVariants.{Zero, One, Two, Four, Eight, Block}

@@ -2,6 +2,8 @@
 //!
 //! `ROWS` is laid out as the standard's own table, so that it is checked by looking at it; the
 //! proof of `rows` computes that it is the table of the definitions.
+//!
+//! Its rows: `tests_commands`, `src/standard_commands.rt`, `src/sample.rt`.
 ghost use Rattle.std.specs.Prelude.{◌≡◌, ◌≤◌, ◌==◌, length, find, map, option_map, IfSome};
 ghost use Rattle.std.specs.Option.{option_copied};
 ghost use Rattle.std.specs.Str.{bytes_eq};

@@ -1,4 +1,6 @@
 //! A command of a device.
+//!
+//! Its rows: `tests_commands`, `src/parts.rt`, `src/meanings.rt`.
 
 use crate::form::Shape;
 use arrayvec::ArrayString;

@@ -1,4 +1,6 @@
 //! Whether the parts of a command go together.
+//!
+//! Its rows: `tests/rows/forms.txt`.
 
 ghost use Rattle.std.specs.Prelude.{◌≡◌, option_map, IsTrue};
 ghost use Rattle.pmb_command.specs.Bus.{IsFitting};

@@ -1,5 +1,7 @@
 //! How the data of a command go over the bus: how many bytes a form takes, and which bytes spell
 //! them.
+//!
+//! Its rows: `tests_commands`, `src/forms.rt`, `src/shapes.rt`.
 
 ghost use Rattle.std.specs.Prelude.{◌≡◌, ◌↔◌, ◌≤◌, ◌++◌, ℕ, List, length, IsTrue, IfSome, MatchOption};
 ghost use Rattle.std.specs.Option.{option_to_list};

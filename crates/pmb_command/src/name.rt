@@ -1,4 +1,6 @@
 //! The names of commands.
+//!
+//! Its rows: `tests/rows/profiles.txt`.
 
 ghost use Rattle.std.specs.Prelude.{◌≡◌, ◌<◌, ℕ, IsTrue, slice_index};
 ghost use Rattle.std.specs.List.{list_all};

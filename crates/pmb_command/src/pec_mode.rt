@@ -1,4 +1,6 @@
 //! Whether packets carry a packet error code.
+//!
+//! Its rows: `tests_commands`, `src/modes.rt`.
 
 ghost use Rattle.std.specs.Prelude.{◌↔◌, IsTrue, true};
 ghost use Rattle.pmb_command.specs.PecMode.{AllowsPec};

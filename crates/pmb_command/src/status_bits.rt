@@ -1,6 +1,8 @@
 //! The names of the bits of the status commands (PMBus Part II section 17).
 //!
 //! Each table has the names from the highest bit down, as the standard's tables do.
+//!
+//! Its rows: `tests_commands`, `src/status_bits.rt`.
 ghost use Rattle.std.specs.Prelude.{◌≡◌, map, option_map};
 ghost use Rattle.pmb_command.specs.StatusBits.{bit_text, status_bits};
 

@@ -1,4 +1,5 @@
--- Codes in their digits.
+-- Codes in their four hexadecimal digits: for `code`. What std's `hex` decodes into two bytes is
+-- the code that the digits write, high byte first; where it refuses them they write none.
 use Rattle.std.proofs.Common.{◌≡◌, ℕ, Some, None, Result, Ok, Err, List, refl, ap, MatchResult, w16}
 use Rattle.std.specs.Int.{from_be_bytes}
 use Rattle.hex.specs.Hex.{decode_sized}

@@ -1,4 +1,6 @@
--- Lines that are answered one after the other.
+-- Lines that are answered one after the other: for `ConverterLineTask::take_line` and
+-- `convert_lines`. The answers so far are those of the lines so far; one line more adds its
+-- answer, its text, and one to the count of those that are answered or refused.
 use Rattle.std.proofs.Common.{◌≡◌, ℕ, ◌+◌, Bool, cond, Ok, Err, List, [], ◌∷◌, ◌++◌, sym, ◌∙◌, subst, refl, append-nil}
 use Rattle.std.proofs.Common.{arith, count_by, is_ok, is_err}
 use Rattle.std.proofs.lemmas.Grind.{flat_map-append}

@@ -1,4 +1,7 @@
--- The answers to the lines of an input are those of its bytes alone.
+-- The answers to the lines of an input are those of its bytes alone: for the laws `one_text`,
+-- `some_text`, `readings_have_denominators` and `ended_lines_come_first`. A text is read as one
+-- quantity, with a positive denominator; it has one nearest code or is on one side of the range;
+-- so each line has one answer.
 use Rattle.std.proofs.Common.{◌≡◌, ◌≢◌, ℕ, ◌<◌, ◌^◌, false, ◌&&◌, ◌||◌, ◌==◌, unsigned_abs, nat_lt, nat_le, cond}
 use Rattle.std.proofs.Common.{Option, Some, None, Result, Ok, Err, ℤ, pos, List, [], ◌∷◌, ◌++◌, length, refl, sym, ◌∙◌}
 use Rattle.std.proofs.Common.{ap, arith, count_by, is_ok, is_err}

@@ -1,4 +1,6 @@
--- The text that answers the lines that have ended is a front of the whole text.
+-- The text that answers the lines that have ended is a front of the whole text: the law
+-- `ended_lines_come_first`. More bytes change no ended line, and each line has one
+-- answer.
 use Rattle.std.proofs.Common.{◌≡◌, ℕ, List, [], ◌∷◌, ◌++◌, ◌∙◌, ap, refl, subst}
 use Rattle.std.specs.List.{flat_map}
 use Rattle.std.proofs.lemmas.List.Concat.{flat_map-append}
@@ -11,7 +13,9 @@ use Rattle.pmb_convert.proofs.Determined.{HasOneAnswer, one_text}
 
 -- the answers to lines that begin some others
 record Front (conversion : Conversion) (given : List TextLine) (answers : List Answer) : Type 0 where
+  -- the answers to the first lines
   front : List Answer
+  -- and those to the others
   after : List Answer
   split : answers ≡ front ++ after
   each : AnswersEach conversion given front

@@ -1,5 +1,7 @@
 -- What std reads of decimal numbers and of the parts round a comma, in the words of a FORMAT's
--- spelling.
+-- spelling. For `integer`, `small_integer`, `around_comma` and, through `Sayings`, for
+-- `parse_format`. A number's text is digits with a minus sign or none; a plus sign, which std
+-- would take, writes no number, and no number's text has a comma.
 use Rattle.std.proofs.Common.{◌≡◌, ◌≢◌, ℕ, suc, ◌<◌, ◌≤◌, true, false, eqb, ◌⊎◌, Option, Some, None, Result, Ok, Err, ℤ}
 use Rattle.std.proofs.Common.{pos, neg_ℤ, List, [], ◌∷◌, ◌++◌, length, get_or, inl, inr, refl, sym, ap, ◌∙◌, subst}
 use Rattle.std.proofs.Common.{arith, eq-eqb, length-append}

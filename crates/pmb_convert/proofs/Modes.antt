@@ -1,4 +1,5 @@
--- What `hex` reads of a VOUT_MODE's two digits.
+-- What `hex` reads of a VOUT_MODE's two digits: for `byte`, and for the law `one_format`. Two
+-- digits decode to their byte; any other text decodes to none, or to another number of bytes.
 use Rattle.std.proofs.Common.{◌≡◌, ℕ, ◌+◌, ◌*◌, ◌≤◌, ◌/◌, ◌%◌, ◌==◌, if◌then◌else◌, Bool, true, false, Option, Some}
 use Rattle.std.proofs.Common.{None, Result, Ok, Err, List, [], ◌∷◌, length, get_or, refl, sym, ap, ◌∙◌, subst, arith}
 use Rattle.std.proofs.Common.{MatchResult}

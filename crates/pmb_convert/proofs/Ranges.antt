@@ -1,4 +1,5 @@
--- A format that a text names is one of its type.
+-- A format that a text names is one of its type: its exponent is from -16 to 15, R from -9 to 9,
+-- and m is not 0. For the law `one_format`. Each is tested where the format is made.
 use Rattle.std.proofs.Common.{◌≡◌, ◌≢◌, ℕ, ◌<◌, ◌≤◌, ◌/◌, ◌%◌, ◌^◌, ◌==◌, Bool, true, false, cond, if◌then◌else◌}
 use Rattle.std.proofs.Common.{nat_lt, Result, Ok, Err, ℤ, pos, negsuc, ◌≤ℤ◌, ◌-ℤ◌, List, sym, subst, arith}
 use Rattle.std.proofs.lemmas.Int.{ints}

@@ -1,4 +1,7 @@
--- From what the parts of a FORMAT say to what the whole of it says.
+-- From what the parts of a FORMAT say to what the whole of it says: for `parse_format`, `direct`
+-- and the law `one_format`. A text of a kind begins with the kind's word, which no other kind has;
+-- its numbers are what stands round the commas, so that the whole says one thing and has one
+-- answer.
 use Rattle.std.proofs.Common.{◌≡◌, ◌≢◌, ℕ, false, eqb, get_or, drop, append_assoc, Result, Err, ℤ, List, ◌∷◌, ◌++◌}
 use Rattle.std.proofs.Common.{codes, refl, sym, ap, ◌∙◌, subst}
 use borrow.Author.Tests.{eqb-false}
@@ -34,6 +37,7 @@ direct_text : (M B R : List ℕ) → codes "direct:" ++ M ++ codes "," ++ B ++ c
 direct_text M B R = simp append_assoc
 
 -- a text without a colon and one with it
+-- 58 is the colon
 no_colon : (E : List ℕ) → codes "linear11" ≡ codes "linear11:" ++ E → ⊥
 no_colon E same = eqb-false 0 58 refl (ap (λ t. get_or t 8 0) same)
 
@@ -236,6 +240,7 @@ one_direct numbers a b left right =
     left.is ∙ (λ i. direct (m_same i) (b_same i) (r_same i)) ∙ sym right.is
 
 pub one_saying : (text : List ℕ) (a b : Saying) → SpellsFormat text a → SpellsFormat text b → a ≡ b
+-- `linear11`
 one_saying text linear11 b is too = by b (subst (λ t. SpellsFormat t b) is too)
   where
     by : (b : Saying) → SpellsFormat (codes "linear11") b → linear11 ≡ b
@@ -245,6 +250,7 @@ one_saying text linear11 b is too = by b (subst (λ t. SpellsFormat t b) is too)
     by (slinear16 n) o = absurd (differ _ _ _ _ refl o.1)
     by (vout n) o = absurd (differ _ _ _ _ refl o.1)
     by (direct m b r) o = absurd (differ _ _ _ _ refl o.3)
+-- `linear11:E`, `ulinear16:E`, `slinear16:E`: one exponent
 one_saying text (linear11_fixed n) b is too =
     let o = spelled_fixed is.0 b (subst (λ t. SpellsFormat t b) is.1 too) in
     ap linear11_fixed (one_number is.0 n o.0 is.2.writes o.1.writes) ∙ sym o.2
@@ -254,9 +260,11 @@ one_saying text (ulinear16 n) b is too =
 one_saying text (slinear16 n) b is too =
     let o = spelled_signed is.0 b (subst (λ t. SpellsFormat t b) is.1 too) in
     ap slinear16 (one_number is.0 n o.0 is.2.writes o.1.writes) ∙ sym o.2
+-- `vout:HH`: one byte
 one_saying text (vout n) b is too =
     let o = spelled_vout is.0 b (subst (λ t. SpellsFormat t b) is.1 too) in
     ap vout (one_mode is.0 n o.0 is.2 o.1) ∙ sym o.2
+-- `direct:M,B,R`: one number each
 one_saying text (direct m k r) b is too =
     let numbers : List ℕ = comma is.0 (comma is.1 is.2) in
     let left = spelled_direct numbers (direct m k r) (

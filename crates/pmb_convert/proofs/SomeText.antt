@@ -1,4 +1,6 @@
--- Some text answers any input.
+-- Some text answers any input: the law `some_text`. Each code that is written decodes or is no
+-- code; each quantity that is read has a nearest code or is out of range; so each line has an
+-- answer.
 use Rattle.std.proofs.Common.{◌≢◌, ℕ, ◌<◌, inl, inr, Result, Ok, Err, ℤ, pos, List, [], ◌∷◌, refl, count_by, is_ok}
 use Rattle.std.proofs.Common.{is_err}
 use Rattle.std.specs.List.{flat_map}

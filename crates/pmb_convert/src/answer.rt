@@ -1,4 +1,6 @@
 //! The line that is written for a line.
+//!
+//! Its rows: `tests/rows/numbers.txt`.
 
 ghost use Rattle.std.specs.Prelude.{◌≡◌, ◌++◌, OnOk, codes};
 ghost use Rattle.pmb_io.specs.Calls.{WriterTells};

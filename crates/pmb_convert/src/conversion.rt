@@ -1,4 +1,6 @@
 //! What a line is converted to.
+//!
+//! Its rows: `tests/rows/numbers.txt`.
 
 ghost use Rattle.std.specs.Prelude.{◌≡◌};
 ghost use Rattle.pmb_io.specs.Lines.{line_text};

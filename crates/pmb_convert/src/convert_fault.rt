@@ -1,3 +1,7 @@
+//! Why a line is not converted, and the name of that.
+//!
+//! Its rows: `tests/rows/numbers.txt`.
+
 ghost use Rattle.std.specs.Prelude.{◌≡◌};
 ghost use Rattle.pmb_convert.specs.Answer.{fault_name};
 

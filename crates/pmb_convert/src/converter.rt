@@ -1,4 +1,6 @@
 //! The lines of an input, answered one after the other.
+//!
+//! Its rows: `tests/rows/numbers.txt`.
 
 ghost use Rattle.std.specs.Prelude.{◌≡◌, ◌++◌, ◌∷◌, []};
 ghost use Rattle.pmb_convert.specs.Answer.{Answer};

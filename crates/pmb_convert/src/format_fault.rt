@@ -1,3 +1,7 @@
+//! Why a text names no number format.
+//!
+//! Its rows: `tests/rows/numbers.txt`.
+
 use thiserror::Error;
 
 /// Why a text names no number format, in the order in which the faults are looked for. The text of

@@ -1,4 +1,6 @@
 //! Quantities in and codes out, or codes in and quantities out.
+//!
+//! Its rows: `tests_tasks`, `src/numbers.rt`; `tests/rows/numbers.txt`.
 
 ghost use Rattle.pmb_io.specs.Runs.{AsTool, Ran};
 ghost use Rattle.pmb_convert.specs.declared.conversion.Conversion.TheVariants.{Encode, Decode};

@@ -1,4 +1,6 @@
 //! The number format of a kind and its numbers.
+//!
+//! Its rows: `tests/rows/numbers.txt`.
 
 ghost use Rattle.std.specs.Prelude.{◌≡◌};
 ghost use Rattle.pmb_value.specs.declared.vout.VoutFormat.TheVariants.{Unsigned, Signed};

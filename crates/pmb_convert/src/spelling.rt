@@ -1,4 +1,6 @@
 //! What a FORMAT and its parts spell.
+//!
+//! Its rows: `tests_tasks`, `src/numbers.rt`; `tests/rows/numbers.txt`.
 
 ghost use Rattle.std.specs.Int.{w8, w16};
 ghost use Rattle.pmb_convert.specs.Spelling.{Answers, Names};

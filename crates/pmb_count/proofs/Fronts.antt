@@ -1,4 +1,5 @@
--- The front of a piece that is used.
+-- The front of a piece that is used, up to a refused event: for `feed_on`. The event stands in the
+-- piece, right after those that were used.
 use Rattle.std.proofs.Common.{◌≡◌, ℕ, ◌+◌, ◌<◌, inl, inr, ◌⊎◌, List, [], ◌∷◌, ◌++◌, length, take, drop, get_or, sym, ap}
 use Rattle.std.proofs.Common.{◌∙◌, arith, length-append, append_assoc}
 use Rattle.std.proofs.lemmas.List.{append_cancel_left, take_more, drop_more, take-append-drop}

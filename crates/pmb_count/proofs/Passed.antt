@@ -1,4 +1,5 @@
--- A refused event that comes again is passed over.
+-- A refused event that comes again is passed over: for `take_on` and `feed_on`. While events are
+-- passed over no packet ends and nothing is refused.
 use Rattle.std.proofs.Common.{◌≡◌, List, [], ◌∷◌, ◌++◌, refl, subst}
 use Rattle.pmb_bus.specs.declared.event.Event.{Event}
 use Rattle.pmb_command.specs.Parts.{DeviceParts}

@@ -1,4 +1,5 @@
--- What reads as transactions is not refused.
+-- What reads as transactions is not refused: the law `captures_are_not_refused`. A refusal that is
+-- held would be among the outcomes of the whole capture, whatever follows the event.
 use Rattle.std.proofs.Common.{◌≡◌, ℕ, ◌+◌, List, [], ◌∷◌, ◌++◌, length, map, refl}
 use Rattle.pmb_bus.specs.declared.event.Event.{Event}
 use Rattle.pmb_command.specs.Parts.{DeviceParts}
@@ -37,6 +38,7 @@ module _ (profile : List DeviceParts) (reads : (n : ℕ) (events : List Event)
         → ((behind : List Event) (later : List Outcome) → IsDue (HeldEvent event) behind
         → Remains profile standing behind later
         → ReadsFrom profile 0 (events ++ behind) ((outcomes ++ Refusal refusal ∷ []) ++ later)) → ⊥
+    -- a refusal is held, whatever is read after the next STOP
     none_held (Open n front) at read = absurd at
     none_held (Held n held) at read =
         let later = after_stop n (event ∷ more) in

@@ -1,4 +1,5 @@
--- CaptureCounts of outcomes, one by one.
+-- The counts of outcomes, one by one: for `Counter::finish` and `CaptureCounts::add`. A packet or
+-- a refusal more is one more of its count, which stays at the greatest u64.
 use Rattle.std.proofs.Common.{◌≡◌, ◌+◌, ◌-◌, ◌^◌, ℕ, min, List, [], ◌∷◌, ◌++◌, length, map, refl, sym, ap, ◌∙◌, subst}
 use Rattle.std.proofs.Common.{arith}
 use Rattle.std.proofs.lemmas.List.{append-nil}

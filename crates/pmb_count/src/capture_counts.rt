@@ -1,4 +1,6 @@
 //! A whole capture.
+//!
+//! Its rows: `tests_reader`, `src/counts/counted.rt`.
 
 ghost use Rattle.std.specs.Prelude.{List, ◌++◌};
 ghost use Rattle.pmb_transaction.specs.Reading.{Outcome, Reading};

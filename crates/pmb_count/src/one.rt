@@ -1,4 +1,6 @@
 //! One event of a capture, also one that is refused.
+//!
+//! Its rows: `tests_reader`, `src/counts/counted.rt`.
 
 ghost use Rattle.std.specs.Prelude.{List, [], ◌∷◌, ◌++◌};
 ghost use Rattle.pmb_bus.specs.declared.event.Event.{Event as BusEvent};

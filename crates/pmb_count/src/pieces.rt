@@ -1,4 +1,6 @@
 //! A capture that comes in pieces.
+//!
+//! Its rows: `tests_reader`, `src/counts/counted.rt`.
 
 ghost use Rattle.std.specs.Prelude.{◌≡◌, ◌≢◌, ◌<◌, ◌≤◌, List, [], ◌++◌, length, take};
 ghost use Rattle.pmb_bus.specs.Count.{capped};
@@ -21,7 +23,7 @@ use pmb_reader::laws::{
 use pmb_reader::{Outcome as Answer, Reader, Took};
 use pmb_table::Profile;
 
-/// How many events at a piece's front were used, and what they came to.
+/// How many events at a piece's front were used, and the result.
 #[derive(Clone, Copy)]
 pub(crate) struct Fed {
     pub(crate) used: usize,

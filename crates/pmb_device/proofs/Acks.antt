@@ -1,4 +1,7 @@
--- Signals that no device answers, by the phase.
+-- START, ACK and NACK, which a device doesn't answer, by the phase that it is in. For
+-- `DevicePacket::ack`, `nack`, `begin_packet`, `begin_later` and `outcome`. ACK ends the wait for
+-- the byte that was given, NACK ends a reply, START begins a leg after those before it; what the
+-- device keeps of its own leg (`OwnIsIn`) stays as it is.
 use Rattle.std.proofs.Common.{◌≡◌, ◌≢◌, Bool, false, refl, subst, sym, ap, ◌∙◌, List, [], ◌∷◌, ◌++◌}
 use Rattle.pmb_command.specs.Parts.{DeviceParts}
 use Rattle.pmb_registers.specs.State.{DeviceState}

@@ -1,4 +1,7 @@
--- The first byte of a leg.
+-- The first byte of a leg, which is an address. For `DevicePacket::address`, `begin_own`,
+-- `be_read`, `reply` and `refuse`. A leg is written to the device at its first write address in
+-- the packet, and is read from it right after that leg; any other address makes it deaf for the
+-- leg.
 use Rattle.std.proofs.Common.{◌≡◌, ℕ, inr, Bool, true, false, ◌||◌, None, Ok, List, [], ◌∷◌, ◌++◌, refl, sym, ap, subst}
 use Rattle.std.proofs.Common.{◌∙◌, nat_eq}
 use Rattle.std.proofs.lemmas.Bool.{eqb-true}
@@ -130,10 +133,12 @@ pub hears_others : (x : DevicePacket) (byte : ℕ) → x.phase ≡ phases.Start
 hears_others x byte phase writes reads device state Outside stands = cc (phase, stands.behind)
 hears_others x byte phase writes reads device state (Inside earlier leg) stands =
     let at = starting x device state earlier leg phase stands in
+    -- the address begins neither a leg that is written to the device nor one that is read from it,
     let to_write : byte ≡ write_address device.address
     → x.own ≡ true = λ is. writes (is ∙ ap (λ (d : DeviceParts). write_address d.address) (sym stands.known)) in
     let to_read : byte ≡ read_address device.address
     → x.own ≡ false = λ is. reads (is ∙ ap (λ (d : DeviceParts). read_address d.address) (sym stands.known)) in
+    -- so the bus hears nothing of the device,
     let no_write = not_written device state (kept x) earlier leg byte at.nothing at.own to_write in
     let no_read = not_read_here device state (kept x) earlier leg byte at.nothing at.own to_read in (
       at_first device state earlier leg byte answered.Silent at.nothing (others no_write no_read refl),
@@ -150,6 +155,7 @@ hears_others x byte phase writes reads device state (Inside earlier leg) stands 
     )
 
 -- its own leg begins
+-- and the device has no part in the leg
 pub hears_own : (x : DevicePacket) (leg_after : Written) → x.phase ≡ phases.Start → x.own ≡ false
     → leg_after ≡ record { device = x.device.now; place = x.place; bytes = [] }
     → (device : DeviceParts) (state : DeviceState) (legs : Legs) → StandsIn x device state legs
@@ -159,13 +165,16 @@ hears_own x leg_after phase own leg_is device state Outside stands = cc (phase, 
 hears_own x leg_after phase own leg_is device state (Inside earlier leg) stands =
     let at = starting x device state earlier leg phase stands in
     let byte = write_address x.device.now.address in
+    -- the byte is its write address, and the first one in the packet
     let to_own : byte ≡ write_address device.address = ap (λ (d : DeviceParts). write_address d.address) stands.known in
     let once : some_is_to (write_address device.address) earlier ≡ false =
     sym (own_here device state (kept x) earlier leg at.nothing at.own) ∙ own in
+    -- of the leg nothing was taken yet
     let fresh : Written = record { device = device; place = leg_place earlier; bytes = [] } in
     let is : leg_after ≡ fresh =
     leg_is ∙ ap (λ (d : DeviceParts). let l : Written = record { device = d; place = x.place; bytes = [] } in
     l) stands.known
+    -- the device answers ACK,
     ∙ ap (λ (p : LegPlace). let l : Written = record { device = device; place = p; bytes = [] } in l) stands.behind.0 in (
       at_first device state earlier leg byte answered.Ack at.nothing
           (written (record { own = to_own; once = once }) refl),
@@ -186,5 +195,6 @@ hears_own x leg_after phase own leg_is device state (Inside earlier leg) stands 
             not_refused = refl;
           },
         );
+        -- and its own leg has begun, with no byte refused and nothing noted
       },
     )

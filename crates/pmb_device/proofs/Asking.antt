@@ -1,4 +1,6 @@
--- What an Ask gets.
+-- What an Ask gets: the next byte of a reply, or silence. For `DevicePacket::ask`, and for the
+-- functions of a written leg and of the read address. `HasGiven` counts: after k bytes with their
+-- ACKs byte k comes next, none while one waits for its ACK, and none after the last.
 use Rattle.std.proofs.Common.{◌≡◌, ◌≢◌, ℕ, ◌+◌, ◌<◌, ◌≤◌, ◌⊎◌, inl, inr, Bool, true, false, ◌||◌, if◌then◌else◌, Some}
 use Rattle.std.proofs.Common.{List, [], ◌∷◌, ◌++◌, length, refl, sym, ap, subst, ◌∙◌, arith}
 use Rattle.std.specs.List.{slice_get}
@@ -205,15 +207,18 @@ pub gives_byte : (x : DevicePacket) (device : DeviceParts) (state : DeviceState)
     → AnswersAskBehind device state legs (answered.Byte byte) (record x { given = x.given + 1; waits = true })
 gives_byte x device state Outside byte reply free is stands = cc (reply, stands.behind)
 gives_byte x device state (Inside earlier leg) byte reply free is stands =
+    -- the reply has a byte at this place, so it was counted exactly
     let r = replying x device state earlier leg reply stands in
     let room : x.given < length x.reply.items = slice_get_within x.reply.items x.given byte is in
     let counts = exact device state (length x.reply.items) x.given x.waits (behind_address leg) room r.count in
     let free_counts : Counts device x.given false (behind_address leg) =
     subst (λ (b : Bool). Counts device x.given b (behind_address leg)) free counts in
+    -- it is the byte that the definition has next, since none waits
     let here : slice_get x.reply.items (given_behind device false (behind_address leg)) ≡ Some byte =
     ap (slice_get x.reply.items) (sym counts.given_is) ∙ is in
     let next = next_is device state x.reply.items (given_behind device false (behind_address leg)) byte _ _ r.goes_on
     (sym free_counts.waits_is) here in
+    -- one more was given, and it waits for its ACK
     let after = reply_at_ask device state (kept x) x.reply.items x.given (x.given + 1) x.waits true earlier leg r
     (count_given device state (length x.reply.items) x.given byte (behind_address leg) room free_counts) in
     let y : DevicePacket = record x { given = x.given + 1; waits = true } in (

@@ -1,4 +1,6 @@
--- What one more byte gets where the device takes none, and the first byte of a leg.
+-- A byte of which a device takes nothing: outside of its own legs, in a leg that is not its own,
+-- and in a leg that it answers. For `DevicePacket::byte`. It is silent, and what it keeps of its
+-- own leg stays, since a byte after the address changes no address of the leg.
 use Rattle.std.proofs.Common.{◌≡◌, ℕ, ◌⊎◌, inl, inr, Bool, false, List, [], ◌∷◌, ◌++◌, length, refl, sym, subst, ◌∙◌}
 use Rattle.std.proofs.Common.{arith}
 use Rattle.pmb_command.specs.Parts.{DeviceParts}

@@ -1,4 +1,7 @@
--- What STOP does, by what was kept of the own leg.
+-- What STOP does, by what was kept of the device's own leg: nothing, a status bit noted, or a
+-- write that acts. For `DevicePacket::outcome`. What is kept (`OwnIsIn`) says where the own leg
+-- stands among the legs of the packet and what was refused or read of it; so each of the four
+-- cases of `IsOutcome` is what the definition of the packet's end asks for.
 use Rattle.std.proofs.Common.{◌≡◌, ℕ, inl, inr, Bool, true, false, ◌||◌, Option, Some, None, List, [], ◌∷◌, ◌++◌, refl}
 use Rattle.std.proofs.Common.{sym, ap, subst, ◌∙◌, append_assoc}
 use Rattle.pmb_command.specs.Parts.{DeviceParts}
@@ -88,9 +91,13 @@ module _ (device : DeviceParts) (state : DeviceState) where
 
   -- what an outcome has to be
   pub record IsOutcome (k : Kept) (after : DeviceState) : Type 0 where
+    -- no leg was its own: its state stays
     pub others : k.own ≡ false → after ≡ state
+    -- a byte was refused: what is noted of it
     pub refuses : k.own ≡ true → k.refused ≡ true → after ≡ with_noted device k.noted state
+    -- it was read: what is noted of the read
     pub reads : k.own ≡ true → k.refused ≡ false → k.read ≡ true → after ≡ with_noted device k.noted state
+    -- all bytes were taken, and it was not read: the write acts
     pub acts : (bytes : List ℕ) → k.own ≡ true → k.refused ≡ false → k.read ≡ false → k.noted ≡ None
         → k.leg.device ≡ device → k.leg.bytes ≡ bytes → Acts device bytes state after
 
@@ -115,9 +122,11 @@ module _ (device : DeviceParts) (state : DeviceState) where
 
   legs_end : (k : Kept) (earlier : List Leg) (leg : Leg) (after : DeviceState) → IsOutcome k after
       → OwnIsIn device state k earlier leg → LegsEnd device (earlier ++ leg ∷ []) state after
+  -- no leg was its own
   legs_end k earlier leg after outcome (none own before is) =
       let here : OwnIsIn device state k earlier leg = none own before is in
       no_leg (sym (own_is device state k earlier leg here) ∙ own) (outcome.others own)
+  -- its own leg was the last one
   legs_end k earlier leg after outcome (under_way bytes o) =
       own_leg bytes (record {
         earlier = earlier;
@@ -129,6 +138,7 @@ module _ (device : DeviceParts) (state : DeviceState) where
             o.bytes_are;
       })
       (own_ends k after outcome earlier leg bytes [] o)
+  -- its own leg came earlier
   legs_end k earlier leg after outcome (ended before own mid bytes split o) =
       own_leg bytes
       (record {
@@ -160,6 +170,7 @@ ends_outside x device state (Inside earlier leg) stands outside =
 module _ (x : DevicePacket) (device : DeviceParts) (state : DeviceState) where
   -- no own leg
   pub no_own_outcome : x.own ≡ false → IsOutcome device state (kept x) state
+  -- each case but the first would have an own leg
   no_own_outcome own = record {
     others = λ is. refl;
     refuses = λ is. cc (sym is ∙ own);

@@ -1,4 +1,6 @@
--- A device's own leg, while more signals come.
+-- A device's own leg in a packet, while more signals come (`OwnIsIn`). For all steps of a
+-- `DevicePacket`. A signal that adds no byte changes nothing; a byte after the address changes no
+-- address; and a leg that has ended stays where it is, before the later ones.
 use Rattle.std.proofs.Common.{◌≡◌, ℕ, Bool, true, false, ◌||◌, Option, List, [], ◌∷◌, ◌++◌, refl, sym, ap, subst, ◌∙◌}
 use Rattle.std.proofs.Common.{append_assoc, nat_eq, eq-eqb}
 use Rattle.pmb_command.specs.Parts.{DeviceParts}
@@ -142,10 +144,12 @@ module _ (device : DeviceParts) (state : DeviceState) where
       → sent longer ≡ address ∷ bytes ++ byte ∷ []
       → (IsWritten device earlier address → TakesAll device (leg_place earlier) [] bytes → ⊥)
       → OwnIsIn device state k earlier leg → OwnIsIn device state k earlier longer
+  -- no leg is its own, nor does this byte make it so
   own_passes k earlier leg longer address bytes byte is more never (none own before other) =
       let wa = write_address device.address in
       none own before (is_to_first wa address (bytes ++ byte ∷ []) longer more
       ∙ sym (is_to_first wa address bytes leg is) ∙ other)
+  -- its own leg is this one: a byte before was refused, so this one is passed over as well
   own_passes k earlier leg longer address bytes byte is more never (under_way front o) =
       let same : address ∷ bytes ≡ write_address device.address ∷ front = sym is ∙ o.bytes_are in
       let same_bytes : bytes ≡ front = cc same in
@@ -161,6 +165,7 @@ module _ (device : DeviceParts) (state : DeviceState) where
         body = refuses_more k k.refused earlier leg bytes byte refused body;
         read = o.read;
       })
+  -- its own leg ended before: this one keeps its address
   own_passes k earlier leg longer address bytes byte is more never (ended before own mid front split o) =
       let ra = read_address device.address in
       ended before own mid front split

@@ -1,4 +1,6 @@
--- What a signal changes in each phase.
+-- What a signal without a byte changes in each phase: nothing but the counts of a reply. For all
+-- steps of a `DevicePacket`. The bytes sent in the leg are the same, and with them whatever speaks
+-- of them; in a reply ACK frees the next byte, and NACK ends the reply.
 use Rattle.std.proofs.Common.{◌≡◌, ℕ, inl, inr, Bool, true, false, ◌||◌, List, [], ◌∷◌, ◌++◌, length, refl, sym, ap}
 use Rattle.std.proofs.Common.{subst, ◌∙◌, arith}
 use Rattle.pmb_command.specs.Parts.{DeviceParts}

@@ -1,4 +1,8 @@
--- A device's own address for reading.
+-- A device's own read address: what it keeps of its own leg says whether it is asked, and its
+-- registers say what it answers. For `DevicePacket::be_read`, `reply` and `refuse`. It is asked
+-- where the leg before was the packet's first and its own, no byte of it was refused, and its
+-- bytes are a request; then it gives ACK and its reply, or NACK and notes why. Otherwise it is
+-- silent.
 use Rattle.std.proofs.Common.{◌≡◌, ℕ, inl, inr, Bool, true, false, Option, Some, None, Ok, Err, List, [], ◌∷◌, ◌++◌}
 use Rattle.std.proofs.Common.{length, refl, sym, ap, subst, ◌∙◌, nat_eq}
 use Rattle.pmb_command.specs.Parts.{DeviceParts}
@@ -73,8 +77,11 @@ module _ (device : DeviceParts) (state : DeviceState) where
 
   -- what is kept where the device is read
   pub record KeepsRequest (k : Kept) : Type 0 where
+    -- no byte of the leg was refused,
     pub not_refused : k.refused ≡ false
+    -- it was the first leg of the packet,
     pub first : k.leg.place ≡ First
+    -- and its bytes ask for a reply
     pub request : IsRequest k.leg.device k.leg.bytes
 
   request_kept : (k : Kept) (bytes : List ℕ) → k.refused ≡ false
@@ -157,16 +164,21 @@ module _ (device : DeviceParts) (state : DeviceState) where
       → after.own ≡ k.own → after.refused ≡ k.refused → after.read ≡ true → after.leg ≡ k.leg → after.noted ≡ k.noted
       → OwnIsIn device state k earlier leg
       → OwnIsIn device state after earlier (leg ++ Byte byte ∷ [])
+  -- no leg was its own: this is not so here
   own_read k after behind_first earlier leg byte at own to_own never own_is refused_is read_is leg_is noted_is
       (none other before is) = cc (sym own ∙ other)
+  -- its own leg would be this one, which had no byte
   own_read k after behind_first earlier leg byte at own to_own never own_is refused_is read_is leg_is noted_is
       (under_way bytes o) = cc (sym at.nothing ∙ o.bytes_are)
+  -- its own leg ended before
   own_read k after behind_first earlier leg byte at own to_own never own_is refused_is read_is leg_is noted_is
       (ended before first mid bytes split o) =
       let ra = read_address device.address in
       let longer = leg ++ Byte byte ∷ [] in
+      -- this leg is to its read address
       let here : is_to ra longer ≡ true = is_to_first ra byte [] longer (first_byte leg byte at.nothing)
       ∙ ap (λ (b : ℕ). nat_eq b ra) to_own ∙ same_byte ra in
+      -- but its leg asked for nothing, or it is not right before this one
       let not_asked : k.refused ≡ false → k.leg ≡ record { device = device; place = leg_place before; bytes = bytes }
       → before ≡ [] → mid ≡ [] → IsRequest device bytes → ⊥ =
       λ not_refused is no_before no_mid request.
@@ -184,6 +196,7 @@ module _ (device : DeviceParts) (state : DeviceState) where
         body = subst (λ (r : Bool). BytesAre r device state after before bytes (mid ++ longer ∷ []))
             (sym refused_is) body;
         read = read_is ∙ sym (is_some ra mid longer [] here);
+        -- it is read now
       })
 
 -- nothing is asked
@@ -195,8 +208,10 @@ hears_no_request x phase own never device state Outside stands = cc (phase, stan
 hears_no_request x phase own never device state (Inside earlier leg) stands =
     let at = starting x device state earlier leg phase stands in
     let byte = read_address x.device.now.address in
+    -- its own read address
     let to_own : byte ≡ read_address device.address = ap (λ (d : DeviceParts). read_address d.address) stands.known in
     let y : DevicePacket = record x { read = true; phase = phases.Deaf } in
+    -- nothing that is kept asks for a reply,
     let not_asked : x.behind_first ≡ true → KeepsRequest device state (kept x) → ⊥ =
     λ behind keeps. never (record {
       behind_first = behind;
@@ -205,11 +220,14 @@ hears_no_request x phase own never device state (Inside earlier leg) stands =
           keeps.first;
       request = keeps.request;
     }) in
+    -- so that this address begins no leg that the device answers
     let no_write : IsWritten device earlier byte → ⊥ = λ w. no_address device byte w.own to_own in
     let no_read : (body : List ℕ) → IsRead device earlier byte body → ⊥ =
     λ body r. not_asked (at.behind_own ∙ read_behind_own device state earlier byte body r)
     (read_asks device state stands.accepted (kept x) earlier leg at.nothing at.own byte body r) in
+    -- what is kept stays, and that it was read
     let own_after = own_read device state (kept x) (kept y) x.behind_first earlier leg byte at own to_own not_asked refl
+    -- the device is silent, and deaf to the leg
     refl refl refl refl at.own in (
       at_first device state earlier leg byte answered.Silent at.nothing (others no_write no_read refl),
       record {
@@ -232,6 +250,7 @@ module _ (device : DeviceParts) (state : DeviceState) where
       → y.read ≡ true → y.noted ≡ x.noted → y.leg ≡ x.leg
       → OwnIsIn device state (kept x) earlier leg
       → (body : List ℕ) × IsAskedIn y device state (Inside earlier leg) byte body
+  -- as above: its own leg ended before
   asked_in x y earlier leg byte known accepted place at to_own askable own own_is refused_is read_is noted_is leg_is
       (none other before is) = cc (sym own ∙ other)
   asked_in x y earlier leg byte known accepted place at to_own askable own own_is refused_is read_is noted_is leg_is
@@ -240,15 +259,18 @@ module _ (device : DeviceParts) (state : DeviceState) where
       (ended before first mid bytes split o) =
       let ra = read_address device.address in
       let k = kept x in
+      -- the leg before is its own, and the packet's first
       let behind : is_behind_own device (before ++ first ∷ mid) ≡ true = ap (is_behind_own device) (sym split)
       ∙ sym at.behind_own ∙ askable.behind_first in
       let only = alone device before first mid behind in
       let one : earlier ≡ first ∷ [] = split ∙ ap (λ (legs : List Leg). legs ++ first ∷ mid) only.0
       ∙ ap (λ (legs : List Leg). first ∷ legs) only.1 in
+      -- all its bytes were taken, and nothing was noted of them
       let all : AllTaken device state k before bytes (mid ++ leg ∷ []) =
       subst (λ (r : Bool). BytesAre r device state k before bytes (mid ++ leg ∷ [])) askable.not_refused o.body in
       let kept_is : x.leg ≡ record { device = device; place = First; bytes = bytes } =
       first_kept device state k before bytes only.0 all.leg_is in
+      -- they ask for a reply
       let request : IsRequest device bytes = subst (λ (w : Written). IsRequest w.device w.bytes) kept_is
       askable.request in
       let other : head_is_to ra (mid ++ leg ∷ []) ≡ false =
@@ -293,12 +315,15 @@ hears_request x phase own askable device state (Inside earlier leg) stands =
 
 -- What was put in place of what an exchange that was asked had.
 pub record IsAnswered (x after : DevicePacket) (noted : Option CmlBit) : Type 0 where
+  -- the device and its packet are as before,
   pub device : after.device.now ≡ x.device.now
   pub place : after.place ≡ x.place
+  -- and what it keeps of its own leg
   pub own : after.own ≡ x.own
   pub refused : after.refused ≡ x.refused
   pub read : after.read ≡ x.read
   pub leg : after.leg ≡ x.leg
+  -- this is noted now
   pub noted_is : after.noted ≡ noted
 
 module _ (x after : DevicePacket) (device : DeviceParts) (state : DeviceState) (legs : Legs) (byte : ℕ) (body : List ℕ)
@@ -310,9 +335,11 @@ module _ (x after : DevicePacket) (device : DeviceParts) (state : DeviceState) (
       let leg = asked.leg ++ Byte byte ∷ [] in
       let k = kept after in
       let first = asked.is_read.asked.first in
+      -- the leg has the read address alone
       let sent_is : sent leg ≡ byte ∷ [] = first_byte asked.leg byte asked.nothing in
       let here : is_to ra leg ≡ true = is_to_first ra byte [] leg sent_is
       ∙ ap (λ (b : ℕ). nat_eq b ra) asked.is_read.own ∙ same_byte ra in
+      -- the own leg was taken whole, and is answered by the leg after it
       let all : AllTaken device state k [] body (leg ∷ []) = record {
         leg_is = same.leg ∙ asked.leg_is;
         taken = asked.taken;
@@ -323,6 +350,7 @@ module _ (x after : DevicePacket) (device : DeviceParts) (state : DeviceState) (
         address = byte;
         bytes = [];
         sent_is = sent_is;
+        -- the own leg ended before this one
         own = ended [] first [] body asked.is_read.asked.alone (record {
           kept_own = same.own ∙ asked.own;
           first = refl;
@@ -349,9 +377,12 @@ module _ (x after : DevicePacket) (device : DeviceParts) (state : DeviceState) (
   hears_answer content ok none_is spelled phase given waits =
       let leg = asked.leg ++ Byte byte ∷ [] in
       let sent_is : sent leg ≡ byte ∷ [] = first_byte asked.leg byte asked.nothing in
+      -- no bit is noted of a reply
       let bit : noted ≡ bit_of_answer (answer device state body) = none_is ∙ ap bit_of_answer (sym ok) in
       let nothing = behind_first_byte asked.leg byte asked.nothing in
+      -- no byte of it was given yet
       let counts : Counts device after.given after.waits [] = record { given_is = given; waits_is = waits } in
+      -- the leg answers with the reply to the body
       let replied : IsReplied device state after.reply.items asked.earlier leg = record {
         address = byte;
         bytes = [];
@@ -369,6 +400,7 @@ module _ (x after : DevicePacket) (device : DeviceParts) (state : DeviceState) (
         goes_on = ap (is_ended device) nothing;
         count = subst (HasGiven device (length after.reply.items) after.given after.waits) (sym nothing) (inl counts);
       } in
+      -- ACK, and the reply is under way
       let here : HeardAs heard.Ack (Inside asked.earlier asked.leg) = (
         subst (AnswersByte device state asked.earlier (sent asked.leg) byte)
             (ap (taken_or_not device) ok) answers_asked,
@@ -389,7 +421,9 @@ module _ (x after : DevicePacket) (device : DeviceParts) (state : DeviceState) (
       → Hears device state legs byte heard.Nack after
   hears_refusal bit err is phase =
       let leg = asked.leg ++ Byte byte ∷ [] in
+      -- the reason of the refusal is noted
       let addressed = answered_addressed (is ∙ ap bit_of_answer (sym err)) in
+      -- and the device gives no byte in this leg: it was asked this body alone, and refuses it
       let in_deaf : InDeaf device state (kept after) asked.earlier leg = record {
         addressed = addressed;
         mute = no_reply (λ address bytes sent_is more r reply ok.

@@ -1,4 +1,6 @@
--- What asks a device is taken whole: PAGE, whose value is tested as it comes, is never called.
+-- The bytes that ask a device are all taken. For `DevicePacket::outcome` and those of the read
+-- address. Of the bytes of a leg only a value of PAGE may be refused; PAGE, whose code is 00h, is
+-- never called and is read by its code alone, so that no request has a value after that code.
 use Rattle.std.proofs.Common.{◌≡◌, ℕ, inl, inr, Bool, true, false, ◌&&◌, Option, Some, None, List, [], ◌∷◌, ◌++◌, refl}
 use Rattle.std.proofs.Common.{sym, ap, subst, ◌∙◌, append_assoc, nat_eq, cond}
 use Rattle.std.specs.List.{AllByRecursion}
@@ -34,6 +36,7 @@ abbrev IsPageShape : Shape → Type 0
 IsPageShape s = (s.call ≡ None) × (is_kept s.write (Some One) ≡ true)
 
 page_kept : (s : Shape) → are_kept s (standard_entry 0x00) ≡ true → IsPageShape s
+-- 0x00 is the code of PAGE
 unfolding standard_entry standard_entries standard_rows
 page_kept s is =
     let behind : Bool = is_kept s.read (Some One) && is_kept s.call None in (

@@ -1,4 +1,6 @@
--- Signals of a leg, and one more after them.
+-- The signals of a leg, and one more after them: the bytes sent, the address, and the counts of a
+-- reply. For all steps of a `DevicePacket`. Each of them is known of two lists of signals from
+-- what it is of either, so that one signal more is a short step.
 use Rattle.std.proofs.Common.{◌≡◌, ℕ, ◌+◌, Bool, true, false, ◌||◌, List, [], ◌∷◌, ◌++◌, refl, ap, ◌∙◌, arith, nat_eq}
 use Rattle.std.proofs.lemmas.List.{append-nil}
 use Rattle.std.proofs.lemmas.List.Folds.{list_any-append}

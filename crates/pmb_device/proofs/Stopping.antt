@@ -1,4 +1,5 @@
--- A device at STOP: its registers take the outcome of the packet, and the packet ends.
+-- A device at STOP: its registers take the outcome of the packet, and the packet ends. For
+-- `Device::stop`.
 use Rattle.std.proofs.Common.{◌≡◌, sym, subst}
 use Rattle.pmb_command.specs.Parts.{DeviceParts}
 use Rattle.pmb_registers.specs.State.{DeviceState}

@@ -1,4 +1,6 @@
--- Bytes that a device takes, and where it refuses one.
+-- The bytes that a device takes, and where it refuses one. For `take_byte`, `refusal_noted` and
+-- the functions of a `DevicePacket`. pmb_leg says what begins a body after parts of a group; here
+-- the place of the leg, first or later, stands for these parts (`some_parts`).
 use Rattle.std.proofs.Common.{◌≡◌, ℕ, inl, inr, Bool, false, List, [], ◌∷◌, ◌++◌, refl, sym, subst, append_assoc}
 use Rattle.std.proofs.Common.{IsTrue, ◌↔◌}
 use Rattle.std.proofs.lemmas.List.{append-nil}

@@ -1,4 +1,6 @@
--- A write that takes effect: what was taken of it.
+-- A write that takes effect at STOP is one that the device took: it has at most 255 data, and a
+-- value of PAGE is a page or ffh. For `DevicePacket::outcome`. All bytes of the own leg were
+-- taken, the value of PAGE among them.
 use Rattle.std.proofs.Common.{◌≡◌, ℕ, ◌<◌, ◌≤◌, ◌⊎◌, Bool, true, false, List, [], ◌∷◌, ◌++◌, length, refl, sym, ap}
 use Rattle.std.proofs.Common.{subst, ◌∙◌, arith}
 use Rattle.pmb_command.specs.declared.form.Form.{Form}
@@ -22,6 +24,7 @@ use Rattle.pmb_device.specs.DevicePacket.{IsTakenWrite}
 use Rattle.pmb_device.proofs.Acks.{own_in}
 use Rattle.pmb_device.proofs.Requests.{page_form}
 
+-- 255: the most that a Block has
 -- a form takes at most 255 data
 few_data : (form : Form) (n : ℕ) → Takes form n → n ≤ 255
 few_data Zero n taken = omega arith
@@ -48,6 +51,7 @@ starts_so true front page = (_, refl)
 
 page_taken : (device : DeviceParts) (place : LegPlace) (content : List ℕ) (with_pec : Bool) (bytes : List ℕ)
     → IsDevice device → TakesAll device place [] bytes
+    -- 0x00 is the code of PAGE
     → WriteBody device 0x00 content with_pec bytes → (page : ℕ) × (content ≡ page ∷ [])
     × ((page < device.pages) ⊎ (page ≡ all_pages))
 page_taken device place content with_pec bytes accepted taken body =

@@ -1,4 +1,6 @@
--- A byte after the address of a device's own leg.
+-- A byte after the address of a device's own leg: it is taken and gets ACK, or is refused and gets
+-- NACK. For `DevicePacket::data_byte`. What is kept grows by a byte that is taken; after one that
+-- is refused the device is deaf to the leg, and notes why if a byte had a place there.
 use Rattle.std.proofs.Common.{◌≡◌, ℕ, inl, inr, Bool, true, false, Option, None, List, [], ◌∷◌, ◌++◌, refl, sym, ap}
 use Rattle.std.proofs.Common.{subst, ◌∙◌, IsTrue, ◌↔◌}
 use Rattle.pmb_command.specs.Parts.{DeviceParts}
@@ -59,6 +61,7 @@ module _ (device : DeviceParts) (state : DeviceState) where
       → after.leg ≡ record { device = device; place = leg_place earlier; bytes = w.bytes ++ byte ∷ [] }
       → InWritten device state after earlier (leg ++ Byte byte ∷ [])
   taken_in k after earlier leg byte w takes own refused read noted leg_is =
+      -- all before it was taken, with nothing noted
       let all = all_taken k earlier leg w in
       let none : after.noted ≡ None = noted ∙ none_noted device state k.noted earlier w.bytes all.notes in
       let more : AllTaken device state after earlier (w.bytes ++ byte ∷ []) [] = record {
@@ -67,6 +70,7 @@ module _ (device : DeviceParts) (state : DeviceState) where
         notes = nothing_to_note device state after.noted earlier (w.bytes ++ byte ∷ []) none;
       } in
       let not_refused : after.refused ≡ false = refused ∙ w.not_refused in
+      -- the leg has one byte more
       record {
         bytes = w.bytes ++ byte ∷ [];
         own = record {
@@ -98,6 +102,7 @@ module _ (device : DeviceParts) (state : DeviceState) where
       let place = leg_place earlier in
       let all = all_taken k earlier leg w in
       let more = next_byte leg (write_address device.address) w.bytes byte w.own.bytes_are in
+      -- the bytes before it were taken, this one was not
       let body : BytesAre true device state after earlier (w.bytes ++ byte ∷ []) [] = record {
         front = w.bytes;
         byte = byte;
@@ -108,6 +113,7 @@ module _ (device : DeviceParts) (state : DeviceState) where
         noted = note_is place w.bytes byte after.noted noted;
       } in
       record {
+        -- the device is deaf to the rest of the leg,
         addressed = record {
           address = write_address device.address;
           bytes = w.bytes ++ byte ∷ [];
@@ -125,6 +131,7 @@ module _ (device : DeviceParts) (state : DeviceState) where
             λ taken. takes (taken_at device place [] w.bytes byte [] taken),
           );
         };
+        -- and gives no reply in it, since the leg is written
         mute = no_reply (λ address bytes is asked read_in reply ok.
             let same : address ≡ write_address device.address = cc (sym is ∙ more) in
             no_address device address same read_in.own);
@@ -158,11 +165,13 @@ pub takes_data : (x : DevicePacket) (byte : ℕ) (leg_after : Written) → x.pha
     → Hears device state legs byte heard.Ack (record x { leg = leg_after })
 takes_data x byte leg_after phase takes after device state Outside stands = cc (phase, stands.behind)
 takes_data x byte leg_after phase takes after device state (Inside earlier leg) stands =
+    -- the leg as it is kept, and that the device takes this byte after it
     let w = writing x device state earlier leg phase stands in
     let all = all_taken device state (kept x) earlier leg w in
     let told = takes_here x.device.now device x.leg (leg_place earlier) w.bytes byte true stands.known all.leg_is
     takes in
     let here : TakesByte device (leg_place earlier) w.bytes byte = told.0 refl in
+    -- it is kept with the byte
     let leg_is : leg_after ≡ record { device = device; place = leg_place earlier; bytes = w.bytes ++ byte ∷ [] } =
     after ∙ ap (λ (l : Written). let y : Written = record l { bytes = l.bytes ++ byte ∷ [] } in y) all.leg_is in
     let y : DevicePacket = record x { leg = leg_after } in
@@ -190,11 +199,13 @@ pub refuses_data : (x : DevicePacket) (byte : ℕ) (leg_after : Written) (noted 
     (record x { leg = leg_after; noted = noted; refused = true; phase = phases.Deaf })
 refuses_data x byte leg_after noted phase takes after noted_is device state Outside stands = cc (phase, stands.behind)
 refuses_data x byte leg_after noted phase takes after noted_is device state (Inside earlier leg) stands =
+    -- the leg as it is kept, and that the device doesn't take this byte after it
     let w = writing x device state earlier leg phase stands in
     let all = all_taken device state (kept x) earlier leg w in
     let told = takes_here x.device.now device x.leg (leg_place earlier) w.bytes byte false stands.known all.leg_is
     takes in
     let never : TakesByte device (leg_place earlier) w.bytes byte → ⊥ = λ t. cc (told.1 t) in
+    -- what is noted of it
     let P : Written → Type 0 = λ l. Whether (GoesOn l.device l.place l.bytes)
     (noted ≡ bit_of_sent (l.bytes ++ byte ∷ [])) (noted ≡ None) in
     let note = subst P (after ∙ all.leg_is) noted_is in

@@ -1,4 +1,6 @@
 //! One device: its registers, and what it does in the packet under way.
+//!
+//! Its rows: `tests_devices`, `src/devices/calls.rt`, `src/devices/compared.rt`.
 
 ghost use Rattle.std.specs.Prelude.{◌≡◌, ℕ, List, IfOk, option_map};
 ghost use Rattle.pmb_command.specs.Parts.{DeviceParts};

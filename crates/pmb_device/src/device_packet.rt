@@ -5,6 +5,8 @@
 //! as it comes; what the leg does is told at STOP. Its registers are needed at two places alone:
 //! where it is read and was asked something ([`Heard::Read`]), and at STOP ([`DevicePacket::outcome`]).
 //! To legs of others it is silent, and each of their signals is one comparison.
+//!
+//! Its rows: `tests_devices`, `src/devices/calls.rt`, `sessions.rt`, `random.rt`.
 
 ghost use Rattle.std.specs.Prelude.{◌≡◌, ◌≢◌, ◌≤◌, ◌↔◌, ◌∷◌, [], ◌++◌, ℕ, List, IsTrue, Ok, Err, Some, None, length, false, true};
 ghost use Rattle.pmb_command.specs.Parts.{DeviceParts};
@@ -29,7 +31,7 @@ use pmb_registers::CmlBit;
 use pmb_table::DeviceProfile;
 use pmb_table::laws::accepted_device;
 
-/// What a byte of the host came to.
+/// The result of a byte of the host.
 #[derive(Clone, Copy, Debug, PartialEq, Eq)]
 pub enum Heard {
     /// The device says nothing.

@@ -1,4 +1,6 @@
 //! What a host puts on a bus, and what a device answers.
+//!
+//! Its rows: `tests_devices`, `src/devices/sessions.rt`, `src/devices/calls.rt`.
 
 /// What a host puts on a bus.
 #[derive(Clone, Copy, Debug, PartialEq, Eq)]

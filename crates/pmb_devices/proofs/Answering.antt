@@ -1,5 +1,7 @@
--- Where the events since the last STOP are, with STOP, the packet of a read or a call that the host
--- read by Asks alone, the reply is the device's answer.
+-- Where the events since the last STOP are, with STOP, the packet of a read or a call that the
+-- host read by Asks alone, the reply is the device's answer. For the law `replies_are_answers`.
+-- Device, form and body are known from the packet; `ReplyGivers` then says that the bytes of the
+-- packet are those of the answer.
 use Rattle.std.proofs.Common.{◌≡◌, ℕ, inl, inr, Some, Ok, Option, List, [], ◌∷◌, ◌++◌, map, nat_eq, refl, sym, ap}
 use Rattle.std.proofs.Common.{subst, ◌∙◌}
 use Rattle.std.specs.List.{Contains}
@@ -70,12 +72,15 @@ module _ (profile : List DeviceParts) (members : List InState) (member : InState
       → answer member.device member.state (t.code ∷ wire form t.bytes) ≡ Ok t.reply
   call_is t form events packet here called stands =
       let d = member.device in
+      -- the packet's device is the member's, and so is the form in which it is called
       let found = found_here t.addr packet.device here packet.known in
       let also : (forms d t.code).call ≡ Some packet.form =
       subst (λ (x : DeviceParts). (forms x t.code).call ≡ Some packet.form) found.0 packet.called in
       let form_is : packet.form ≡ form = same_Some packet.form form (sym also ∙ called) in
+      -- both data fit that form
       let sent : Fits form t.bytes = subst (λ (f : Form). Fits f t.bytes) form_is packet.sent in
       let replied : Fits form t.reply = subst (λ (f : Form). Fits f t.reply) form_is packet.replied in
+      -- the body that asks the device
       let body = t.code ∷ wire form t.bytes in
       let request : IsCallBody d body = (
         t.code,
@@ -83,6 +88,7 @@ module _ (profile : List DeviceParts) (members : List InState) (member : InState
         t.bytes,
         record { called = called; fits = sent; spelled = refl },
       ) in
+      -- the packet, spelled with these
       let spelled : events ≡ answered d.address body (wire form t.reply) t.pec =
       packet.spelled ∙ ap (λ (a : ℕ). answered a (t.code ∷ wire packet.form t.bytes) (wire packet.form t.reply) t.pec)
       (sym here)

@@ -1,5 +1,8 @@
 -- Where the events since the last STOP are, with STOP, a transaction's packet, STOP makes of each
--- member what the transaction makes of it.
+-- member what the transaction makes of it. For `Bus::new`, `Bus::signal` and the laws
+-- `transactions_are_applied`, `transactions_are_applied_in_turn`. From the events of each kind of
+-- packet the legs of the host's signals are known; in them a member's own leg, or none, says what
+-- STOP does.
 use Rattle.std.proofs.Common.{◌≡◌, ℕ, inl, inr, Bool, true, false, Some, List, [], ◌∷◌, ◌++◌, map, nat_eq, refl, sym}
 use Rattle.std.proofs.Common.{ap, subst, ◌∙◌, append_assoc}
 use Rattle.std.specs.List.{Contains, IsDistinct, list_any}
@@ -111,22 +114,26 @@ module _ (profile : List DeviceParts) (members : List InState) (member : InState
       → Stands members final Outside (legs ++ (last ++ wire.Stop ∷ []))
       → after ≡ after_refusal member.device (record { parts = parts; addr = addr; sent = sent; at_read = at_read })
       (after_parts member.device parts member.state)
+  -- an address was refused
   leg_refused parts addr [] false legs last each distinct new refused stands =
       let ran = run_parts profile members final Outside parts legs (last ++ wire.Stop ∷ []) each stands in
       address_refused profile members member in_bus own final ran.reached parts addr ran.new last after ran.closed_are
       ran.each distinct new refused
       ran.stands ends
+  -- a byte was refused
   leg_refused parts addr (b ∷ bytes) false legs last each distinct new refused stands =
       let ran = run_parts profile members final Outside parts legs (last ++ wire.Stop ∷ []) each stands in
       byte_refused profile members member in_bus own final ran.reached parts addr
       (b ∷ bytes) ran.new last after ran.closed_are ran.each distinct new
       refused ran.stands ends
+  -- the read address was refused, after no parts
   leg_refused [] addr [] true legs last each distinct new refused stands =
       read_refused profile members member in_bus own final addr [] last after refused
       (subst (λ (es : List Event). Stands members final Outside (es ++ (last ++ wire.Stop ∷ []))) each stands) ends
   leg_refused [] addr (b ∷ bytes) true legs last each distinct new refused stands =
       read_refused profile members member in_bus own final addr (b ∷ bytes) last after refused
       (subst (λ (es : List Event). Stands members final Outside (es ++ (last ++ wire.Stop ∷ []))) each stands) ends
+  -- with parts before it no read address is refused
   leg_refused (part ∷ parts) addr [] true legs last each distinct new refused stands = absurd (cc refused.alone)
   leg_refused (part ∷ parts) addr (b ∷ bytes) true legs last each distinct new refused stands =
       absurd (cc refused.alone)

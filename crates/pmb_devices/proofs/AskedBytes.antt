@@ -1,5 +1,7 @@
--- The bytes that were recorded of the Asks in a leg that reads a device: they are a front of its
--- reply.
+-- The bytes that were recorded of the Asks in a leg that reads a device are a front of its reply.
+-- For the law `replies_are_answers`. An event of a byte there is of an Ask, since the host sent no
+-- byte after the address; a device gave that byte, the next one of its reply, and the ACK that was
+-- recorded is the host's.
 use Rattle.std.proofs.Common.{◌≡◌, ℕ, ◌+◌, Bool, true, false, ◌||◌, if◌then◌else◌, Option, Some, None, List, [], ◌∷◌}
 use Rattle.std.proofs.Common.{◌++◌, drop, refl, sym, ap, subst, ◌∙◌, add-one, arith}
 use Rattle.std.specs.List.{slice_get}
@@ -90,8 +92,10 @@ module _ (members : List InState) (final : Legs) (alone : HasAddressAlone final)
   -- the host sent no byte after the address
   no_byte : (s : Leg) (c : ℕ) (events : List Event) → has_start events ≡ false
       → Stands members final (Inside earlier ((Byte r ∷ s) ++ Byte c ∷ [])) events → ⊥
+  -- the leg goes on in the final legs,
   no_byte s c events none stands =
       let goes = stays_in members final earlier ((Byte r ∷ s) ++ Byte c ∷ []) events none stands in
+      -- where the host sent the read address alone
       let has : HasAddressAlone (Inside earlier (((Byte r ∷ s) ++ Byte c ∷ []) ++ goes.behind)) =
       subst HasAddressAlone goes.is alone in
       let rest : sent ((s ++ Byte c ∷ []) ++ goes.behind) ≡ [] = cc (has.1) in
@@ -99,7 +103,9 @@ module _ (members : List InState) (final : Legs) (alone : HasAddressAlone final)
 
   -- a byte was asked for, and a device gave it
   pub record Asked (s : Leg) (b : ℕ) (rest : List Event) : Type 0 where
+    -- the bus answered this Ask with the byte,
     pub asked : BusAnswers members (Inside earlier (Byte r ∷ s)) Ask (answers.Byte b)
+    -- and the rest was recorded after it
     pub stands : Stands members final (Inside earlier ((Byte r ∷ s) ++ Ask ∷ [])) rest
 
   -- so a byte was recorded of an Ask
@@ -110,6 +116,7 @@ module _ (members : List InState) (final : Legs) (alone : HasAddressAlone final)
       → (recorded signal result ++ recorded_events more) ++ wire.Stop ∷ [] ≡ wire.Byte b ∷ rest
       → legs_after (with_signal (Inside earlier (Byte r ∷ s)) signal) more ≡ final → Asked s b rest
   asked_of s b rest none Start result more bus answered spelled ends = absurd (cc spelled)
+  -- the host's own byte: it sent none here
   asked_of s b rest none (Byte c) result more bus answered spelled ends =
       let behind : acknowledged result ∷ (recorded_events more ++ wire.Stop ∷ []) ≡ rest = cc spelled in
       absurd
@@ -120,6 +127,7 @@ module _ (members : List InState) (final : Legs) (alone : HasAddressAlone final)
       (subst (λ (es : List Event). has_start es ≡ false) (sym behind) none)
       ) (record { more = more; answered = answered; spelled = refl; ends = ends })
       )
+  -- an Ask, and the byte that it got
   asked_of s b rest none Ask result more bus answered spelled ends = record {
     asked = subst (BusAnswers members (Inside earlier (Byte r ∷ s)) Ask) (given_byte result b (cc spelled)) bus;
     stands = record { more = more; answered = answered; spelled = cc spelled; ends = ends };

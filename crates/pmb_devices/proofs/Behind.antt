@@ -1,4 +1,6 @@
--- Where a bus stands after one signal more.
+-- Where a bus stands after one signal more: each device where the signal leads it, and the answers
+-- with one more. For `Bus::device`, `Bus::signal` and `add_device`. A signal other than STOP goes
+-- to the end of what came since the last STOP; STOP ends that stretch, and another one begins.
 use Rattle.std.proofs.Common.{subst, ◌≡◌, ◌≢◌, List, [], ◌∷◌, ◌++◌, map, refl, ap}
 use Rattle.pmb_command.specs.Parts.{DeviceParts}
 use Rattle.pmb_registers.specs.State.{InState}
@@ -62,9 +64,13 @@ all_stand_behind legs signal other (d ∷ devices) (member ∷ members) (result 
 
 -- What STOP makes of all devices.
 pub record Ended (legs : Legs) (devices : List Device) (members : List InState) : Type 0 where
+  -- the members with their new states
   pub news : List InState
+  -- each became what STOP makes of it,
   pub ends : AllEnd legs members news
+  -- stands outside of a packet,
   pub stand : AllStand Outside devices news
+  -- and its device is the same
   pub same : map (λ m. m.device) news ≡ map (λ m. m.device) members
 
 pub all_end : (legs : Legs) (devices : List Device) (members : List InState) (results : List DeviceSignal)

@@ -1,4 +1,7 @@
--- The command that an accepted device has with a code, and its forms.
+-- The command that an accepted device has with a code, and its forms. For the laws `states_fit`
+-- and `replies_are_answers`. A command is found by its code and fits the rules of a profile; its
+-- register has the form in which it is read, or else that in which it is written, and the
+-- standard's commands keep the standard's forms.
 use Rattle.std.proofs.Common.{◌≡◌, ℕ, Bool, true, false, ◌&&◌, ◌||◌, Option, Some, None, cond, is_some, nat_eq, refl}
 use Rattle.std.proofs.Common.{sym, ap, subst, ◌∙◌}
 use Rattle.std.specs.Option.{IfSome}
@@ -68,7 +71,9 @@ one_form false value form is = (refl, same_Some value form is)
 
 -- a command is read in its register's form, or else written in it
 pub data RegisterForm (write read : Option Form) (form : Form) : Type 0 where
+  -- it is read in the form
   by_read : read ≡ Some form → same_form Zero form ≡ false → RegisterForm write read form
+  -- it is not read, and is written in the form
   by_write : read ≡ None → write ≡ Some form → same_form Zero form ≡ false → RegisterForm write read form
 
 -- one of the two
@@ -130,6 +135,7 @@ kept_at e code same is fixed =
     here is
 
 -- VOUT_MODE is written and read with one byte
+-- 0x20 is VOUT_MODE
 pub mode_kept : (s : Shape) → are_kept s (standard_entry 0x20) ≡ true → (is_kept s.write (Some One) ≡ true)
     × (is_kept s.read (Some One) ≡ true)
 unfolding standard_entry standard_entries standard_rows
@@ -138,6 +144,7 @@ mode_kept s is =
     (parts.0, (and_parts (is_kept s.read (Some One)) (is_kept s.call None) parts.1).0)
 
 -- COEFFICIENTS is called with a block
+-- 0x30 is COEFFICIENTS
 pub coefficients_kept : (s : Shape) → are_kept s (standard_entry 0x30) ≡ true → is_kept s.call (Some Block) ≡ true
 unfolding standard_entry standard_entries standard_rows
 coefficients_kept s is =

@@ -1,4 +1,7 @@
--- The devices of an accepted bus: one has an address, and a body is the write body of one code and data.
+-- The devices of an accepted bus have distinct addresses, and a write body is of one code and
+-- data. For the laws on what STOP makes of the devices, `Bus::new` and `Bus::signal`. The first
+-- device with an address is the only one; a body begins with its code, which says the form, and
+-- that says how many data follow, so that the rest is the packet error code or nothing.
 use Rattle.std.proofs.Common.{◌≡◌, ℕ, ◌<◌, zero, suc, Bool, true, false, cond, Option, Some, List, [], ◌∷◌, ◌++◌}
 use Rattle.std.proofs.Common.{length, map, get_or, nat_eq, sym, ap, subst, ◌∙◌, arith}
 use Rattle.std.specs.List.{AllByRecursion, Contains, IsDistinct}
@@ -81,14 +84,18 @@ one_write device code other bytes others with_pec also body a b =
     let before = write_address device.address ∷ [] in
     let first = code ∷ wire a.form bytes in
     let second = other ∷ wire b.form others in
+    -- both spellings of the body
     let rows : code ∷ (wire a.form bytes ++ code_behind with_pec before first) ≡ other
     ∷ (wire b.form others ++ code_behind also before second) =
     sym (checked_is with_pec before first) ∙ sym a.spelled ∙ b.spelled ∙ checked_is also before second in
+    -- so the codes are the same, and the bytes after them,
     let code_is : code ≡ other = cc rows in
     let rest : wire a.form bytes ++ code_behind with_pec before first ≡ wire b.form others
     ++ code_behind also before second = cc rows in
+    -- and with the code the form
     let form_is : Some a.form ≡ Some b.form = sym a.written ∙ ap (λ (n : ℕ). (forms device n).write) code_is
     ∙ b.written in
+    -- by the form the bytes after the code are data, with a packet error code or not: of both
     let front : data_of (Some a.form) (wire a.form bytes ++ code_behind with_pec before first)
     ≡ record { bytes = bytes; pec = with_pec } =
     data_with_code a.form bytes with_pec before first a.fits in

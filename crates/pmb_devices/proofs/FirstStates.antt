@@ -1,4 +1,7 @@
--- The first state of a device: each register holds as many bytes as its form takes.
+-- The first state of a device: each register holds as many bytes as its form takes. For the laws
+-- `states_fit` and `replies_are_answers`. What a register begins with are zeros, the bytes of the
+-- profile or VOUT_MODE's byte; that a command's register is found by its code and page goes along
+-- the list of commands.
 use Rattle.std.proofs.Common.{◌≡◌, ℕ, ◌+◌, ◌<◌, ◌≤◌, ◌⊎◌, inl, inr, zero, suc, Bool, true, false, ◌&&◌, ◌||◌, Option}
 use Rattle.std.proofs.Common.{Some, None, cond, List, [], ◌∷◌, length, map, nat_eq, option_map, refl, sym, ap, subst}
 use Rattle.std.proofs.Common.{◌∙◌, arith}
@@ -168,6 +171,7 @@ module _ (page code : ℕ) where
           → bytes_of (find (is_at page code) (flat_map (registers_of device) cs))
           ≡ Some (first_bytes device command form)
       held_in [] is = absurd (cc is)
+      -- the registers of this command, and of those after it
       held_in (c ∷ cs) is =
           let p = is_at page code in
           let front = find p (registers_of device c) in
@@ -176,8 +180,10 @@ module _ (page code : ℕ) where
           ap (find p) (flat_map-cons (registers_of device) c cs) ∙ find-append p (registers_of device c)
           (flat_map (registers_of device) cs) in
           ap bytes_of split
+          -- is it the command that is looked for?
           ∙ by_test (nat_eq c.entry.code code) (nat_eq c.entry.code code) refl
           (
+          -- yes: its own registers hold the bytes
           λ same.
           let c_is : c ≡ command = same_Some c command
           (ap (λ (b : Bool). cond b (Some c) (command_with code cs)) (sym same) ∙ is) in
@@ -189,6 +195,7 @@ module _ (page code : ℕ) where
           )
           )
           (
+          -- no: none of its registers is of that code, and the command comes after it
           λ other.
           ap (λ (o : Option RegisterData). bytes_of (option_or o rest)) (none_in c (register_form c.entry.shape) other)
           ∙ held_in cs (ap (λ (b : Bool). cond b (Some c) (command_with code cs)) (sym other) ∙ is)

@@ -1,5 +1,7 @@
--- What STOP makes of a state that fits its device: a change leaves each register as many bytes as
--- its form takes, and PAGE selects a page of the device, or all.
+-- What STOP makes of a state that fits its device fits it too: each register keeps as many bytes
+-- as its form takes, and PAGE selects a page of the device, or all. For the laws `states_fit` and
+-- `replies_are_answers`. Each change of registers is one of lengths (`has_changed`); of the bytes
+-- that were taken a write has just that many bytes, and a value of PAGE that the device has.
 use Rattle.std.proofs.Common.{◌≡◌, ℕ, ◌<◌, ◌⊎◌, inl, inr, Bool, true, false, ◌&&◌, Option, Some, None, cond, is_some}
 use Rattle.std.proofs.Common.{List, [], ◌∷◌, ◌++◌, length, map, nat_eq, refl, sym, ap, subst, ◌∙◌, arith}
 use Rattle.std.specs.Int.Bits.{bit_or}
@@ -57,6 +59,7 @@ module _ (page code : ℕ) (P : List ℕ → Type 0) where
     front_changed true r rest behind coded later has =
         chosen (is_at page code r) r (record r { bytes = change r.bytes }) rest behind
         (
+        -- it is a register of the code that changes
         λ here.
         let same : r.code ≡ code = eqb-true r.code code
         (and_parts (nat_eq r.code code) (is_of_page page r.page) here).0 in
@@ -136,6 +139,7 @@ module _ (device : DeviceParts) where
     bit_fits : (bit : CmlBit) → IsState device (with_bit device bit before)
     bit_fits bit =
         let set : List ℕ → List ℕ = map (λ (byte : ℕ). bit_or byte (bit_value bit)) in
+        -- 0x7e is STATUS_CML
         if_fits (is_some (forms device 0x7e).read)
         (record { page = before.page; registers = changed before.page (nat_eq 0x7e) set before.registers }) before
         (λ some. kept_fits (nat_eq 0x7e) set (λ bytes. length-map bytes (λ (byte : ℕ). bit_or byte (bit_value bit))))
@@ -156,10 +160,12 @@ module _ (device : DeviceParts) where
           → nat_eq code other ≡ true
           → (bytes : List ℕ) → form_of.Takes form (length bytes) → form_of.Takes form (length content)
       data_taken some other command form known register same bytes taken =
+          -- the write of this register's code
           let code_is : code ≡ other = eqb-true code other same in
           let written : command.entry.shape.write ≡ Some is.form =
           ap (λ (o : Option CommandParts). (shape_of o).write) (sym known) ∙ ap (λ (n : ℕ). (forms device n).write)
           (sym code_is) ∙ is.written in
+          -- it is written in the register's form, since both ways agree
           let agree = (command_is device accepted other command known).entry.fitting.one_form in
           let form_is : form ≡ is.form = written_register command.entry.shape is.form form written some agree
           register in
@@ -192,6 +198,7 @@ module _ (device : DeviceParts) where
       write_fits : (place : LegPlace) → TakesAll device place [] body
           → IsState device (after_write device code content before)
       write_fits place taken =
+          -- PAGE, whose code is 00h: its value is selected, and its register holds it
           if_fits (nat_eq code 0x00) _ _
           (
           λ page.
@@ -202,17 +209,21 @@ module _ (device : DeviceParts) where
           )
           (
           λ other.
+          -- CLEAR_FAULTS, whose code is 03h: status registers become 0
           if_fits (nat_eq code 0x03) _ _ (λ clear. kept_fits (is_status device) (map (λ byte. 0))
           (λ bytes. length-map bytes (λ (byte : ℕ). 0)))
           (
           λ neither.
+          -- a command without data changes nothing
           if_fits (is_form Zero (forms device code).write) before _ (λ zero. fits)
           (
           λ form.
           let some : same_form is.form Zero ≡ false =
           flip_zero is.form (subst (λ (o : Option Form). is_form Zero o ≡ false) is.written form) in
+          -- a status register: bits are cleared
           if_fits (is_status device code) _ _ (λ status. kept_fits (nat_eq code) (cleared_bits content)
           (cleared_length content))
+          -- any other register takes the data
           (λ plain. changed_fits before.page fits.page (nat_eq code) (λ old. content) (data_taken some))
           )
           )

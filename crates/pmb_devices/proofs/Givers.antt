@@ -1,5 +1,7 @@
 -- The bytes of a leg that is written, each with the answer of the bus, and what a member took of
--- them.
+-- them. For `Bus::new`, `Bus::signal` and the laws on packets. Events of acknowledged bytes are
+-- run through one after the other (`run`); the answer of the bus is that of a member or silence,
+-- so that a member took each byte of its own leg that had ACK, and not the one that had NACK.
 use Rattle.std.proofs.Common.{◌≡◌, ℕ, inl, inr, List, [], ◌∷◌, ◌++◌, None, Result, Ok, Err, refl, sym, ap, subst, ◌∙◌}
 use Rattle.std.proofs.Common.{append_assoc, arith}
 use Rattle.std.specs.List.{Contains}
@@ -109,12 +111,16 @@ module _ (members : List InState) where
   module _ (final : Legs) where
     -- Bytes were sent after others of a leg that is written, and had ACK.
     pub record Ran (earlier : List Leg) (addr : ℕ) (done bytes : List ℕ) (rest : List Event) : Type 0 where
+      -- each of the bytes had ACK,
       pub acked_are : Acked earlier (write_address addr ∷ done) bytes
+      -- and after them the rest was recorded
       pub stands : Stands members final (Inside earlier (byte_leg (write_address addr ∷ done ++ bytes))) rest
 
     -- One byte more was sent, and the bus answered what was recorded.
     pub record OneRan (earlier : List Leg) (front : List ℕ) (b : ℕ) (event : Event) (rest : List Event) : Type 0 where
+      -- what the bus answered,
       pub result : DeviceSignal
+      -- and what was recorded of that
       pub answer : BusAnswers members (Inside earlier (byte_leg front)) (Byte b) result
       pub recorded_as : acknowledged result ≡ event
       pub stands : Stands members final (Inside earlier (byte_leg (front ++ b ∷ []))) rest

@@ -1,4 +1,6 @@
--- A signal that is given to the devices of a bus, one after the other.
+-- A signal that is given to the devices of a bus, one after the other: for the loop of `hand_on`.
+-- So far some devices took it, the others stand before it, and the answer is the last of theirs
+-- that is not silence; one device more keeps this.
 use Rattle.std.proofs.Common.{◌≡◌, ℕ, ◌+◌, ◌<◌, List, [], ◌∷◌, ◌++◌, length, set, get_or, refl, sym, ap, subst, ◌∙◌}
 use Rattle.std.proofs.Common.{append_assoc, arith}
 use Rattle.std.proofs.lemmas.List.{append-nil, length-append}
@@ -85,12 +87,15 @@ module _ (legs : Legs) (signal : HostSignal) where
       count_is moved stand last inside moves = absurd stand
   one_more members devices count result next before after done (d ∷ rest) took
       (m ∷ left) results devices_are members_are count_is moved stand last inside moves =
+      -- the device at this place is the first that is left
       let item : get_or devices count before ≡ d =
       ap (λ (ds : List Device). get_or ds count before) devices_are ∙ ap (λ (n : ℕ). get_or (done ++ d ∷ rest) n before)
       (sym count_is) ∙ get_or-append_seam done d rest before in
+      -- it is put back in its place
       let now : set devices count after ≡ done ++ after ∷ rest =
       ap (λ (ds : List Device). set ds count after) devices_are ∙ ap (λ (n : ℕ). set (done ++ d ∷ rest) n after)
       (sym count_is) ∙ set-append_seam done d rest after in
+      -- it took the signal, and answered
       let one : Moves (standing_of m) signal next after =
       moves (standing_of m) (subst (λ (x : Device). DeviceStandsAt x (standing_of m)) (sym item) stand.0) in
       record {

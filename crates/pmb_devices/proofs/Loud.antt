@@ -1,5 +1,7 @@
--- At most one device of a bus is not silent at a signal: the one to whose address the leg under way
--- is.
+-- At most one device of a bus is not silent at a signal: the one to whose address the leg under
+-- way is. For `Bus::signal`. A device that answers is spoken to by one of its two address bytes,
+-- and no two devices have one in common; so the last answer that is not silence is the one on the
+-- bus.
 use Rattle.std.proofs.Common.{◌≡◌, ◌≢◌, ℕ, zero, suc, ◌<◌, ◌⊎◌, inl, inr, false, List, [], ◌∷◌, length, map, get_or}
 use Rattle.std.proofs.Common.{nat_eq, refl, sym, ap, ◌∙◌, arith}
 use Rattle.std.specs.List.{AllByRecursion, Contains, IsDistinct}

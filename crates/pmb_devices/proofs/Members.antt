@@ -1,4 +1,6 @@
--- The devices of a bus, in the order of its profile.
+-- The devices of a bus, in the order of its profile. For `add_device` and `Bus::device`. They are
+-- made one after the other, each with its first state; looking for an address, those before have
+-- others.
 use Rattle.std.proofs.Common.{◌≡◌, ◌≢◌, ℕ, zero, suc, ◌+◌, ◌<◌, Option, Some, None, Bor, List, [], ◌∷◌, ◌++◌, length}
 use Rattle.std.proofs.Common.{take, get_or, refl, sym, ap, subst, ◌∙◌, add-one, arith}
 use Rattle.std.specs.List.{AllByRecursion, slice_get}
@@ -56,9 +58,13 @@ first_more profile i d devices made is all one =
 module _ (legs : Legs) where
   -- where the device at a place stands
   pub record StandsAtPlace (members : List InState) (k : ℕ) (d : Device) : Type 0 where
+    -- the member at this place
     pub member : InState
+    -- there is one
     pub inside : k < length members
+    -- `get_or` finds it
     pub is : get_or members k member ≡ member
+    -- the device stands as that member
     pub stands : DeviceStandsAt d (record { device = member.device; state = member.state; legs = legs })
 
   pub at_place : (devices : List Device) (members : List InState) (k : ℕ) (d : Device) → AllStand legs devices members

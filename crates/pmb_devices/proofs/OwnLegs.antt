@@ -1,4 +1,6 @@
 -- The leg of a packet that is a device's own: there is one at most, and it says what STOP does.
+-- For `Bus::new`, `Bus::signal` and the laws on packets. It is the first leg that begins with the
+-- device's write address, and a first that passes a test is at one place (`one_first`).
 use Rattle.std.proofs.Common.{◌≡◌, ℕ, Bool, true, false, List, [], ◌∷◌, ◌++◌, refl, sym, ap, subst, ◌∙◌}
 use Rattle.std.specs.List.{list_any}
 use Rattle.std.proofs.lemmas.Bool.{eq-eqb, ne_eqb, or_parts}

@@ -1,5 +1,7 @@
--- The signals from which events were recorded: START from START alone, and a byte after an address
--- for writing from the host's byte alone.
+-- The signals from which events were recorded: START of START alone, and a byte in a leg that
+-- reads no device of the host's byte alone. For `Bus::new`, `Bus::signal` and the laws on packets.
+-- `Stands` says that events and STOP were recorded after some legs, of signals that lead to the
+-- final ones; the first event tells the first signal, and what was recorded after it.
 use Rattle.std.proofs.Common.{◌≡◌, ◌≢◌, ℕ, Bool, true, false, List, [], ◌∷◌, ◌++◌, refl, sym, ap, subst, ◌∙◌}
 use Rattle.std.proofs.Common.{append_assoc}
 use Rattle.std.proofs.lemmas.List.{append-nil}
@@ -74,9 +76,13 @@ IsUnread leg = (n : ℕ) (bytes : List ℕ) → sent leg ≡ read_address n ∷ 
 module _ (members : List InState) (final : Legs) where
   -- After some legs events and STOP were recorded, of signals that led to the final legs.
   pub record Stands (legs : Legs) (events : List Event) : Type 0 where
+    -- the signals after these legs,
     pub more : List AnsweredSignal
+    -- with the answers of the bus,
     pub answered : AreAnswered members legs more
+    -- the events that were recorded of them, with STOP,
     pub spelled : recorded_events more ++ wire.Stop ∷ [] ≡ events
+    -- and the legs to which they lead
     pub ends : legs_after legs more ≡ final
 
   -- ---- START
@@ -118,9 +124,12 @@ module _ (members : List InState) (final : Legs) where
 
   -- a byte was sent, and the bus answered what was recorded
   pub record Sent (earlier : List Leg) (leg : Leg) (b : ℕ) (event : Event) (rest : List Event) : Type 0 where
+    -- what the bus answered,
     pub result : DeviceSignal
     pub answer : BusAnswers members (Inside earlier leg) (Byte b) result
+    -- what was recorded of it,
     pub recorded_as : acknowledged result ≡ event
+    -- and what was recorded after the byte
     pub stands : Stands (Inside earlier (leg ++ Byte b ∷ [])) rest
 
   -- a device gives no byte in a leg that reads no device
@@ -147,6 +156,7 @@ module _ (members : List InState) (final : Legs) where
       → (recorded signal result ++ recorded_events more) ++ wire.Stop ∷ [] ≡ wire.Byte b ∷ event ∷ rest
       → legs_after (with_signal (Inside earlier leg) signal) more ≡ final → Sent earlier leg b event rest
   byte_of earlier leg b event rest unread Start result more bus answered spelled ends = absurd (cc spelled)
+  -- the host's byte: the same byte, and its answer
   byte_of earlier leg b event rest unread (Byte c) result more bus answered spelled ends =
       let is : c ≡ b = cc spelled in
       record {
@@ -160,6 +170,7 @@ module _ (members : List InState) (final : Legs) where
           ends = ap (λ (n : ℕ). legs_after (Inside earlier (leg ++ Byte n ∷ [])) more) (sym is) ∙ ends;
         };
       }
+  -- an Ask: no device gives a byte here
   byte_of earlier leg b event rest unread Ask result more bus answered spelled ends =
       absurd (no_byte_asked earlier leg result b unread bus (cc spelled))
   byte_of earlier leg b event rest unread Ack result more bus answered spelled ends = absurd (cc spelled)
@@ -207,6 +218,7 @@ module _ (members : List InState) (final : Legs) where
   -- ---- a last leg, whatever signals it has
 
   pub record Goes (earlier : List Leg) (leg : Leg) : Type 0 where
+    -- the other signals of the leg
     pub behind : Leg
     pub is : final ≡ Inside earlier (leg ++ behind)
 

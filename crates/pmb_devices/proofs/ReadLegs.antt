@@ -1,5 +1,7 @@
--- Packets in which a device is read: after its own leg there is one that begins with its address
--- for reading, or the Alert Response Address alone.
+-- Packets in which a device is read: after its own leg one that begins with its read address, or
+-- the Alert Response Address alone. For `Bus::new`, `Bus::signal` and the laws on packets. A
+-- member notes why it refused to be read, if it was asked; one that gave ACK changes nothing, and
+-- a leg that begins with a read address alone is no device's own.
 use Rattle.std.proofs.Common.{◌≡◌, ℕ, inl, inr, Bool, true, false, ◌||◌, Option, List, [], ◌∷◌, ◌++◌, nat_eq, refl, sym}
 use Rattle.std.proofs.Common.{ap, subst, ◌∙◌, append_assoc}
 use Rattle.std.specs.List.{Contains}
@@ -38,9 +40,11 @@ module _ (members : List InState) (member : InState) (in_bus : Contains members 
 
   -- What STOP makes of a member after a leg that is written and one that is read.
   pub data TwoLegsEnd (addr : ℕ) (body : List ℕ) (after : DeviceState) : Type 0 where
+    -- the member is read: it notes what it has to
     own : addr ≡ member.device.address → after
         ≡ with_noted member.device (bit_of_answer (answer member.device member.state body)) member.state
         → TwoLegsEnd addr body after
+    -- it is another device: nothing changes
     other : nat_eq addr member.device.address ≡ false → after ≡ member.state → TwoLegsEnd addr body after
 
   -- the answer of the member that is read is noted
@@ -85,6 +89,7 @@ module _ (members : List InState) (member : InState) (in_bus : Contains members 
   two_legs addr body next bytes after is request acks ends =
       let d = member.device in
       by_test (nat_eq addr d.address) (nat_eq addr d.address) refl
+      -- the leg is to the member: it is its own, and the next one reads it
       (
       λ same.
       let addr_is : addr ≡ d.address = eqb-true addr d.address same in
@@ -95,6 +100,7 @@ module _ (members : List InState) (member : InState) (in_bus : Contains members 
       (subst (λ (a : ℕ). LegsEnd d (byte_leg (write_address a ∷ body) ∷ next ∷ []) member.state after) addr_is ends)
       )
       )
+      -- it is to another device: no leg is the member's own
       (
       λ differs.
       let w = write_address d.address in
@@ -120,24 +126,31 @@ module _ (members : List InState) (member : InState) (in_bus : Contains members 
       → after ≡ member.state
   answered_changes_nothing final addr body reply with_pec after request stands ends =
       let d = member.device in
+      -- the bytes of the reply
       let bytes = checked with_pec (write_address addr ∷ body ++ read_address addr ∷ []) reply in
       let rest = nacked bytes ++ wire.Stop ∷ [] in
       let first = byte_leg (write_address addr ∷ body) in
       let reply_leg = leg (read_address addr ∷ []) ++ nacked bytes in
+      -- the packet is a leg that is written, and one that is read
       let spelled : answered addr body reply with_pec ≡ leg (write_address addr ∷ body)
       ++ (wire.Start ∷ wire.Byte (read_address addr) ∷ wire.Ack ∷ rest) =
       append_assoc (leg (write_address addr ∷ body)) reply_leg (wire.Stop ∷ []) in
+      -- the signals of the first leg,
       let written =
       run_leg members final Outside addr body (wire.Start ∷ wire.Byte (read_address addr) ∷ wire.Ack ∷ rest)
       (subst (Stands members final Outside) spelled stands) in
+      -- of the read address,
       let read = run_address members final (Inside [] first) (read_address addr) wire.Ack rest written.stands in
+      -- and of the reply, in which no START is
       let goes = stays_in members final (first ∷ []) (byte_leg (read_address addr ∷ [])) rest
       (no_start_nacked bytes) read.stands in
       let next = byte_leg (read_address addr ∷ []) ++ goes.behind in
+      -- so the legs are these two
       let legs : closed final ≡ first ∷ next ∷ [] = ap closed goes.is in
       let two = two_legs addr body next (sent goes.behind) after refl request written.acked_are
       (subst (λ (ls : List Leg). LegsEnd d ls member.state after) legs ends) in
       elim two [
+        -- the member was read: it gave ACK, so it notes nothing
         | own addr_is same ↦
             let ack = subst (BusAnswers members (Inside (first ∷ []) []) (Byte (read_address addr)))
             (acknowledged_is read.result read.recorded_as) read.answer in

@@ -1,5 +1,7 @@
--- A leg that is refused after complete parts: its address, a byte, or the address for reading after
--- it.
+-- A leg that is refused after complete parts: its address, a byte of it, or the read address after
+-- it. For `Bus::new`, `Bus::signal` and the laws on packets. The parts before act as in a write;
+-- the member whose own leg was refused notes the byte, if it had a place there, or why it refused
+-- to be read. Which byte was refused is one, the first after bytes that were taken.
 use Rattle.std.proofs.Common.{◌≡◌, ℕ, ◌⊎◌, inl, inr, Bool, true, false, if◌then◌else◌, Some, List, [], ◌∷◌, ◌++◌}
 use Rattle.std.proofs.Common.{nat_eq, refl, sym, ap, subst, ◌∙◌, append_assoc}
 use Rattle.std.specs.List.{Contains, IsDistinct, list_any}
@@ -63,9 +65,11 @@ module _ (device : DeviceParts) (place : LegPlace) where
       → TakesAll device place taken front → (TakesByte device place (taken ++ before) byte → ⊥)
       → SameByte front before last byte
   one_refused taken [] last [] byte rest same all refused = record { fronts = refl; bytes = cc same }
+  -- bytes before it would come after the end
   one_refused taken [] last (b ∷ before) byte rest same all refused =
       let nothing : before ++ byte ∷ rest ≡ [] = cc same in
       absurd (none_in_front before byte rest nothing)
+  -- it would come earlier, among the bytes that were taken
   one_refused taken (b ∷ front) last [] byte rest same all refused =
       let is : b ≡ byte = cc same in
       absurd
@@ -135,8 +139,10 @@ module _ (profile : List DeviceParts) (members : List InState) (member : InState
       let w = write_address d.address in
       let refusal = λ (b : Bool). if b then with_noted d (bit_of_sent bytes) (after_parts d parts s) else after_parts d
       parts s in
+      -- is the last leg to the member?
       by_test (nat_eq addr d.address) (nat_eq addr d.address) refl
       (
+      -- yes: no part is, so that it notes what was refused, in its state before
       λ same.
       let addr_is : addr ≡ d.address = eqb-true addr d.address same in
       let alone : IsNew d.address (addresses parts) = subst (λ (a : ℕ). IsNew a (addresses parts)) addr_is new in
@@ -147,6 +153,7 @@ module _ (profile : List DeviceParts) (members : List InState) (member : InState
       ∙ ap refusal (sym same)
       )
       (
+      -- no: nothing is noted, and the parts act as far as one is for the member
       λ differs.
       let no_last : is_to w last ≡ false = is_to_other w (write_address addr) bytes last
       (other_written addr d.address differs) is in
@@ -154,12 +161,14 @@ module _ (profile : List DeviceParts) (members : List InState) (member : InState
       or_from (is_to (read_address d.address) last) false
       (is_to_other (read_address d.address) (write_address addr) bytes last
       (λ same. no_read_address addr d.address same) is) refl in
+      -- is a part for the member?
       by_test (list_any (nat_eq d.address) (addresses parts)) (list_any (nat_eq d.address) (addresses parts)) refl
       (
       λ some. parts_act profile members member in_bus the_own parts [] legs (last ∷ []) s after each distinct refl
       unread some ends ∙ ap refusal (sym differs)
       )
       (
+      -- none is: its state stays
       λ alone.
       ends_without d s after (legs ++ last ∷ [])
       (
@@ -226,10 +235,12 @@ module _ (profile : List DeviceParts) (members : List InState) (member : InState
       → after ≡ after_refusal member.device (record { parts = parts; addr = addr; sent = bytes; at_read = false })
       (after_parts member.device parts member.state)
   byte_refused final reached parts addr bytes legs last after closed_is each distinct new refused stands ends =
+      -- the bytes that had ACK, and the one that had NACK
       let d = member.device in
       let front = refused.front in
       let byte = refused.last in
       let rest = wire.Byte byte ∷ wire.Nack ∷ wire.Stop ∷ [] in
+      -- the events of the leg, split there
       let behind : nacked bytes ++ wire.Stop ∷ [] ≡ acked front ++ rest =
       ap (λ (bs : List ℕ). nacked bs ++ wire.Stop ∷ []) refused.split
       ∙ ap (λ (es : List Event). es ++ wire.Stop ∷ []) (nacked_last front byte)
@@ -237,11 +248,14 @@ module _ (profile : List DeviceParts) (members : List InState) (member : InState
       let spelled_so : last ++ wire.Stop ∷ [] ≡ leg (write_address addr ∷ front) ++ rest =
       ap (λ (es : List Event). es ++ wire.Stop ∷ []) refused.spelled
       ∙ ap (λ (es : List Event). leg (write_address addr ∷ []) ++ es) behind in
+      -- the signals of the bytes before,
       let ran = run_leg members final reached addr front rest
       (subst (Stands members final reached) spelled_so stands) in
+      -- and of the refused one, after which STOP comes
       let one =
       run_one members final (closed reached) (write_address addr ∷ front) byte wire.Nack (wire.Stop ∷ [])
       (unread_written addr front) ran.stands in
+      -- so the refused leg is the last one
       let own_leg = byte_leg (write_address addr ∷ front ++ byte ∷ []) in
       let is = at_stop members final (Inside (closed reached) own_leg) one.stands in
       let legs_are : closed final ≡ legs ++ own_leg ∷ [] = ap closed (sym is)
@@ -251,6 +265,7 @@ module _ (profile : List DeviceParts) (members : List InState) (member : InState
       (sym refused.split) in
       last_ends parts addr bytes legs own_leg after each distinct new sent_are
       (
+      -- it is the member's own: it took the bytes before,
       λ addr_is none own_ends.
       let w = write_address d.address in
       let device_is = the_own refused.device (subst (λ (a : ℕ). device_with a profile ≡ Some refused.device) addr_is
@@ -265,11 +280,14 @@ module _ (profile : List DeviceParts) (members : List InState) (member : InState
       addr_is
       (subst (λ (ls : List Leg). BusAnswers members (Inside ls (byte_leg (write_address addr ∷ front)))
       (Byte byte) one.result) closed_is one.answer) in
+      -- did not take this one,
       let not_taken = refused_byte members member in_bus legs w front byte one.result own_written taken answered
       one.recorded_as in
+      -- which had a place there:
       let room = subst (λ (e : DeviceParts). GoesOn e (leg_place legs) front) device_is
       (room_at refused.device parts legs front each refused.begins) in
       let ended = subst (λ (bs : List ℕ). OwnLegEnds d legs bs [] member.state after) refused.split own_ends in
+      -- so it notes this byte
       elim ended [
         | inl w ↦ absurd (not_taken (takes_last d (leg_place legs) [] front byte w.0))
         | inr w ↦
@@ -288,6 +306,7 @@ module _ (profile : List DeviceParts) (members : List InState) (member : InState
       → after ≡ after_refusal member.device (record { parts = []; addr = addr; sent = bytes; at_read = true })
       member.state
   read_refused final addr bytes last after refused stands ends =
+      -- the leg of the request, then START and its read address, which had NACK
       let d = member.device in
       let s = member.state in
       let behind = wire.Start ∷ wire.Byte (read_address addr) ∷ wire.Nack ∷ [] in
@@ -296,12 +315,14 @@ module _ (profile : List DeviceParts) (members : List InState) (member : InState
       ∙ append_assoc (leg (write_address addr ∷ bytes)) behind (wire.Stop ∷ []) in
       let first = byte_leg (write_address addr ∷ bytes) in
       let next = byte_leg (read_address addr ∷ []) in
+      -- the signals of both legs, and STOP
       let ran = run_leg members final Outside addr bytes (behind ++ wire.Stop ∷ [])
       (subst (Stands members final Outside) spelled_so stands) in
       let read = run_address members final (Inside [] first) (read_address addr) wire.Nack
       (wire.Stop ∷ []) ran.stands in
       let is = at_stop members final (Inside (first ∷ []) next) read.stands in
       let refusal = λ (b : Bool). if b then with_noted d (bit_of_answer (answer d s bytes)) s else s in
+      -- the member notes why, if the request was to it
       let two =
       two_legs members member in_bus addr bytes next [] after refl
       (

@@ -1,4 +1,6 @@
--- The answer to a read or a call is as long as its form takes, and its body is of that form alone.
+-- The answer to a read or a call is as long as its form takes, and the body is of that form alone.
+-- For the law `replies_are_answers`. A read is answered with its register, which the state fits;
+-- of calls COEFFICIENTS alone is answered, with five bytes, and it is called with a block.
 use Rattle.std.proofs.Common.{◌≡◌, ℕ, ◌<◌, ◌⊎◌, inl, inr, Bool, true, false, not, ◌&&◌, Option, Some, None, Result, Ok}
 use Rattle.std.proofs.Common.{Err, cond, is_some, List, [], ◌∷◌, ◌++◌, length, take, nat_eq, refl, sym, ap, subst, ◌∙◌}
 use Rattle.std.proofs.Common.{arith}
@@ -113,18 +115,22 @@ module _ (device : DeviceParts) (accepted : IsDevice device) (state : DeviceStat
       → (reply : List ℕ)
       → answer device state (code ∷ []) ≡ Ok reply → Takes form (length reply)
   read_taken code form is fits reply ok =
+      -- the command, which is read in this form
       let found = command_of device (λ s. s.read) code form refl is in
       let command = found.0 in
       let entry = (command_is device accepted code command found.1).entry in
+      -- so it has a register in that form
       let some : same_form Zero form ≡ false =
       some_data form (subst (λ (o : Option Form). reads_data o ≡ true) found.2 entry.fitting.read_data) in
       let register : register_form command.entry.shape ≡ Some form =
       read_register command.entry.shape form found.2 some in
+      -- the answer is what is held on the selected page, if that is not refused
       let parts =
       read_parts (nat_eq state.page all_pages && is_paged (command_with code device.commands))
       (unwrap_or (held state.page code state.registers) []) reply ok in
       let free : (nat_eq state.page all_pages && is_paged (Some command)) ≡ false =
       subst (λ (o : Option CommandParts). (nat_eq state.page all_pages && is_paged o) ≡ false) found.1 parts.0 in
+      -- the command has a register there
       let there : (state.page < device.pages) ⊎ (command.entry.paged ≡ false) =
       elim fits.page [
         | inl small ↦ inl small
@@ -136,6 +142,7 @@ module _ (device : DeviceParts) (accepted : IsDevice device) (state : DeviceStat
             (ap (λ (o : Option Form). is_some o) register) free
             )
       ] in
+      -- which holds as many bytes as the form takes
       let holds = fits.holds code state.page command form found.1 register there in
       let bytes_are : holds.bytes ≡ reply = ap (λ (o : Option (List ℕ)). unwrap_or o []) (sym holds.held_is)
       ∙ parts.1 in
@@ -181,6 +188,7 @@ some_byte (b ∷ more) some = (b, more, refl)
 
 module _ (device : DeviceParts) (accepted : IsDevice device) (state : DeviceState) where
   -- COEFFICIENTS is called with a block
+  -- 0x30 is COEFFICIENTS
   block_called : (code : ℕ) (form : Form) → (forms device code).call ≡ Some form → code ≡ 0x30 → form ≡ Block
   block_called code form is same =
       let found = command_of device (λ s. s.call) code form refl is in

@@ -1,5 +1,7 @@
 -- The bytes that are recorded of Asks are given by the one device that is read, and are a front of
--- its answer.
+-- its answer. For the law `replies_are_answers`. A member is known by its address; it was asked
+-- one body, to which it gives one answer in one form; the bytes of the packet, with their code,
+-- begin that answer, and as both are wires of one form the data are the same.
 use Rattle.std.proofs.Common.{◌≡◌, ℕ, ◌<◌, zero, suc, Bool, None, Result, Ok, Err, List, [], ◌∷◌, ◌++◌, length, map}
 use Rattle.std.proofs.Common.{get_or, nat_eq, refl, sym, ap, subst, ◌∙◌, append_assoc, arith}
 use Rattle.std.specs.List.{Contains, IsDistinct}
@@ -142,7 +144,9 @@ module _ (members : List InState) (member : InState) (same : (m : InState) → C
       (request : IsRequest member.device body) where
     -- The member gave ACK to be read, and these bytes were recorded after that.
     pub record Turned (bytes : List ℕ) : Type 0 where
+      -- it did not refuse,
       pub ok : bit_of_answer (answer member.device member.state body) ≡ None
+      -- and the rest of the packet was recorded after its read address
       pub stands : Stands members final (Inside (asked_leg ∷ []) (Byte (read_address member.device.address) ∷ []))
           (nacked bytes ++ event.Stop ∷ [])
 
@@ -152,19 +156,23 @@ module _ (members : List InState) (member : InState) (same : (m : InState) → C
         → Turned (checked with_pec (write_address member.device.address ∷ body ++ read_address member.device.address
         ∷ []) told)
     turned told with_pec stands =
+        -- the two address bytes, and the bytes of the packet's reply
         let d = member.device in
         let w = write_address d.address in
         let r = read_address d.address in
         let bytes = checked with_pec (w ∷ body ++ r ∷ []) told in
         let rest = nacked bytes ++ event.Stop ∷ [] in
         let reply_leg = leg (r ∷ []) ++ nacked bytes in
+        -- the packet is the member's own leg, and one that reads it
         let spelled : answered d.address body told with_pec ≡ leg (w ∷ body)
         ++ (event.Start ∷ event.Byte r ∷ event.Ack ∷ rest) =
         append_assoc (leg (w ∷ body)) reply_leg (event.Stop ∷ []) in
+        -- the signals of both,
         let written =
         run_leg members final Outside d.address body (event.Start ∷ event.Byte r ∷ event.Ack ∷ rest)
         (subst (Stands members final Outside) spelled stands) in
         let read = run_address members final (Inside [] asked_leg) r event.Ack rest written.stands in
+        -- and the member's ACK to its read address
         let ack = subst (BusAnswers members (Inside (asked_leg ∷ []) []) (Byte r))
         (acknowledged_is read.result read.recorded_as) read.answer in
         record {
@@ -189,17 +197,21 @@ module _ (members : List InState) (member : InState) (same : (m : InState) → C
         → Stands members final Outside (answered member.device.address body (form_of.wire form told) with_pec)
         → answer member.device member.state body ≡ Ok told
     reply_is told with_pec taken takes stands =
+        -- the bytes that were recorded after the read address
         let d = member.device in
         let before = write_address d.address ∷ body ++ read_address d.address ∷ [] in
         let bytes = checked with_pec before (form_of.wire form told) in
         let behind = turned (form_of.wire form told) with_pec stands in
+        -- the member has an answer,
         let answer_is = ok_of (answer d member.state body) behind.ok in
         let reply = answer_is.0 in
+        -- and those bytes begin it
         let front =
         reply_front members final alone (asked_leg ∷ []) (read_address d.address) d (reply_of d body form reply)
         (bus_gives reply answer_is.1) [] bytes
         behind.stands in
         let all : reply_of d body form reply ≡ bytes ++ front.0 = front.1 in
+        -- each of the two is the wire of its data, and a code perhaps
         let mine = checked_is (carries_pec d d.pec) before (form_of.wire form reply) in
         let theirs = checked_is with_pec before (form_of.wire form told) in
         let code = code_behind with_pec before (form_of.wire form told) in
@@ -207,6 +219,7 @@ module _ (members : List InState) (member : InState) (same : (m : InState) → C
         ≡ form_of.wire form told ++ (code ++ front.0) =
         sym mine ∙ all ∙ ap (λ (bs : List ℕ). bs ++ front.0) theirs
         ∙ append_assoc (form_of.wire form told) code front.0 in
+        -- so the data are the same
         let same_reply : reply ≡ told =
         wire_front form reply told (code_behind (carries_pec d d.pec) before (form_of.wire form reply))
         (code ++ front.0) (takes reply answer_is.1) taken

@@ -1,4 +1,6 @@
--- Whatever a bus went through since it was made, its devices stay, and their states fit them.
+-- Whatever a bus went through since it was made, its devices stay, and their states fit them. For
+-- the laws `states_fit` and `replies_are_answers`. The first states fit, and STOP keeps that,
+-- stretch by stretch.
 use Rattle.std.proofs.Common.{◌≡◌, ℕ, zero, suc, ◌<◌, List, [], ◌∷◌, length, map, get_or, refl, sym, ap, subst, ◌∙◌}
 use Rattle.std.proofs.Common.{arith}
 use Rattle.std.specs.List.{AllByRecursion, Contains}

@@ -1,5 +1,7 @@
--- Where nothing is refused but an end inside a packet, each stretch of a run is one packet, and the
--- devices are what the transactions make of them, one after the other.
+-- Where nothing is refused but an end inside a packet, each stretch of a run is one packet, and
+-- the devices are what the transactions make of them, one after the other. For the law
+-- `transactions_are_applied_in_turn`, `Bus::new` and `Bus::signal`. No STOP is recorded within a
+-- stretch, so the first transaction that is read takes just the first stretch.
 use Rattle.std.proofs.Common.{◌≡◌, ◌≢◌, ℕ, suc, ◌+◌, ◌<◌, inl, inr, List, [], ◌∷◌, ◌++◌, length, map, arith, refl, sym}
 use Rattle.std.proofs.Common.{ap, subst, ◌∙◌, append_assoc}
 use Rattle.std.specs.List.{Contains}
@@ -164,14 +166,18 @@ module _ (profile : List DeviceParts) where
         → AreAnswered now Outside history
         → ReadsFrom profile n (run_events stretches ++ recorded_events history) (map Accepted ts ++ end)
         → IsTruncation end → now ≡ all_after ts members
+    -- no stretch: nothing is read, and nothing was done
     run_applied [] n members now history ts end are runs answered reads truncated =
         let none = nothing_accepted n (recorded_events history) ts end (events_no_stop now Outside history answered)
         reads in
         runs ∙ sym (map-id members) ∙ ap (λ (us : List TransactionData). all_after us members) (sym none)
+    -- a stretch, but no transaction is read: its STOP would be within the end of a packet
     run_applied (stretch ∷ more) n members now history [] end are runs answered reads truncated =
         let none = end_no_stop n (run_events (stretch ∷ more) ++ recorded_events history) end truncated reads in
         absurd (none (recorded_events stretch) (run_events more ++ recorded_events history)
         (first_stretch stretch more history))
+    -- a stretch and a transaction: it takes the events up to the first STOP, which are this
+    -- stretch
     run_applied (stretch ∷ more) n members now history (t ∷ ts) end are runs answered reads truncated =
         let events = run_events (stretch ∷ more) ++ recorded_events history in
         let behind = run_events more ++ recorded_events history in
@@ -180,12 +186,14 @@ module _ (profile : List DeviceParts) where
         same_cut taken.front (recorded_events stretch) reads.1 behind taken.no_stop
         (events_no_stop members Outside stretch runs.0)
         (sym taken.split ∙ first_stretch stretch more history) in
+        -- so STOP made of the devices what it makes of them
         let packet = subst (λ (es : List Event). Packet profile t (es ++ wire.Stop ∷ [])) cut.0 taken.packet in
         let next_is = stretch_applied members runs.1.0 stretch t are runs.0 packet runs.1.1 in
         let devices_are : map (λ (m : InState). m.device) runs.1.0 ≡ profile =
         ap (λ (ms : List InState). map (λ (m : InState). m.device) ms) next_is
         ∙ same_devices t members
         ∙ are in
+        -- and the others are read of what is left
         let rest = subst (λ (es : List Event). ReadsFrom profile (n + length reads.0) es (map Accepted ts ++ end)) cut.1
         reads.4 in
         run_applied more (n + length reads.0) runs.1.0 now history ts end devices_are runs.1.2 answered rest truncated

@@ -1,4 +1,6 @@
--- What a signal comes to on a bus.
+-- What a signal does on a bus: for `Bus::signal`. The profile stays, the answer is that of the
+-- devices (`Loud`), and the devices stand where the signal leads them (`Behind`); at STOP each
+-- becomes what a transaction makes of it, if its packet was recorded.
 use Rattle.std.proofs.Common.{◌≡◌, ◌≢◌, List, [], ◌∷◌, ◌++◌, map, nat_eq, refl, sym, subst, ◌∙◌}
 use Rattle.std.specs.List.{Contains, IsDistinct}
 use Rattle.pmb_bus.specs.declared.event.Event.TheVariants as wire
@@ -77,6 +79,7 @@ module _ (bus new : Bus) (same : new.profile.now ≡ bus.profile.now) (standing 
       let ended = all_end (legs_after Outside standing.history) new.devices.items standing.members handed.results
       handed.moved in
       record {
+        -- the devices after STOP, outside of a packet
         members = ended.news;
         ends = ended.ends;
         stands = record {
@@ -88,6 +91,7 @@ module _ (bus new : Bus) (same : new.profile.now ≡ bus.profile.now) (standing 
           devices = ended.stand;
           answered = tt;
         };
+        -- and a transaction's packet tells their states
         applied = λ t packet.
             all_are_applied t (legs_after Outside standing.history) standing.members ended.news ended.ends
             (λ member after inside ends.

@@ -1,5 +1,7 @@
--- A reading goes from STOP to STOP: what is accepted or refused takes the events up to and including
--- the first one.
+-- A reading goes from STOP to STOP: what is accepted or refused takes the events up to and
+-- including the first one. For the law `transactions_end_at_one_stop`, and through `Runs` for
+-- `Bus::signal`. Events are cut at their first STOP in one way; outcome by outcome that cut leaves
+-- fewer events, until the last transaction takes those up to the last STOP.
 use Rattle.std.proofs.Common.{◌≡◌, ◌≢◌, ℕ, ◌+◌, ◌⊎◌, inl, inr, List, [], ◌∷◌, ◌++◌, length, refl, sym, ap, subst, ◌∙◌}
 use Rattle.std.proofs.Common.{append_assoc}
 use Rattle.pmb_bus.specs.declared.event.Event.{Event}
@@ -65,8 +67,11 @@ same_cut (d ∷ a) (e ∷ b) x y none nor same =
 -- Events that end with a STOP, and others after them that end with one: what is left of them after
 -- the first STOP.
 record Left (since rest : List Event) : Type 0 where
+  -- what is left before the last stretch,
   before : List Event
+  -- which ends with a STOP, or is nothing,
   stopped : AreStopped before
+  -- and the last stretch after it
   split : rest ≡ before ++ (since ++ Stop ∷ [])
 
 -- it has a STOP in front that the others end with
@@ -108,6 +113,7 @@ module _ (profile : List DeviceParts) where
 
   -- A packet before others goes up to the first STOP.
   pub record UpToStop (t : TransactionData) (events rest : List Event) : Type 0 where
+    -- the events up to STOP
     pub front : List Event
     pub no_stop : HasNoStop front
     pub packet : Packet profile t (front ++ Stop ∷ [])
@@ -173,21 +179,26 @@ module _ (profile : List DeviceParts) where
           → AreStopped before → HasNoStop since
           → events ≡ before ++ (since ++ Stop ∷ []) → ReadsFrom profile n events (outcomes ++ Accepted t ∷ [])
           → Packet profile t (since ++ Stop ∷ [])
+      -- it is the only outcome
       ends_at_one_stop [] n before since events t stopped nor split reads =
           last_takes t since before events reads.1 stopped nor split reads.4
           (up_to_stop t events reads.0 reads.1 reads.2 reads.3)
+      -- a transaction comes before: what it takes is up to the first STOP
       ends_at_one_stop (Accepted u ∷ more) n before since events t stopped nor split reads =
           let taken = up_to_stop u events reads.0 reads.1 reads.2 reads.3 in
           let m = n + length reads.0 in
           goes_on m more t since taken.front before reads.1 taken.no_stop stopped nor (sym taken.split ∙ split) reads.4
           (λ left still rest_is. ends_at_one_stop more m left since reads.1 t still nor rest_is reads.4)
+      -- a refusal comes before,
       ends_at_one_stop (Refusal refusal ∷ more) n before since events t stopped nor split (inl w) =
           let m = n + length w.0 + length w.5 in
           let left = w.6 in
           elim (w.7) [
+            -- which passes over all events: then nothing is left to read
             | to_the_end all none nothing ↦
                 absurd (none_is_read m more t (subst (λ (es : List Event). ReadsFrom profile m es
                 (more ++ Accepted t ∷ [])) nothing w.8))
+            -- or over those up to the first STOP
             | to_first_stop over ends ↦
                 (
                 let a = w.0 ++ ends.front in
@@ -203,5 +214,6 @@ module _ (profile : List DeviceParts) where
                 (λ rest still rest_is. ends_at_one_stop more m rest since left t still nor rest_is w.8)
                 )
           ]
+      -- a refusal of the end would be the last outcome
       ends_at_one_stop (Refusal refusal ∷ more) n before since events t stopped nor split (inr w) =
           absurd (nothing_behind more (Accepted t) w.1)

@@ -1,4 +1,7 @@
--- Complete parts: their legs, what the members took of them, and what STOP makes of the states.
+-- Complete parts of a write: their legs, what the members took of them, and what STOP makes of the
+-- states. For `Bus::new`, `Bus::signal` and the laws on packets. The events of a part tell its leg
+-- (`PartLeg`); as the parts have distinct addresses, at most one is for a member, and its body
+-- took effect at STOP with its own code and data.
 use Rattle.std.proofs.Common.{◌≡◌, ℕ, inl, inr, Bool, true, false, ◌||◌, Some, if◌then◌else◌, List, [], ◌∷◌, ◌++◌}
 use Rattle.std.proofs.Common.{nat_eq, refl, sym, ap, subst, ◌∙◌, append_assoc, arith}
 use Rattle.std.specs.List.{AllByRecursion, Contains, IsDistinct, list_any}
@@ -65,11 +68,14 @@ none_in_both address front back none nor =
 module _ (profile : List DeviceParts) (members : List InState) where
   -- The leg of a part was written, and each byte of its body had ACK.
   pub record PartLeg (earlier : List Leg) (part : PartData) (leg : Leg) : Type 0 where
+    -- the device that it is for,
     pub device : DeviceParts
+    -- and the body that it is spelled with
     pub body : List ℕ
     pub known : device_with part.addr profile ≡ Some device
     pub allowed : WriteBody device part.code part.bytes part.pec body
     pub sent_are : sent leg ≡ write_address part.addr ∷ body
+    -- each byte of the body had ACK
     pub acks : Acked members earlier (write_address part.addr ∷ []) body
 
   -- those of parts, in order
@@ -81,7 +87,9 @@ module _ (profile : List DeviceParts) (members : List InState) where
 
   -- Legs that were reached over those of some parts.
   pub record Reached (final : Legs) (legs : Legs) (parts : List PartData) (rest : List Event) : Type 0 where
+    -- the legs after the parts
     pub reached : Legs
+    -- those that the parts added
     pub new : List Leg
     pub closed_are : closed reached ≡ closed legs ++ new
     pub each : PartLegs (closed legs) parts new
@@ -91,6 +99,7 @@ module _ (profile : List DeviceParts) (members : List InState) where
   pub run_parts : (final legs : Legs) (parts : List PartData) (events rest : List Event)
       → PartsEvents profile parts events
       → Stands members final legs (events ++ rest) → Reached final legs parts rest
+  -- no parts: nothing comes in between
   run_parts final legs [] events rest each stands = record {
     reached = legs;
     new = [];
@@ -98,6 +107,7 @@ module _ (profile : List DeviceParts) (members : List InState) where
     each = refl;
     stands = subst (λ (es : List Event). Stands members final legs (es ++ rest)) each stands;
   }
+  -- the first part: its body, and its leg
   run_parts final legs (part ∷ parts) events rest each stands =
       let body = each.3.body in
       let first = byte_leg (write_address part.addr ∷ body) in
@@ -105,8 +115,10 @@ module _ (profile : List DeviceParts) (members : List InState) where
       ap (λ (es : List Event). es ++ rest) each.2
       ∙ append_assoc each.0 each.1 rest
       ∙ ap (λ (es : List Event). es ++ (each.1 ++ rest)) each.3.spelled in
+      -- its signals,
       let ran = run_leg members final legs part.addr body (each.1 ++ rest)
       (subst (Stands members final legs) spelled stands) in
+      -- and those of the other parts
       let later = run_parts final (Inside (closed legs) first) parts each.1 rest each.4 ran.stands in
       record {
         reached = later.reached;
@@ -165,11 +177,13 @@ module _ (profile : List DeviceParts) (members : List InState) where
     acts_so : (code : ℕ) (content : List ℕ) (with_pec : Bool) (body : List ℕ) (before after : DeviceState)
         → WriteBody member.device code content with_pec body → Acts member.device body before after
         → after ≡ after_write member.device code content before
+    -- a write: one code and data have this body
     acts_so code content with_pec body before after allowed (writes other others also second is) =
         let same = one_write member.device code other content others with_pec also body allowed second in
         is
         ∙ ap (λ (n : ℕ). after_write member.device n others before) (sym same.code_is)
         ∙ ap (λ (bs : List ℕ). after_write member.device code bs before) (sym same.bytes_are)
+    -- it can't be that the body is no write
     acts_so code content with_pec body before after allowed (no_write none is) =
         absurd (none (code, content, with_pec, allowed))
 
@@ -230,7 +244,9 @@ module _ (profile : List DeviceParts) (members : List InState) where
         → list_any (nat_eq member.device.address) (addresses parts) ≡ true
         → LegsEnd member.device (earlier ++ (legs ++ back)) before after
         → after ≡ after_parts member.device parts before
+    -- no part is for the member
     parts_act [] earlier legs back before after each distinct new unread some ends = absurd (cc some)
+    -- is the first part for the member?
     parts_act (part ∷ parts) earlier legs back before after each distinct new unread some ends =
         let d = member.device in
         let w = write_address d.address in
@@ -241,12 +257,14 @@ module _ (profile : List DeviceParts) (members : List InState) where
         subst (λ (ls : List Leg). LegsEnd d (earlier ++ (ls ++ back)) before after) each.2 ends in
         by_test (nat_eq d.address part.addr) (nat_eq d.address part.addr) refl
         (
+        -- yes: it acts, and those after it do nothing to the member
         λ is.
         own_part_acts part parts earlier first later back before after each.3 each.4 alone.0 new unread
         (sym (eqb-true d.address part.addr is)) here
         )
         (
         λ other.
+        -- no: its leg is to another device, and a part after it is for the member
         let flipped : nat_eq part.addr d.address ≡ false = nat_eq_flips d.address part.addr other in
         let more : some_is_to w (earlier ++ first ∷ []) ≡ false =
         none_in_both w earlier (first ∷ []) new

@@ -2,6 +2,8 @@
 //!
 //! Each signal of the host is given to each device. At most one of them is not silent, since no two
 //! have one address: its answer is the one on the bus.
+//!
+//! Its rows: `tests_devices`, `src/devices/sessions.rt`, `calls.rt`, `compared.rt`.
 
 ghost use Rattle.std.specs.Prelude.{◌≡◌, ℕ, ◌+◌, ◌<◌, List, [], IfOk, MatchOption, OnOk, length, take};
 ghost use Rattle.pmb_registers.specs.State.{InState};

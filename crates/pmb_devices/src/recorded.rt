@@ -1,4 +1,6 @@
 //! What is recorded of a signal.
+//!
+//! Its rows: `tests_devices`, `src/devices/sessions.rt`; `tests_host`, `src/exchange/rows.rt`.
 
 ghost use Rattle.std.specs.Prelude.{◌≡◌};
 ghost use Rattle.pmb_devices.specs.Bus.{acknowledged, given, recorded};
@@ -7,8 +9,8 @@ use pmb_bus::Event;
 use pmb_device::{DeviceSignal, HostSignal};
 use std::marker::Model;
 
-/// What one signal of the host came to: the events that are recorded of it, one or two, and the answer
-/// on the bus.
+/// The result of one signal of the host: the events that are recorded of it, one or two, and the
+/// answer on the bus.
 #[derive(Clone, Debug, Drop)]
 pub struct Recorded {
     /// The events; where there is one, it stands twice.

@@ -1,4 +1,7 @@
--- What a read or a call asks for, by the rules of its request, and the exchange that its run is.
+-- What a read, a call or a quantity that is got asks for, by the rules of its request, and that
+-- its run is the exchange of its task. For the law `runs_are_exchanges`. The rules give a device
+-- that has the command in a form (`CanAsk`); with it `Asking` is met, and `Asking`'s lemmas say
+-- how the run ended: done with the device's reply, or refused at the read address.
 use Rattle.std.proofs.Common.{◌≡◌, ◌≢◌, ℕ, inl, inr, Bool, true, ◌&&◌, Option, Some, None, IsSome, Result, Ok, Err}
 use Rattle.std.proofs.Common.{is_some, List, [], ◌∷◌, nat_eq, refl, sym, ap, subst, ◌∙◌}
 use Rattle.std.specs.Option.{IfSome}
@@ -123,7 +126,9 @@ some_of (Some x) some = (x, refl)
 -- A device is asked for a command that it has in a form.
 pub record CanAsk (profile : List DeviceParts) (c : Command) : Type 0 where
   pub device : DeviceParts
+  -- the device at the command's address, as the profile has it
   pub known : device_with c.addr profile ≡ Some device
+  -- it allows a packet error code where one is asked for
   pub mode : AllowsPec device.pec c.pec
 
 can_ask : (profile : List DeviceParts) (c : Command) → IsSome (device_with c.addr profile)

@@ -1,5 +1,8 @@
--- A run whose task is a read or a call: it ends with the device's own reply, or where the device
--- refuses to be read.
+-- A run whose task is a read or a call ends with the device's own reply, or at the read address
+-- where the device refuses to be read. For the law `runs_are_exchanges`. Both legs of such a task
+-- are known (`two_legs`), so what the host heard is what the one device that was asked answers: ACK
+-- up to the read address, there by its state, and then the bytes of its reply one after the other.
+-- So no Ask is left without a byte, and no packet error code is wrong.
 use Rattle.std.proofs.Common.{◌≡◌, ℕ, ◌+◌, ◌<◌, ◌≤◌, Bool, true, false, if◌then◌else◌, Option, Some, Result, Ok, Err}
 use Rattle.std.proofs.Common.{List, [], ◌∷◌, ◌++◌, length, map, flat_map, nat_eq, refl, sym, ap, subst, ◌∙◌}
 use Rattle.std.proofs.Common.{append_assoc, arith}
@@ -54,17 +57,25 @@ use Rattle.pmb_exchange.proofs.Stops.{refused_event, stop_last, stop_reads_nothi
 
 -- What a task asks of a device of the bus: a body to which it replies in one form.
 pub record Asking (job : Job) (members : List InState) (body : List ℕ) (form : Form) (with_pec : Bool) : Type 0 where
+  -- the device that is asked, with its state
   pub member : InState
   pub in_bus : Contains members member
+  -- no other member has its address
   pub same : (m : InState) → Contains members m → m.device.address ≡ member.device.address → m ≡ member
   pub accepted : IsDevice member.device
   pub known : device_with member.device.address job.profile ≡ Some member.device
+  -- the body asks for a reply,
   pub request : IsRequest member.device body
+  -- of this form alone,
   pub only : (f : Form) → IsFormOfRequest member.device f body → f ≡ form
+  -- and the device's reply has that form
   pub takes : (reply : List ℕ) → answer member.device member.state body ≡ Ok reply → Takes form (length reply)
+  -- the device allows the packet error code that the task asks for
   pub mode : AllowsPec member.device.pec with_pec
+  -- the task's legs: the body, and the read address alone
   pub legs_are : legs_of job.profile job.task ≡ (write_address member.device.address ∷ body)
       ∷ (read_address member.device.address ∷ []) ∷ []
+  -- the form of the reply, and whether a code is read after it, as the host reads the task
   pub form_is : reply_form job.profile job.task ≡ Some form
   pub pec_is : reply_has_pec job.task ≡ with_pec
 
@@ -88,8 +99,10 @@ err_of device (Err bit) result is none = (bit, refl)
 
 -- A byte of a leg of bytes, or the one byte of the leg after it.
 pub data InTwo (first : List ℕ) (second : ℕ) (legs : List (List ℕ)) (bytes : List ℕ) (b : ℕ)
+    -- The bytes end in the first leg: `more` are those of that leg after b.
     (more : List ℕ) : Type 0 where
   in_first : legs ≡ [] → first ≡ bytes ++ b ∷ more → InTwo first second legs bytes b more
+  -- All of the first leg was sent, and b is the second one's only byte.
   in_second : legs ≡ first ∷ [] → bytes ≡ [] → b ≡ second → InTwo first second legs bytes b more
 
 nothing_left : {X : Type 0} (front : List X) (x : X) (back : List X) → [] ≡ front ++ x ∷ back → ⊥
@@ -168,10 +181,12 @@ module _ (job : Job) (members : List InState) (heard : List AnsweredSignal) (ste
       → (reply : List ℕ) × (answer a.member.device a.member.state body ≡ Ok reply)
   read_ok all tail answered well is =
       let first = leg_signals (w ∷ body) in
+      -- the place of the read address: after the first leg and a START
       let front = first ++ Start ∷ [] in
       let here =
       place all front (Byte r) tail
       (is ∙ append_assoc first (Start ∷ Byte r ∷ []) tail ∙ sym (append_assoc first (Start ∷ []) (Byte r ∷ tail))) in
+      -- what the bus answered there, with the legs that were sent by then
       let bus = answer_at members Outside here.before here.one here.behind
       (subst (AreAnswered members Outside) here.split answered) in
       let legs_are : legs_by Outside (sent_signals here.before) ≡ Inside (byte_leg (w ∷ body) ∷ []) [] =
@@ -179,6 +194,7 @@ module _ (job : Job) (members : List InState) (heard : List AnsweredSignal) (ste
       let bus_there = subst (λ (ls : Legs). BusAnswers members ls here.one.signal here.one.result) legs_are bus in
       let bus_byte = subst (λ (s : HostSignal). BusAnswers members (Inside (byte_leg (w ∷ body) ∷ []) []) s
       here.one.result) here.signal_is bus_there in
+      -- all went well, so that answer is ACK, which the device gives only if it has a reply
       let good = (well_parts here.before (here.one ∷ here.behind) (subst GoWell here.split well)).1.0 in
       let ack : here.one.result ≡ answers.Ack =
       subst (λ (s : HostSignal). IsGood s here.one.result) here.signal_is good in
@@ -187,8 +203,10 @@ module _ (job : Job) (members : List InState) (heard : List AnsweredSignal) (ste
 
   -- What a run has after both legs.
   pub record Behind (all : List AnsweredSignal) (tail : List HostSignal) : Type 0 where
+    -- the reply that the device gives,
     pub reply : List ℕ
     pub ok : answer a.member.device a.member.state body ≡ Ok reply
+    -- and the signals after both legs: what was read, was read there
     pub asked : List AnsweredSignal
     pub asked_are : sent_signals asked ≡ tail
     pub well : GoWell asked
@@ -198,15 +216,19 @@ module _ (job : Job) (members : List InState) (heard : List AnsweredSignal) (ste
   behind : (all : List AnsweredSignal) (tail : List HostSignal) → AreAnswered members Outside all → GoWell all
       → sent_signals all ≡ flat_map leg_signals two_legs ++ tail → Behind all tail
   behind all tail answered well is =
+      -- the device has a reply, since its read address was acknowledged
       let ok = read_ok all tail answered well is in
       let legs = flat_map leg_signals two_legs in
+      -- the run cut after both legs: what went well and was answered, on each side
       let parts : Cut all legs tail = cut all legs tail is in
       let both = well_parts parts.first parts.second (subst GoWell parts.split well) in
       let later = answered_behind members Outside parts.first parts.second
       (subst (AreAnswered members Outside) parts.split answered) in
+      -- the second part begins with no byte asked for yet,
       let legs_are : legs_by Outside (sent_signals parts.first) ≡ Inside (byte_leg (w ∷ body) ∷ []) (Byte r ∷ asks 0) =
       ap (legs_by Outside) parts.first_are ∙ ap (legs_by Outside) (sym (append-nil legs))
       ∙ legs_by_legs Outside two_legs [] in
+      -- and the first part, which was written, read none
       let written =
       subst (AllByRecursion IsWritten) (ap (λ (xs : List HostSignal). xs ++ leg_signals (r ∷ []))
       (append-nil (leg_signals (w ∷ body))))
@@ -245,8 +267,10 @@ module _ (job : Job) (members : List InState) (heard : List AnsweredSignal) (ste
 
   -- The device refused to be read.
   pub record ReadingRefused (leg_at byte_at : ℕ) : Type 0 where
+    -- why the device refuses
     pub bit : CmlBit
     pub err : answer a.member.device a.member.state body ≡ Err bit
+    -- the place that the host reports: the first byte of the second leg, which is the read address
     pub leg_is : leg_at ≡ 2
     pub byte_is : byte_at ≡ 0
     pub recorded_are : recorded_events heard ≡ leg (w ∷ body) ++ events.Start ∷ events.Byte r ∷ events.Nack ∷ []
@@ -261,10 +285,12 @@ module _ (job : Job) (members : List InState) (heard : List AnsweredSignal) (ste
         (sym a.legs_are ∙ failed.within.split)
 
     by_place : InTwo (w ∷ body) r x.legs x.bytes x.refused failed.within.more → ReadingRefused leg_at byte_at
+    -- a byte of the first leg: the device acknowledges each of those, so that none is refused
     by_place (in_first none is) =
         let bus = subst (λ (ls : List (List ℕ)). BusAnswers members (Inside (map byte_leg ls) (byte_leg x.bytes))
         (Byte x.refused) x.result) none failed.bus in
         absurd (x.not_acked (first_acked x.bytes x.refused failed.within.more x.result is bus))
+    -- the read address: what the bus answered there, in the legs as they are known now
     by_place (in_second legs_is bytes_is byte_is) =
         let bus_legs =
         subst (λ (ls : List (List ℕ)). BusAnswers members (Inside (map byte_leg ls) (byte_leg x.bytes))
@@ -274,9 +300,11 @@ module _ (job : Job) (members : List InState) (heard : List AnsweredSignal) (ste
         (Byte x.refused) x.result) bytes_is bus_legs in
         let bus = subst (λ (n : ℕ). BusAnswers members (Inside (byte_leg (w ∷ body) ∷ []) []) (Byte n) x.result) byte_is
         bus_bytes in
+        -- the device answered it, and not by ACK: so it refuses, with this reason
         let err =
         err_of a.member.device (answer a.member.device a.member.state body) x.result
         (read_answer members a.member a.in_bus a.same body form a.only a.request x.result bus) x.not_acked in
+        -- what was recorded: the legs before, then the refused byte
         let one = record { signal = Byte x.refused; result = x.result } ∷ [] in
         let front : recorded_events x.front ≡ flat_map leg x.legs ++ leg x.bytes =
         recorded_well x.front (flat_map leg_signals x.legs ++ leg_signals x.bytes) x.before
@@ -290,6 +318,7 @@ module _ (job : Job) (members : List InState) (heard : List AnsweredSignal) (ste
           err = err.1;
           leg_is = x.leg_is ∙ ap (λ (ls : List (List ℕ)). length ls + 1) legs_is;
           byte_is = x.byte_is ∙ ap (λ (bs : List ℕ). length bs) bytes_is;
+          -- all that was recorded, with the legs and the bytes put in
           recorded_are =
               ap recorded_events failed.heard_is ∙ recorded-append x.front one
               ∙ ap (λ (es : List Event). es ++ recorded_events one) front
@@ -325,24 +354,31 @@ module _ (job : Job) (members : List InState) (heard : List AnsweredSignal) (ste
   -- No Ask is left without a byte.
   pub each_given : GetsNoByte job.profile job.task (stopped heard run.last) → ⊥
   each_given g =
+      -- the Ask that failed, and the signals that the host was still to send
       let f = ask_failed job members heard step run g in
       let bytes = bytes_read g.front ++ f.next.to_read in
+      -- the signals up to it are both legs, and then some Asks, each with its ACK
       let back =
       ask_behind_legs two_legs (sent_signals g.front) (reading_signals bytes ++ Stop ∷ []) f.next.behind
       (ap (λ (ls : List (List ℕ)). flat_map leg_signals ls ++ (reading_signals bytes ++ Stop ∷ [])) (sym a.legs_are)
       ∙ f.next.spelled) in
       let place_of = asked_of bytes back.asked f.next.behind back.tail_is in
+      -- the bytes that these Asks got begin the device's reply
       let b = behind g.front back.asked f.answered g.stops.well back.front_is in
       let so_far =
       read_so_far members a.member a.in_bus a.same body form a.only a.request b.reply b.ok bytes 0 b.asked
       (Ask ∷ f.next.behind)
       (back.tail_is ∙ ap (λ (xs : List HostSignal). xs ++ Ask ∷ f.next.behind) (sym b.asked_are)) b.answered b.well in
+      -- there are as many of them as there were Asks
       let count : length (bytes_read b.asked) ≡ place_of.count =
       count_read place_of.count b.asked (b.asked_are ∙ place_of.asked_are) b.well in
+      -- What the host was to read is a reply of the form and a code, and the device's own bytes
+      -- are not shorter: it gives a code wherever one is asked for.
       let all = all_read bytes f.next.all in
       let long : length all.code ≤ length (own_code (wire form b.reply)) =
       subst (λ (n : ℕ). n ≤ length (own_code (wire form b.reply))) (sym all.one)
       (given_where_asked a.member.device a.member.device.pec with_pec before_reply (wire form b.reply) a.mode) in
+      -- the host had not read all, so that the device too has a byte more (`goes_on_too`)
       let same_read = ap (λ (bs : List ℕ). bs ++ f.next.to_read) b.read_are in
       let same_length = ap (λ (bs : List ℕ). length bs) same_read in
       let fewer : length (bytes_read b.asked) < length (bytes_read b.asked ++ f.next.to_read) =
@@ -353,10 +389,13 @@ module _ (job : Job) (members : List InState) (heard : List AnsweredSignal) (ste
       (a.takes b.reply b.ok) long (sym same_read ∙ all.spelled)
       (sym so_far.1 ∙ checked_is (carries_pec a.member.device a.member.device.pec) before_reply (wire form b.reply))
       fewer in
+      -- that byte, at the place of the Ask among all bytes of the reply
       let whole = all_bytes members a.member a.in_bus a.same body form a.only a.request b.reply b.ok in
       let within : place_of.count < length whole = subst (λ (bs : List ℕ). place_of.count < length bs) (sym so_far.1)
       (omega (arith, more, count)) in
       let there = byte_at whole place_of.count within in
+      -- the bus stood there after as many Asks, so that it gave the byte: the Ask was not left
+      -- without one
       let legs_are : legs_by Outside (sent_signals g.front)
       ≡ Inside (byte_leg (w ∷ body) ∷ []) (Byte r ∷ asks place_of.count) =
       ap (legs_by Outside) back.front_is ∙ legs_by_legs Outside two_legs back.asked
@@ -373,8 +412,10 @@ module _ (job : Job) (members : List InState) (heard : List AnsweredSignal) (ste
 
   -- The bytes that were read begin the device's reply.
   pub record Whole (bytes : List ℕ) : Type 0 where
+    -- the device's reply,
     pub reply : List ℕ
     pub ok : answer a.member.device a.member.state body ≡ Ok reply
+    -- and those bytes of it, with its code, that were not read
     pub rest : List ℕ
     pub spelled : wire form reply ++ own_code (wire form reply) ≡ bytes ++ rest
 
@@ -440,15 +481,19 @@ module _ (job : Job) (members : List InState) (heard : List AnsweredSignal) (ste
       let whole = whole_read b.completes in
       let all = all_read bytes b.completes.all in
       let told = all.reply in
+      -- the reply that was read is the device's own
       let same = own_reply bytes whole told all.code all.fits all.spelled in
+      -- so after the reply the bytes read go on as the device's own code
       let rows =
       ap (λ (x : List ℕ). wire form x ++ own_code (wire form x)) (sym same) ∙ whole.spelled
       ∙ ap (λ (bs : List ℕ). bs ++ whole.rest) all.spelled
       ∙ append_assoc (wire form told) all.code whole.rest in
+      -- that code is the right one, where one is asked for,
       let code =
       right_code a.member.device a.member.device.pec with_pec before_reply (wire form told) all.code whole.rest a.mode
       all.one
       (same_back (wire form told) (own_code (wire form told)) (all.code ++ whole.rest) rows) in
+      -- while the failure says that the bytes spell no reply with the right code
       b.wrong told
       (
       to_says told bytes
@@ -495,14 +540,17 @@ module _ (job : Job) (members : List InState) (heard : List AnsweredSignal) (ste
             true;
       })) (recorded_events heard ++ events.Stop ∷ [])
   refused_packet leg_at byte_at x =
+      -- the leg of the request, then START and the read address, which was refused
       let last = leg (w ∷ body) ++ events.Start ∷ events.Byte r ∷ events.Nack ∷ [] in
       record {
+        -- no part stands before it, so there is nothing to compare
         few = omega arith;
         distinct = no_addresses;
         another = refl;
         legs = [];
         each = refl;
         last = last;
+        -- the request is one that this device is asked by
         refused =
             refused_leg body last (record {
               alone = refl;

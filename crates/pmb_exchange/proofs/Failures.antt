@@ -1,4 +1,8 @@
--- Where a host failed: the byte or the Ask is the next one of its task, and the bus answered it there.
+-- Where a host failed: the byte or the Ask is the next one of its task, and what the bus answered
+-- there is a device's answer at that place. For the law `runs_are_exchanges`, in runs that write
+-- and in runs that read. STOP is the last signal of the run and the failed one stands before it,
+-- so that the answers up to it are those of the run, and its place in the legs follows from the
+-- signals sent.
 use Rattle.std.proofs.Common.{◌≡◌, ℕ, Bool, List, [], ◌∷◌, ◌++◌, map, ap, subst, ◌∙◌}
 use Rattle.pmb_registers.specs.State.{InState}
 use Rattle.pmb_device.specs.declared.signal.HostSignal.{HostSignal}
@@ -41,8 +45,10 @@ module _ (job : Job) (members : List InState) (heard : List AnsweredSignal) (ste
   -- A byte that was not acknowledged stands in a leg of the task.
   pub record ByteFailed (leg byte : ℕ) (at_read : Bool)
       (r : IsRefused job.profile job.task (stopped heard run.last) leg byte at_read) : Type 0 where
+    -- the refused byte was the last signal before STOP
     pub heard_is : heard ≡ r.front ++ record { signal = Byte r.refused; result = r.result } ∷ []
     pub answered : AreAnswered members Outside r.front
+    -- its place in the legs of the task
     pub within : InLegs (legs_of job.profile job.task) r.legs r.bytes r.refused
     pub bus : BusAnswers members (Inside (map byte_leg r.legs) (byte_leg r.bytes)) (Byte r.refused) r.result
 
@@ -72,8 +78,10 @@ module _ (job : Job) (members : List InState) (heard : List AnsweredSignal) (ste
 
   -- An Ask to which no byte was given is one of the task's.
   pub record AskFailed (g : GetsNoByte job.profile job.task (stopped heard run.last)) : Type 0 where
+    -- the Ask was the last signal before STOP
     pub heard_is : heard ≡ g.front ++ record { signal = Ask; result = g.result } ∷ []
     pub answered : AreAnswered members Outside g.front
+    -- it is what the task sends there
     pub next : GoesOn job.profile job.task g.front Ask
     pub bus : BusAnswers members (legs_by Outside (sent_signals g.front)) Ask g.result
 

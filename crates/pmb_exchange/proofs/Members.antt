@@ -1,5 +1,7 @@
--- The device of an address among those of a bus, and what it answers to bytes that are written to
--- it.
+-- The device that a bus has at an address, and what it answers to the bytes that are written to
+-- it. For the three laws of `laws.rt`. The profile's search by address is followed along the
+-- members; the answer of the bus to a written byte is that member's, since no other one is
+-- addressed, and silence is no answer that a device gives to its own address.
 use Rattle.std.proofs.Common.{◌≡◌, ℕ, suc, inl, inr, Bool, true, false, cond, Option, Some, List, [], ◌∷◌, map, nat_eq}
 use Rattle.std.proofs.Common.{refl, subst, arith}
 use Rattle.std.specs.List.{Contains}
@@ -24,6 +26,7 @@ use Rattle.pmb_devices.proofs.OwnLegs.{byte_leg, sent_bytes}
 pub record Found (members : List InState) (addr : ℕ) (device : DeviceParts) : Type 0 where
   pub member : InState
   pub in_bus : Contains members member
+  -- the member is this device of the profile, in some state
   pub device_is : member.device ≡ device
   pub address_is : member.device.address ≡ addr
 

@@ -1,4 +1,7 @@
--- What a task comes to on the devices of an accepted bus is one transaction.
+-- A task comes to one transaction on the devices of an accepted bus: for the law
+-- `an_exchange_is_one`. Two exchanges of a task end alike, by cases of both: a write is no read,
+-- the first part that is refused is the same in both, and one device at one address gives one
+-- answer to one body.
 use Rattle.std.proofs.Common.{◌≡◌, ℕ, true, false, Some, None, Result, Ok, Err, List, [], ◌∷◌, ◌++◌, map, refl, sym, ap}
 use Rattle.std.proofs.Common.{subst, ◌∙◌}
 use Rattle.std.specs.List.{AllByRecursion}
@@ -34,8 +37,11 @@ module _ (profile : List DeviceParts) (members : List InState) (bus : IsBus prof
     (devices_are : map (λ m. m.device) members ≡ profile) (task : TransactionData) where
   -- a device gives one answer
   record SameAnswer (address other : ℕ) (body others : List ℕ) (result also : Result (List ℕ) CmlBit) : Type 0 where
+    -- both ask at the same address,
     address_is : address ≡ other
+    -- with the same body,
     body_is : body ≡ others
+    -- and get the same answer
     result_is : result ≡ also
 
   same_answer : (address other : ℕ) (body others : List ℕ) (result also : Result (List ℕ) CmlBit)
@@ -101,6 +107,7 @@ module _ (profile : List DeviceParts) (members : List InState) (bus : IsBus prof
 
   -- An exchange is one.
   pub one_exchange : (a b : TransactionData) → Exchanges members task a → Exchanges members task b → a ≡ b
+  -- a write with all parts taken, and the other one: the same, or no exchange of a write
   one_exchange a b (written parts is taken a_is) (written others also nor b_is) = a_is ∙ sym is ∙ also ∙ sym b_is
   one_exchange a b (written parts is taken a_is) (part_refused before part behind also nor wrong b_is) =
       absurd (taken_or_refused parts before part behind is also taken wrong)
@@ -108,6 +115,7 @@ module _ (profile : List DeviceParts) (members : List InState) (bus : IsBus prof
       absurd (no_answer parts address body (Ok reply) is x)
   one_exchange a b (written parts is taken a_is) (read_refused address body bit x b_is) =
       absurd (no_answer parts address body (Err bit) is x)
+  -- a write refused at a part: the other has the same parts before it, and the same part
   one_exchange a b (part_refused before part behind is taken wrong a_is) (written parts also nor b_is) =
       absurd (taken_or_refused parts before part behind also is nor wrong)
   one_exchange a b (part_refused before part behind is taken wrong a_is)
@@ -135,6 +143,7 @@ module _ (profile : List DeviceParts) (members : List InState) (bus : IsBus prof
       absurd (no_answer (before ++ part ∷ behind) address body (Ok reply) is x)
   one_exchange a b (part_refused before part behind is taken wrong a_is) (read_refused address body bit x b_is) =
       absurd (no_answer (before ++ part ∷ behind) address body (Err bit) is x)
+  -- a read or a call with a reply: the other has the same reply
   one_exchange a b (answered address body reply x a_is) (written parts also nor b_is) =
       absurd (no_answer parts address body (Ok reply) also x)
   one_exchange a b (answered address body reply x a_is) (part_refused before part behind also nor wrong b_is) =
@@ -146,6 +155,7 @@ module _ (profile : List DeviceParts) (members : List InState) (bus : IsBus prof
       a_is ∙ ap (replied task) reply_is ∙ sym b_is
   one_exchange a b (answered address body reply x a_is) (read_refused other others bit y b_is) =
       absurd (cc ((same_answer address other body others (Ok reply) (Err bit) x y).result_is))
+  -- a device that refuses to be read: it refuses the other too
   one_exchange a b (read_refused address body bit x a_is) (written parts also nor b_is) =
       absurd (no_answer parts address body (Err bit) also x)
   one_exchange a b (read_refused address body bit x a_is) (part_refused before part behind also nor wrong b_is) =

@@ -1,4 +1,7 @@
--- The bytes of a write body, of which a device refuses a value of PAGE alone.
+-- The bytes of a write body: a device takes each of them, but for a value of PAGE that is neither
+-- one of its pages nor ffh. For the law `runs_are_exchanges` (`Writing` uses it). The body of PAGE
+-- is its code 00h, the value, and a packet error code perhaps; a body with another code, or with a
+-- page for its value, is taken to its end.
 use Rattle.std.proofs.Common.{◌≡◌, ◌≢◌, ℕ, ◌<◌, ◌≤◌, ◌⊎◌, inl, inr, Bool, Some, List, [], ◌∷◌, ◌++◌, length, nat_eq}
 use Rattle.std.proofs.Common.{refl, sym, ap, subst, ◌∙◌, append_assoc, arith}
 use Rattle.std.proofs.lemmas.Bool.{eqb-true, eqb-false}
@@ -44,9 +47,12 @@ module _ (device : DeviceParts) (accepted : IsDevice device) (code : ℕ) (conte
     (body : List ℕ)
     (write : WriteBody device code content with_pec body) where
   -- The body of PAGE is its code and a value.
+  -- the value that PAGE gets
   pub record PageBody : Type 0 where
     pub value : ℕ
+    -- the packet error code, where there is one
     pub content_is : content ≡ value ∷ []
+    -- 00h is the code of PAGE
     pub rest : List ℕ
     pub body_is : body ≡ 0x00 ∷ value ∷ rest
 

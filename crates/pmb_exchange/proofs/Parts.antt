@@ -1,4 +1,7 @@
--- The parts of a write: their legs, and their events.
+-- The parts of a write: the leg that each part makes, its events, and its device with no earlier
+-- leg to it. For the laws `runs_are_exchanges` and `an_exchange_is_one`. A known device takes the
+-- body of each part; since the parts of a write have distinct addresses, the legs before a part
+-- are all written to other devices (`PartAt`).
 use Rattle.std.proofs.Common.{◌≡◌, ℕ, false, Option, Some, List, [], ◌∷◌, ◌++◌, map, flat_map, nat_eq, refl, sym, ap}
 use Rattle.std.proofs.Common.{subst, ◌∙◌}
 use Rattle.std.specs.List.{AllByRecursion, Contains, IsDistinct}
@@ -41,8 +44,10 @@ module _ (profile : List DeviceParts) where
     pub accepted : IsDevice device
     pub address_is : device.address ≡ part.addr
     pub known : device_with part.addr profile ≡ Some device
+    -- what is written to the device after its address
     pub body : List ℕ
     pub allowed : WriteBody device part.code part.bytes part.pec body
+    -- the leg of the part: the address for writing and the body
     pub bytes_are : part_bytes profile part ≡ write_address part.addr ∷ body
 
   has_leg : IsBus profile → (part : PartData) (events : List Event) → PartEvents profile part events → HasLeg part
@@ -148,6 +153,7 @@ module _ (profile : List DeviceParts) where
   module _ (members : List InState) where
     -- A part after others is written to a device of the bus, to which none before it is.
     pub record PartAt (before : List PartData) (part : PartData) : Type 0 where
+      -- the member that the part is written to, with its state
       pub member : InState
       pub in_bus : Contains members member
       pub accepted : IsDevice member.device
@@ -155,6 +161,7 @@ module _ (profile : List DeviceParts) where
       pub body : List ℕ
       pub write : WriteBody member.device part.code part.bytes part.pec body
       pub bytes_are : part_bytes profile part ≡ write_address member.device.address ∷ body
+      -- no leg before is written to that device
       pub once : some_is_to (write_address member.device.address) (map byte_leg (map (part_bytes profile) before))
           ≡ false
 

@@ -1,5 +1,7 @@
--- What was answered at one place of a list of signals: the legs there are known by the signals
--- before.
+-- What the bus answered at one place in a list of signals. For `Exchange::new`, `Exchange::next`
+-- and the law `runs_are_exchanges`. The legs at a place depend on the signals before it alone
+-- (`legs_by`): so whole legs and some bytes of the next one give the legs there, and a list of
+-- answered signals is cut wherever its signals are (`Cut`, `SignalPlace`).
 use Rattle.std.proofs.Common.{◌≡◌, ℕ, List, [], ◌∷◌, ◌++◌, map, flat_map, refl, sym, ap, ◌∙◌, append_assoc}
 use Rattle.std.proofs.lemmas.List.{append-nil}
 use Rattle.pmb_registers.specs.State.{InState}
@@ -89,7 +91,9 @@ module _ (members : List InState) where
 
 -- A list of answered signals is cut where its signals are.
 pub record Cut (heard : List AnsweredSignal) (front back : List HostSignal) : Type 0 where
+  -- the answered signals before the cut
   pub first : List AnsweredSignal
+  -- and after it
   pub second : List AnsweredSignal
   pub split : heard ≡ first ++ second
   pub first_are : sent_signals first ≡ front
@@ -114,10 +118,13 @@ cut (one ∷ heard) (signal ∷ front) back is =
     }
 
 -- One signal with signals on both sides.
-pub record Place (heard : List AnsweredSignal) (front : List HostSignal) (signal : HostSignal)
+pub record SignalPlace (heard : List AnsweredSignal) (front : List HostSignal) (signal : HostSignal)
     (back : List HostSignal) : Type 0 where
+  -- the answered signals before it
   pub before : List AnsweredSignal
+  -- the signal, with what was answered
   pub one : AnsweredSignal
+  -- the answered signals after it
   pub behind : List AnsweredSignal
   pub split : heard ≡ before ++ one ∷ behind
   pub before_are : sent_signals before ≡ front
@@ -126,7 +133,7 @@ pub record Place (heard : List AnsweredSignal) (front : List HostSignal) (signal
 
 place_in : (heard first second : List AnsweredSignal) (front : List HostSignal) (signal : HostSignal)
     (back : List HostSignal) → heard ≡ first ++ second
-    → sent_signals first ≡ front → sent_signals second ≡ signal ∷ back → Place heard front signal back
+    → sent_signals first ≡ front → sent_signals second ≡ signal ∷ back → SignalPlace heard front signal back
 place_in heard first [] front signal back split are is = absurd (cc is)
 place_in heard first (one ∷ second) front signal back split are is = record {
   before = first;
@@ -139,7 +146,7 @@ place_in heard first (one ∷ second) front signal back split are is = record {
 }
 
 pub place : (heard : List AnsweredSignal) (front : List HostSignal) (signal : HostSignal) (back : List HostSignal)
-    → sent_signals heard ≡ front ++ signal ∷ back → Place heard front signal back
+    → sent_signals heard ≡ front ++ signal ∷ back → SignalPlace heard front signal back
 place heard front signal back is =
     let parts = cut heard front (signal ∷ back) is in
     place_in heard parts.first parts.second front signal back parts.split parts.first_are parts.second_are

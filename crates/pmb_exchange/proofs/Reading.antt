@@ -1,5 +1,8 @@
--- The bytes that a device gives to the Asks after its address for reading: those of its reply, one
--- after the other.
+-- The bytes that a device gives to the Asks after its read address are those of its reply, one
+-- after the other. For the law `runs_are_exchanges` (`Asking` uses it). With k Asks answered so
+-- far, each with an ACK after it, the device gives the byte at place k of its reply; no other
+-- device gives one. The last part compares what was to be read with what the device has: one wire
+-- of a form is as long as another, or its first byte says how long it is.
 use Rattle.std.proofs.Common.{◌≡◌, ℕ, zero, suc, ◌<◌, ◌≤◌, ◌⊎◌, inl, inr, Bool, false, ◌||◌, if◌then◌else◌, Option}
 use Rattle.std.proofs.Common.{Some, None, Result, Ok, Err, List, [], ◌∷◌, ◌++◌, length, drop, refl, sym, ap, subst, ◌∙◌}
 use Rattle.std.proofs.Common.{append_assoc, length-append, arith}
@@ -240,11 +243,15 @@ module _ (members : List InState) (member : InState) (in_bus : Contains members 
         → AreAnswered members (Inside (asking_leg ∷ []) (Byte (read_address member.device.address) ∷ asks k)) heard
         → GoWell heard
         → (rest : List ℕ) × (drop k all_bytes ≡ bytes_read heard ++ rest)
+    -- nothing heard yet
     read_so_far asked k [] more is answered well = (drop k all_bytes, refl)
+    -- the host reads no byte: then it sends no Ask
     read_so_far [] k (one ∷ heard) more is answered well = absurd (answered.0 (cc is))
+    -- the last byte to be read: its Ask,
     read_so_far (b ∷ []) k (one ∷ []) more is answered well =
         let first = one_read k one.signal one.result (cc is) answered.1 well.0 in
         (drop (suc k) all_bytes, first.2 ∙ ap (λ (bs : List ℕ). (bs ++ []) ++ drop (suc k) all_bytes) (sym first.1))
+    -- its Ask and the NACK after it, which gives no byte,
     read_so_far (b ∷ []) k (one ∷ two ∷ []) more is answered well =
         let first = one_read k one.signal one.result (cc is) answered.1 well.0 in
         let second : two.signal ≡ Nack = cc is in
@@ -254,10 +261,13 @@ module _ (members : List InState) (member : InState) (in_bus : Contains members 
               ∙ ap (λ (bs : List ℕ). (byte_of one.signal one.result ++ (bs ++ [])) ++ drop (suc k) all_bytes)
               (sym none),
         )
+    -- and nothing after them but STOP
     read_so_far (b ∷ []) k (one ∷ two ∷ three ∷ heard) more is answered well = absurd (answered.2.2.0 (cc is))
+    -- a byte before the last one: its Ask,
     read_so_far (b ∷ c ∷ asked) k (one ∷ []) more is answered well =
         let first = one_read k one.signal one.result (cc is) answered.1 well.0 in
         (drop (suc k) all_bytes, first.2 ∙ ap (λ (bs : List ℕ). (bs ++ []) ++ drop (suc k) all_bytes) (sym first.1))
+    -- or its Ask, its ACK, and what comes after
     read_so_far (b ∷ c ∷ asked) k (one ∷ two ∷ heard) more is answered well =
         let r = read_address member.device.address in
         let first_is : one.signal ≡ Ask = cc is in
@@ -265,12 +275,14 @@ module _ (members : List InState) (member : InState) (in_bus : Contains members 
         let rest_is : reading_signals (c ∷ asked) ++ Stop ∷ [] ≡ sent_signals heard ++ more = cc is in
         let first = one_read k one.signal one.result first_is answered.1 well.0 in
         let none : byte_of two.signal two.result ≡ [] = ap (λ (s : HostSignal). byte_of s two.result) second in
+        -- the device stands one Ask further on,
         let legs_are : with_signal (with_signal (Inside (asking_leg ∷ []) (Byte r ∷ asks k)) one.signal) two.signal
         ≡ Inside (asking_leg ∷ []) (Byte r ∷ asks (suc k)) =
         ap (λ (s : HostSignal). with_signal (with_signal (Inside (asking_leg ∷ []) (Byte r ∷ asks k)) s) two.signal)
         first_is
         ∙ ap (λ (s : HostSignal). with_signal (Inside (asking_leg ∷ []) ((Byte r ∷ asks k) ++ Ask ∷ [])) s) second
         ∙ ap (λ (l : Leg). Inside (asking_leg ∷ []) (Byte r ∷ l)) (asks_more k) in
+        -- so the bytes after it are those from the next place on
         let later =
         read_so_far (c ∷ asked) (suc k) heard more rest_is
         (subst (λ (ls : Legs). AreAnswered members ls heard) legs_are answered.2.2) well.1.1 in (

@@ -1,4 +1,6 @@
--- Each run of a host on a bus of simulated devices is the exchange that its request asks for.
+-- Each run of a host on a bus of simulated devices is the exchange that its request asks for: the
+-- law `runs_are_exchanges` itself. By the five kinds of a request: WRITE and SET are writes
+-- (`Writes`, `Setting`), READ, CALL and GET ask a device (`Asked`).
 use Rattle.std.proofs.Common.{ℕ, Option, List, [], ◌∷◌, sym, subst}
 use Rattle.pmb_command.specs.Parts.{DeviceParts}
 use Rattle.pmb_transaction.specs.Transaction.{PartData, TransactionData, Write}

@@ -1,4 +1,6 @@
--- The packet of a quantity that is set: a write of one part with two bytes.
+-- A quantity that can be set has a packet, a write of one part with two bytes. For the law
+-- `runs_are_exchanges`, in a run of SET. Each number format has codes of two bytes; a command
+-- whose value has such a format is written in form Two.
 use Rattle.std.proofs.Common.{◌≡◌, ◌≢◌, ℕ, ◌<◌, true, ◌||◌, Option, Some, None, Ok, List, [], ◌∷◌, ◌++◌, nat_eq, refl}
 use Rattle.std.proofs.Common.{ap, subst, ◌∙◌, arith}
 use Rattle.std.specs.List.{IsDistinct}
@@ -109,10 +111,13 @@ module _ (profile : List DeviceParts) (bus : IsBus profile) (c : Command) (value
   -- A quantity that can be set has a packet.
   pub set_packet : HasPacket profile (Write (set_part ∷ []))
   set_packet =
+      -- the command of the device, with its number format
       let is = can.has.number_is in
+      -- the body: the code and two bytes, and a packet error code where one is asked for
       let body = checked c.pec (write_address is.device.address ∷ []) (c.code ∷ wire Two (word_bytes word)) in
       let first = leg (write_address c.addr ∷ body) in
       let legs = first ++ [] in
+      -- the one part, and its leg
       let part : PartEvents profile set_part first =
       record {
         device = is.device;
@@ -128,6 +133,7 @@ module _ (profile : List DeviceParts) (bus : IsBus profile) (c : Command) (value
         };
         spelled = refl;
       } in (
+        -- its packet: that leg and STOP
         legs ++ events.Stop ∷ [],
         record {
           some = omega arith;

@@ -1,4 +1,7 @@
--- The signals of a task: where a byte stands in its legs, and an Ask after them.
+-- The signals of a task: where a byte stands in its legs, and an Ask after them. For the law
+-- `runs_are_exchanges`. A leg is START and bytes, and what comes after the legs begins with
+-- neither: so the signals before a byte tell the leg and the bytes of it that were sent, and the
+-- signals before an Ask are all legs, and as many Asks with their ACKs as bytes were read.
 use Rattle.std.proofs.Common.{◌≡◌, ◌≢◌, ℕ, zero, suc, ◌<◌, List, [], ◌∷◌, ◌++◌, length, map, flat_map, refl, sym, ap}
 use Rattle.std.proofs.Common.{◌∙◌, append_assoc, arith}
 use Rattle.std.specs.List.{AllByRecursion}
@@ -55,7 +58,9 @@ leg_behind_first (leg ∷ legs) bytes tail = λ b more is. cc is
 
 -- A byte stands in one of some legs, after some of the leg's bytes.
 pub record InLegs (legs before : List (List ℕ)) (bytes : List ℕ) (b : ℕ) : Type 0 where
+  -- the bytes of the leg after it,
   pub more : List ℕ
+  -- and the legs after that one
   pub behind : List (List ℕ)
   pub split : legs ≡ before ++ (bytes ++ b ∷ more) ∷ behind
 
@@ -63,15 +68,18 @@ pub in_legs : (legs before : List (List ℕ)) (bytes : List ℕ) (b : ℕ) (tail
     → NoStartFirst tail
     → flat_map leg_signals legs ++ tail ≡ (flat_map leg_signals before ++ leg_signals bytes) ++ Byte b ∷ behind
     → InLegs legs before bytes b
+-- no leg is left: then no byte comes
 in_legs [] [] bytes b tail behind no_byte no_start is = absurd (no_start (map Byte bytes ++ Byte b ∷ behind) is)
 in_legs [] (first ∷ before) bytes b tail behind no_byte no_start is =
     absurd (no_start (((map Byte first ++ flat_map leg_signals before) ++ leg_signals bytes) ++ Byte b ∷ behind) is)
+-- the byte is in the first leg that is left
 in_legs (leg ∷ legs) [] bytes b tail behind no_byte no_start is =
     let rest : (map Byte leg ++ flat_map leg_signals legs) ++ tail ≡ map Byte bytes ++ Byte b ∷ behind = cc is in
     let within =
     byte_within leg bytes (flat_map leg_signals legs ++ tail) b behind (legs_first legs tail no_byte)
     (sym (append_assoc (map Byte leg) (flat_map leg_signals legs) tail) ∙ rest) in
     record { more = within.0; behind = legs; split = ap (λ (l : List ℕ). l ∷ legs) within.1 }
+-- the first leg was sent: it is the same on both sides, and the byte is in a later one
 in_legs (leg ∷ legs) (first ∷ before) bytes b tail behind no_byte no_start is =
     let rest : (map Byte leg ++ flat_map leg_signals legs) ++ tail
     ≡ ((map Byte first ++ flat_map leg_signals before) ++ leg_signals bytes) ++ Byte b ∷ behind =
@@ -124,6 +132,7 @@ no_ask_legs (leg ∷ legs) = ((λ is. cc is), no_ask_bytes leg (flat_map leg_sig
 
 -- An Ask is after signals without one.
 pub record AskBehind (front xs tail behind : List HostSignal) : Type 0 where
+  -- the Asks and ACKs after the front
   pub asked : List HostSignal
   pub front_is : xs ≡ front ++ asked
   pub tail_is : tail ≡ asked ++ Ask ∷ behind
@@ -146,6 +155,7 @@ ask_behind_legs legs xs tail behind is = ask_behind (flat_map leg_signals legs) 
 
 -- Of some bytes fewer were asked for.
 pub record AskedOf (bytes : List ℕ) (asked : List HostSignal) : Type 0 where
+  -- how many bytes were asked for before
   pub count : ℕ
   pub asked_are : asked ≡ asks count
   pub fewer : count < length bytes

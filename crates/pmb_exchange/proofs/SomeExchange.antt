@@ -1,4 +1,7 @@
--- What an allowed request asks for comes to some transaction on the devices of its bus.
+-- What an allowed request asks for comes to some transaction on the devices of an accepted bus:
+-- for the law `some_exchange`. It is decided for each part of a write whether its device takes it,
+-- and the first one that is refused ends the write; a device that is asked has a reply or refuses
+-- to be read.
 use Rattle.std.proofs.Common.{◌≡◌, ℕ, ◌≤◌, ◌⊎◌, Option, Some, None, IsSome, IfSome, Result, Ok, Err, List, [], ◌∷◌}
 use Rattle.std.proofs.Common.{◌++◌, map, refl, sym, ap, subst, inl, inr, ◌∙◌, arith}
 use Rattle.std.specs.List.{AllByRecursion}
@@ -51,15 +54,18 @@ module _ (profile : List DeviceParts) (members : List InState) (bus : IsBus prof
         one_member profile members wrong.member found.member bus devices_are wrong.is_at.one_of found.in_bus
         (wrong.is_at.address_is ∙ sym found.address_is)
 
+    -- 0x00 is the code of PAGE
     value_judged : (value : ℕ) → part.code ≡ 0x00 → part.bytes ≡ value ∷ [] → IsJudged part
     value_judged value page is =
         elim (cases_lt value found.member.device.pages) [
+          -- a page of the device is taken
           | inl small ↦ inr (λ wrong.
               let one : wrong.value ∷ [] ≡ value ∷ [] = sym wrong.bytes_are ∙ is in
               let same : wrong.value ≡ value = cc one in
               let large : found.member.device.pages ≤ wrong.value =
               subst (λ (m : InState). m.device.pages ≤ wrong.value) (same_member wrong) wrong.too_large in
               absurd (omega (arith, small, same, large)))
+          -- a larger value is taken if it is ffh, for all pages, and refused if not
           | inr large ↦
               elim (cases_eq value all_pages) [
                 | inl all ↦ inr (λ wrong.
@@ -93,7 +99,9 @@ module _ (profile : List DeviceParts) (members : List InState) (bus : IsBus prof
 
   -- the first part that is refused
   record Refusal (parts : List PartData) : Type 0 where
+    -- the parts that are taken
     before : List PartData
+    -- and the one that is not
     part : PartData
     behind : List PartData
     split : parts ≡ before ++ part ∷ behind

@@ -1,5 +1,7 @@
--- The steps of an exchange: each signal of the host goes to the bus, and after STOP the exchange is
--- over.
+-- The steps of an exchange, for `Exchange::new` and `Exchange::next`. Each signal of the host goes
+-- to the bus, which answers and records it; at STOP the devices act, and then the law
+-- `runs_are_exchanges` says what was exchanged, and so the end that the host tells. By where the
+-- exchange stands (`Stands`): signals go on, STOP was sent, or it is over.
 use Rattle.std.proofs.Common.{◌≡◌, ◌≢◌, ℕ, ◌+◌, ◌<◌, Bool, true, false, Option, Some, None, List, [], ◌∷◌, ◌++◌, length}
 use Rattle.std.proofs.Common.{refl, sym, ap, subst, ◌∙◌, length-append, arith}
 use Rattle.std.specs.List.{AllByRecursion, Contains}
@@ -46,7 +48,9 @@ answered_more members legs (first ∷ history) one answered other bus =
 
 -- a place in a list with one more is in the list, or the one
 data InMore {X : Type 0} (xs : List X) (x : X) (before : List X) (one : X) : Type 0 where
+  -- it is in the list,
   within : (behind : List X) → xs ≡ before ++ one ∷ behind → InMore xs x before one
+  -- or it is the one more
   at_last : before ≡ xs → one ≡ x → InMore xs x before one
 
 no_place : {X : Type 0} (front : List X) (x : X) (back : List X) → [] ≡ front ++ x ∷ back → ⊥
@@ -74,6 +78,7 @@ in_more (y ∷ xs) x (z ∷ before) one behind is =
 
 module _ (job : Job) (history : List AnsweredSignal) (one : AnsweredSignal) (turn : AreSentInTurn job history)
     (next : IsNext job history one.signal) where
+  -- the next signal of the host, and where host and bus stand with it
   by_place : (before : List AnsweredSignal) (x : AnsweredSignal) → InMore history one before x
       → IsNext job before x.signal
   by_place before x (within behind split) = turn before x behind split
@@ -218,11 +223,13 @@ module _ (standing : ExchangeStanding) (new : Host) (bus after : Bus) (result : 
       → ((hs : HostStanding) → HostStandsAt host hs → Steps hs answer (Send signal) new)
       → ((bs : BusStanding) → BusStandsAt bus bs → BusTakes bs signal result after)
       → (standing.sent < 4161) × Stands new result after (with_events es)
+  -- signals go on: the host sends the next one, of at most 4,161, and the bus takes it
   send_step host answer signal es is (running heard before stands run) steps takes =
       let sends = steps (record { job = standing.job; heard = heard; last = before; ended = None }) stands in
       let few : standing.sent < 4161 = omega (arith, sends.few, run.sent_is) in (
         few,
         send_running (heard ++ answered before answer) signal es is run sends.next sends.stands
+            -- nothing was heard so far
             (takes (record {
               past = standing.past;
               members = standing.members;
@@ -230,9 +237,11 @@ module _ (standing : ExchangeStanding) (new : Host) (bus after : Bus) (result : 
                   ++ answered before answer;
             }) run.stands),
       )
+  -- after STOP the host sends nothing
   send_step host answer signal es is (at_end history stands stop) steps takes =
       let sends = steps (record { job = standing.job; heard = history; last = Some Stop; ended = None }) stands in
       absurd (stop_within history answer sends.no_stop)
+  -- it is over, and the host returns its end again, which is no signal
   send_step host answer signal es is (over heard step stands o) steps takes =
       let again = steps (record { job = standing.job; heard = heard; last = None; ended = Some step }) stands in
       absurd
@@ -252,6 +261,7 @@ module _ (law : (job : Job) (members : List InState) (heard : List AnsweredSigna
   pub end_step : (host : Host) (answer : DeviceSignal) → Stands host answer bus standing
       → ((hs : HostStanding) → HostStandsAt host hs → Steps hs answer step new)
       → IsOver standing step bus × Stands new answer bus standing
+  -- signals go on: the host ends after STOP only, and none was sent
   end_step host answer (running heard before stands run) steps =
       let hs : HostStanding = record { job = standing.job; heard = heard; last = before; ended = None } in
       let ends = (first hs (heard ++ answered before answer) (steps hs stands)).0 in
@@ -260,8 +270,10 @@ module _ (law : (job : Job) (members : List InState) (heard : List AnsweredSigna
       no_stop_last standing.members Outside ends.front ends.last
       (subst (AreAnswered standing.members Outside) ends.split run.heard.answers) ends.stop
       )
+  -- STOP was sent: what the host heard is a whole run, and it returns how that ended
   end_step host answer (at_end history stands stop) steps =
       let hs : HostStanding = record { job = standing.job; heard = history; last = Some Stop; ended = None } in
+      -- by the law the run is an exchange,
       let told = first hs (stopped history answer) (steps hs stands) in
       let is =
       law standing.job standing.members history step
@@ -275,9 +287,11 @@ module _ (law : (job : Job) (members : List InState) (heard : List AnsweredSigna
         ended = told.1;
       }
       ) in
+      -- so the devices became what its transaction makes of them,
       let profile_is = stop.heard.on.devices_are in
       let applied : stop.after ≡ all_applied is.done standing.members =
       stop.applied is.done (subst (λ (ps : List DeviceParts). Packet ps is.done
+      -- and the exchange is over
       (recorded_events history ++ events.Stop ∷ [])) (sym profile_is) is.packet) in
       let is_over : IsOver standing step bus =
       record {
@@ -291,6 +305,7 @@ module _ (law : (job : Job) (members : List InState) (heard : List AnsweredSigna
             (record { past = standing.past ++ history ∷ []; members = ms; history = [] })) applied stop.stands;
       } in
       (is_over, over (stopped history answer) step told.0.stands is_over)
+  -- it is over: the host returns the same end again
   end_step host answer (over heard before stands o) steps =
       let again = steps (record { job = standing.job; heard = heard; last = None; ended = Some before }) stands in
       (subst (λ (s : HostStep). IsOver standing s bus) (sym again.0) o, over heard before again.1 o)

@@ -1,4 +1,7 @@
--- What a host heard up to STOP, and what was recorded of it.
+-- What a host heard up to STOP, and what the bus recorded of it. For `Exchange::new`,
+-- `Exchange::next` and the law `runs_are_exchanges`. STOP is the last of the signals, so that
+-- those before it are the task's; of legs whose bytes were all acknowledged just their events are
+-- recorded, START and each byte with its ACK.
 use Rattle.std.proofs.Common.{◌≡◌, ℕ, List, [], ◌∷◌, ◌++◌, map, flat_map, refl, sym, ap, subst, ◌∙◌, append_assoc}
 use Rattle.std.specs.List.{AllByRecursion}
 use Rattle.std.proofs.lemmas.List.{append-nil, map-append}

@@ -1,4 +1,8 @@
--- A run whose task is a write: it ends written, or at the first value of PAGE that is none.
+-- A run whose task is a write: it ends with all parts written, or is refused at the first value of
+-- PAGE that is neither a page of its device nor ffh. For the law `runs_are_exchanges`. The byte
+-- that was refused stands in the leg of one part (`MapSplit`); by `Writing` it is that part's
+-- value of PAGE, the parts before it were taken, and what was recorded is the packet of that
+-- refusal.
 use Rattle.std.proofs.Common.{◌≡◌, ℕ, ◌+◌, ◌≤◌, inl, inr, Bool, false, Option, List, [], ◌∷◌, ◌++◌, length, map}
 use Rattle.std.proofs.Common.{flat_map, nat_eq, refl, sym, ap, subst, ◌∙◌, append_assoc, length-append, arith}
 use Rattle.std.specs.List.{AllByRecursion, IsDistinct}
@@ -42,7 +46,9 @@ use Rattle.pmb_exchange.proofs.Writing.{writes_no_page}
 
 -- What is made of some things, cut: so are the things.
 pub record MapSplit {X Y : Type 0} (f : X → Y) (all : List X) (front : List Y) (one : Y) : Type 0 where
+  -- those before, whose images are the front
   pub before : List X
+  -- the one whose image is cut at
   pub here : X
   pub behind : List X
   pub split : all ≡ before ++ here ∷ behind
@@ -54,6 +60,7 @@ pub map_split : {X Y : Type 0} (f : X → Y) (all : List X) (front : List Y) (on
 map_split f [] [] one back is = absurd (cc is)
 map_split f [] (y ∷ front) one back is = absurd (cc is)
 map_split f (x ∷ all) [] one back is = record {
+  -- the first one is it
   before = [];
   here = x;
   behind = all;
@@ -63,6 +70,7 @@ map_split f (x ∷ all) [] one back is = record {
   one_is = cc is;
 }
 map_split f (x ∷ all) (y ∷ front) one back is =
+    -- it is one of the rest
     let rest : map f all ≡ front ++ one ∷ back = cc is in
     let first : f x ≡ y = cc is in
     let more = map_split f all front one back rest in
@@ -126,6 +134,7 @@ module _ (profile : List DeviceParts) (number : Option NumberFormat) (parts : Li
       failed : ByteFailed write_job members heard step run leg_at byte_at at_read r
       failed = byte_failed write_job members heard step run leg_at byte_at at_read r
 
+      -- the part in whose leg the byte is, with those before and after it
       cut : MapSplit (part_bytes profile) parts r.legs (r.bytes ++ r.refused ∷ failed.within.more)
       cut = map_split (part_bytes profile) parts r.legs (r.bytes ++ r.refused ∷ failed.within.more) failed.within.behind
           failed.within.split
@@ -203,20 +212,24 @@ module _ (profile : List DeviceParts) (number : Option NumberFormat) (parts : Li
             ≡ (legs_events profile (map (part_bytes profile) cut.before)
             ++ (leg (write_address cut.here.addr ∷ []) ++ nacked (0x00 ∷ r.refused ∷ []))) ++ events.Stop ∷ []
         recorded_is =
+            -- what was recorded of the legs before, and of this leg's first bytes,
             let w = write_address at.member.device.address in
             let legs = map (part_bytes profile) cut.before in
             let front : recorded_events r.front ≡ flat_map leg legs ++ leg r.bytes =
             recorded_well r.front (flat_map leg_signals legs ++ leg_signals r.bytes) sent_here
             (legs_written legs r.bytes) r.stops.well
             ∙ legs_events_are legs r.bytes in
+            -- of the refused byte,
             let one = record { signal = Byte r.refused; result = r.result } ∷ [] in
             let last : recorded_events one ≡ events.Byte r.refused ∷ events.Nack ∷ [] =
             ap (λ (e : Event). events.Byte r.refused ∷ e ∷ []) (refused_event r.result r.not_acked) in
+            -- and so of all signals up to it
             let all : recorded_events heard ≡ (flat_map leg legs ++ leg r.bytes) ++ events.Byte r.refused ∷ events.Nack
             ∷ [] =
             ap recorded_events failed.heard_is ∙ recorded-append r.front one
             ∙ ap (λ (es : List Event). es ++ recorded_events one) front
             ∙ ap (λ (es : List Event). (flat_map leg legs ++ leg r.bytes) ++ es) last in
+            -- this leg is the address and the code of PAGE
             let spelled =
             all ∙ ap (λ (bs : List ℕ). (flat_map leg legs ++ leg bs) ++ events.Byte r.refused ∷ events.Nack ∷ []) is
             ∙ append_assoc (flat_map leg legs) (leg (w ∷ 0x00 ∷ [])) (events.Byte r.refused ∷ events.Nack ∷ [])
@@ -248,12 +261,15 @@ module _ (profile : List DeviceParts) (number : Option NumberFormat) (parts : Li
         values = (omega (arith, bad.page), at.write.fits.small)
 
         refused_packet : Packet profile (Refused the_refusal) (recorded_events heard ++ events.Stop ∷ [])
+        -- at most 15 parts before the refused one, to distinct devices
         refused_packet = record {
           few = few_before;
           distinct = distinct_front profile cut.before (cut.here ∷ cut.behind) distinct_here;
           another = new_address profile cut.before cut.here cut.behind distinct_here;
+          -- the events of the parts before
           legs = legs_events profile (map (part_bytes profile) cut.before);
           each = parts_events profile cut.before legs_here.0;
+          -- the refused leg: the address and 00h, the code of PAGE, and then a value that got NACK
           last = leg (write_address cut.here.addr ∷ []) ++ nacked (0x00 ∷ r.refused ∷ []);
           refused = record {
             device = legs_here.1.device;
@@ -262,6 +278,7 @@ module _ (profile : List DeviceParts) (number : Option NumberFormat) (parts : Li
             front = 0x00 ∷ [];
             last = r.refused;
             split = sent_is;
+            -- the value is that byte of the body
             begins =
                 inr (
                   legs_here.1.body,

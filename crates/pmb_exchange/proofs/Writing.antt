@@ -1,4 +1,8 @@
--- The answers to the bytes of a write: all are acknowledged, but for a value of PAGE that is none.
+-- The answers to the bytes of a write: all are acknowledged but a value of PAGE that is neither a
+-- page of its device nor ffh. For the law `runs_are_exchanges` (`Writes` uses it). No earlier leg
+-- is written to the device of a part (`PartAt`), so the bus answers each byte as that device does;
+-- the first byte of the leg is the address, the second the code, the third the value. The other
+-- way about, legs that all went well have no such value (`all_taken`).
 use Rattle.std.proofs.Common.{◌≡◌, ℕ, ◌≤◌, List, [], ◌∷◌, ◌++◌, map, flat_map, nat_eq, sym, ap, subst, ◌∙◌}
 use Rattle.std.proofs.Common.{append_assoc}
 use Rattle.std.specs.List.{AllByRecursion, IsDistinct}
@@ -39,9 +43,12 @@ module _ (profile : List DeviceParts) (members : List InState) where
 
     -- The answer to a byte after some of the leg: ACK, but where the value of PAGE is none.
     pub data ByteAnswer (bytes : List ℕ) (b : ℕ) (result : DeviceSignal) : Type 0 where
+      -- it is acknowledged
       acked : result ≡ answers.Ack → ByteAnswer bytes b result
+      -- it is refused: the value of PAGE, after the address and 00h, the code of PAGE
       refused : IsBad → bytes ≡ write_address at.member.device.address ∷ 0x00 ∷ [] → (result ≡ answers.Ack → ⊥)
           → ByteAnswer bytes b result
+      -- it would come after such a value, which was refused before it
       behind_value : IsBad → (value : ℕ) (more : List ℕ) → bytes ≡ write_address at.member.device.address ∷ 0x00 ∷ value
           ∷ more → ByteAnswer bytes b result
 
@@ -58,6 +65,7 @@ module _ (profile : List DeviceParts) (members : List InState) where
         (Byte b) result
         → PageOrNot at.member.device at.accepted part.code part.bytes part.pec at.body at.write
         → ByteAnswer (write_address at.member.device.address ∷ bytes) b result
+    -- no value of PAGE is wrong: the device takes the whole body
     behind_address bytes b more result is bus (is_page page) =
         let d = at.member.device in
         let p = leg_place (legs_before before) in
@@ -65,12 +73,14 @@ module _ (profile : List DeviceParts) (members : List InState) where
         takes_rest d at.accepted part.code part.bytes part.pec at.body at.write p page [] (bytes ++ b ∷ more) is in
         let both = takes_parts d p [] bytes (b ∷ more) all in
         acked (byte_acked members at.member at.in_bus (legs_before before) at.once bytes b both.0 result bus both.1.0)
+    -- the code itself is taken
     behind_address [] b more result is bus (no_page bad) =
         let d = at.member.device in
         let p = leg_place (legs_before before) in
         let takes = takes_byte d at.accepted part.code part.bytes part.pec at.body at.write p [] b more is
         (λ front. absurd (cc front)) in
         acked (byte_acked members at.member at.in_bus (legs_before before) at.once [] b tt result bus takes)
+    -- the value, after the code of PAGE: it is refused
     behind_address (c ∷ []) b more result is bus (no_page bad) =
         let d = at.member.device in
         let w = write_address d.address in
@@ -87,6 +97,7 @@ module _ (profile : List DeviceParts) (members : List InState) where
         byte_not_acked members at.member at.in_bus (legs_before before) at.once (0x00 ∷ []) b (takes, tt) result there
         (no_page_refused d at.accepted part.code part.bytes part.pec at.body at.write p bad b more here)
         )
+    -- a byte after the value: the code before it is that of PAGE
     behind_address (c ∷ v ∷ bytes) b more result is bus (no_page bad) =
         let zero_is : c ≡ 0x00 = code_is bad c (v ∷ (bytes ++ b ∷ more)) is in
         behind_value bad v bytes (ap (λ (n : ℕ). write_address at.member.device.address ∷ n ∷ v ∷ bytes) zero_is)
@@ -94,6 +105,7 @@ module _ (profile : List DeviceParts) (members : List InState) where
     pub byte_answer : (bytes : List ℕ) (b : ℕ) (more : List ℕ) (result : DeviceSignal)
         → part_bytes profile part ≡ bytes ++ b ∷ more
         → BusAnswers members (Inside (legs_before before) (byte_leg bytes)) (Byte b) result → ByteAnswer bytes b result
+    -- the first byte of the leg is the device's address, which it acknowledges
     byte_answer [] b more result is bus =
         let w = write_address at.member.device.address in
         let rows : w ∷ at.body ≡ b ∷ more = sym at.bytes_are ∙ is in
@@ -103,6 +115,7 @@ module _ (profile : List DeviceParts) (members : List InState) where
         address_acked members at.member at.in_bus (legs_before before) result at.once
         (subst (λ (n : ℕ). BusAnswers members (Inside (legs_before before) []) (Byte n) result) first bus)
         )
+    -- the bytes after it: the leg is the address and the body
     byte_answer (a ∷ bytes) b more result is bus =
         let d = at.member.device in
         let w = write_address d.address in
@@ -161,9 +174,11 @@ module _ (profile : List DeviceParts) (members : List InState) where
         ≡ (flat_map leg_signals (map (part_bytes profile) before)
         ++ leg_signals (write_address at.member.device.address ∷ 0x00 ∷ [])) ++ Byte v ∷ tail → ⊥
     value_refused heard v rest tail answered well bad body_is is =
+        -- the place of the value among the signals
         let w = write_address at.member.device.address in
         let front = flat_map leg_signals (map (part_bytes profile) before) ++ leg_signals (w ∷ 0x00 ∷ []) in
         let here = place heard front (Byte v) tail is in
+        -- what the bus answered there, in the legs by then,
         let bus_here =
         answer_at members Outside here.before here.one here.behind
         (subst (AreAnswered members Outside) here.split answered) in
@@ -174,9 +189,11 @@ module _ (profile : List DeviceParts) (members : List InState) where
         bus_here in
         let bus_byte = subst (λ (s : HostSignal). BusAnswers members
         (Inside (legs_before before) (byte_leg (w ∷ 0x00 ∷ []))) s here.one.result) here.signal_is bus_there in
+        -- was ACK, since all went well
         let good = (well_parts here.before (here.one ∷ here.behind) (subst GoWell here.split well)).1.0 in
         let ack : here.one.result ≡ answers.Ack =
         subst (λ (s : HostSignal). IsGood s here.one.result) here.signal_is good in
+        -- but the device refuses the value
         refuted here.one.result v rest bad body_is bus_byte ack
 
 -- ---- all parts
@@ -208,6 +225,7 @@ module _ (profile : List DeviceParts) (members : List InState) (bus : IsBus prof
       → AllByRecursion (IsTaken members) parts
   all_taken before [] behind heard tail answered well distinct each is = tt
   all_taken before (part ∷ parts) behind heard tail answered well distinct each is =
+      -- this part's device, its leg, and the signals after it
       let at = part_at profile members devices_are before part (parts ++ behind) distinct each.0 in
       let w = write_address at.member.device.address in
       let leg = leg_signals (part_bytes profile part) in
@@ -216,6 +234,7 @@ module _ (profile : List DeviceParts) (members : List InState) (bus : IsBus prof
       is ∙ ap (λ (xs : List HostSignal). parts_signals before ++ xs) (append_assoc leg (parts_signals parts) tail) in
       let next : addresses ((before ++ part ∷ []) ++ (parts ++ behind))
       ≡ addresses (before ++ (part ∷ (parts ++ behind))) =
+      -- If it wrote no page, its value would have been refused,
       ap addresses (append_assoc before (part ∷ []) (parts ++ behind)) in (
         λ wrong.
             let bad = bad_of profile members before part at bus devices_are wrong in
@@ -229,6 +248,7 @@ module _ (profile : List DeviceParts) (members : List InState) (bus : IsBus prof
             here ∙ ap (λ (bs : List ℕ). parts_signals before ++ (leg_signals bs ++ more)) bytes_are
             ∙ sym (append_assoc (parts_signals before) front (Byte body.value ∷ behind_value))
             ),
+        -- and the same for the parts after it.
         all_taken (before ++ part ∷ []) parts behind heard tail answered well
             (subst (IsDistinct nat_eq) (sym next) distinct) each.1
             (here ∙ sym (one_part_more before part more)),

@@ -2,6 +2,8 @@
 //!
 //! The host is given the bus's answer to the signal before, and the bus the host's signal, until
 //! the host tells how it ended.
+//!
+//! Its rows: `tests_host`, `src/exchange/rows.rt`; `tests/rows/requests.txt`.
 
 ghost use Rattle.std.specs.Prelude.{List};
 ghost use Rattle.pmb_command.specs.Parts.{DeviceParts};

@@ -1,4 +1,7 @@
--- What the lexer that goes on answers, of the whole text.
+-- What the lexer for C returns, for the whole text: for `PmbLexer::feed` and
+-- `PmbLexer::finish`. It runs a new lexer of pmb_bus after the tail of the text, which it keeps as
+-- numbers; what that one returns of tail and piece is what belongs to the whole text (`Spelled`,
+-- `Bad`), and the numbers after the piece say where the word under way begins.
 use Rattle.std.proofs.Common.{◌≡◌, ℕ, ◌+◌, ◌-◌, ◌≤◌, ◌==◌, ◌||◌, Bool, true, false, cond, List, [], ◌∷◌, ◌++◌, length}
 use Rattle.std.proofs.Common.{take, codes, refl, sym, ap, subst, ◌∙◌, arith}
 use Rattle.std.proofs.lemmas.List.{append-nil, append_assoc, length-take, take_all}

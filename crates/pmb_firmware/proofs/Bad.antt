@@ -1,4 +1,7 @@
--- The first word that is no token, of a text and of its tail.
+-- The first word that is no token, of a text and of its tail: it lies as far after the one as
+-- after the other. For `PmbLexer::feed` and `PmbLexer::finish`. A tail is the word under way, or a
+-- `#` alone in a comment; before it the text ends between words, or the comment goes on with
+-- what follows.
 use Rattle.std.proofs.Common.{◌≡◌, ℕ, ◌+◌, List, [], ◌∷◌, ◌++◌, length, false, true, refl, sym, ap, subst, ◌∙◌, arith}
 use Rattle.std.proofs.lemmas.List.{append-nil, append_assoc, length-append}
 use Rattle.pmb_bus.specs.declared.event.Event.{Event}
@@ -19,6 +22,7 @@ module _ (text tail : List ℕ) (is : IsTail text tail) (events : List Event) (e
   behind_front : (front : List ℕ) → text ≡ front ++ tail → (open_word front ≡ []) × (ends_in_comment front ≡ false)
       → (place : ℕ)
       → FirstBadWord (tail ++ back) [] place → LiesThere place
+  -- the words of the front are those that have ended
   behind_front front split between place bad =
       let of_front = between_tail front between in
       let all : words front ≡ ended_words text =
@@ -28,6 +32,7 @@ module _ (text tail : List ℕ) (is : IsTail text tail) (events : List Event) (e
       ∙ sym (tail_ended front [] of_front tail)
       ∙ ap ended_words (sym split) in
       let spelled : EndedWordsSpell front events =
+      -- so the front and what stands before the bad word in the tail spell the same events
       subst (λ (ws : List (List ℕ)). AreTokens ws events) (sym all ∙ ended_are_all front between.0) ended in (
         length front + place,
         omega (arith, ap (length {A = ℕ}) split, length-append front tail),
@@ -55,12 +60,14 @@ module _ (text tail : List ℕ) (is : IsTail text tail) (events : List Event) (e
   no_word_there : (rest : List ℕ) → 35 ∷ back ≡ rest → is_word (front_word rest) ≡ true → ⊥
   no_word_there rest same some = cc (ap (λ (all : List ℕ). is_word (front_word all)) same ∙ some)
 
+  -- 35 is `#`
   -- in a comment
   behind_hash : (front rest : List ℕ) → tail ≡ 35 ∷ [] → 35 ∷ back ≡ front ++ rest → (place : ℕ)
       → (bad : FirstBadWord (tail ++ back) [] place)
       → front ≡ bad.front → rest ≡ bad.rest → LiesThere place
   behind_hash [] rest is_hash split place bad is_front is_rest =
       absurd (no_word_there rest split (ap (λ (all : List ℕ). is_word (front_word all)) is_rest ∙ bad.word))
+  -- the `#` of the tail comes first: what stands after it stands after the text
   behind_hash (b ∷ front) rest is_hash split place bad is_front is_rest =
       let first : b ≡ 35 = cc split in
       let others : back ≡ front ++ rest = cc split in

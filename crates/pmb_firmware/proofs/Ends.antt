@@ -1,4 +1,7 @@
--- What one byte more leaves at the end of a text, and a lexer's numbers.
+-- What one byte more leaves at the end of a text, and in a lexer's numbers. For
+-- `PmbLexer::go_over`, `PmbLexer::pass`, `resumed` and `lexer_behind`. The place is 0 between
+-- words, 1 in a comment, 2 and 3 after one and two bytes of a word, 4 and more after a longer one
+-- or a fault; each byte leads from one to the next as the text's end says.
 use Rattle.std.proofs.Common.{◌≡◌, ℕ, ◌+◌, ◌-◌, ◌^◌, ◌<◌, ◌≤◌, ◌==◌, min, Bool, true, false, cond, inl, inr, List, []}
 use Rattle.std.proofs.Common.{◌∷◌, ◌++◌, length, take, get_or, refl, sym, ap, subst, ◌∙◌, arith}
 use Rattle.std.specs.List.{filter, slice_split}
@@ -60,6 +63,7 @@ longer_by text b outside keeps =
 
 -- ---- a byte outside comments
 
+-- 35 is `#`
 outside_stays : (b : ℕ) → (b == 35) ≡ false → in_comment false b ≡ false
 outside_stays b other =
     elim (cases_Bool (b == 10)) [
@@ -157,6 +161,7 @@ module _ (lexer : PmbLexer) (n : ℕ) (text : List ℕ) (b : ℕ) (counted : lex
             ]
       ]
 
+  -- 0: between words
   over_between : lexer.place ≡ 0 → EndsBetween text → IsEnd (behind lexer b) (n + 1) (text ++ b ∷ [])
   over_between place ends =
       over_outside ends.1 (ap (λ (p : ℕ). p == 1) place)
@@ -172,6 +177,7 @@ module _ (lexer : PmbLexer) (n : ℕ) (text : List ℕ) (b : ℕ) (counted : lex
       )))
       )
 
+  -- 1: in a comment
   over_comment : lexer.place ≡ 1 → ends_in_comment text ≡ true → IsEnd (behind lexer b) (n + 1) (text ++ b ∷ [])
   over_comment place inside =
       elim (cases_Bool (b == 10)) [
@@ -194,6 +200,7 @@ module _ (lexer : PmbLexer) (n : ℕ) (text : List ℕ) (b : ℕ) (counted : lex
             (short (counts lexer.used n counted) (comment place (cut_inside text b stays) (inside_by text b ∙ stays)))
       ]
 
+  -- 2: after one byte of a word
   over_one : lexer.place ≡ 2 → IsOpen text (lexer.first ∷ []) → WordBeginsAt n text lexer.at
       → IsEnd (behind lexer b) (n + 1) (text ++ b ∷ [])
   over_one place begun begins =
@@ -211,6 +218,7 @@ module _ (lexer : PmbLexer) (n : ℕ) (text : List ℕ) (b : ℕ) (counted : lex
       )
       )
 
+  -- any other: after two bytes or more
   over_longer : (k : ℕ) → lexer.place ≡ k → (k == 0) ≡ false → (k == 1) ≡ false → (k == 2) ≡ false
       → ends_in_comment text ≡ false
       → 2 ≤ length (open_word text) → WordBeginsAt n text lexer.at → IsEnd (behind lexer b) (n + 1) (text ++ b ∷ [])

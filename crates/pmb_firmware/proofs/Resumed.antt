@@ -1,4 +1,7 @@
--- The lexer that goes on after the tail of a text.
+-- The lexer of pmb_bus that goes on after the tail of a text: for `PmbLexer::resumed` and
+-- `lexer_behind`. Given the bytes of the tail, nothing, `#`, or one or two bytes of a word, a new
+-- lexer needs more: no word has ended there, and no fault is met, since the text begins a text of
+-- events.
 use Rattle.std.proofs.Common.{◌≡◌, ℕ, ◌+◌, Option, Some, None, List, [], ◌∷◌, ◌++◌, length, take, drop, refl, sym, ap}
 use Rattle.std.proofs.Common.{subst, ◌∙◌, arith}
 use Rattle.std.proofs.lemmas.List.{append-nil, take-append-drop}

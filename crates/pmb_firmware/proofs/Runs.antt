@@ -1,4 +1,7 @@
--- The runs of a text and of what follows it.
+-- The runs of a text and of what follows it: for all steps of `PmbLexer`. The last run of the text
+-- goes on with the first one of what follows, so that words, the word under way and an open
+-- comment of both are known from the end of the text. As `Splits` and `Words` of pmb_bus, whose
+-- proofs are not public.
 use Rattle.std.proofs.Common.{◌≡◌, ℕ, Bool, true, false, cond, List, [], ◌∷◌, ◌++◌, refl, sym, ap, ◌∙◌}
 use Rattle.std.specs.List.{filter, onto_first, slice_split}
 use Rattle.std.proofs.lemmas.List.Elements.{filter-append}

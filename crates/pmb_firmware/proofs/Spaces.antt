@@ -1,4 +1,6 @@
--- A space after a text, as its end counts.
+-- A space after a text, as its end counts: for `PmbLexer::feed` and `PmbLexer::finish`. A space
+-- (byte 32) ends the word under way and leaves a comment; so all words have ended, and there are
+-- as many of them as events.
 use Rattle.std.proofs.Common.{◌≡◌, ℕ, Bool, true, false, Some, List, [], ◌∷◌, ◌++◌, codes, length, refl, sym, ap, subst}
 use Rattle.std.proofs.Common.{◌∙◌, arith}
 use Rattle.std.specs.List.{filter}

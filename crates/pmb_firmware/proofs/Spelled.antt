@@ -1,4 +1,6 @@
--- What a text spells with what follows it, and what its tail does.
+-- What a text spells with what follows it, and what its tail does: the events of the ended words,
+-- and then those of the tail with what follows. For `PmbLexer::feed`, `finish`, `resumed` and
+-- `lexer_behind`.
 use Rattle.std.proofs.Common.{ℕ, Some, List, [], ◌∷◌, ◌++◌, sym, subst, ◌∙◌}
 use Rattle.std.proofs.lemmas.List.{append-nil, append_assoc, map-append}
 use Rattle.pmb_bus.specs.declared.event.Event.{Event}

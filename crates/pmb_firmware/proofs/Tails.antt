@@ -1,4 +1,6 @@
--- What follows a text reads as what follows its tail.
+-- What follows a text reads as what follows its tail: for all steps of `PmbLexer`. A tail has the
+-- same word under way and the same comment (`IsTail`), and nothing else of a text matters to what
+-- follows.
 use Rattle.std.proofs.Common.{◌≡◌, ℕ, Bool, List, [], ◌∷◌, ◌++◌, refl, sym, ap, ◌∙◌}
 use Rattle.std.specs.List.{filter}
 use Rattle.std.proofs.lemmas.List.{append-nil}

@@ -1,4 +1,4 @@
--- The numbers by which C is told what a call came to.
+-- The numbers that C gets for the status of a call.
 use Rattle.std.specs.Prelude.{ℤ, pos}
 use Rattle.pmb_format.specs.declared.format.RangeFault.TheVariants.{Below, Above}
 use Rattle.pmb_quantity.specs.declared.quantity.QuantityFault.TheVariants.{Empty, BadDigit, ZeroDenominator, TooLarge}

@@ -1,11 +1,11 @@
-//! What a call came to, as the number that C is told.
+//! The status of a call, as the number that C gets.
 ghost use Rattle.std.specs.Prelude.{◌≡◌};
 ghost use Rattle.pmb_firmware.specs.CallStatus.{number_of};
 
 use pmb_convert::FormatFault;
 use pmb_value::{QuantityFault, RangeFault};
 
-/// What a call came to.
+/// The status of a call.
 #[derive(Clone, Copy)]
 pub enum CallStatus {
     /// All went well.

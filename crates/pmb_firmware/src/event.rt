@@ -55,7 +55,7 @@ pub fn lex(lexer: &mut PmbLexer, piece: &[u8], used: &mut usize, event: &mut Pmb
     tell(lexed.step, event)
 }
 
-/// Tells what a piece came to.
+/// Reports the result of a piece.
 fn tell(step: Step, event: &mut PmbEvent) -> i32
     ensures { TellsStep step event.old result event.new }
 {

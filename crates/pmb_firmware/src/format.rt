@@ -1,4 +1,6 @@
 //! A number format as C names it.
+//!
+//! Its rows: `tests_bytes`, `src/firmware/doc.rt`.
 ghost use Rattle.std.specs.Prelude.{◌≡◌, false, true};
 ghost use Rattle.pmb_value.specs.declared.number_format.NumberFormat.{NumberFormat as Number};
 ghost use Rattle.pmb_value.specs.declared.vout.VoutFormat.TheVariants.{Unsigned, Signed};
@@ -12,8 +14,7 @@ use pmb_value::{
     vout_format,
 };
 
-/// A number format: its kind, and the numbers that the kind asks for. Numbers that it doesn't ask
-/// for count for nothing.
+/// A number format: its kind, and the fields that the kind asks for. Other fields are ignored.
 #[repr(C)]
 #[derive(Clone, Copy)]
 pub struct PmbFormat {

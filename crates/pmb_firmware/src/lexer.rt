@@ -5,6 +5,8 @@
 //! `Lexer` of `pmb_bus` that was given them, as a text of their own. What that one answers of a
 //! piece is what it would answer after the whole text: `proofs/Tails` says so. Then `go_over` finds
 //! the end of the bytes that were used.
+//!
+//! Its rows: `tests_bytes`, `src/firmware/cuts.rt`.
 
 ghost use Rattle.std.specs.Prelude.{◌≡◌, ◌+◌, ◌<◌, ◌≤◌, ◌++◌, ◌∷◌, ℕ, List, [], length, Err, None};
 ghost use Rattle.pmb_bus.specs.declared.event.Event.{Event as BusEvent};
@@ -108,9 +110,8 @@ impl PmbLexer {
         }
     }
 
-    /// The lexer of `pmb_bus` that goes on as this one does: it was given the end of the text
-    /// alone.
-    /// `None` after a fault, and where the numbers are none that a call left.
+    /// The lexer of `pmb_bus` that continues as this one does: it was given the end of the text
+    /// alone. `None` after a fault, and where the numbers are none that a call left.
     fn resumed(&self) -> Option<Lexer>
         ensures stands { (n : ℕ) (text : List ℕ) (events : List BusEvent) → StandsAt self.now n text events
             → Resumes self.now text result }

@@ -1,4 +1,6 @@
 //! Codes and quantities, in every number format (PMBus Part II revision 1.3, sections 7 and 8).
+//!
+//! Its rows: `tests_bytes`, `src/firmware/doc.rt`.
 ghost use Rattle.std.specs.Prelude.{Ok};
 ghost use Rattle.pmb_quantity.specs.Reading.{reading};
 ghost use Rattle.pmb_value.specs.NumberFormat.{number_coding};

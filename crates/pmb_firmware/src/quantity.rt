@@ -1,4 +1,6 @@
 //! A quantity as C has it.
+//!
+//! Its rows: `tests_bytes`, `src/firmware/doc.rt`.
 ghost use Rattle.std.specs.Prelude.{◌≡◌};
 ghost use Rattle.pmb_quantity.specs.Quantity.{quotient};
 ghost use Rattle.pmb_firmware.specs.Quantity.{numbers};

@@ -1,4 +1,6 @@
--- The numerators of DIRECT.
+-- The numerators of DIRECT: for `DirectCodes::numerator`, `denominator` and what uses them. A code
+-- y has the value (y * 10^-R - b) / m; with the sign of m in the numerator the denominator is
+-- positive.
 use Rattle.std.proofs.Common.{◌≡◌, ◌≢◌, ℕ, zero, suc, ◌*◌, ◌^◌, ◌<◌, ℤ, pos, negsuc, neg_ℤ, ◌-ℤ◌, ◌*ℤ◌, ◌<ℤ◌, ◌≤ℤ◌}
 use Rattle.std.proofs.Common.{unsigned_abs, refl, subst, arith}
 use Rattle.std.proofs.lemmas.Int.{ints}

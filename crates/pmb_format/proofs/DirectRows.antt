@@ -1,4 +1,6 @@
--- The codes of DIRECT are evenly spaced.
+-- The codes of DIRECT are evenly spaced: for `DirectEvenlySpaced::spacing`, `DirectCodes::least`
+-- and `greatest`. As numbers of two's complement the words rise one by one, and with them the
+-- values where m is positive; where it is negative they fall.
 use Rattle.std.proofs.Common.{◌≡◌, ◌≢◌, ℕ, zero, suc, ◌-◌, ◌^◌, ◌≤◌, inl, inr, ℤ, pos, negsuc, neg_ℤ, ◌*ℤ◌, ◌<ℤ◌, ◌≤ℤ◌}
 use Rattle.std.proofs.Common.{refl, ap, ◌∙◌, arith}
 use Rattle.std.proofs.lemmas.Int.{ints}
@@ -26,6 +28,7 @@ module _ (b r : ℤ) where
       omega (arith, ints, product)
 
   index_of : (k : ℕ) → IsWord k → (i : ℕ) × (i ≤ 2 ^ 16 - 1) × (signed_at i ≡ k)
+  -- 32,767 below 0 and one more: -32,768 is the least word
   index_of k code = let j = counts_signed.index k code in (j.0, omega (arith, j.1), j.2)
 
   rises_direct : (n : ℕ) → Rises (direct (with_slope (pos (suc n)) b r)) (direct_row (with_slope (pos (suc n)) b r))
@@ -64,6 +67,7 @@ pub record Ends (f : Coding) (least greatest : ℕ) : Type 0 where
   pub is_least : IsLeast f least
   pub is_greatest : IsGreatest f greatest
 
+-- 32,768 is the word of -32,768, the least number, and 32,767 is the greatest
 ends_rising : (b r m : ℤ) → m ≢ pos 0 → pos 0 ≤ℤ m → Ends (direct (with_slope m b r)) 32768 32767
 ends_rising b r (pos zero) slope rising = absurd (slope refl)
 ends_rising b r (pos (suc n)) slope rising =

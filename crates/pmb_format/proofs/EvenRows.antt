@@ -1,4 +1,7 @@
--- Codes whose values are evenly spaced.
+-- Codes whose values are evenly spaced: their ends, and that they are separated, so that their
+-- laws hold. For `obeys_laws` of an evenly spaced format and the codes of DIRECT. The value at an
+-- index is the first one plus that many spacings; a falling row is the mirror image of a rising
+-- one.
 use Rattle.std.proofs.Common.{◌≡◌, ℕ, ◌+◌, ◌*◌, ◌%◌, ◌<◌, ◌≤◌, inl, inr, ℤ, pos, neg_ℤ, ◌+ℤ◌, ◌*ℤ◌, ◌<ℤ◌, ◌≤ℤ◌, sym, ap}
 use Rattle.std.proofs.Common.{◌∙◌, arith}
 use Rattle.std.proofs.lemmas.Int.{ints}
@@ -77,8 +80,10 @@ module _ (f : Coding) (row : Row) (rises : Rises f row) where
 
   row_one_code : HasOneCode f
   row_one_code a b a_code b_code a_canonical b_canonical same =
+      -- the index of each code
       let i = at_index a a_code in
       let j = at_index b b_code in
+      -- unequal indices have unequal values
       elim (cases_lt i.0 j.0) [
         | inl less ↦ absurd (omega (
           arith,
@@ -98,6 +103,7 @@ module _ (f : Coding) (row : Row) (rises : Rises f row) where
                 j.3,
                 at_less row.first row.spacing j.0 i.0 rises.spaced more,
               ))
+              -- so the index is one, and the code at it
               | inr none ↦
                   let one : i.0 ≡ j.0 = omega arith in
                   sym i.2 ∙ ap row.code_at one ∙ j.2

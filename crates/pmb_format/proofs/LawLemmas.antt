@@ -1,4 +1,6 @@
--- The laws.
+-- A code's own value is nearest to that code, so that decoding and encoding keep values. For the
+-- laws `ulinear16_keeps_values`, `linear11_keeps_values` and their like in pmb_value. At no
+-- distance from a value is only a code with that value.
 use Rattle.std.proofs.Common.{◌≡◌, ℕ, ◌<◌, ◌≤◌, pos, sym, ◌∙◌, arith}
 use Rattle.std.proofs.lemmas.Int.{ints}
 use Rattle.std.proofs.Math.IntN.{*ℤ_comm}

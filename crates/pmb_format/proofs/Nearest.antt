@@ -1,4 +1,6 @@
--- The best of all written codes is the nearest of all codes.
+-- The best of all written codes is the nearest of all codes; and no quantity is both below and
+-- above a format. For `fault_of` and, through `OneNearest` and `Neighbours`, for `nearest`.
+-- Between two equally near numbers any other is nearer than both.
 use Rattle.std.proofs.Common.{◌≡◌, ℕ, suc, ◌*◌, ◌<◌, ℤ, pos, negsuc, ◌-ℤ◌, ◌*ℤ◌, ◌<ℤ◌, unsigned_abs, sym, arith}
 use Rattle.std.proofs.lemmas.Int.{ints}
 use Rattle.std.proofs.Math.Nat.{mul-lt-mul_of_pos_left}

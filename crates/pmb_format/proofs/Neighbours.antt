@@ -1,4 +1,6 @@
--- From the nearer of two neighbours to the nearest of all codes.
+-- From the nearer of two neighbours to the nearest of all codes: for `nearest` and `obeys_laws` of
+-- an evenly spaced format. No value lies between the two, so any other code is beyond one of them;
+-- downwards it is the same with all signs turned round.
 use Rattle.std.proofs.Common.{◌≡◌, ◌≢◌, ℕ, ◌%◌, ◌<◌, ◌≤◌, ◌⊎◌, inl, inr, ℤ, pos, neg_ℤ, ◌-ℤ◌, ◌*ℤ◌, ◌<ℤ◌, ◌≤ℤ◌}
 use Rattle.std.proofs.Common.{unsigned_abs, sym, ap, ◌∙◌, arith}
 use Rattle.std.proofs.lemmas.Int.{ints, by_lt_z}
@@ -28,11 +30,15 @@ beyond_high a y z high order = grind (arith, ints)
 
 -- a code whose value is at or below the quantity, and the next greater value, which is no nearer
 pub record IsNearLow (f : Coding) (q : Fraction) (c : ℕ) (high : ℤ) : Type 0 where
+  -- the code is one that the encoder writes,
   pub written : IsWritten f c
+  -- and no value lies between it and the next,
   pub gap : IsGap f (f.numerator c) high
   pub from_low : scaled_code f q c ≤ℤ scaled f q
   pub to_high : scaled f q ≤ℤ (pos q.denominator *ℤ high)
+  -- which is no nearer,
   pub nearer : distance f q c ≤ unsigned_abs (scaled f q -ℤ pos q.denominator *ℤ high)
+  -- and as near only if the code is even
   pub even : distance f q c ≡ unsigned_abs (scaled f q -ℤ pos q.denominator *ℤ high) → c % 2 ≡ 0
 
 module _ (f : Coding) (q : Fraction) (c : ℕ) (high : ℤ) (positive : 0 < q.denominator)
@@ -108,8 +114,10 @@ mirror_nearest f q c nearest = record {
 
 -- a code whose value is at or above the quantity, and the next smaller value, which is no nearer
 pub record IsNearHigh (f : Coding) (q : Fraction) (c : ℕ) (low : ℤ) : Type 0 where
+  -- as above, with the next smaller value
   pub written : IsWritten f c
   pub gap : IsGap f low (f.numerator c)
+  -- the quantity is between both
   pub from_low : (pos q.denominator *ℤ low) ≤ℤ scaled f q
   pub to_high : scaled f q ≤ℤ scaled_code f q c
   pub nearer : distance f q c ≤ unsigned_abs (scaled f q -ℤ pos q.denominator *ℤ low)

@@ -1,4 +1,6 @@
--- No two codes are nearest to one quantity, and of two neighbours one is even.
+-- No two codes are nearest to one quantity, and of two neighbours one is even: for `obeys_laws` of
+-- the formats. Two nearest codes would be at the same distance and both even, and between two such
+-- lies a nearer one (`IsSeparated`).
 use Rattle.std.proofs.Common.{◌≡◌, ℕ, ◌%◌, ◌<◌, inl, inr, ◌<ℤ◌, sym, ◌∙◌, arith}
 use Rattle.std.proofs.lemmas.Int.{ints, by_lt_z}
 use Rattle.std.proofs.lemmas.Bool.{cases_eq}
@@ -10,8 +12,11 @@ use Rattle.pmb_format.proofs.Nearest.{not_best}
 -- Each value has one canonical code, and between two values whose canonical codes have one parity
 -- lies another, so of two neighbours one is even.
 pub record IsSeparated (f : Coding) : Type 0 where
+  -- each value has one canonical code,
   pub one_code : HasOneCode f
+  -- and has one
   pub canonical_codes : HasCanonicalCodes f
+  -- between two of one parity lies another code
   pub between : (a b : ℕ) → f.IsCode a → f.IsCode b → f.IsCanonical a → f.IsCanonical b → a % 2 ≡ b % 2
       → f.numerator a <ℤ f.numerator b → (j : ℕ) × f.IsCode j × (f.numerator a <ℤ f.numerator j)
       × (f.numerator j <ℤ f.numerator b)

@@ -1,4 +1,5 @@
--- Whole numbers times a natural number in front.
+-- Whole numbers times a natural number in front: sums, signs and order. For the range tests of
+-- codes (`is_above`, `is_below`) and the lemmas on nearest codes.
 use Rattle.std.proofs.Common.{◌≡◌, ℕ, zero, suc, ◌<◌, ℤ, pos, neg_ℤ, ◌+ℤ◌, ◌*ℤ◌, ◌≤ℤ◌, ap, arith}
 use Rattle.std.proofs.lemmas.Int.{ints, by_lt_z}
 use Rattle.std.proofs.Math.IntN.{suc_ℤ-*ℤ, zero-*ℤ}

@@ -1,4 +1,5 @@
--- A quantity outside the range is found by the least and the greatest code.
+-- A quantity outside the range is found by the least and the greatest code: for `is_below` and
+-- `is_above`. It is compared with the value of that code, times its own denominator.
 use Rattle.std.proofs.Common.{◌≡◌, ℕ, ◌<◌, ℤ, ◌<ℤ◌, ◌≤ℤ◌, Bool, true, false, MatchBool, refl, arith}
 use lib.Signed.{lt_z}
 use Rattle.std.proofs.lemmas.Int.{ints}

@@ -1,4 +1,6 @@
--- A rounded quotient names the nearest code.
+-- A rounded quotient names the nearest code: for `nearest` of an evenly spaced format. The
+-- quantity is n / d spacings after the first value; rounding n / d down or up picks one of its two
+-- neighbours, by twice the rest against d, and a tie picks the even one (`IsRounded`).
 use Rattle.std.proofs.Common.{◌≡◌, ℕ, suc, ◌+◌, ◌*◌, ◌/◌, ◌%◌, ◌<◌, ◌≤◌, inl, inr, ℤ, pos, ◌+ℤ◌, ◌-ℤ◌, ◌*ℤ◌}
 use Rattle.std.proofs.Common.{unsigned_abs, sym, ap, ◌∙◌, subst, arith}
 use Rattle.std.proofs.lemmas.Int.{ints}
@@ -29,10 +31,15 @@ product_at d first spacing i =
 pub record IsRounded (f : Coding) (q : Fraction) (first : ℤ) (spacing n d i c : ℕ) : Type 0 where
   pub positive : 0 < q.denominator
   pub spaced : 0 < spacing
+  -- how far the quantity is from the first value
   pub from_first : scaled f q ≡ pos q.denominator *ℤ first +ℤ pos n
+  -- d of which is one spacing
   pub divisor : d ≡ q.denominator * spacing
+  -- no code lies between the values next to it
   pub gap : IsGap f (at first spacing (n / d)) (at first spacing (n / d + 1))
+  -- i is n / d, rounded to the nearest, ties to even
   pub rounds : Rounds n d i
+  -- the code at i, with its value and its parity
   pub written : IsWritten f c
   pub value : f.numerator c ≡ at first spacing i
   pub parity : c % 2 ≡ i % 2

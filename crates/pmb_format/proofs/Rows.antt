@@ -1,4 +1,6 @@
--- The nearest code of evenly spaced ones.
+-- The nearest code of evenly spaced ones: for `nearest` of an evenly spaced format. The distance
+-- from the first value, by the spacing, is rounded to an index, which is in the row since the
+-- quantity is in range; a falling row is read as the mirror image of a rising one.
 use Rattle.std.proofs.Common.{◌≡◌, ℕ, ◌+◌, ◌*◌, ◌/◌, ◌<◌, ◌≤◌, inl, inr, ℤ, pos, ◌+ℤ◌, ◌*ℤ◌, ◌≤ℤ◌, sym, ap, ◌∙◌, arith}
 use Rattle.std.proofs.lemmas.Int.{ints}
 use Rattle.std.proofs.lemmas.Bool.{cases_lt}

@@ -1,4 +1,5 @@
--- Whole numbers times a power of two.
+-- Whole numbers times a power of two: for the codes of DIRECT and of LINEAR11. A power is a
+-- smaller one times what is left, and with a factor of 2 or more a number moves away from 0.
 use Rattle.std.proofs.Common.{◌≡◌, ℕ, suc, ◌*◌, ◌+◌, ◌-◌, ◌^◌, ◌<◌, ◌≤◌, ℤ, pos, negsuc, neg_ℤ, ◌*ℤ◌, ◌≤ℤ◌, sym, ap}
 use Rattle.std.proofs.Common.{◌∙◌, arith}
 use Rattle.std.proofs.lemmas.Nat.{pow-add, pow_below, mul-le}

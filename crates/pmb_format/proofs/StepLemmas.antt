@@ -1,4 +1,5 @@
--- Counts of steps.
+-- Counts of steps: one more step, where the count stays at the greatest u64. For
+-- `nearest` of LINEAR11, in pmb_linear, which counts its steps up and down the powers of two.
 use Rattle.std.proofs.Common.{◌≡◌, ℕ, zero, suc, ◌+◌, ◌-◌, ◌^◌, min, ap, ◌∙◌, arith}
 use Rattle.pmb_format.specs.Steps.{steps_counted}
 

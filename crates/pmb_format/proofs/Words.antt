@@ -1,4 +1,6 @@
--- Words of two bytes as numbers.
+-- Words of two bytes as numbers, unsigned or of two's complement: for `twos_complement` and the
+-- codes of evenly spaced formats. The lower half of the fields are themselves, the upper half
+-- negative; in the order of their numbers they count up one by one.
 use Rattle.std.proofs.Common.{◌≡◌, ℕ, ◌-◌, ◌^◌, ◌<◌, ◌≤◌, inl, inr, pos, negsuc, ◌+ℤ◌, ◌-ℤ◌, refl, sym, arith}
 use Rattle.std.proofs.lemmas.Int.{ints}
 use Rattle.std.proofs.lemmas.Bool.{cases_lt, cond_below, cond_above}
@@ -26,6 +28,7 @@ counts_unsigned = record {
   index = λ k code. (k, code, refl);
 }
 
+-- 32,767 below 0 and one more: -32,768 is the least word
 pub signed_number : (i : ℕ) → i < 2 ^ 16 → twos_complement 16 (signed_at i) ≡ negsuc 32767 +ℤ pos i
 signed_number i inside =
     elim (cases_lt i 32768) [

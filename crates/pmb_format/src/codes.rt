@@ -1,4 +1,6 @@
 //! The values of a format's codes as whole numbers over one denominator.
+//!
+//! Its rows: `tests_numbers`, `src/formats/compared.rt`; `tests_codes`, `src/every_code.rt`.
 ghost use Rattle.std.specs.Prelude.{◌≡◌, ◌↔◌, ◌^◌, ◌<◌, unsigned_abs, ◌-ℤ◌, IsNone, MatchBool};
 ghost use Rattle.pmb_format.specs.Coding.{Coding, value_of, scaled, scaled_code, distance, IsInRange, IsBelow, IsAbove, ReachesSome, IsReachedBySome};
 ghost use Rattle.pmb_format.specs.Row.{IsLeast, IsGreatest};

@@ -1,4 +1,6 @@
 //! The DIRECT format.
+//!
+//! Its rows: `tests_numbers`, `src/formats/direct.rt`; `tests/rows/numbers.txt`.
 ghost use Rattle.std.specs.Prelude.{◌≡◌, ◌≢◌, ◌^◌, ◌*◌, ◌<◌, ◌≤◌, pos, ◌*ℤ◌, ◌≤ℤ◌, unsigned_abs};
 ghost use Rattle.pmb_format.specs.Direct.{positive_part, sign_of};
 

@@ -2,6 +2,8 @@
 //!
 //! It measures how far a quantity is from the first code, and one division by the distance of two
 //! neighbours rounds that to an index.
+//!
+//! Its rows: `tests_numbers`, `src/formats/compared.rt`, `direct.rt`, `linear16.rt`.
 ghost use Rattle.std.specs.Prelude.{◌≡◌, ◌↔◌, ◌^◌, ◌<◌, ◌≤◌, IfOk, IsOk};
 ghost use Rattle.pmb_format.specs.Coding.{IsNearest, IsInRange, IsBelow, IsAbove};
 ghost use Rattle.pmb_format.specs.Laws.{HasCanonicalCodes, HasOneCode, HasOneEvenNeighbour};

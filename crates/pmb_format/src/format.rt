@@ -1,4 +1,6 @@
 //! What a number format is.
+//!
+//! Its rows: `tests_numbers`, `src/formats/checks.rt`; `tests_codes`, `src/every_code.rt`.
 ghost use Rattle.std.specs.Prelude.{◌≡◌, ◌↔◌, IfOk, IsOk};
 ghost use Rattle.pmb_format.specs.Coding.{Coding, value_of, IsNearest, IsInRange, IsBelow, IsAbove};
 ghost use Rattle.pmb_format.specs.Laws.{HasCanonicalCodes, HasOneCode, HasOneEvenNeighbour};

@@ -1,4 +1,6 @@
 //! A count of the work that an encoder does.
+//!
+//! Its rows: `tests_numbers`, `src/formats/steps.rt`.
 ghost use Rattle.std.specs.Prelude.{◌≡◌, ◌+◌, min};
 
 use std::marker::Model;

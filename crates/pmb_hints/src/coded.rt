@@ -1,4 +1,6 @@
 //! Addresses and codes that come twice, and names that no standard command has.
+//!
+//! Its rows: `tests/rows/hints.txt`.
 
 use crate::keyed::Keyed;
 use crate::lines::Hints;

@@ -1,4 +1,6 @@
-//! What helps with forms that do not go together.
+//! Hints for forms that do not go together.
+//!
+//! Its rows: `tests/rows/hints.txt`.
 
 use crate::coded::code_of;
 use crate::keyed::Keyed;

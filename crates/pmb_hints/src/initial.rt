@@ -1,4 +1,6 @@
-//! What helps with the bytes that a command begins with.
+//! Hints for the bytes that a command begins with.
+//!
+//! Its rows: `tests/rows/hints.txt`.
 
 use crate::forms::parts_of;
 use crate::keyed::Keyed;

@@ -1,4 +1,6 @@
 //! What is written of the keys of a table: those that are unknown or missing, or of another type.
+//!
+//! Its rows: `tests/rows/hints.txt`.
 
 use crate::keyed::Keyed;
 use crate::lines::Hints;

@@ -1,4 +1,6 @@
 //! The lines that help with a fault.
+//!
+//! Its rows: `tests_tasks`, `src/profiles.rt`; `tests/rows/hints.txt`.
 
 ghost use Rattle.std.specs.Prelude.{◌≡◌, []};
 ghost use Rattle.pmb_keys.specs.declared.fault.FaultKind.TheVariants.{OutOfMemory};
@@ -30,7 +32,7 @@ pub fn hints(alloc: Global, text: &[u8], fault: ProfileFault) -> Hints
     lines
 }
 
-/// What helps with the fault of a text.
+/// Hints for the fault of a text.
 fn text_hint(alloc: Global, text: &str, fault: ProfileFault, lines: &mut Hints) {
     match toml::table_from_str(alloc, text) {
         Ok(table) => table_hint(text, &table, fault, lines),
@@ -38,7 +40,7 @@ fn text_hint(alloc: Global, text: &str, fault: ProfileFault, lines: &mut Hints) 
     }
 }
 
-/// What helps with the fault of a document's table.
+/// Hints for the fault of a document's table.
 fn table_hint(text: &str, table: &Table, fault: ProfileFault, lines: &mut Hints) {
     let mut place = TablePlace {
         text,
@@ -66,7 +68,7 @@ fn table_hint(text: &str, table: &Table, fault: ProfileFault, lines: &mut Hints)
     }
 }
 
-/// What helps with the fault of a command of a device.
+/// Hints for the fault of a command of a device.
 fn in_command(
     place: TablePlace<'_>,
     device: &Table,

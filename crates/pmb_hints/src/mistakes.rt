@@ -2,6 +2,8 @@
 //!
 //! A fault says what is wrong and in which table of the profile. Its rows are tried in their order,
 //! and the first mistake that the keys have is written. So a new rule of `pmb_keys` is a row here.
+//!
+//! Its rows: `tests/rows/hints.txt`.
 
 use crate::coded::{address_twice, code_twice, name_hint};
 use crate::forms::form_hint;
@@ -260,12 +262,12 @@ fn first_of(rows: &[Mistake], keyed: Keyed<'_>, lines: &mut Hints) -> bool {
     false
 }
 
-/// What helps with a fault outside of all devices.
+/// Hints for a fault outside of all devices.
 pub(crate) fn top_hint(keyed: Keyed<'_>, what: FaultKind, lines: &mut Hints) {
     let _ = first_of(rows_of_top(what), keyed, lines);
 }
 
-/// What helps with a fault of a device, outside of its commands.
+/// Hints for a fault of a device, outside of its commands.
 pub(crate) fn device_hint(keyed: Keyed<'_>, what: FaultKind, lines: &mut Hints) {
     if first_of(rows_of_device(what), keyed, lines) {
         return;
@@ -280,7 +282,7 @@ pub(crate) fn device_hint(keyed: Keyed<'_>, what: FaultKind, lines: &mut Hints) 
     }
 }
 
-/// What helps with a fault of a command.
+/// Hints for a fault of a command.
 pub(crate) fn command_hint(keyed: Keyed<'_>, what: FaultKind, lines: &mut Hints) {
     let _ = first_of(rows_of_command(what), keyed, lines);
 }

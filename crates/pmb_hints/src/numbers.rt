@@ -1,4 +1,6 @@
 //! What is written of numbers that are outside of their ranges, and of words that are unknown.
+//!
+//! Its rows: `tests/rows/hints.txt`.
 
 use crate::keyed::Keyed;
 use crate::lines::Hints;

@@ -1,4 +1,6 @@
 //! A profile's fault as a text.
+//!
+//! Its rows: `tests/rows/hints.txt`.
 
 use crate::lines::hints;
 use arrayvec::ArrayString;

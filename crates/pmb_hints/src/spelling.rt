@@ -3,6 +3,8 @@
 //! A value of the reader of TOML doesn't keep its spelling. So the lines of the table are searched for
 //! its key. What stands there counts only if it is read as the same number: lines of strings and
 //! comments may look like keys, and a table within a line has no lines of its own.
+//!
+//! Its rows: `tests/rows/hints.txt`.
 
 ghost use Rattle.std.specs.Prelude.{◌≤◌};
 

@@ -1,4 +1,6 @@
 //! Texts that are no TOML.
+//!
+//! Its rows: `tests/rows/hints.txt`.
 
 use crate::lines::Hints;
 use std::fmt::Write;

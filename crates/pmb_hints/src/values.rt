@@ -1,4 +1,6 @@
 //! Values and keys as they are shown.
+//!
+//! Its rows: `tests/rows/hints.txt`.
 
 use arrayvec::ArrayString;
 use std::fmt::Write;

@@ -1,4 +1,7 @@
--- What a request that is allowed asks for has a packet.
+-- What an allowed request asks for has a packet: for the law `allowed_requests_have_packets`. A
+-- READ, CALL or GET keeps the rules of its transaction, and the reply fits the form that they
+-- found; a quantity that is set is a write of one part with two bytes, since each number format
+-- has codes of two bytes and its command is written in form Two.
 use Rattle.std.proofs.Common.{◌≡◌, ◌≢◌, ℕ, true, Option, Some, None, Ok, IfSome, is_some, if◌then◌else◌, List, [], ◌∷◌}
 use Rattle.std.proofs.Common.{refl, sym, ap, subst, ◌∙◌, arith}
 use Rattle.std.specs.Option.{option_and_then}
@@ -84,10 +87,12 @@ module _ (profile : List DeviceParts) (bus : IsBus profile) where
   pub set_form : (c : Command) (value : Fraction) (mode : Option ℕ) (word : ℕ) → CanSet profile c value mode word
       → (forms_at profile c.addr c.code).write ≡ Some Two
   set_form c value mode word can =
+      -- the device and the command, as the accepted profile has them
       let found = can.has.number_is in
       let device = device_is profile c.addr found.device bus found.known in
       let command = command_is found.device c.code found.command device.0 found.has in
       let shape = found.command.entry.shape in
+      -- the form for writing that is found by address and code is that command's,
       let of_device : (forms_at profile c.addr c.code).write
       ≡ (shape_of (command_with c.code found.device.commands)).write =
       ap (λ it. (shape_of (option_and_then (λ (d : DeviceParts). command_with c.code d.commands) it)).write)
@@ -95,6 +100,7 @@ module _ (profile : List DeviceParts) (bus : IsBus profile) where
       let of_command : (forms_at profile c.addr c.code).write ≡ shape.write = of_device
       ∙ ap (λ (it : Option CommandParts). (shape_of it).write) found.has in
       let fitting = command.0.entry.fitting in
+      -- and it is Two, since what has a number format has two bytes
       of_command ∙ two_written shape.write shape.read
       (number_form found.device.vout_direct mode found.command.entry.kind can.number _ found.number_is fitting.kind)
       fitting.one_form (subst HasData of_command can.kept.1.1.0)
@@ -136,9 +142,11 @@ module _ (profile : List DeviceParts) (bus : IsBus profile) where
       → IfSome (reply_form profile (task_of request word)) (λ form. Fits form reply)
       → HasPacket profile (replied (task_of request word) reply)
   asked_packet (WriteParts parts) word number reply allowed fits = allowed.0
+  -- READ: the rules of the request are those of the transaction, and the reply fits
   asked_packet (ReadBytes c) word number reply (kept, none) fits =
       kept_has_packet profile (replied (task_of (ReadBytes c) word) reply) tt
       (kept.0, (kept.1.0, (kept.1.1.0, (fits, (kept.1.1.1.0, tt)))))
+  -- CALL: the bytes that are sent fit as well
   asked_packet (CallBytes c bytes) word number reply (kept, none) fits =
       kept_has_packet profile (replied (task_of (CallBytes c bytes) word) reply) tt (
         kept.0,
@@ -154,7 +162,9 @@ module _ (profile : List DeviceParts) (bus : IsBus profile) where
           ),
         ),
       )
+  -- SET is a write
   asked_packet (Set c value mode) word number reply (can, none) fits = set_packet c value mode word can
+  -- GET: as READ
   asked_packet (Get c mode) word None reply (kept, has, some) fits = absurd (some refl)
   asked_packet (Get c mode) word (Some number) reply (kept, has, some) fits =
       kept_has_packet profile (replied (task_of (Get c mode) word) reply) tt

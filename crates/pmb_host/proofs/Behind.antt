@@ -1,4 +1,7 @@
--- Where a host stands when it has sent a signal.
+-- Where a host stands when it has sent a START or a byte of a leg. For `Host::take`, `Host::ask`,
+-- `Host::start`, `Host::end_leg`, `Host::end_reply`, `Host::send`, and those that begin a host.
+-- One signal more, answered well, keeps all that the host knows of its task (`IsWriting`): the
+-- bytes of the leg grow by one, and so do its place and its packet error code.
 use Rattle.std.proofs.Common.{◌≡◌, ℕ, ◌+◌, ◌-◌, ◌<◌, ◌≤◌, true, if◌then◌else◌, Option, Some, None, is_some, List, []}
 use Rattle.std.proofs.Common.{◌∷◌, ◌++◌, length, map, flat_map, refl, sym, ap, subst, ◌∙◌, arith, append_assoc}
 use Rattle.std.proofs.Common.{length-append, suc}
@@ -73,6 +76,7 @@ first_crc None crc before is = sym pec_of_none
 first_crc (Some reply) crc before is = is refl ∙ ap pec (sym (append-nil (flat_map (λ bytes. bytes) before)))
 
 short_place : (host : Host) (job : Job) (heard : List AnsweredSignal) (byte : ℕ) (at : BehindByte host job heard byte)
+    -- 4,161 is the greatest number of signals of a task (`signals_are_few`)
     → host.place < 4161
 short_place host job heard byte at =
     let inside = at.inside in
@@ -86,6 +90,7 @@ short_place host job heard byte at =
 
 module _ (host : Host) (job : Job) (heard : List AnsweredSignal) (byte : ℕ) (at : BehindByte host job heard byte)
     (place crc : ℕ)
+    -- 65535, where the place would stop to count, is never reached
     (place_is : host.place < 65535 → place ≡ host.place + 1) (crc_is : (bytes : List ℕ) → pec bytes ≡ host.crc
     → crc ≡ pec (bytes ++ byte ∷ [])) where
   place_after : place ≡ length at.inside.bytes + 1
@@ -99,6 +104,7 @@ module _ (host : Host) (job : Job) (heard : List AnsweredSignal) (byte : ℕ) (a
         writing = writing_more host (record host { phase = phases.Byte; place = place; crc = crc }) job heard
             (Byte byte) answers.Ack
             (job_stays host (record host { phase = phases.Byte; place = place; crc = crc }) job refl refl refl
+            -- the byte goes from those to come to those sent,
             inside.writing.job_is) refl refl refl refl inside.writing;
         before = inside.before;
         bytes = inside.bytes ++ byte ∷ [];
@@ -107,9 +113,11 @@ module _ (host : Host) (job : Job) (heard : List AnsweredSignal) (byte : ℕ) (a
         legs_are = inside.legs_are ∙ ap (λ (bs : List ℕ). inside.before ++ (inside.bytes ++ bs) ∷ inside.behind) at.next
             ∙ ap (λ (bs : List ℕ). inside.before ++ bs ∷ inside.behind)
             (sym (append_assoc inside.bytes (byte ∷ []) at.rest));
+        -- the place and the code count it,
         leg_is = inside.leg_is;
         place_is = place_after ∙ sym (length-append inside.bytes (byte ∷ []));
         form_is = inside.form_is;
+        -- and it is the last signal sent
         sent_is = sent_more heard (Byte byte) answers.Ack
             ∙ ap (λ (xs : List HostSignal). xs ++ Byte byte ∷ []) inside.sent_is
             ∙ append_assoc (flat_map leg_signals inside.before) (leg_signals inside.bytes) (Byte byte ∷ [])
@@ -158,6 +166,7 @@ behind_start host job heard leg place crc form result at place_is leg_is form_is
 }
 
 pub leg_after : (host : Host) (job : Job) (heard : List AnsweredSignal) (leg : ℕ) (at : AtLeg host job heard)
+    -- 255: no task has that many legs
     → (host.leg < 255 → leg ≡ host.leg + 1) → leg ≡ length at.before + 1
 leg_after host job heard leg at is =
     let few = at.writing.job_is.few_legs in

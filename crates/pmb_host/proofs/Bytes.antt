@@ -1,4 +1,7 @@
--- The byte of a leg after those that were sent.
+-- The byte that a leg has after those that were sent. For `Host::asking_leg`, `Host::go_on` and
+-- `Host::next_byte`. The leg is made anew at each byte from the task, with the code so far in
+-- place of the packet error code; up to the code's own place both spellings agree, and there the
+-- code is right.
 use Rattle.std.proofs.Common.{◌≡◌, ℕ, ◌-◌, ◌≤◌, Bool, true, false, Option, Some, None, List, [], ◌∷◌, ◌++◌, length}
 use Rattle.std.proofs.Common.{refl, sym, ap, subst, ◌∙◌, arith, suc}
 use Rattle.std.specs.List.{slice_get}
@@ -63,6 +66,7 @@ module _ (host : Host) (job : Job) (heard : List AnsweredSignal) (at : InLeg hos
   in_legs : slice_get (legs_of host.profile.now (transaction_data host.transaction)) (host.leg - 1)
       ≡ Some (at.bytes ++ at.more)
   in_legs =
+      -- the leg's number counts from 1, its place in the list from 0
       let leg_is = at.leg_is in
       let place : host.leg - 1 ≡ length at.before = omega (arith, leg_is) in
       ap (λ p. slice_get (legs_of p (transaction_data host.transaction)) (host.leg - 1)) at.writing.job_is.profile_is

@@ -1,4 +1,6 @@
--- The faults of a read or a call are those of its transaction with a reply that fits.
+-- The faults of a READ or a CALL are those of its transaction with any reply that fits: for the
+-- law `faults_are_those_of_check`. The transaction has one rule more, that its reply fits; a rule
+-- that is kept is never the first one that is broken, so it may be put in or left out.
 use Rattle.std.proofs.Common.{◌≡◌, ◌↔◌, ℕ, inl, inr, Option, Some, None, IfSome, List, [], ◌∷◌, ◌++◌, refl, subst}
 use Rattle.pmb_command.specs.declared.form.Form.{Form}
 use Rattle.pmb_command.specs.Parts.{DeviceParts}

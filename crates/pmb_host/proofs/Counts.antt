@@ -1,5 +1,6 @@
--- How many signals there are at most: 16 legs of at most 259 bytes, or two legs and a reply of at
--- most 257 bytes.
+-- How many signals a task has at most, 4,161: 16 legs of START and at most 259 bytes, and STOP; or
+-- two legs and a reply of at most 257 bytes, each with its Ask and its answer. For the law
+-- `signals_are_few` and the functions that make a host. Each length is an inequality of naturals.
 use Rattle.std.proofs.Common.{◌≡◌, ℕ, ◌+◌, ◌*◌, ◌<◌, ◌≤◌, Bool, true, false, if◌then◌else◌, Option, Some, None, List}
 use Rattle.std.proofs.Common.{[], ◌∷◌, ◌++◌, length, map, flat_map, refl, ap, ◌∙◌, arith, length-append}
 use Rattle.std.specs.List.{AllByRecursion}
@@ -17,6 +18,7 @@ use Rattle.pmb_host.specs.Signals.{AreRead, leg_signals, part_bytes, reading_sig
 
 -- ---- data
 
+-- 255 bytes: the most that a Block has
 -- they have at most 255 bytes
 pub fits_short : (form : Form) (bytes : List ℕ) → Fits form bytes → length bytes ≤ 255
 fits_short Zero bytes fits = let taken = fits.taken in omega (arith, taken)
@@ -56,6 +58,7 @@ pub record IsSmallPart (part : PartData) : Type 0 where
   pub short : length part.bytes ≤ 255
 
 module _ (profile : List DeviceParts) where
+  -- 260: START, the address, the code, a count, 255 bytes, and a packet error code
   part_short : (part : PartData) → IsSmallPart part → length (leg_signals (part_bytes profile part)) ≤ 260
   part_short part small =
       let content = wire_in (forms_at profile part.addr part.code).write part.bytes in
@@ -87,6 +90,7 @@ code_short : (with_pec : Bool) → (if with_pec then 1 else 0) ≤ 1
 code_short false = omega arith
 code_short true = omega arith
 
+-- 257: a count, 255 bytes and a packet error code
 pub read_short : (form : Option Form) (with_pec : Bool) (bytes : List ℕ) → AreRead form with_pec bytes
     → length bytes ≤ 257
 read_short None with_pec bytes none = let no_bytes = ap length none in omega (arith, no_bytes)

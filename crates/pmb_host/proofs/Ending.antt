@@ -1,4 +1,7 @@
--- How it ended is told, and told again.
+-- After STOP the host returns how the request ended, and again at each further call. For
+-- `Host::next`. What the host has kept at STOP (`EndsSo`) is a fault, or the bytes of the reply:
+-- those say the data that are told, and what was recorded is then the packet of the task
+-- (`Recorded`). A reply is known by what is seen of it, so that the same end is told twice.
 use Rattle.std.proofs.Common.{◌≡◌, inl, inr, ◌⊎◌, flat_map, ℕ, ◌+◌, ◌*◌, ◌/◌, ◌%◌, Bool, true, false, Option, Some}
 use Rattle.std.proofs.Common.{None, is_some, List, [], ◌∷◌, ◌++◌, refl, sym, ap, subst, ◌∙◌, arith}
 use Rattle.std.specs.Option.{MatchOption}
@@ -47,10 +50,14 @@ holds_said form true before content read says =
 
 -- they are those of a reply of its form
 record SaysKept (reply : Incoming) (form : Option Form) (content : List ℕ) : Type 0 where
+  -- there is a reply to read,
   pub some : is_some form ≡ true
+  -- it has this form,
   pub of : Form
   pub form_is : form ≡ Some of
+  -- the data fit the form,
   pub fits : Fits of content
+  -- and the bytes that are kept hold them
   pub holds : Holds reply.form content reply.bytes.items
 
 kept_says : (reply : Incoming) (form : Option Form) (with_pec : Bool) (before content read : List ℕ)
@@ -152,7 +159,9 @@ module _ (standing : HostStanding) (heard : List AnsweredSignal) (host : Host) (
   end_told : (fault : Option HostFault) (reply : Option Incoming) (number : Option NumberFormat) (step : HostStep)
       → number ≡ standing.job.number → EndsSo reply fault standing.job heard
       → IsToldOf fault reply number step → IsEnd standing heard step
+  -- a fault is kept: it is returned
   end_told (Some fault) reply number step number_is ends tells = inr (fault, tells, ends)
+  -- nothing was to be read: it returns that all was written
   end_told None None number step number_is ends tells =
       inl (
         Written,
@@ -163,6 +172,7 @@ module _ (standing : HostStanding) (heard : List AnsweredSignal) (host : Host) (
           told = written (no_form (reply_form profile task) (reply_has_pec task) (bytes_read heard) ends.0) refl;
         },
       )
+  -- a reply is kept: its data are returned, as bytes or as the value of a word
   end_told None (Some reply) number step number_is ends tells =
       let kept = kept_says reply (reply_form profile task) (reply_has_pec task) (bytes_before profile task) ends.2.0
       (bytes_read heard) ends.0 ends.2.1 in

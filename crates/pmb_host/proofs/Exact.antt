@@ -1,4 +1,5 @@
--- A host is made exactly where a request has no fault.
+-- A host is made exactly where a request has no fault: for `Host::new`. An allowed request has no
+-- fault, and a request that has one makes no host.
 use Rattle.std.proofs.Common.{◌≡◌, ◌↔◌, Result, Ok, Err, IsOk, MatchResult, List, refl, sym, subst}
 use Rattle.pmb_command.specs.Bus.{IsBus}
 use Rattle.pmb_command.specs.Parts.{DeviceParts}

@@ -1,4 +1,7 @@
--- A request that is allowed has no fault, and any other one first fault at most.
+-- A request that is allowed has no fault, and any other has one first fault at most. For
+-- `Host::new` and the laws `one_first_fault` and `allowed_requests_have_no_fault`. Of the rules
+-- the first broken one is one; of SET and GET there are the number format besides, which is one
+-- for a command, and the range of its codes, of which a quantity is on one side at most.
 use Rattle.std.proofs.Common.{◌≡◌, ℕ, ℤ, Option, Some, None, Result, Ok, Err, List, refl, sym, ap, subst, ◌∙◌, arith}
 use Rattle.std.proofs.lemmas.Int.{ints}
 use Rattle.pmb_coefficients.specs.Coefficients.{Coefficients}

@@ -1,4 +1,7 @@
--- After a whole leg: the next one, the reply, or STOP.
+-- What comes after a whole leg: START of the next one, the first Ask of the reply, or STOP. For
+-- `Host::end_leg`. The host compares its leg's number with the number of legs of the task; where
+-- no leg is left, the signals sent are all legs, and what follows them is said by the form of the
+-- reply.
 use Rattle.std.proofs.Common.{◌≡◌, ℕ, ◌+◌, ◌<◌, ◌≤◌, inl, Bool, true, false, Option, Some, None, is_some, List, [], ◌∷◌}
 use Rattle.std.proofs.Common.{◌++◌, length, flat_map, refl, sym, ap, subst, ◌∙◌, arith, append_assoc, length-append}
 use Rattle.std.specs.Option.{IfSome}

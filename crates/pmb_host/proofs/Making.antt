@@ -1,4 +1,7 @@
--- A host that was just made has what it needs of its task.
+-- A host that was just made has what it needs of its task (`Suits`): few signals, addresses of
+-- seven bits, and a reply with a first byte. For `Host::reader`, `Host::caller`, `Host::getter`,
+-- `Host::of` and the law `signals_are_few`. The rules of an allowed request and of an accepted
+-- profile say each of these.
 use Rattle.std.proofs.Common.{◌≡◌, ℕ, ◌<◌, ◌≤◌, Bool, false, Option, Some, None, IsSome, IfSome, List, [], ◌∷◌, length}
 use Rattle.std.proofs.Common.{map, refl, sym, ap, subst, ◌∙◌, arith}
 use Rattle.std.specs.List.{AllByRecursion}
@@ -30,14 +33,18 @@ use Rattle.pmb_host.proofs.Behind.{pec_of_none}
 use Rattle.pmb_host.proofs.Counts.{IsSmallPart, fits_short, parts_short, read_short, signals_length, two_legs}
 use Rattle.pmb_host.proofs.Counts.{wire_in_short}
 
--- What a host needs of a task: few signals, addresses of seven bits, a reply with a first byte, and a
--- first leg.
+-- What a host needs of a task: few signals, addresses of seven bits, a reply with a first byte,
+-- and a first leg.
 pub record Suits (profile : List DeviceParts) (task : TransactionData) : Type 0 where
+  -- 4,161 is the greatest number of signals (`signals_are_few`)
   pub few : (bytes : List ℕ) → AreRead (reply_form profile task) (reply_has_pec task) bytes
       → length (signals (legs_of profile task) bytes) ≤ 4161
   pub addresses : AreAddresses task
+  -- a write has at most 16 parts
   pub few_legs : length (legs_of profile task) ≤ 16
+  -- the reply has a byte at least
   pub some : IfSome (reply_form profile task) (λ form. 0 < wire_length form [])
+  -- the first leg, and the others
   pub leg : List ℕ
   pub others : List (List ℕ)
   pub legs_are : legs_of profile task ≡ leg ∷ others

@@ -1,4 +1,6 @@
--- By the laws of a format's codes only one is nearest to a quantity.
+-- Of the codes of a number format only one is nearest to a quantity: for `one_word`. By the
+-- format's own laws (`HasOneCode`, `HasOneEvenNeighbour`): two nearest codes would be neighbours
+-- at the same distance, and both even, which two neighbours are not.
 use Rattle.std.proofs.Common.{◌≡◌, ℕ, ◌%◌, ◌<◌, inl, inr, ◌<ℤ◌, sym, arith}
 use Rattle.std.proofs.lemmas.Int.{ints, by_lt_z}
 use Rattle.pmb_quantity.specs.Fraction.{Fraction}

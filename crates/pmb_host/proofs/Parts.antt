@@ -1,4 +1,6 @@
--- The leg of a part.
+-- The leg of one part of a write: for `Host::leg_under_way`. The part is found by its index among
+-- the host's parts, and so is its leg among those of the task: address, code, its bytes on the
+-- wire, and the packet error code if it has one.
 use Rattle.std.proofs.Common.{◌≡◌, ℕ, ◌<◌, Bool, true, false, Option, Some, List, [], ◌∷◌, ◌++◌, map, refl, sym, ap}
 use Rattle.std.proofs.Common.{subst, ◌∙◌, zero, suc}
 use Rattle.std.specs.List.{AllByRecursion, slice_get}

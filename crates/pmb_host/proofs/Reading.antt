@@ -1,4 +1,7 @@
--- The bytes of a reply: whether they are all, and the signals with which they are read.
+-- Whether the bytes of a reply are all, and the signals with which they are read. For
+-- `Host::take`, `Host::ask` and the other steps of a host. As many bytes as the form says, or as
+-- the count of a Block says, are all (`are_all`); of fewer the missing ones can be put in as
+-- zeros, so that one more is to be read (`to_be_read`).
 use Rattle.std.proofs.Common.{◌≡◌, ℕ, ◌+◌, ◌-◌, ◌<◌, ◌≤◌, Bool, if◌then◌else◌, List, [], ◌∷◌, ◌++◌, length, replicate}
 use Rattle.std.proofs.Common.{take, drop, refl, sym, ap, ◌∙◌, arith, length-append, zero, suc}
 use Rattle.std.proofs.lemmas.List.{length-replicate, length-take-le, take-append-drop}
@@ -52,6 +55,7 @@ all_of n form with_pec full small many fits plain =
 
 pub are_all : (form : Form) (with_pec : Bool) (full : List ℕ) → AreByteValues full
     → length full ≡ wire_length form full + code_length with_pec → AreAll form with_pec full
+-- the five forms of a fixed length
 are_all Zero with_pec full small many = all_of 0 Zero with_pec full small many
     (λ reply small many. record { small = small; taken = many }) (λ reply. refl)
 are_all One with_pec full small many = all_of 1 One with_pec full small many
@@ -62,6 +66,7 @@ are_all Four with_pec full small many = all_of 4 Four with_pec full small many
     (λ reply small many. record { small = small; taken = many }) (λ reply. refl)
 are_all Eight with_pec full small many = all_of 8 Eight with_pec full small many
     (λ reply small many. record { small = small; taken = many }) (λ reply. refl)
+-- a Block: its first byte says how many follow
 are_all Block with_pec [] small many = absurd (omega (arith, many))
 are_all Block with_pec (count ∷ bytes) small many =
     let enough : length bytes ≡ count + code_length with_pec = omega (arith, many) in

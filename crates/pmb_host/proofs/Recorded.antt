@@ -1,4 +1,7 @@
--- What is recorded of the signals of a whole request is its packet.
+-- What the bus records of a whole request is the packet of its task. For `Host::next`. Where all
+-- went well the events are known from the signals and the bytes read (`recorded_all`): legs of
+-- acknowledged bytes, the reply with NACK after its last byte, and STOP. That is the packet of a
+-- write, a read or a call, which a request that is allowed has.
 use Rattle.std.proofs.Common.{◌≡◌, ◌≢◌, ℕ, ◌<◌, Bool, Option, Some, None, List, [], ◌∷◌, ◌++◌, map, flat_map, refl, sym}
 use Rattle.std.proofs.Common.{ap, subst, ◌∙◌, arith, append_assoc}
 use Rattle.std.specs.List.{IsDistinct}
@@ -196,21 +199,26 @@ module _ (profile : List DeviceParts) (bus : IsBus profile) where
         ∷ (read_address c.addr ∷ []) ∷ []) ++ (nacked bytes ++ events.Stop ∷ [])
         → CallPacket profile (record { addr = c.addr; code = c.code; bytes = sent; reply = content; pec = c.pec }) es
     call_packet c sent content bytes is_known allows fits kept say is =
+        -- the device, and the form in which it is called
         let found = the_some (device_with c.addr profile) is_known in
         let form = the_some (forms_at profile c.addr c.code).call allows in
+        -- the first leg, and all bytes that the code of the reply covers
         let written = write_address c.addr ∷ c.code ∷ wire form.0 sent in
         let before = written ++ read_address c.addr ∷ [] in
         let asked = leg (read_address c.addr ∷ []) in
+        -- the bytes read are the data on the wire, and the code
         let says : SayReply form.0 c.pec before content bytes =
         subst (λ (f : Option Form). Say f c.pec ((write_address c.addr ∷ c.code ∷ wire_in f sent) ++ read_address c.addr
         ∷ []) content bytes) form.1 say in record {
           device = found.0;
           form = form.0;
           known = found.1;
+          -- the form is that of the command, for what is sent and for the reply
           called = sym (ap (λ shape. shape.call) (forms_here c.addr c.code found.0 found.1)) ∙ form.1;
           sent = subst (λ (f : Option Form). IfSome f (λ form. Fits form sent)) form.1 fits;
           replied = says.fits;
           mode = mode_here c.addr c.pec found.0 found.1 kept;
+          -- the events: the first leg, the read address, and the reply
           spelled = is
               ∙ ap (λ (f : Option Form). flat_map leg ((write_address c.addr ∷ c.code ∷ wire_in f sent)
               ∷ (read_address c.addr ∷ []) ∷ []) ++ (nacked bytes ++ events.Stop ∷ [])) form.1
@@ -233,11 +241,13 @@ module _ (profile : List DeviceParts) (bus : IsBus profile) where
         }) ∷ []) ++ events.Stop ∷ []
         → WritePacket profile (record { addr = c.addr; code = c.code; bytes = word_bytes word; pec = c.pec } ∷ []) es
     word_packet c word is_known written kept small is =
+        -- the device, and the bytes of its leg
         let found = the_some (device_with c.addr profile) is_known in
         let there = (device_is profile c.addr found.0 bus found.1).1 in
         let bytes = word_bytes word in
         let first = leg (part_bytes profile (record { addr = c.addr; code = c.code; bytes = bytes; pec = c.pec })) in
         let body = checked c.pec (write_address found.0.address ∷ []) (c.code ∷ wire Two bytes) in
+        -- the one part: its command is written in form Two
         let part : PartEvents profile (record { addr = c.addr; code = c.code; bytes = bytes; pec = c.pec }) first =
         record {
           device = found.0;
@@ -270,16 +280,20 @@ module _ (profile : List DeviceParts) (bus : IsBus profile) where
       → SaysReply profile (task_of request word) content bytes
       → es ≡ flat_map leg (legs_of profile (task_of request word)) ++ (nacked bytes ++ events.Stop ∷ [])
       → Packet profile (replied (task_of request word) content) es
+  -- a write: its own packet, made of the same legs
   packet_of (WriteParts parts) word number content bytes es allowed says is =
       write_packet es parts allowed.0.0 allowed.0.1
       (is ∙ ap (λ (bs : List ℕ). flat_map leg (map (part_bytes profile) parts) ++ (nacked bs ++ events.Stop ∷ []))
       says.1)
+  -- READ
   packet_of (ReadBytes c) word number content bytes es allowed says is =
       let rules = allowed.0 in
       read_packet es c content bytes rules.0 rules.1.1.0 rules.1.1.1.0 says is
+  -- CALL
   packet_of (CallBytes c sent) word number content bytes es allowed says is =
       let rules = allowed.0 in
       call_packet es c sent content bytes rules.0 rules.1.1.0 rules.1.1.1.0 rules.1.1.1.1.0 says is
+  -- SET: a write of one part, whose word has two bytes
   packet_of (Set c value mode) word number content bytes es allowed says is =
       let set = allowed.0 in
       let two = set_is_word profile bus c value mode word set in
@@ -287,6 +301,7 @@ module _ (profile : List DeviceParts) (bus : IsBus profile) where
       (is ∙ ap (λ (bs : List ℕ). flat_map leg (map (part_bytes profile)
       (record { addr = c.addr; code = c.code; bytes = word_bytes word; pec = c.pec } ∷ []))
       ++ (nacked bs ++ events.Stop ∷ [])) says.1)
+  -- GET: as READ
   packet_of (Get c mode) word number content bytes es allowed says is =
       let rules = allowed.0 in
       read_packet es c content bytes rules.0 rules.1.1.0 (get_mode number allowed.1 allowed.2) says is where

@@ -1,4 +1,7 @@
--- The bytes of a reply: their data, and what one byte more makes of them.
+-- The bytes of a reply: the data that they hold, and what one byte more makes of them. For
+-- `Host::take`, `Host::end_reply` and `Incoming::data`. The form, or the first byte of a Block,
+-- says how many bytes there are on the wire; up to there the bytes are the wire of some data, and
+-- a last byte after them is the packet error code, right or wrong.
 use Rattle.std.proofs.Common.{◌≡◌, ◌≢◌, ℕ, ◌+◌, ◌<◌, ◌≤◌, Bool, true, false, if◌then◌else◌, List, [], ◌∷◌, ◌++◌, length}
 use Rattle.std.proofs.Common.{take, refl, sym, ap, subst, ◌∙◌, arith, length-append, suc}
 use Rattle.std.proofs.Math.Seq.{take-append_seam}
@@ -99,6 +102,7 @@ exactly form with_pec bytes byte short whole =
     let long = length-append bytes (byte ∷ []) in
     omega (arith, more, long, short, whole)
 
+-- 257: a count, 255 bytes and a packet error code
 -- there are at most 257
 pub most : (form : Form) (with_pec : Bool) (bytes : List ℕ) → AreByteValues bytes
     → length bytes < whole_length form with_pec bytes → length bytes < 257

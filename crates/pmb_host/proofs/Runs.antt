@@ -1,4 +1,6 @@
--- A run of a host, signal by signal.
+-- A run of a host, signal by signal: for the loop of `drive`. `IsUnderWay` is its invariant: the
+-- host stands after what it heard, and the wire holds just those signals. A signal of the host and
+-- its answer keep it, and the end that the host tells is that of the run.
 use Rattle.std.proofs.Common.{◌≡◌, ℕ, ◌+◌, ◌≤◌, ◌∙◌, Option, None, Some, Result, Ok, Err, List, [], ◌∷◌, ◌++◌, length}
 use Rattle.std.proofs.Common.{refl, sym, ap, subst, arith, append_assoc, length-append}
 use Rattle.std.specs.Prelude.{◌↔◌, IsOk, MatchResult}
@@ -21,14 +23,19 @@ use Rattle.pmb_host.specs.Run.{Drives, GoesRight, IsRun, beginning}
 abbrev pub going : Job → List AnsweredSignal → Option HostSignal → HostStanding
 going job heard last = record { job = job; heard = heard; last = last; ended = None }
 
--- A run is under way: so many signals were put on the wire, and the host is given the last answer next.
+-- A run is under way: so many signals were put on the wire, and the host is given the last answer
+-- next.
 pub record IsUnderWay (job : Job) (host : Host) (answer : DeviceSignal) (count : ℕ)
     (Before Now : List AnsweredSignal → Type 0) : Type 0 where
+  -- what the host heard, without the last answer
   pub heard : List AnsweredSignal
+  -- the last signal that it sent
   pub last : Option HostSignal
   pub stands : HostStandsAt host (going job heard last)
+  -- on the wire is what was there before, and what the host heard
   pub put : (earlier : List AnsweredSignal) → Before earlier → Now (earlier ++ heard_with (going job heard last) answer)
   pub count_is : length (heard_with (going job heard last) answer) ≡ count
+  -- at most 4,161 signals (`signals_are_few`)
   pub few : count ≤ 4161
 
 -- ---- the first signal

@@ -1,4 +1,8 @@
--- A signal that comes next while all goes well.
+-- A signal is the next one of the task while all goes well (`GoesOn`). For `Host::take`,
+-- `Host::ask`, `Host::start`, `Host::send` and the other steps of a host. The signals of a task
+-- are its legs, the Asks and answers of its reply, and STOP at the end alone: so there are fewer
+-- than 4,161 before another one, none of them STOP, and the place in the legs or in the reply says
+-- which one is next.
 use Rattle.std.proofs.Common.{◌≡◌, ◌≢◌, ℕ, ◌<◌, Bool, Option, Some, None, List, [], ◌∷◌, ◌++◌, length, map, flat_map}
 use Rattle.std.proofs.Common.{refl, sym, ap, subst, ◌∙◌, arith, append_assoc, length-append, suc}
 use Rattle.std.specs.List.{AllByRecursion}

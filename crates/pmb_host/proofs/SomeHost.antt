@@ -1,4 +1,7 @@
--- Each request is allowed, or has a first fault.
+-- Each request is allowed, or has a first fault: the law `allowed_or_fault`. Each rule is decided,
+-- so that all are kept or one is the first broken. For SET and GET, a command has a number format
+-- or none as the profile and VOUT_MODE say, and each format answers each quantity by its own laws:
+-- a nearest code, or below or above its range.
 use Rattle.std.proofs.Common.{◌≡◌, ◌≢◌, ℕ, ℤ, ◌<◌, ◌%◌, ◌^◌, ◌⊎◌, Bool, true, false, Option, Some, None, IsSome, IfSome}
 use Rattle.std.proofs.Common.{Result, Ok, Err, List, refl, sym, ap, subst, inl, inr, arith}
 use Rattle.std.specs.Prelude.{◌/◌, ◌==◌, if◌then◌else◌}
@@ -245,8 +248,10 @@ module _ (profile : List DeviceParts) (bus : IsBus profile) (formed : MakeFormat
       → (number : NumberFormat) → HasNumber profile c mode number
       → IsMade (Set c value mode)
   set_in c value mode positive kept number has =
+      -- the laws of the command's number format decide
       let laws = is_good c mode number has in
       elim (laws.0 value positive) [
+        -- in range: its nearest code is written, and no other is nearest
         | inl inside ↦
             let code = inside.1 in
             inl (
@@ -264,6 +269,7 @@ module _ (profile : List DeviceParts) (bus : IsBus profile) (formed : MakeFormat
                 refl,
               ),
             )
+        -- out of range: below or above
         | inr out ↦
             elim out [
               | inl under ↦ inr (faults.Range Below, outside kept number has (below under refl))

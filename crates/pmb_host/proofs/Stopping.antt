@@ -1,4 +1,6 @@
--- STOP comes next: after what did not go well, or after all.
+-- STOP comes next after what did not go well: a byte that was not acknowledged, or an Ask to which
+-- no byte was given. For `Host::heard_of_byte` and `Host::heard_of_ask`. The signal that failed
+-- was not STOP, so there is room for STOP, and the fault says its place: leg and byte.
 use Rattle.std.proofs.Common.{◌≡◌, ◌≢◌, ℕ, ◌+◌, ◌-◌, ◌<◌, inr, Bool, ◌&&◌, Option, Some, None, is_some, List, [], ◌∷◌}
 use Rattle.std.proofs.Common.{◌++◌, length, flat_map, refl, ap, ◌∙◌, arith, append_assoc, length-append}
 use Rattle.std.specs.Prelude.{nat_eq}
@@ -35,12 +37,14 @@ module _ (host : Host) (job : Job) (heard : List AnsweredSignal) (signal : HostS
     (next : GoesOn job.profile job.task heard signal) (has : HasJob host job) (other : signal ≢ Stop) where
   -- one signal more is not too many
   few_behind : (behind : List HostSignal) → next.behind ≡ behind → length heard + 1 < 4161
+  -- the signal would be the last one of the task, which is STOP
   few_behind [] is =
       let bytes = bytes_read heard ++ next.to_read in
       absurd (other (last_is_stop (flat_map leg_signals (job_legs job) ++ reading_signals bytes)
       (sent_signals heard) signal
       (append_assoc (flat_map leg_signals (job_legs job)) (reading_signals bytes) (Stop ∷ []) ∙ next.spelled
       ∙ ap (λ (xs : List HostSignal). sent_signals heard ++ signal ∷ xs) is)))
+  -- a signal follows in the task: so this one and STOP are not too many
   few_behind (x ∷ behind) is =
       let most = has.few (bytes_read heard ++ next.to_read) next.all in
       let same = ap length (next.spelled ∙ ap (λ (xs : List HostSignal). sent_signals heard ++ signal ∷ xs) is) in
@@ -110,6 +114,7 @@ pub refused_stops : (host : Host) (job : Job) (heard : List AnsweredSignal) (las
     → AtStop (record host { fault = Some (Refused host.leg place at_read) }) job
     (with_signal heard (Byte sent.byte) result)
 refused_stops host job heard last place at_read result sent not_acked place_is at_read_is =
+    -- the byte that was sent, and that it was the next one of the task
     let byte = sent.byte in
     let next = sent.next in
     let has = sent.acked.writing.job_is in
@@ -117,8 +122,10 @@ refused_stops host job heard last place at_read result sent not_acked place_is a
     let bytes = sent.place_is in
     let some = some_incoming host.reply (reply_form job.profile job.task)
     (reply_has_pec job.task) [] sent.acked.writing.empty in
+    -- after it STOP, whatever is answered to it
     gives_up_behind host job heard (Byte byte) next has (λ is. cc is)
     (record host { fault = Some (Refused host.leg place at_read) }) result stays not_acked
+    -- the refusal: which byte of which leg, as the host counts them
     (λ stopped. refused host.leg place at_read (record {
       front = heard;
       refused = byte;

@@ -1,4 +1,7 @@
--- A byte of a reply was given: ACK comes next, or NACK after the last one, and how it then ends.
+-- A byte of a reply was given: ACK comes next, or NACK after the last one, and then STOP and the
+-- end. For `Host::take` and `Host::end_reply`. With the byte the reply is still short, or it is
+-- all (`Reading`); all bytes say some data if the packet error code is right, and none if it is
+-- wrong (`Replies`).
 use Rattle.std.proofs.Common.{◌≡◌, ◌≢◌, ℕ, ◌<◌, ◌≤◌, inl, Bool, true, Option, Some, None, List, [], ◌∷◌, ◌++◌, length}
 use Rattle.std.proofs.Common.{flat_map, refl, sym, ap, subst, ◌∙◌, append_assoc}
 use Rattle.std.proofs.lemmas.List.{append-nil}
@@ -76,6 +79,7 @@ module _ (host : Host) (job : Job) (heard : List AnsweredSignal) (at : InReply h
   small = small_both (bytes_read heard) (byte ∷ []) at.short.small (is_byte, tt)
 
   -- there is room for it
+  -- 257: a count, 255 bytes and a packet error code
   pub has_room : length (bytes_read heard) < 257
   has_room = most form with_pec (bytes_read heard) at.short.small at.short.less
 
@@ -87,8 +91,10 @@ module _ (host : Host) (job : Job) (heard : List AnsweredSignal) (at : InReply h
   module _ (short : length bytes < whole_length form with_pec bytes) where
     pub next_ack : GoesOn job.profile job.task given Ack
     next_ack =
+        -- some bytes that would be all, of which at least one is to come
         let more = to_be_read form with_pec bytes small short in
         let to_read = more.0 ∷ more.1 in
+        -- the signals after the ACK
         let tail = reading_signals to_read ++ Stop ∷ [] in record {
           well = well;
           to_read = to_read;
@@ -96,6 +102,7 @@ module _ (host : Host) (job : Job) (heard : List AnsweredSignal) (at : InReply h
               (sym read_is)
               (subst (λ (f : Option Form). AreRead f with_pec (bytes ++ to_read)) (sym at.short.form_is) more.2);
           behind = tail;
+          -- the task's signals for those bytes, cut after the Ask of this byte
           spelled = ap (λ (bs : List ℕ). signals (job_legs job) (bs ++ to_read)) read_is
               ∙ ap (λ (xs : List HostSignal). legs ++ (xs ++ Stop ∷ []))
               (reading_more (bytes_read heard) byte more.0 more.1)

@@ -1,4 +1,6 @@
--- A command with a number takes two bytes: those of a word.
+-- A command with a number format takes two bytes, those of a word. For `Host::next` (`Recorded`
+-- and `Ending` use it). Each kind with a number fits form Two alone, and the codes of each format
+-- are below 65,536.
 use Rattle.std.proofs.Common.{◌≡◌, ◌≢◌, ℕ, ◌<◌, true, ◌||◌, if◌then◌else◌, Option, Some, None, is_some, List, refl, ap}
 use Rattle.std.proofs.Common.{subst, ◌∙◌, arith}
 use Rattle.std.specs.Prelude.{Ok}

@@ -1,4 +1,6 @@
 //! Whether a host can be made for a request.
+//!
+//! Its rows: `tests_host`, `src/host/faults.rt`; `tests/rows/requests.txt`.
 
 ghost use Rattle.std.specs.Prelude.{◌≡◌, List, MatchResult};
 ghost use Rattle.pmb_command.specs.Bus.{IsEntry};

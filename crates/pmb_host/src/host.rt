@@ -3,6 +3,8 @@
 //! [`HostPhase`] says what comes next, and `leg` and `place` where in the transaction that is: each
 //! byte is found by its place, so that nothing of the transaction is copied. After the legs the
 //! bytes of the reply are kept as they come.
+//!
+//! Its rows: `tests_host`, `src/host/ends.rt`, `src/host/random.rt`; `tests/rows/requests.txt`.
 
 mod end;
 mod legs;

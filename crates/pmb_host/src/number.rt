@@ -1,4 +1,6 @@
 //! The number format of a command.
+//!
+//! Its rows: `tests_host`, `src/host/faults.rt`, `src/host/ends.rt`.
 
 ghost use Rattle.std.specs.Prelude.{◌≡◌, ℕ, ℤ, MatchResult};
 ghost use Rattle.pmb_format.specs.Coding.{IsInRange, IsNearest};

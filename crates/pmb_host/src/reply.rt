@@ -1,4 +1,6 @@
 //! The bytes that a host reads.
+//!
+//! Its rows: `tests_host`, `src/host/ends.rt`, `src/host/answers.rt`.
 
 ghost use Rattle.std.specs.Prelude.{◌≡◌, ◌↔◌, ℕ, List, ◌<◌, ◌≤◌, ◌++◌, ◌∷◌, [], IsTrue, length};
 ghost use Rattle.pmb_command.specs.Wire.{wire_length};

@@ -1,4 +1,6 @@
 //! A whole request on a wire.
+//!
+//! Its rows: `tests_host`, `src/host/longest.rt`, `src/exchange/bench.rt`.
 
 ghost use Rattle.std.specs.Prelude.{List, [], ◌∷◌, ◌++◌};
 ghost use Rattle.pmb_devices.specs.Bus.{AnsweredSignal};

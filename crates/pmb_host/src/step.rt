@@ -1,4 +1,6 @@
 //! What a host does next, and how it ends.
+//!
+//! Its rows: `tests_host`, `src/host/ends.rt`, `src/host/faults.rt`.
 
 use arrayvec::ArrayVec;
 use pmb_device::HostSignal;
@@ -16,7 +18,7 @@ pub enum HostStep {
     Failed(HostFault),
 }
 
-/// What a request came to.
+/// The result of a request.
 #[derive(Clone, Debug, Drop, PartialEq, Eq)]
 pub enum Reply {
     /// All was written.

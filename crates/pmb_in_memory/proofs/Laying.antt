@@ -1,4 +1,5 @@
--- A text laid into a room, piece by piece.
+-- A text laid into a room, piece by piece: for `write_all` of a room. What fits of a piece goes
+-- after the pieces before it; the room stays as large as it was, and its end as it is.
 use Rattle.std.proofs.Common.{◌≡◌, ◌∙◌, ℕ, suc, ◌-◌, min, List, [], ◌∷◌, ◌++◌, take, drop, length, refl, sym, ap, subst}
 use Rattle.std.proofs.Common.{arith}
 use Rattle.std.proofs.Math.Seq.{take-nil, drop-nil}

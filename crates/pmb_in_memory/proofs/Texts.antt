@@ -1,4 +1,5 @@
--- The text of a whole input, as the laws on it say it.
+-- The text of a whole input, as the laws of each task say it: for the law `one_text`. A run that
+-- ended, or that wanted no more, has written what the task's own definition says.
 use Rattle.std.proofs.Common.{ℕ, List, inl, inr}
 use Rattle.pmb_build.specs.Lines.{BuildsInput, building}
 use Rattle.pmb_capture.specs.Check.{Checks, checking}

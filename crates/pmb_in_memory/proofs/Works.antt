@@ -1,4 +1,5 @@
--- A run over a source without bytes.
+-- A run over a source without bytes, as one over the whole input that is given at once: for
+-- `work_under`. Nothing is read, so what is written belongs to that input.
 use Rattle.std.proofs.Common.{◌≡◌, ◌++◌, ◌∷◌, [], ◌∙◌, ℕ, true, Some, List, Result, Ok, Err, inl, inr, refl, ap, subst}
 use Rattle.std.proofs.Common.{append-nil, arith}
 use Rattle.pmb_io.specs.declared.fault.ToolFault.{ToolFault}

@@ -1,4 +1,6 @@
 //! Why a whole input was not worked on to its end.
+//!
+//! Its rows: `tests_tasks`, `src/whole.rt`.
 
 ghost use Rattle.std.specs.Prelude.{◌≡◌};
 ghost use Rattle.pmb_in_memory.specs.Fault.{of_profile, of_tool};

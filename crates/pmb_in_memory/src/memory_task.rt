@@ -1,4 +1,6 @@
 //! What is done with a whole input.
+//!
+//! Its rows: `tests_tasks`, `src/whole.rt`.
 
 /// What is done with a whole input, as the subcommand of that name does it.
 #[derive(Clone, Copy, Debug, PartialEq, Eq)]

@@ -1,4 +1,6 @@
 //! What is told of a text that was put into a room.
+//!
+//! Its rows: `tests_tasks`, `src/whole.rt`.
 
 ghost use Rattle.std.specs.Prelude.{◌≡◌};
 ghost use Rattle.pmb_in_memory.specs.Put.{put_of};

@@ -1,4 +1,6 @@
 //! A whole input worked on, under a profile's text.
+//!
+//! Its rows: `tests_tasks`, `src/whole.rt`.
 
 ghost use Rattle.std.specs.Prelude.{◌≡◌, IfOk};
 ghost use Rattle.pmb_json.specs.Json.{json_job};

@@ -1,4 +1,5 @@
--- The lines of a text that goes on begin with those that had ended.
+-- The lines of a text that goes on begin with those that had ended: the law `ended_lines_stay`.
+-- More bytes make the line under way longer or end it, and leave those before it.
 use Rattle.std.proofs.Common.{◌≡◌, ℕ, true, false, cond, eqb, List, [], ◌∷◌, ◌++◌, map, refl, ◌∙◌, ap, append_assoc}
 use Rattle.std.proofs.lemmas.List.{map-append}
 use Rattle.pmb_io.specs.Lines.{LinesGoOn, cut, ended_line, ended_lines, last_lines, line_feed, lines_of, longer}

@@ -1,4 +1,7 @@
--- Lines of a text that grows by a byte, and lines of which only a front is kept.
+-- Lines of a text that grows by a byte, and lines of which only a front is kept. For
+-- `LinesEngine::take`, `without_return` and the laws `lines_are_the_text` and
+-- `one_return_is_dropped`. An LF ends the line under way, any other byte belongs to it; a longer
+-- line than is kept is known by its front and a flag.
 use Rattle.std.proofs.Common.{◌≡◌, ◌≢◌, ℕ, zero, suc, ◌<◌, Bool, true, false, cond, eqb, nat_lt, List, [], ◌∷◌, ◌++◌}
 use Rattle.std.proofs.Common.{length, slice_index, take, drop, ◌+◌, ◌-◌, add-one, drop-cons, take-append-drop}
 use Rattle.std.proofs.Common.{length-drop, refl, sym, ap, ◌∙◌, inl, inr, append_assoc, append-nil, arith, eq-eqb}

@@ -1,4 +1,6 @@
--- Lines that are handed on as their bytes come.
+-- Lines that are handed on as their bytes come: for `Lines::new`, `take_ended` and
+-- `LinesEngine::take`. What stands between calls (`StandsInLine`) is the front of the line under
+-- way and whether it is longer; bytes without an LF make it longer, and an LF hands it on.
 use Rattle.std.proofs.Common.{◌≡◌, ℕ, Bool, false, nat_lt, List, [], ◌∷◌, ◌++◌, length, map, take, refl, sym, ◌∙◌, ap}
 use Rattle.std.proofs.Common.{subst, append_assoc, arith}
 use Rattle.std.proofs.Math.Seq.{take-nil}

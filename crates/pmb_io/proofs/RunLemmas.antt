@@ -1,4 +1,6 @@
--- How a run ends, and what a run of one job says of another.
+-- How a run ends, by its job, by a failed read or write, or after too many reads, and what a run
+-- of one job says of another. For `each_piece` and `each_line`. Each end raises one count or none,
+-- and a job that asks for less is met by the same run.
 use Rattle.std.proofs.Common.{◌≡◌, ◌≤◌, ℕ, Result, Ok, Err, OnOk, List, ◌++◌, length, inl, inr, refl, ap, subst, sym}
 use Rattle.std.proofs.Common.{◌∙◌, arith}
 use Rattle.std.specs.Prelude.{IsErrAnd}

@@ -1,4 +1,7 @@
--- A run over a reader and a writer, piece by piece.
+-- A run over a reader and a writer, piece by piece: for `each_piece`, `take_piece`, `next_piece`,
+-- `LinesEngine::take` and the laws `counts_add_up` and `reads_add_up`. What was read and put out
+-- so far grows by a piece and its text; counts of reads and bytes go along, and stay at the
+-- greatest.
 use Rattle.std.proofs.Common.{◌≡◌, ℕ, ◌+◌, ◌<◌, ◌≤◌, ◌≢◌, min, Option, Ok, List, [], ◌++◌, length, length-take-le, take}
 use Rattle.std.proofs.Common.{inl, inr, sym, ◌∙◌, ap, subst, refl, append_assoc, append-nil, length-append, arith}
 use Rattle.std.specs.Io.KnownBytes.{Consumes}
@@ -138,10 +141,12 @@ module _ {R W : Type 0} (reader_told : R → ReaderTold) (writer_told : W → Wr
   stops_behind Held Holds IsOpen first piece old mid new so_far is_open consumed given one_read small written = record {
     through = takes_more Held Holds first piece (told_by reader_told writer_told old)
         (told_by reader_told writer_told mid) (told_by reader_told writer_told new) so_far consumed given written;
+    -- nothing was left open before this piece:
     in_time = inr (record {
       before = so_far.read;
       piece = piece;
       whole = refl;
+      -- what was read before it, and the piece, of at most one read
       is_open = is_open;
       middle = mid.0;
       gave_before = record { consumed = so_far.consumed; given = so_far.given };

@@ -1,4 +1,6 @@
--- What a writer and a reader are left with after one call and then another.
+-- What a writer and a reader are left with after one call and then another: bytes are appended and
+-- consumed in turn. For `IoSink::write_all`, the law `texts_add_up` and all that runs over both.
+-- Where their bytes are known, what was held is what is held before the new ones.
 use Rattle.std.proofs.Common.{◌≡◌, ℕ, ◌<◌, ◌≢◌, ◌∙◌, Bool, true, false, length, Option, Some, None, Result, Ok, Err}
 use Rattle.std.proofs.Common.{OnOk, List, [], ◌++◌, sym, ap, subst, refl, append_assoc, append-nil, take, drop}
 use Rattle.std.proofs.Common.{take-append-drop, rules, arith}
@@ -88,6 +90,7 @@ told_no_end false new count buffer told some = grind (arith, nat_tests)
 
 -- and these are left of them
 pub record WritesUpTo (held_old held_new : Option (List ℕ)) (bytes rest : List ℕ) : Type 0 where
+  -- what went out
   pub sent : List ℕ
   pub whole : bytes ≡ sent ++ rest
   pub appended : Appends held_old held_new sent

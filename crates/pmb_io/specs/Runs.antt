@@ -99,7 +99,7 @@ module _ {R W : Type 0} (reader_told : R → ReaderTold) (writer_told : W → Wr
       Ended (job.Whole answer) first (told_by reader_told writer_told old) (told_by reader_told writer_told new)
       ⊎ Stopped (job.Stops answer) job.IsOpen first old new
 
-  -- A part of it is done, of an input that may go on.
+  -- A part of it is done, of an input that may continue.
   abbrev pub PartDone : {A : Type 0} → Job A → List ℕ → R × W → R × W → Type 0
   PartDone job first old new = Through job.Front first (told_by reader_told writer_told old)
       (told_by reader_told writer_told new)

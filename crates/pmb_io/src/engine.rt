@@ -11,7 +11,7 @@ use crate::sink::Sink;
 /// Whether an engine wants more of its input.
 #[derive(Clone, Copy, Debug, PartialEq, Eq)]
 pub enum Flow {
-    /// It goes on with what follows.
+    /// It takes what follows.
     More,
     /// What follows changes nothing.
     Stop,
@@ -23,7 +23,7 @@ pub enum Flow {
 /// Each relation is between an engine that was given nothing, the engine that it has become, the
 /// bytes that it was given meanwhile, and the text that it has put out for them.
 pub trait Engine {
-    /// The bytes may go on.
+    /// More bytes may follow.
     ghost Stands: { Self → Self → List ℕ → List ℕ → Type 0 };
 
     /// The engine wants no more, whatever follows: `stops_for_good` is the law.

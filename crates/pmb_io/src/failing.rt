@@ -1,3 +1,7 @@
+//! A reader or writer for tests, whose calls can be made to fail.
+//!
+//! Its rows: `tests_bytes`, `src/io/giving.rt`, `src/io/waiting.rt`; `tests/rows/failures.txt`.
+
 ghost use Rattle.std.specs.Prelude.{◌<◌};
 
 use crate::count::raised;

@@ -1,4 +1,6 @@
 //! What goes wrong with a reader or a writer, and with a run over them.
+//!
+//! Its rows: `tests_bytes`, `src/io/faults.rt`, `src/io/interrupted.rt`.
 
 use thiserror::Error;
 

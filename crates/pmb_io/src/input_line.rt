@@ -1,4 +1,6 @@
 //! Lines of an input.
+//!
+//! Its rows: `tests/rows/lines.txt`, `tests/rows/requests.txt`, `tests/rows/numbers.txt`.
 
 ghost use Rattle.std.specs.Prelude.{◌≡◌};
 ghost use Rattle.pmb_io.specs.Lines.{without_cr};

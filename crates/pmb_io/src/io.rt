@@ -1,4 +1,6 @@
 //! A reader or a writer of the standard library that tells what it did.
+//!
+//! Its rows: `tests_bytes`, `src/io/interrupted.rt`.
 
 use crate::count::raised;
 use crate::fault::IoFault;

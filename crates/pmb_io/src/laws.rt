@@ -13,7 +13,7 @@ pub fn lines_are_the_text()
     ensures { (bytes : List ℕ) → IsCut bytes (cut bytes) }
 {}
 
-/// The lines of a text that goes on begin with those that had ended in it.
+/// The lines of a text that continues begin with those that had ended in it.
 pub fn ended_lines_stay()
     ensures { (most : ℕ) (bytes more : List ℕ) → LinesGoOn (ended_lines most bytes) (lines_of most (bytes ++ more)) }
 {}

@@ -2,6 +2,8 @@
 //!
 //! A line that lies whole in a piece is lent from there. Of one that is cut by pieces as much is kept
 //! as a line may have, and whether it has more: it is handed on when its LF comes, or the end.
+//!
+//! Its rows: `tests/rows/lines.txt`, `tests/rows/requests.txt`, `tests/rows/failures.txt`.
 
 ghost use Rattle.std.specs.Prelude.{◌≡◌, ℕ, ◌++◌, ◌∷◌, [], false, List, OnOk, length, nat_lt, take};
 ghost use Rattle.pmb_io.specs.Calls.{WriterTells};

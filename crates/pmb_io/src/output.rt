@@ -1,4 +1,6 @@
 //! Text on its way to a writer, in a buffer of fixed size.
+//!
+//! Its rows: `tests_bytes`, `src/io/waiting.rt`.
 
 ghost use Rattle.std.specs.Prelude.{◌≡◌, ◌+◌, ◌<◌, ◌≤◌, ◌++◌, [], length, Ok, OnOk, OnErr};
 ghost use Rattle.pmb_io.specs.Calls.{WriterTells, AppendsFront};

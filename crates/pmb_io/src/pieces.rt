@@ -1,4 +1,6 @@
 //! The loop over what a reader gives.
+//!
+//! Its rows: `tests/rows/captures.txt`, `tests/rows/failures.txt`.
 
 ghost use Rattle.std.specs.Prelude.{◌≡◌, ◌≤◌, ◌<◌, ℕ, List, length, [], ◌++◌, IfOk, OnOk};
 ghost use Rattle.std.specs.Io.KnownBytes.{ReadConsumes};

@@ -1,4 +1,6 @@
 //! What bytes are written to.
+//!
+//! Its rows: `tests_bytes`, `src/io/interrupted.rt`.
 
 ghost use Rattle.std.specs.Prelude.{OnOk, OnErr};
 ghost use Rattle.std.specs.Io.KnownBytes.{Appends};

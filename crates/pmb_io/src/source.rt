@@ -1,4 +1,6 @@
 //! What bytes are read from.
+//!
+//! Its rows: `tests_bytes`, `src/io/giving.rt`, `src/io/interrupted.rt`.
 
 ghost use Rattle.std.specs.Prelude.{◌≤◌, length, IfOk};
 ghost use Rattle.std.specs.Io.KnownBytes.{ReadConsumes};

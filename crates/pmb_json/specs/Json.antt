@@ -23,7 +23,7 @@ pub record EndsInShortBadWord (bytes : List ℕ) : Type 0 where
   pub short : length word < 32
 
 -- More is wanted of bytes that begin some text that spells events, and of those that end in such a
--- word; and always where reading goes on after bad words.
+-- word; and always where reading continues after bad words.
 abbrev pub IsOpenJson : AfterBadToken → List ℕ → Type 0
 IsOpenJson End bytes = BeginsText bytes ⊎ EndsInShortBadWord bytes
 IsOpenJson Continue bytes = Unit {0}

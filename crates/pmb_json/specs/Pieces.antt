@@ -43,7 +43,7 @@ EachSaysNoMore (piece ∷ pieces) [] = ⊥
 EachSaysNoMore (piece ∷ pieces) (whole ∷ others) = SaysNoMore piece whole × EachSaysNoMore pieces others
 
 -- After such bytes a capture can be cut, so that the rest is read late: they spell events of which
--- the last is STOP, no word and no comment goes on, and what they tell of PAGE and VOUT_MODE is
+-- the last is STOP, they end in no word and no comment, and what they tell of PAGE and VOUT_MODE is
 -- what each device can have where the rest begins.
 pub record CanBeCutBehind (profile : List DeviceParts) (start : Start) (front : List ℕ) : Type 0 where
   pub events : List Event

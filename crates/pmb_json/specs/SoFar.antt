@@ -12,7 +12,7 @@ use Rattle.pmb_json_stream.specs.Choice.{ChoiceData}
 use Rattle.pmb_json_stream.specs.Spans.{event_place, span_objects}
 use Rattle.pmb_json.specs.Text.{BadLine, GoesOn, IsBadLine, IsBehindLine, bad_line_objects, behind_line, front_objects}
 
--- The word of a bad line goes on where the bytes end, and fewer than 32 of its bytes have come.
+-- The bytes end inside the word of a bad line, and fewer than 32 of its bytes have come.
 abbrev pub IsUnderWay : List ℕ → List ℕ → Type 0
 IsUnderWay line rest = (rest ≡ []) × (front_word line ≡ line) × (length line < 32)
 
@@ -32,15 +32,15 @@ module _ (choice : ChoiceData) (profile : List DeviceParts) where
     pub reads : SpansFrom profile b.n events spans
     pub all : objects ≡ span_objects choice profile (event_place b.read b.n bytes) b.ts (filter is_whole spans)
 
-  -- A bad word that goes on at the end of the bytes waits until 32 of its bytes have come; then, or
-  -- where it has ended, its object is out.
+  -- A bad word that has not ended at the end of the bytes waits until 32 of its bytes have come;
+  -- then, or where it has ended, its object is out.
   abbrev pub IsOutOf : Before → BadLine → List ℕ → List Object → Type 0
   IsOutOf b bad rest objects =
       (IsUnderWay bad.line rest × (objects ≡ front_objects choice profile b bad))
       ⊎ ((IsUnderWay bad.line rest → ⊥) × (objects ≡ bad_line_objects choice profile b bad))
 
-  -- The objects so far of bytes from there on, with these bad lines. Reading goes on after bad
-  -- lines, as it is wanted.
+  -- The objects so far of bytes from there on, with these bad lines. Reading continues after bad
+  -- lines, if that is wanted.
   abbrev pub SoFarFrom : AfterBadToken → Before → List ℕ → List BadLine → List Object → Type 0
   SoFarFrom after b bytes [] objects = ReadsSoFar b bytes objects
   SoFarFrom after b bytes (bad ∷ more) objects =

@@ -52,7 +52,7 @@ abbrev pub IsBehindLine : List ℕ → Type 0
 IsBehindLine [] = Unit {0}
 IsBehindLine (byte ∷ bytes) = byte ≡ character "\n"
 
--- What holds where reading begins anew after a LF, if it is to go on there and there is one; and
+-- What holds where reading begins anew after a LF, if it is to continue there and there is one; and
 -- else.
 abbrev pub GoesOn : AfterBadToken → List ℕ → (List ℕ → Type 0) → Type 0 → Type 0
 GoesOn End rest Holds Else = Else
@@ -92,7 +92,7 @@ module _ (choice : ChoiceData) (profile : List DeviceParts) where
   bad_line_objects b bad = front_objects b bad ++ word_object b bad ∷ []
 
   -- The objects of bytes from there on, with these bad lines, and what was counted after all.
-  -- Reading ends at the first bad line, or, where it is to go on, begins anew after each.
+  -- Reading ends at the first bad line, or, where it is to continue, begins anew after each.
   abbrev pub ObjectsFrom : AfterBadToken → Before → List ℕ → List BadLine → List Object → CountsData → Type 0
   ObjectsFrom after b bytes [] objects counts = ReadsToEnd b bytes objects counts
   ObjectsFrom after b bytes (bad ∷ more) objects counts =

@@ -149,7 +149,7 @@ impl<'p> Json<'p> {
         }
     }
 
-    /// Takes bytes that go on with a bad word and its line, up to the end of the line.
+    /// Takes the next bytes of a bad word and its line, up to the end of the line.
     fn take_bad_word<'b, W: Sink>(
         &mut self,
         bytes: &'b [u8],

@@ -2,7 +2,7 @@
 //!
 //! [`json`] writes an object for each packet, each refusal and each word that is no token, as soon
 //! as it has ended, and at the end how often each device came. After a word that is no token
-//! reading ends, or goes on with the next line ([`AfterBadToken`]).
+//! reading ends, or continues with the next line ([`AfterBadToken`]).
 //!
 //! ```rust
 //! let choice = Choice { digits: Digits::default(), start: Start::AllKnown, devices: &[] };

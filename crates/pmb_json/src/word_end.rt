@@ -16,7 +16,7 @@ fn ends_word(byte: u8) -> bool
     matches!(byte, b' ' | b'\t' | b'\n' | b'\r' | b'#')
 }
 
-/// How many bytes go on with a word that has so many, up to its end and to 32 in all.
+/// How many bytes belong to a word that has `had` already, up to its end and to 32 in all.
 pub(crate) fn word_bytes(bytes: &[u8], had: usize) -> usize
     requires { had ≤ 32 }
     ensures within { result ≤ length bytes.now }

@@ -32,7 +32,8 @@ const LEG_MEMBER: usize = TEXT_MEMBER + 2 * 258;
 const WRITTEN_MEMBERS: usize = COMMAND_MEMBERS + LEG_MEMBER;
 
 /// Appends the line of a refusal: at which event, where its word stands, why and what was expected,
-/// which event it is (`None` where the events end), and what the packet before it has said.
+/// which event it is (`None` where the events end), and the device, bytes and error code of the
+/// packet before it.
 pub fn refusal_line<const N: usize>(
     out: &mut ArrayVec<u8, N>,
     seen: &Seen<'_>,

@@ -88,7 +88,7 @@ impl<'p> Stream<'p> {
         }
     }
 
-    /// Puts out the objects of parts, each at its START, as parts of so many.
+    /// Puts out the objects of parts, each at its START, with the total number of parts.
     fn put_parts<W: Sink>(
         &self,
         parts: &[Part],

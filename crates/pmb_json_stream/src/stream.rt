@@ -1,7 +1,7 @@
 //! What is known of a capture so far.
 //!
-//! A `Stream` outlasts the scans of a capture: where a word is no token and reading begins anew,
-//! its places, its counts, and what it knows of PAGE and VOUT_MODE go on.
+//! A `Stream` outlasts the scans of a capture: where a word is no token and reading begins anew, it
+//! keeps its places, its counts, and what it knows of PAGE and VOUT_MODE.
 
 ghost use Rattle.std.specs.Prelude.{◌≡◌, ◌+◌, ◌≤◌, length, take};
 ghost use Rattle.pmb_bus.specs.Text.{EndsBetween, open_word};
@@ -53,7 +53,7 @@ pub struct Stream<'p> {
     pub(crate) count: u64,
     pub(crate) places: Places,
     pub(crate) word: OpenWord,
-    /// What the packet under way has said, and its STARTs.
+    /// Device, bytes and error code of the unfinished packet, and its STARTs.
     pub(crate) said: PartialPacket,
     pub(crate) begun: ArrayVec<Begun, 17>,
     /// Whether events are passed over, after a refusal.

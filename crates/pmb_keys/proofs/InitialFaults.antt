@@ -1,4 +1,5 @@
--- The faults of `initial`.
+-- The faults of the key `initial` are all BadInitial: for `read_command`. Each step that reads it
+-- tests one thing with that fault, so what is claimed of other faults need not speak of them.
 use Rattle.std.proofs.Common.{◌≡◌, ◌≢◌, ℕ, List, Bool, true, false, Option, Some, None, Result, Ok, Err, refl, not}
 use Rattle.std.proofs.Common.{nat_eq, ◌||◌, is_some, length}
 use Rattle.std.specs.Prelude.{IfErr}

@@ -1,4 +1,6 @@
 //! The command that the keys of a command's table change.
+//!
+//! Its rows: `tests/rows/profiles.txt`.
 
 ghost use Rattle.std.specs.Prelude.{◌≡◌, ℕ, Some, None, Ok, IfOk, option_map, codes};
 ghost use Rattle.toml.specs.Data.{get_member};

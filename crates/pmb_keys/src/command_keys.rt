@@ -1,4 +1,6 @@
 //! What a table of a profile says of one command.
+//!
+//! Its rows: `tests_tasks`, `src/profiles.rt`; `tests/rows/profiles.txt`, `tests/rows/forms.txt`.
 
 ghost use Rattle.std.specs.Prelude.{◌≡◌, ◌≢◌, ◌⊎◌, ◌%◌, Ok, Err, IfOk, IfErr, IfSome, length, not, option_map, map, codes, nat_eq};
 ghost use Rattle.std.specs.List.{list_any};

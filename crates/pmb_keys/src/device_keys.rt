@@ -1,4 +1,6 @@
 //! What a table of a profile says of one device, apart from its commands.
+//!
+//! Its rows: `tests_tasks`, `src/profiles.rt`; `tests/rows/profiles.txt`.
 
 ghost use Rattle.std.specs.Prelude.{◌≡◌, ◌≤◌, true, Ok, IfOk, codes, nat_eq};
 ghost use Rattle.pmb_command.specs.Bus.{IsDeviceAddress};

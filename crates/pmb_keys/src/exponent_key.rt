@@ -1,4 +1,6 @@
 //! What a command's table says of the exponent of its numbers.
+//!
+//! Its rows: `tests/rows/forms.txt`.
 
 ghost use Rattle.std.specs.Prelude.{◌≡◌, Ok};
 ghost use Rattle.toml.specs.View.{table_view};

@@ -1,4 +1,6 @@
 //! Why a text is no profile.
+//!
+//! Its rows: `tests/rows/profiles.txt`.
 
 /// What is wrong with a profile. Where several things are, the first one is told, in the order in
 /// which `docs/profiles.md` gives the rules.

@@ -1,4 +1,6 @@
 //! The bytes that a register begins with.
+//!
+//! Its rows: `tests/rows/forms.txt`, `tests/rows/profiles.txt`.
 
 ghost use Rattle.std.specs.Prelude.{◌≡◌, ◌≢◌, ◌⊎◌, ◌%◌, ◌↔◌, length, Ok, Err, IfOk};
 ghost use Rattle.pmb_command.specs.Bus.{IsInitial};

@@ -1,4 +1,6 @@
 //! What a command's table says of its kind.
+//!
+//! Its rows: `tests/rows/forms.txt`, `tests/rows/profiles.txt`.
 
 ghost use Rattle.std.specs.Prelude.{◌≡◌, Ok, codes};
 ghost use Rattle.toml.specs.Data.{get_member};

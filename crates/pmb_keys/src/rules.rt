@@ -1,4 +1,6 @@
 //! How the keys of a TOML table are ruled.
+//!
+//! Its rows: `tests_tasks`, `src/profiles.rt`; `tests/rows/profiles.txt`.
 
 ghost use Rattle.std.specs.Prelude.{◌≡◌, ◌≢◌, pos, negsuc, ◌≤ℤ◌, map, option_map, Ok, IfOk, IfSome, ◌≤◌, codes};
 ghost use Rattle.std.specs.List.{list_any, list_all};

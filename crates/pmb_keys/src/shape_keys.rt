@@ -1,4 +1,6 @@
 //! What a command's table says of its forms.
+//!
+//! Its rows: `tests/rows/forms.txt`, `tests/rows/profiles.txt`.
 
 ghost use Rattle.std.specs.Prelude.{◌≡◌, codes};
 ghost use Rattle.toml.specs.View.{table_view};

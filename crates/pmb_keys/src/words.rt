@@ -1,4 +1,6 @@
 //! The words for forms and kinds.
+//!
+//! Its rows: `tests/rows/forms.txt`, `tests/rows/profiles.txt`.
 
 ghost use Rattle.std.specs.Prelude.{◌≡◌, option_map};
 ghost use Rattle.pmb_keys.specs.Rules.{named};

@@ -1,4 +1,7 @@
--- What is built of the lines that are shown.
+-- What is built of the lines that are shown is the capture: the laws `shown_is_built_again` and
+-- `runs_are_captures`. Where nothing was refused, the outcomes are transactions; each is shown as
+-- a line with its note as a comment, which spells the transaction again, so that its packet is
+-- built.
 use Rattle.std.proofs.Common.{◌≡◌, ◌≢◌, ℕ, ◌+◌, ◌≤◌, cond, List, [], ◌∷◌, ◌++◌, length, append-nil, inl, inr, refl, sym}
 use Rattle.std.proofs.Common.{◌∙◌, ap, subst, arith}
 use Rattle.std.specs.Prelude.{codes, count_by, map, not}
@@ -66,6 +69,7 @@ module _ (profile : List DeviceParts) where
 
   -- ---- lines that are built
 
+  -- 12,544 bytes are the most that a transaction's line has, 8,192 those of a note
   module _ (comment_spells : (t : TransactionData) (events : List Event) (comment : List ℕ) → Packet profile t events
       → SpellsTransaction (texts_of (line_words (line t ++ (codes " # " ++ comment)))) t)
       (line_one : (t : TransactionData) → All (λ b. b ≢ 10) (line t))
@@ -76,9 +80,12 @@ module _ (profile : List DeviceParts) where
       → Packet profile t events → length (note profile before t) ≤ 8192) where
     -- What is answered to the lines of transactions after others.
     record Answered (lines : List TextLine) (ts : List TransactionData) (events : List Event) : Type 0 where
+      -- the answers, one to each line,
       answers : List BuildAnswer
       each : BuildsEach profile lines answers
+      -- whose text is that of the events,
       text : (n : ℕ) → canonical_text events ≡ answers_behind n answers
+      -- all of them built
       built : count_by is_built answers ≡ length ts
       refused : count_by is_refused answers ≡ 0
 
@@ -91,17 +98,20 @@ module _ (profile : List DeviceParts) where
       built = refl;
       refused = refl;
     }
+    -- the first transaction's line, with its note, and the lines of the others
     answered before (t ∷ ts) events capture =
         let first = capture.0 in
         let packet = capture.3 in
         let others = answered (before ++ t ∷ []) ts capture.1 capture.4 in
         let rest = noted_behind profile (before ++ t ∷ []) ts in
+        -- cut at its LF, it is the first line, and short enough
         let lines : lines_of most_build_line (noted_behind profile before (t ∷ ts)) ≡ Ended (said profile before t)
         ∷ lines_of most_build_line rest =
         ap (lines_of most_build_line) (shown_first profile before ts t)
         ∙ first_line most_build_line (said profile before t) rest
         (said_has_no_lf profile before t (line_one t) (note_one before t first packet))
         (said_is_short profile before t (line_short t first packet) (note_short before t first packet)) in
+        -- it is one that is built
         let one : count_by is_built (Built first ∷ others.answers) ≡ 1 + count_by is_built others.answers =
         sum_by-cons (λ (a : BuildAnswer). cond (is_built a) 1 0) (Built first) others.answers in
         let no_more : count_by is_refused (Built first ∷ others.answers) ≡ 0 + count_by is_refused others.answers =
@@ -123,13 +133,16 @@ module _ (profile : List DeviceParts) where
         → Shows profile bytes text tally → tally.refusals ≡ 0
         → BuildsInput profile tally text (canonical_text events)
     built_again one_spelling bytes text events tally spells (inl all) none =
+        -- the transactions that were shown,
         let ts = accepted_in all.outcomes in
         let outcomes_are = all_accepted all.outcomes (omega (arith, none, all.counts.refusals_counted)) in
         let same = one_spelling bytes all.events events all.spells spells in
         let reads = subst (λ (os : List Outcome). Reading profile all.events os) outcomes_are all.reads in
+        -- whose lines are the text
         let lines : text ≡ noted_lines profile ts = all.lines
         ∙ append-nil (text_behind (shown_output profile) [] all.outcomes)
         ∙ ap (text_behind (shown_output profile) []) outcomes_are ∙ shown_of [] ts in
+        -- so each of them is built
         let is = answered [] ts all.events (capture_of 0 ts all.events reads) in
         let packets : packets_in all.outcomes ≡ length ts = ap packets_in outcomes_are ∙ packets_are_all ts in
         record {

@@ -1,4 +1,5 @@
--- Results and faults are written without a LF.
+-- Results and faults are written without an LF: for the law `runs_are_captures`. They are written
+-- as comments, which an LF would end; digits, hyphens and words have none (LF is byte 10).
 use Rattle.std.proofs.Common.{◌≡◌, ℕ, zero, suc, ◌+◌, ◌*◌, ◌/◌, ◌%◌, ◌^◌, ◌<◌, Bool, true, false, not, ◌==◌, nat_lt}
 use Rattle.std.proofs.Common.{Option, Some, None, ℤ, pos, negsuc, unsigned_abs, List, [], ◌∷◌, ◌++◌, refl, arith}
 use Rattle.std.specs.Prelude.{codes, decimal, flat_map}

@@ -1,4 +1,6 @@
--- What `run` writes is the capture of what it recorded.
+-- What `run` writes is the capture of what it recorded: the law `runs_are_captures`. Each answer's
+-- text is the canonical text of a packet and then comments, or comments alone, so that the whole
+-- spells the packets one after the other, and `check` counts them.
 use Rattle.std.proofs.Common.{◌≡◌, ℕ, ◌+◌, cond, true, inl, inr, List, [], ◌∷◌, ◌++◌, length, map, refl, sym, ap, subst}
 use Rattle.std.proofs.Common.{◌∙◌, append_assoc, arith}
 use Rattle.std.specs.Prelude.{codes, decimal, not}
@@ -77,7 +79,9 @@ module _ (profile : List DeviceParts) where
 
   -- what is recorded is a packet, and its result is written without a LF
   record IsRecorded (t : TransactionData) (events : List Event) (result : List ℕ) : Type 0 where
+    -- the events are the transaction's packet,
     packet : Packet profile t events
+    -- and its result has no LF
     one : no_lf result ≡ true
 
   recorded_text : (before : List TransactionData) (line : List ℕ) (t : TransactionData) (events : List Event)
@@ -120,6 +124,7 @@ module _ (profile : List DeviceParts) where
     captured before [] [] each = record { events = []; capture = refl; spells = λ n. refl }
     captured before [] (answer ∷ answers) each = absurd each
     captured before (line ∷ lines) [] each = absurd each
+    -- a transaction was recorded: its packet, and the comment with its result
     captured before (line ∷ lines) (Recorded t events result ∷ answers) each =
         let first = recorded before line t events result each.0 in
         let others = captured (before ++ t ∷ []) lines answers each.1 in
@@ -133,6 +138,7 @@ module _ (profile : List DeviceParts) where
               (events_first events (result_line result ++ rest) others.events (packets_are_bytes t events first.packet)
               (result_first result rest others.events first.one (others.spells (n + 1))));
         }
+    -- a refused line: a comment
     captured before (line ∷ lines) (Refusal why ∷ answers) each =
         let others = captured (before ++ []) lines answers each.1 in
         record {
@@ -141,6 +147,7 @@ module _ (profile : List DeviceParts) where
           spells = λ n. fault_first (capped (n + 1)) why (answers_behind (n + 1) answers) others.events
               (refused before line why each.0) (others.spells (n + 1));
         }
+    -- a blank line: nothing
     captured before (line ∷ lines) (Nothing ∷ answers) each =
         let others = captured (before ++ []) lines answers each.1 in
         record { events = others.events; capture = others.capture; spells = λ n. others.spells (n + 1) }

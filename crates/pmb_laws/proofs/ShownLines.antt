@@ -1,4 +1,6 @@
--- The lines that are shown of transactions, as lines of a text.
+-- The lines that are shown of transactions, as lines of a text: for the laws
+-- `shown_is_built_again` and `runs_are_captures`. A transaction and its note have no LF (byte 10)
+-- and are short enough for `build`, so that they are one line of it.
 use Rattle.std.proofs.Common.{◌≡◌, ◌≢◌, ℕ, ◌≤◌, Bool, eqb, List, [], ◌∷◌, ◌++◌, length, length-append, refl, sym, ◌∙◌}
 use Rattle.std.proofs.Common.{ap, append_assoc, arith}
 use Rattle.std.specs.Prelude.{codes, if◌then◌else◌, map}
@@ -46,6 +48,8 @@ said_has_no_lf profile before t line_one note_one =
     (All-append P (line t) (codes " # " ++ note profile before t) line_one
     (All-append P (codes " # ") (note profile before t) mark_has_no_lf note_one)))
 
+-- 12,544 and 8,192: the most bytes of a transaction's line and of a note; 32,768: the longest line
+-- that `build` takes
 pub said_is_short : (profile : List DeviceParts) (before : List TransactionData) (t : TransactionData)
     → length (line t) ≤ 12544 → length (note profile before t) ≤ 8192
     → length (said profile before t) ≤ 32768

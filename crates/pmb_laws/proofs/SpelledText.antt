@@ -1,4 +1,6 @@
--- What texts spell that begin with the canonical text of events, or with a comment.
+-- What texts spell that begin with the canonical text of events, or with a comment: for the law
+-- `runs_are_captures`. Events at the beginning come before what the rest spells; a comment from its
+-- `#` (byte 35) to its LF (10) spells nothing.
 use Rattle.std.proofs.Common.{◌≡◌, ℕ, ◌+◌, ◌*◌, ◌/◌, ◌%◌, ◌<◌, Bool, true, false, not, ◌==◌, Option, Some, slice_index}
 use Rattle.std.proofs.Common.{List, [], ◌∷◌, ◌++◌, map, refl, sym, ap, subst, ◌∙◌, append_assoc, arith}
 use Rattle.std.specs.List.{filter, onto_first}

@@ -115,8 +115,8 @@ impl Answer {
         self.bytes.push(byte);
     }
 
-    /// Whether an answer begins with the bytes so far and goes on, so that one more byte may come,
-    /// and the last one is to be acknowledged.
+    /// Whether an answer begins with the bytes so far and continues, so that one more byte may
+    /// come, and the last one is to be acknowledged.
     #[inline(always)]
     pub fn goes_on(&self) -> bool
         ensures { IsTrue result ↔ IsInsideAnswer (IsReply self.now.expected) self.now.bytes }

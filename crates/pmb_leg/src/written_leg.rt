@@ -150,7 +150,7 @@ impl<'p> WrittenLeg<'p> {
     }
 
     /// Whether a byte more may come, be it taken or refused: whether nothing was taken yet, or a
-    /// body that is allowed here begins with what was taken and goes on.
+    /// body that is allowed here begins with what was taken and continues.
     #[inline(always)]
     pub fn goes_on(&self) -> bool
         ensures inside { (parts : List PartData) → place_of parts ≡ self.now.place

@@ -47,8 +47,8 @@ pub record BeginsLine (front : List (List ℕ)) : Type 0 where
   pub t : TransactionData
   pub spells : SpellsTransaction (front ++ more) t
 
--- There is room for what the words say so far: a transaction that is not too large goes on with
--- them. The `+` after the 16th part of a write needs no room yet; the address after it does.
+-- There is room for what the words say so far: a transaction that is not too large can have them
+-- there. The `+` after the 16th part of a write needs no room yet; the address after it does.
 pub data HasRoom (front : List (List ℕ)) : Type 0 where
   goes_on : (more : List (List ℕ)) (t : TransactionData) → SpellsTransaction (front ++ more) t → IsWithin t
       → HasRoom front

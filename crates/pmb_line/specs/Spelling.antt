@@ -20,7 +20,7 @@ use Rattle.pmb_line.specs.Token.{token_of, token_text}
 abbrev pub bytes : List ℕ → List Token
 bytes bs = map Byte bs
 
--- `pec` or `read` where it is so, else nothing
+-- `pec` or `read` if the flag is set, else nothing
 abbrev pub mark : Token → Bool → List Token
 mark token true = token ∷ []
 mark token false = []

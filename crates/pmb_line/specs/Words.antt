@@ -13,7 +13,7 @@ without_cr (b ∷ c ∷ rest) = b ∷ without_cr (c ∷ rest)
 abbrev pub is_blank : ℕ → Bool
 is_blank b = b == character " " || b == character "\t"
 
--- a comment begins, which goes on to the end of the line
+-- a comment begins, up to the end of the line
 abbrev pub is_comment : ℕ → Bool
 is_comment b = b == character "#"
 

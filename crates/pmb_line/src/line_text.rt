@@ -108,7 +108,7 @@ fn append_bytes<const N: usize>(out: &mut ArrayVec<u8, N>, bytes: &[u8])
     }
 }
 
-// Appends a word where it is so.
+// Appends the word if the flag is set.
 #[inline]
 fn append_mark<const N: usize>(out: &mut ArrayVec<u8, N>, word: &[u8], is_so: bool)
     requires { length out.old.items + length word.now ≤ N }

@@ -26,8 +26,8 @@ pub(crate) struct Located {
 
 /// The words that are left of a line.
 ///
-/// Spaces and tabs separate words, a `#` begins a comment that goes on to the line's end, and one
-/// CR at the end is no part of the line.
+/// Spaces and tabs separate words, a `#` begins a comment up to the line's end, and one CR at the
+/// end is no part of the line.
 #[derive(Clone, Copy, Drop)]
 pub struct Words<'a> {
     /// The offset of the first byte that is left.

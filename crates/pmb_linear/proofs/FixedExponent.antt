@@ -1,4 +1,5 @@
--- LINEAR11 with one exponent has evenly spaced values.
+-- LINEAR11 with one exponent has evenly spaced values: for the codes of `linear11_fixed.rt`. The
+-- 2,048 mantissas from -1,024 up are the indices, and 2^exponent is the spacing.
 use Rattle.std.proofs.Common.{◌≡◌, ℕ, ◌+◌, ◌-◌, ◌/◌, ◌%◌, ◌^◌, ◌≤◌, inl, inr, ℤ, pos, negsuc, ◌+ℤ◌, unsigned_abs, ◌∙◌}
 use Rattle.std.proofs.Common.{arith}
 use Rattle.std.proofs.lemmas.Int.{ints}

@@ -1,4 +1,7 @@
--- The code that the encoder writes for a mantissa.
+-- The code that the encoder writes for a mantissa and a power: for `code_at` of LINEAR11. The
+-- index is the mantissa and 1,024; index 1,024 is the mantissa 0, written as 0000h, and any other
+-- is canonical at the least power, or where the mantissa is below -512 or above 511 (indices below
+-- 512, and from 1,536).
 use Rattle.std.proofs.Common.{◌≡◌, ◌≢◌, ℕ, ◌^◌, ◌<◌, ◌≤◌, ◌⊎◌, inl, inr, pos, negsuc, ◌+ℤ◌, ◌*ℤ◌, sym, ap, ◌∙◌, arith}
 use Rattle.std.proofs.lemmas.Int.{ints}
 use Rattle.std.proofs.Math.IntN.{zero-*ℤ}

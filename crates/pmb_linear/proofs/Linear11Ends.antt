@@ -1,4 +1,6 @@
--- The least and the greatest code of LINEAR11.
+-- The least and the greatest code of LINEAR11: for `Linear11Codes::least` and `greatest`, and
+-- `nearest`. They are 7C00h (31,744), -1,024 * 2^15, and 7BFFh (31,743), 1,023 * 2^15; a value
+-- between two multiples of a power lies between those of the greatest.
 use Rattle.std.proofs.Common.{◌≡◌, ℕ, suc, ◌*◌, ◌^◌, ◌≤◌, ℤ, pos, negsuc, ◌*ℤ◌, ◌≤ℤ◌, refl, arith}
 use Rattle.std.proofs.lemmas.Int.{ints}
 use Rattle.std.proofs.lemmas.Nat.{mul-le}

@@ -1,4 +1,6 @@
--- No value of LINEAR11 lies between two neighbours.
+-- No value of LINEAR11 lies between two neighbours: for `nearest` of LINEAR11. At a greater power
+-- values are multiples of the spacing; at a smaller one the mantissas, -1,024 to 1,023, end before
+-- both neighbours, whose mantissas are 512 or more, or -512 or less.
 use Rattle.std.proofs.Common.{◌≡◌, ℕ, ◌+◌, ◌-◌, ◌^◌, ◌<◌, ◌≤◌, ◌⊎◌, inl, inr, ℤ, pos, negsuc, ◌+ℤ◌, ◌*ℤ◌, ◌≤ℤ◌, sym, ap}
 use Rattle.std.proofs.Common.{◌∙◌, arith}
 use Rattle.std.proofs.lemmas.Int.{ints, by_lt_z}

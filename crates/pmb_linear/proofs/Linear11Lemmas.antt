@@ -1,4 +1,7 @@
--- The codes of LINEAR11: canonical ones, and what lies between two of one parity.
+-- The codes of LINEAR11: what their fields hold, which are canonical, and what lies between two of
+-- one parity. For `exponent_of`, `mantissa`, `word`, `code_at` and the law of the format
+-- (`obeys_laws`). A canonical code has the least exponent that holds its value; between two of one
+-- parity the next mantissa at one of their exponents, or -1,024 or 1,023, is another code.
 use Rattle.std.proofs.Common.{◌≡◌, ◌≢◌, ℕ, zero, suc, ◌+◌, ◌-◌, ◌*◌, ◌/◌, ◌%◌, ◌^◌, ◌<◌, ◌≤◌, ◌⊎◌, inl, inr, ℤ, pos}
 use Rattle.std.proofs.Common.{negsuc, ◌+ℤ◌, ◌-ℤ◌, ◌*ℤ◌, ◌<ℤ◌, ◌≤ℤ◌, unsigned_abs, refl, sym, ap, ◌∙◌, subst, arith}
 use Rattle.std.proofs.lemmas.Int.{ints, by_lt_z}
@@ -18,6 +21,7 @@ abbrev pub steps : ℕ → ℕ
 steps code = unsigned_abs (exponent code +ℤ pos 16)
 
 -- both fields are in range
+-- 2,048: a mantissa has 11 bits, an exponent 5
 field_11 : (f : ℕ) → f < 2048 → IsMantissa (twos_complement 11 f)
 field_11 f fits =
     elim (cases_lt f 1024) [
@@ -228,9 +232,12 @@ mantissa_parity c =
 
 -- a value as a mantissa, which is g - 2048, at its least exponent
 record IsForm (v y : ℤ) (b g : ℕ) : Type 0 where
+  -- the mantissa is in range,
   fits : IsMantissa y
   steps_fit : b ≤ 31
+  -- g is the mantissa and 2,048, so that it has the code's parity,
   offset : y +ℤ pos 2048 ≡ pos g
+  -- and the exponent is the least that holds the value
   least : IsLeast y b
   value_is : v ≡ y *ℤ pos (2 ^ b)
 
@@ -248,6 +255,7 @@ form_of : (c : ℕ) → IsWord c → IsCanonicalLinear11 c → (y : ℤ) × (b :
     × (g % 2 ≡ c % 2)
 form_of c code canonical =
     elim (cases_eq c 0) [
+      -- the code 0000h: mantissa 0 at the least exponent
       | inl none ↦ (
         pos 0,
         0,
@@ -255,6 +263,7 @@ form_of c code canonical =
         zero_form (linear11_numerator c) (ap linear11_numerator none ∙ zero_value),
         omega arith,
       )
+      -- any other: its own fields, as it is canonical
       | inr some ↦
           let itself = holds_itself c code in
           let least = canonical_is_least c (mantissa c) (steps c) itself (steps_fit c code) canonical some in
@@ -304,9 +313,12 @@ module _ (v w y z : ℤ) (b d g h : ℕ) (low : IsForm v y b g) (high : IsForm w
   -- below a greater exponent, its mantissa before a large one is between, if that is still large
   middle_previous : b < d → pos 512 <ℤ z → HasMiddle v w
   middle_previous order large =
+      -- the mantissa before, at the smaller exponent, is 512 times 2 or more,
       let split = power_splits (z -ℤ pos 1) b d (omega arith) in
       let grown = grows_up 512 (z -ℤ pos 1) (2 ^ (d - b)) (two_or_more (d - b) (omega arith)) (omega (arith, ints)) in
+      -- so beyond all that the smaller exponent holds,
       let after = scale_lt y ((z -ℤ pos 1) *ℤ pos (2 ^ (d - b))) (2 ^ b) (pow_pos b) (omega (arith, ints, low.fits)) in
+      -- and it is below its successor
       let before = scale_lt (z -ℤ pos 1) z (2 ^ d) (pow_pos d) (omega (arith, ints)) in
       middle_code v w (z -ℤ pos 1) d (omega (arith, ints), omega (arith, ints, high.fits)) high.steps_fit
       (omega (arith, ints, low.value_is)) (omega (arith, ints, high.value_is))
@@ -324,7 +336,8 @@ module _ (v w y z : ℤ) (b d g h : ℕ) (low : IsForm v y b g) (high : IsForm w
       (omega (arith, ints, low.value_is)) (omega (arith, ints, high.value_is)))
       (λ at_least. middle_previous order (omega (arith, ints, low.fits, low.offset, high.offset, at_least)))
 
-  -- above a greater exponent, its mantissa after a large negative one is between, if that is still large
+  -- above a greater exponent, its mantissa after a large negative one is between, if that is still
+  -- large
   middle_next : d < b → y <ℤ negsuc 512 → HasMiddle v w
   middle_next order large =
       let split = power_splits (y +ℤ pos 1) d b (omega arith) in

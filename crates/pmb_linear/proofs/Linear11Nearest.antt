@@ -1,4 +1,6 @@
--- LINEAR11's encoder rounds at the least power that reaches a quantity.
+-- LINEAR11's encoder rounds at the least power that reaches a quantity: for `nearest` of LINEAR11.
+-- At that power the values around the quantity are neighbours among all codes (`Linear11Gap`), and
+-- the rounded index names the nearest (`Rounded` of pmb_format).
 use Rattle.std.proofs.Common.{◌≡◌, ℕ, ◌*◌, ◌-◌, ◌/◌, ◌%◌, ◌^◌, ◌<◌, ◌≤◌, ◌⊎◌, inl, inr, ℤ, pos, negsuc, ◌+ℤ◌, ◌*ℤ◌}
 use Rattle.std.proofs.Common.{◌≤ℤ◌, sym, ap, ◌∙◌, arith}
 use Rattle.std.proofs.lemmas.Int.{ints}
@@ -69,13 +71,19 @@ greatest_reaches q t D positive range t_is D_is =
 pub record IsPlaced (q : Fraction) (t : ℤ) (D b d n i : ℕ) : Type 0 where
   pub positive : 0 < q.denominator
   pub range : IsInRange linear11 q
+  -- the quantity, over its denominator
   pub target_is : t ≡ scaled linear11 q
   pub denominator_is : D ≡ q.denominator
   pub power_fits : b ≤ 31
+  -- the power before doesn't reach it
   pub least : 0 < b → IsFarther t (D * 2 ^ (b - 1))
+  -- one spacing at this power
   pub spacing_is : d ≡ D * 2 ^ b
+  -- how far the quantity is from -1,024 spacings
   pub from_least : pos n ≡ t +ℤ pos (1024 * d)
+  -- it is in reach: 2,048 spacings
   pub below : n < 2048 * d
+  -- i is n / d, rounded to the nearest, ties to even
   pub rounds : Rounds n d i
 
 module _ (q : Fraction) (t : ℤ) (D b d n i : ℕ) (is : IsPlaced q t D b d n i) where

@@ -1,4 +1,6 @@
--- The codes of ULINEAR16 and SLINEAR16 are evenly spaced.
+-- The codes of ULINEAR16 and SLINEAR16 are evenly spaced: for `Linear16Codes` and
+-- `Linear16EvenlySpaced`. The words count up, unsigned or from -32,768 on, and 2^exponent is the
+-- spacing.
 use Rattle.std.proofs.Common.{ℕ, inl, ℤ, pos, negsuc, ◌*ℤ◌, ap, ◌∙◌, arith}
 use Rattle.std.proofs.lemmas.Nat.{pow_pos}
 use Rattle.pmb_format.specs.Row.{Rises}

@@ -1,4 +1,6 @@
--- LINEAR11 is separated.
+-- LINEAR11 is separated: each value has one canonical code, and between two of one parity lies
+-- another. For `obeys_laws` of `Linear11Format`. The least exponent of a value is one, and a word
+-- is known by its two fields.
 use Rattle.std.proofs.Common.{◌≡◌, ◌≢◌, ℕ, ◌+◌, ◌-◌, ◌/◌, ◌%◌, ◌^◌, ◌<◌, inl, inr, pos, ◌+ℤ◌, ◌*ℤ◌, ◌≤ℤ◌, unsigned_abs}
 use Rattle.std.proofs.Common.{sym, ap, ◌∙◌, arith}
 use Rattle.std.proofs.lemmas.Int.{ints}

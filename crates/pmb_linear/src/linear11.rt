@@ -1,4 +1,6 @@
 //! The LINEAR11 format.
+//!
+//! Its rows: `tests_numbers`, `src/formats/linear11.rt`, `compared.rt`; `tests/rows/numbers.txt`.
 ghost use Rattle.std.specs.Prelude.{◌≡◌, ◌↔◌, ◌+◌, ◌*◌, ◌-◌, ◌%◌, ◌^◌, ◌<◌, ◌≤◌, ◌⊎◌, IsTrue, MatchBool, pos, negsuc, ◌+ℤ◌, ◌*ℤ◌, ◌≤ℤ◌, min, unsigned_abs};
 ghost use Rattle.pmb_format.specs.Coding.{IsInRange, IsNearest};
 ghost use Rattle.pmb_linear.specs.Linear.{exponent, mantissa, linear11, linear11_numerator};

@@ -1,4 +1,6 @@
 //! LINEAR11 with an exponent that a data sheet fixes.
+//!
+//! Its rows: `tests_numbers`, `src/formats/linear11_fixed.rt`; `tests/rows/numbers.txt`.
 ghost use Rattle.std.specs.Prelude.{◌≡◌, ◌↔◌, ◌≤◌, ◌+ℤ◌, pos, unsigned_abs, IfOk, IsOk};
 ghost use Rattle.pmb_linear.specs.Linear.{IsExponent, linear11_fixed};
 ghost use Rattle.pmb_linear.specs.machine.Row.{linear11_row};

@@ -2,6 +2,8 @@
 //!
 //! One body stands for both. What differs is which number a word is, and that is what a [`Word`]
 //! tells.
+//!
+//! Its rows: `tests_numbers`, `src/formats/linear16.rt`; `tests/rows/numbers.txt`.
 ghost use Rattle.std.specs.Prelude.{◌≡◌, ◌↔◌, ◌^◌, ◌<◌, ℕ, ℤ, pos, negsuc, unsigned_abs, IfOk, IsOk};
 ghost use Rattle.pmb_linear.specs.Linear.{IsExponent, linear16};
 ghost use Rattle.pmb_format.specs.Words.{twos_complement};

@@ -1,8 +1,8 @@
 //! Packets: transactions, the events of each, the reader of a capture, the lines that say them, and
 //! the notes that tell what they mean.
 //!
-//! These are five crates under one name: `pmb_transaction`, `pmb_writer`, `pmb_reader`, `pmb_line` and
-//! `pmb_note`. Their contracts come with the names.
+//! Re-exports of the five packet crates: `pmb_transaction`, `pmb_writer`, `pmb_reader`, `pmb_line`
+//! and `pmb_note`. Their contracts come with the names.
 //!
 //! ```rust
 //! let profile = Profile::from_toml(rt.alloc(), SAMPLE.as_bytes())?;

@@ -16,8 +16,8 @@ use Rattle.pmb_packet_state.specs.declared.packet_state.Move.TheVariants as move
 use Rattle.pmb_packet_state.specs.declared.packet_state.PacketState.{PacketState}
 pub use Rattle.pmb_packet_state.specs.machine.PacketState.{StandsIn, packet_of}
 
--- What an event comes to: the packet goes on, it ends, or no packet goes on so. Then nothing
--- changes, also not the transaction that is kept.
+-- The result of an event: the packet continues, it ends, or no packet can have this event here.
+-- Then nothing changes, also not the transaction that is kept.
 abbrev pub Moves : List DeviceParts → PacketState → List Event → Event → Move → PacketState → Type 0
 Moves profile before events event moves.On after = StandsIn profile after (events ++ event ∷ [])
 Moves profile before events event moves.Packet after = Packet profile (packet_of after) (events ++ event ∷ [])

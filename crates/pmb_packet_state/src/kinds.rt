@@ -58,7 +58,7 @@ fn no_answers(start: bool, byte: bool, stop: bool) -> Kinds
 }
 
 impl<'p> PacketState<'p> {
-    /// The kinds of the events that some packet goes on with.
+    /// The kinds of the events that some packet can have here.
     pub fn expected(&self) -> Kinds
         ensures { (profile : List DeviceParts) (events : List BusEvent) → StandsIn profile self.now events
             → AreKindsOf (MayFollow profile events) result }

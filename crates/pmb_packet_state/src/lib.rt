@@ -1,8 +1,8 @@
 //! The packet under way on a bus, one event at a time.
 //!
-//! An [`PacketState`] has the events of one packet so far, without keeping them: where they end, the
-//! parts, the bytes of the leg under way and the answer. It takes an event where some packet goes on
-//! with it, and tells which kinds may come and why another one may not.
+//! A [`PacketState`] has the events of one packet so far, without keeping them: where they end, the
+//! parts, the bytes of the current leg and the answer. It takes an event if some packet can have it
+//! here, and returns which kinds may come and why another one may not.
 //!
 //! ```rust
 //! let mut under_way = PacketState::new(&profile);

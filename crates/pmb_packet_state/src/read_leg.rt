@@ -125,7 +125,7 @@ impl<'p> PacketState<'p> {
         }
     }
 
-    /// The answer goes on.
+    /// The answer continues.
     #[inline(always)]
     pub(crate) fn answer_on(&mut self, source: Answerer) -> Move
         ensures { StepsAt (PacketPlace.AnswerByte source) self.old BusEvent.Ack result self.new }

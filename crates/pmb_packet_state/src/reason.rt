@@ -21,7 +21,7 @@ const ACK_ALONE: u8 = 4;
 const NACK_ALONE: u8 = 8;
 
 impl<'p> PacketState<'p> {
-    /// Why no packet goes on with an event.
+    /// Why no packet can have this event here.
     pub fn reason(&self, event: Event) -> Reason
         ensures { (profile : List DeviceParts) (events : List BusEvent) → StandsIn profile self.now events
             → IsReason profile events event result }

@@ -1,5 +1,5 @@
--- What the events of a packet under way have said: to whom, what was sent, what was replied, and
--- which packet error code was due.
+-- Device, bytes and error code of an unfinished packet: to whom it is, what was sent, what was
+-- replied, and which packet error code was due.
 use Rattle.std.specs.Prelude.{ℕ, ◌/◌, ◌%◌, ◌==◌, ◌≤◌, Bool, true, false, not, if◌then◌else◌, Option, Some, None, List}
 use Rattle.std.specs.Prelude.{[], ◌∷◌, length, reverse, option_map}
 use Rattle.std.specs.List.{AllByRecursion, find}

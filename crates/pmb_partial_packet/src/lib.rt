@@ -1,8 +1,8 @@
-//! What the events of a packet under way have said.
+//! Device, bytes and error code of an unfinished packet.
 //!
-//! Where a reader refuses an event, [`PartialPacket`] says what came before it: the device of the last leg,
-//! the bytes that were sent and replied, and which packet error code would have been right. It is
-//! given each event of the packet, from its START on.
+//! Where a reader refuses an event, [`PartialPacket`] says what came before it: the device of the
+//! last leg, the bytes that were sent and replied, and which packet error code would have been
+//! right. It is given each event of the packet, from its START on.
 //!
 //! ```rust
 //! // S b0 A 88 A S b1 A 00 A d3 A, and then f7 for the packet error code

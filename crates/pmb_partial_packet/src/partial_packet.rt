@@ -1,4 +1,4 @@
-//! What a packet under way has said.
+//! Device, bytes and error code of an unfinished packet.
 
 ghost use Rattle.std.specs.Prelude.{◌≡◌, ◌≤◌, ◌++◌, ◌∷◌, [], List, IfSome, length, option_map};
 ghost use Rattle.pmb_bus.specs.declared.event.Event.{Event as BusEvent};
@@ -12,8 +12,8 @@ use crate::legs::{KeptLegs, LastLeg};
 use pmb_bus::{ALERT_ADDRESS, Event, pec_next, read_address};
 use pmb_transaction::Reason;
 
-/// What the events of a packet under way have said. It stands at the events that it was given since
-/// it was made, or since [`begin`](PartialPacket::begin).
+/// Device, bytes and error code of an unfinished packet. It stands at the events that it was given
+/// since it was made, or since [`begin`](PartialPacket::begin).
 #[derive(Drop)]
 pub struct PartialPacket {
     legs: KeptLegs,

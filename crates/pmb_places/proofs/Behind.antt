@@ -1,4 +1,6 @@
--- Places after a front that ends between words.
+-- Places after a front that ends between words: for the laws `each_word_has_a_place` and
+-- `the_last_word_stands_there`. The words of the second text have their places after those of the
+-- front, as many as there are words.
 use Rattle.std.proofs.Common.{◌≡◌, ℕ, zero, suc, ◌+◌, List, [], ◌∷◌, ◌++◌, fold, get_or, length, refl, sym, ap, ◌∙◌}
 use Rattle.std.proofs.Common.{arith}
 use Rattle.std.proofs.lemmas.List.{get_or_append_left, length-append}

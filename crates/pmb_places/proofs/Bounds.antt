@@ -1,4 +1,6 @@
--- Places have numbers from 1 on, of 64 bits.
+-- Lines and columns are numbers from 1 on, of 64 bits: for `Places::take_line` and the law
+-- `places_are_in_range`. The first place is, a byte leads from one to the next that is, and
+-- counting stays at the greatest.
 use Rattle.std.proofs.Common.{ℕ, ◌==◌, Bool, true, false, cond, List, [], ◌∷◌, ◌++◌, fold, arith}
 use Rattle.std.specs.List.{AllByRecursion}
 use Rattle.pmb_bus.specs.Event.{character}

@@ -1,4 +1,6 @@
--- Where a `Places` stands after one byte more.
+-- Where a `Places` stands after one byte more: for `Places::take`, `take_each`, the open word's
+-- functions and the laws on places. Between words, in a word or in a comment, the byte says which
+-- comes next, and whether a word begins with it; the last word's place and end follow.
 use Rattle.std.proofs.Common.{◌≡◌, ℕ, ◌&&◌, not, Bool, true, false, inl, inr, cond, List, [], ◌∷◌, ◌++◌, fold, refl}
 use Rattle.std.proofs.Common.{sym, ap, ◌∙◌}
 use Rattle.std.proofs.lemmas.List.{append_assoc, append-nil}

@@ -1,4 +1,6 @@
--- Each word has a place.
+-- Each word has a place: for the laws `each_word_has_a_place` and `the_last_word_stands_there`.
+-- Byte by byte from the front, both counts grow by one where a byte of a word comes with no word
+-- under way.
 use Rattle.std.proofs.Common.{◌≡◌, ℕ, ◌+◌, ◌&&◌, not, Bool, true, false, cond, List, [], ◌∷◌, ◌++◌, length, refl, sym}
 use Rattle.std.proofs.Common.{ap, ◌∙◌, arith}
 use Rattle.std.specs.List.{filter}

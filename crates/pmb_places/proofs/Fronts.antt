@@ -1,4 +1,6 @@
--- The place of the word that follows a text.
+-- The place of the word that follows a text which ends between words: right after the text. For
+-- the law `words_stand_at_their_places`. The first byte of a word neither cuts nor begins a
+-- comment, so the word begins with it.
 use Rattle.std.proofs.Common.{◌≡◌, ℕ, ◌&&◌, not, Bool, true, false, List, [], ◌∷◌, ◌++◌, refl, sym, ap, ◌∙◌}
 use Rattle.std.proofs.lemmas.Bool.{false≢true}
 use Rattle.pmb_bus.specs.Text.{EndsBetween, first_run, front_word, in_comment, is_separator, is_word, open_word}

@@ -1,4 +1,5 @@
--- Texts that end between words.
+-- Texts that end between words, one after the other: for `Places::take_line` and the law
+-- `texts_end_between_words`.
 use Rattle.std.proofs.Common.{ℕ, Bool, false, List, [], ◌++◌, take, sym, ap, ◌∙◌}
 use Rattle.pmb_bus.specs.Text.{EndsBetween, ends_in_comment, ends_in_comment_from, last_run, runs}
 use Rattle.pmb_bus.proofs.Splits.{glue, glue-nil}

@@ -1,5 +1,7 @@
--- The rest of a line: the canonical text of events up to STOP, after a text that ends between
--- words.
+-- The rest of a line at once: the canonical text of events up to STOP, after a text that ends
+-- between words. For `Places::take_line`. No byte of it but the last is LF (10), so the place goes
+-- along the line by as many columns; the last word is STOP's letter, P (80), with the LF after
+-- it.
 use Rattle.std.proofs.Common.{◌≡◌, ℕ, suc, ◌+◌, ◌-◌, ◌<◌, ◌/◌, ◌%◌, Bool, false, List, [], ◌∷◌, ◌++◌, fold, length}
 use Rattle.std.proofs.Common.{slice_index, append_assoc, length-append, refl, subst, sym, ap, ◌∙◌, arith}
 use Rattle.std.specs.List.{Contains}
@@ -48,7 +50,9 @@ further_in_range place n is = record {
 
 -- bytes that end between words, none of them LF
 record IsInLine (bytes : List ℕ) : Type 0 where
+  -- it ends between words,
   pub between : EndsBetween bytes
+  -- and leads along the line, by as many columns as it has bytes
   pub places : (place : Place) → IsInRange place → fold place_after place bytes ≡ further_along place (length bytes)
 
 none_in_line : IsInLine []
@@ -67,6 +71,7 @@ both_in_line front back first second = record {
 
 -- ---- the text of an event
 
+-- 32 is the space after it, 10 an LF
 -- a letter and a space
 letter_in_line : (a : ℕ) → EndsBetween (a ∷ 32 ∷ []) → (a ≡ 10 → ⊥) → IsInLine (a ∷ 32 ∷ [])
 letter_in_line a between other = record {

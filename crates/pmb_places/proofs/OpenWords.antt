@@ -1,5 +1,7 @@
 -- The word under way: what one byte more makes of it, where it stands, and what it is to the text
--- that begins with it.
+-- that begins with it. For the functions of `OpenWord` and `Tail`, `Places::take`, and the laws on
+-- open words. It stands right after what comes before it, and a text that goes on with it begins
+-- with the whole word.
 use Rattle.std.proofs.Common.{◌≡◌, ℕ, ◌&&◌, not, Bool, true, false, cond, inl, inr, List, [], ◌∷◌, ◌++◌, refl, sym, ap}
 use Rattle.std.proofs.Common.{◌∙◌}
 use Rattle.std.specs.List.{onto_first}
@@ -34,7 +36,9 @@ ended_by_separator text b separates =
 
 -- a byte of a word: it stands in no comment and separates no words
 record InWord (text : List ℕ) (b : ℕ) : Type 0 where
+  -- it stands in no comment,
   pub outside : in_comment (ends_in_comment text) b ≡ false
+  -- and separates no words
   pub keeps : is_separator b ≡ false
 
 -- a byte after which a word is under way is one of that word

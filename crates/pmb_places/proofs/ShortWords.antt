@@ -1,4 +1,6 @@
--- A short word and a space after a text that is in no comment.
+-- A word of one or two plain bytes and a space (32), taken at once after a text that is in no
+-- comment: for `Places::take` and `OpenWord::take`. A plain byte is greater than 35, `#`, so that
+-- it neither separates words nor begins a comment; the place goes along by one column a byte.
 use Rattle.std.proofs.Common.{◌≡◌, ℕ, ◌<◌, true, false, List, [], ◌∷◌, ◌++◌, refl, subst, sym, ap, ◌∙◌, arith}
 use Rattle.std.proofs.lemmas.List.{append_assoc}
 use Rattle.std.proofs.lemmas.Bool.{ltb-true, ne_eqb}
@@ -14,6 +16,7 @@ use Rattle.pmb_places.proofs.OpenWords.{ended_by_separator}
 
 -- ---- a plain byte
 
+-- 35 is `#`, 32 a space
 apart : (b : ℕ) → is_plain b ≡ true → 35 < b
 apart b plain = ltb-true 35 b plain
 

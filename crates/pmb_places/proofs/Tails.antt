@@ -1,4 +1,6 @@
--- What a piece of text leaves at its end, byte by byte, and the bytes for which there is room.
+-- What a piece of text leaves at its end, byte by byte: whether it ends in a comment, and from
+-- where on its bytes are of the word under way, of which the first 32 are kept. For `Tail::of`,
+-- `OpenWord::take_tail` and `keep`.
 use Rattle.std.proofs.Common.{◌≡◌, ℕ, zero, suc, ◌+◌, ◌<◌, ◌≤◌, ◌==◌, Bool, true, false, cond, List, [], ◌∷◌, ◌++◌}
 use Rattle.std.proofs.Common.{drop, get_or, length, min, take, refl, subst, sym, ap, ◌∙◌, arith}
 use Rattle.std.proofs.lemmas.List.{append_assoc, append-nil, drop-append-le, drop_all, length-take, length_push}
@@ -81,6 +83,7 @@ tail_longer text done b inside from tail within now keeps =
 -- ---- room
 
 -- as many bytes as there is room for, after those that were there
+-- 32 bytes of a word are kept
 pub kept : (old more : List ℕ) (room : ℕ) → room + length old ≡ 32 → old ++ take (min room (length more)) more
     ≡ take 32 (old ++ more)
 kept old more room fits =

@@ -3,6 +3,8 @@
 //! Of a piece of text only its tail counts: the bytes after the last one that stands in no word. So
 //! one loop finds where the tail begins, which keeps nothing, and then the tail is copied. A short
 //! word and the space after it, as most bytes come, leave no word under way.
+//!
+//! Its rows: `tests_bytes`, `src/places/open_words.rt`.
 
 ghost use Rattle.std.specs.Prelude.{◌≡◌, ◌++◌, [], ℕ, ◌≤◌, List, length, take};
 ghost use Rattle.pmb_bus.specs.Text.{ends_in_comment, in_comment, is_separator, open_word};
@@ -46,7 +48,7 @@ fn keep(bytes: &mut ArrayVec<u8, WORD>, more: &[u8])
 #[derive(Clone, Copy)]
 struct Tail {
     /// How many bytes of the piece come before the tail: those up to the last one that stands in no
-    /// word. With none the tail goes on with the word that was under way before the piece.
+    /// word. With none the tail continues the word that began before the piece.
     from: usize,
     /// Whether the piece ends in a comment.
     in_comment: bool,

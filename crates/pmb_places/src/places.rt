@@ -4,6 +4,8 @@
 //! comment, and nothing else of the text. Most bytes come as a short word and the space after it,
 //! which `take` takes at once; all others come one after the other. Of a line of canonical text the
 //! length alone says where its last word stands, so `take_line` needs no bytes.
+//!
+//! Its rows: `tests_bytes`, `src/places/rows.rt`, `src/places/lines.rt`.
 
 ghost use Rattle.std.specs.Prelude.{◌≡◌, ◌++◌, ◌∷◌, [], ℕ, List, length, true, false};
 ghost use Rattle.std.specs.List.{Contains};
@@ -120,7 +122,7 @@ impl Places {
         self.here
     }
 
-    /// Where the last word began, also where it goes on; line 1, column 1 before all words.
+    /// Where the last word began, also if it has not ended; line 1, column 1 before all words.
     pub fn word(&self) -> Place
         ensures { (text : List ℕ) → PlacesStandAt self.now text → result ≡ place_of_last_word text }
     {

@@ -1,4 +1,6 @@
--- A run of `front` over a reader, piece by piece.
+-- A run of `front` over a reader, piece by piece: for its loop. So far there is no line `%%` and
+-- the text may still be within the limit; one read more is counted, and the end, a first line `%%`
+-- or too much text say what it comes to.
 use Rattle.std.proofs.Common.{◌≡◌, ◌≢◌, ◌↔◌, IsTrue, ℕ, ◌+◌, ◌<◌, ◌≤◌, min, Bool, true, false, Result, Ok, Err, IfOk}
 use Rattle.std.proofs.Common.{OnErr, List, [], ◌++◌, length, take, drop, append-nil, inl, inr, refl, sym, ap, ◌∙◌}
 use Rattle.std.proofs.Common.{subst, arith}

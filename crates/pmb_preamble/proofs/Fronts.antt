@@ -1,4 +1,6 @@
--- A text has one profile and one rest.
+-- A text has one profile and one rest: the law `one_front`, and for `Limits`. Of two lines `%%`
+-- the first is the one whose start is no later, and what comes after it is the same; a line starts
+-- after an LF (byte 10).
 use Rattle.std.proofs.Common.{◌≡◌, ℕ, ◌+◌, ◌<◌, ◌≤◌, List, [], ◌∷◌, ◌++◌, length, take, drop, get_or, codes, inl, inr}
 use Rattle.std.proofs.Common.{refl, sym, ap, ◌∙◌, arith, append_assoc}
 use Rattle.std.proofs.lemmas.List.{length-append, take_at, drop-append-le, append_cancel_left}

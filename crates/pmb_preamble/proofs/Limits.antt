@@ -1,4 +1,7 @@
--- When the profile of a text may still be within the limit.
+-- When the profile of a text may still be within the limit: for `may_fit`, `ends_in_line`, `front`
+-- and the law `one_limit`. A text without a line `%%` may fit if it is within the limit, or if it
+-- ends in the beginning of such a line that starts within it; a line has at most four bytes, so at
+-- most three are past the limit.
 use Rattle.std.proofs.Common.{◌≡◌, ◌⊎◌, ◌↔◌, Bool, IsTrue, ℕ, ◌+◌, ◌<◌, ◌≤◌, List, [], ◌∷◌, ◌++◌, length, drop, codes}
 use Rattle.std.proofs.Common.{inl, inr, refl, sym, ap, ◌∙◌, subst, arith, append_assoc}
 use Rattle.std.proofs.lemmas.List.{append-nil, length-append, append_cancel_left, append_cancel_right}

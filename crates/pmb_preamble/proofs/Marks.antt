@@ -1,4 +1,6 @@
--- Lines `%%` in a text and in a front of it.
+-- Lines `%%` in a text and in a front of it: for `find_mark`, `mark_start`, `starts_line`, `front`
+-- and the laws `one_front` and `one_limit`. Such a line has three or four bytes and ends in LF
+-- (byte 10), so that the first one is seen at an LF, by what stands before it without a CR.
 use Rattle.std.proofs.Common.{◌≡◌, ◌⊎◌, ℕ, Bool, true, false, eqb, ◌+◌, ◌<◌, ◌≤◌, List, [], ◌∷◌, ◌++◌, length, take}
 use Rattle.std.proofs.Common.{drop, get_or, codes, inl, inr, refl, sym, ap, ◌∙◌, subst, arith, append_assoc}
 use Rattle.std.specs.Prelude.{◌==◌}
@@ -184,7 +186,8 @@ dropped (byte ∷ []) = elim (cases_eq byte carriage_return) [
 ]
 dropped (byte ∷ next ∷ text) = dropped_later byte next text (without_cr (next ∷ text)) (dropped (next ∷ text))
 
--- where the text ends in `%%` at the start of a line, with CR after it or not, an LF ends a line `%%`
+-- where the text ends in `%%` at the start of a line, with CR after it or not, an LF ends a line
+-- `%%`
 found_in : (text line before : List ℕ) → WithoutReturn text line → line ≡ before ++ codes "%%" → StartsLine before
     → EndsInMark text (length before)
 found_in text line before (inl return) ends starts =

@@ -1,4 +1,5 @@
--- The command of a device at an index.
+-- The command of a device at an index is the one that is found by its code: for the loops of
+-- `put_devices`, `put_command` and `put_commands`. No other command of the device has that code.
 use Rattle.std.proofs.Common.{◌≡◌, inl, inr, ℕ, zero, suc, ◌<◌, true, false, Some, List, [], ◌∷◌, length, map, nat_eq}
 use Rattle.std.proofs.Common.{sym, ap, arith, eq-eqb}
 use Rattle.std.specs.List.{AllByRecursion, IsDistinct, slice_get}

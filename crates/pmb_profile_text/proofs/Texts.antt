@@ -1,4 +1,5 @@
--- Texts put together.
+-- Texts put together, row by row: for `describe`, `put_bus`, `put_devices`, `put_commands` and the
+-- rows. The text so far is that of the first devices or commands, and one more adds its own.
 use Rattle.std.proofs.Common.{◌≡◌, ◌≢◌, ◌≤◌, ◌∙◌, ℕ, ◌+◌, Option, Some, Result, Ok, Err, OnOk, List, [], ◌∷◌, ◌++◌, ap}
 use Rattle.std.proofs.Common.{sym, subst, refl, append_assoc, append-nil, length, take, take_all, arith}
 use Rattle.std.specs.List.{flat_map, slice_get}

@@ -1,4 +1,6 @@
 //! What commands hold at first.
+//!
+//! Its rows: `tests/rows/buses.txt`.
 
 ghost use Rattle.std.specs.Prelude.{◌≡◌, ◌+◌, ◌≤◌, ◌++◌, Some, length};
 ghost use Rattle.pmb_command.specs.Fitting.{register_form};

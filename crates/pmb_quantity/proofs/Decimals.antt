@@ -1,4 +1,6 @@
--- A number with digits after a point, in lowest terms.
+-- A number with digits after a point, in lowest terms: for `Quantity::from_decimal`. The code
+-- takes the common twos and fives out of n over 10^p; what is left has no divisor in common, since
+-- 10^p has no other factors.
 use Rattle.std.proofs.Common.{◌≡◌, ℕ, ◌-◌, ◌*◌, ◌/◌, ◌^◌, ◌≤◌, pos, sym, ap, ◌∙◌, subst, arith}
 use Rattle.std.specs.Int.{◌∣◌}
 use Rattle.std.proofs.lemmas.Nat.{pow_pos}

@@ -1,4 +1,6 @@
--- Digits in texts.
+-- Digits in texts: for `numeral_of`, `is_number` and the laws `text_reads_back` and
+-- `text_is_shortest`. The digits that a text begins with pass the test for digits; front and rest
+-- of a text say whether it writes digits alone, a point or a slash between digits, or no number.
 use Rattle.std.proofs.Common.{◌≡◌, ◌≢◌, ℕ, zero, suc, ◌+◌, ◌-◌, ◌<◌, ◌≤◌, Bool, true, false, cond, ◌&&◌, ◌==◌, List, []}
 use Rattle.std.proofs.Common.{◌∷◌, length, take, drop, get_or, Some, None, refl, sym, ap, ◌∙◌, subst, arith}
 use Rattle.std.specs.Char.{is_ascii_digit, digit_value}

@@ -1,4 +1,7 @@
--- When a fraction is a quantity.
+-- When a fraction in lowest terms is a quantity, with numerator and denominator below 2^62, and
+-- when it is too large. For `Quantity::new`, `negated`, `from_parts`, `from_decimal`, the
+-- functions of `parse.rt` and the laws. Both numbers are tested, and the other sign changes
+-- neither test.
 use Rattle.std.proofs.Common.{◌≡◌, ℕ, zero, suc, Bool, true, false, cond, ◌&&◌, ◌/◌, ◌^◌, ◌<◌, ◌≤◌, nat_lt, ℤ, pos}
 use Rattle.std.proofs.Common.{negsuc, neg_ℤ, unsigned_abs, Ok, Err, refl, sym, ◌∙◌, ap, arith}
 use Rattle.std.proofs.Math.Nat.{zero-div}

@@ -1,4 +1,6 @@
--- The greatest common divisor and lowest terms.
+-- The greatest common divisor and lowest terms: for `gcd` and all that makes a quantity. The
+-- definition searches for the greatest number that divides both; Euclid's division finds the same,
+-- since each divisor of both divides what it finds.
 use Rattle.std.proofs.Common.{◌≡◌, ℕ, zero, suc, inl, inr, Bool, true, false, cond, ◌==◌, ◌&&◌, ◌+◌, ◌*◌, ◌/◌, ◌%◌, ◌^◌}
 use Rattle.std.proofs.Common.{◌<◌, ◌≤◌, pos, unsigned_abs, refl, sym, ap, ◌∙◌, subst, arith, eq-eqb}
 use Rattle.std.specs.Int.{IsGcd, ◌∣◌}
@@ -81,6 +83,7 @@ found_greatest (suc n) a b k some small of_a of_b =
 module _ (a b : ℕ) where
   found_is : (g : ℕ) → IsGcd a b g → 0 < a + b → gcd a b ≡ g
   unfolding gcd
+  -- what Euclid finds is not 0,
   found_is g is some =
       let g_some : 0 < g =
       elim (cases_eq g 0) [
@@ -90,13 +93,16 @@ module _ (a b : ℕ) where
             absurd (omega (arith, eq-zero_of_zero-dvd both.0, eq-zero_of_zero-dvd both.1))
         | inr other ↦ omega arith
       ] in
+      -- and no greater than both together,
       let g_small : g ≤ a + b =
       elim (cases_eq a 0) [
         | inl none ↦ omega (arith, le_of_dvd (omega arith) is.1)
         | inr other ↦ omega (arith, le_of_dvd (omega arith) is.0)
       ] in
+      -- so the search finds no less,
       let at_least : g ≤ common_divisor (a + b) a b = found_greatest (a + b) a b g g_some g_small is.0 is.1 in
       let divides = found_divides (a + b) a b (omega arith) in
+      -- and no more
       let at_most : common_divisor (a + b) a b ≤ g =
       le_of_dvd g_some (is.2 (common_divisor (a + b) a b) divides.0 divides.1) in
       omega arith

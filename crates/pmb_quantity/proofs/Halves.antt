@@ -1,4 +1,6 @@
--- Digits after the point of a number that is halved so many times.
+-- The digits after the point of a number that is halved p times, as digit by digit ten times the
+-- rest over 2^p: for `push_halved` and `push_halves`. n over 2^p is n * 5^p over 10^p, whose first
+-- digit is 5 n over 2^(p-1).
 use Rattle.std.proofs.Common.{◌≡◌, ℕ, zero, suc, ◌+◌, ◌*◌, ◌/◌, ◌%◌, ◌^◌, ◌<◌, [], ◌∷◌, ◌++◌, refl, sym, ap, ◌∙◌, arith}
 use Rattle.std.proofs.Math.Nat.{pow-suc, pow-succ', mul_assoc, mul_comm, div-one, div-div-eq-div-mul, mul-add-div_right}
 use Rattle.std.proofs.Math.Nat.{mul-add-mod_self_right, mul-div-mul_right, mul-div_cancel, div-lt_iff_lt-mul}
@@ -51,6 +53,7 @@ halves_digit p n below =
 pub fives : (p : ℕ) → 10 ^ p / 2 ^ p ≡ 5 ^ p
 fives p = ap (λ x. x / 2 ^ p) (mul-pow 5 2 p) ∙ mul-div_cancel (5 ^ p) (pow_pos p)
 
+-- 46 is the point
 pub after_point-some : (p n : ℕ) → 0 < p → after_point p n ≡ 46 ∷ padded p n
 after_point-some zero n some = absurd (omega arith)
 after_point-some (suc p) n some = refl

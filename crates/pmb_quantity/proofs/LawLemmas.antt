@@ -1,4 +1,6 @@
--- The laws.
+-- Lowest terms have the value of their fraction, and are the only ones that do: for the law
+-- `lowest_terms`, `Quantity::new` and `Quantity::negated`. Of two fractions of one value without a
+-- common divisor each denominator divides the other.
 use Rattle.std.proofs.Common.{◌≡◌, ℕ, suc, ◌*◌, ◌/◌, ◌<◌, ℤ, pos, negsuc, neg_ℤ, ◌*ℤ◌, unsigned_abs, int_div, refl, sym}
 use Rattle.std.proofs.Common.{ap, ◌∙◌, subst}
 use Rattle.std.proofs.Math.Nat.{div-mul_cancel, mul_assoc, mul_comm, dvd-mul_left, dvd-mul_right}

@@ -1,4 +1,6 @@
--- How many digits after a point a denominator needs.
+-- How many digits after a point a denominator needs, up to 24, or that it has no such number: for
+-- `places_of` and `push_magnitude`. A denominator of b fives and a twos needs the greater of a and
+-- b, and one with any other factor goes into no power of ten.
 use Rattle.std.proofs.Common.{◌≡◌, ◌≢◌, ℕ, zero, suc, ◌+◌, ◌-◌, ◌*◌, ◌/◌, ◌%◌, ◌^◌, ◌<◌, ◌≤◌, max, Bool, true, false}
 use Rattle.std.proofs.Common.{eq-eqb, inl, inr, Some, None, refl, sym, ap, ◌∙◌, subst, arith}
 use Rattle.std.specs.Int.{◌∣◌, w64, trailing_zeros}
@@ -76,14 +78,17 @@ divides_less x y g some divides =
 module _ (b c : ℕ) (several : 2 ≤ b) (coprime : (i j : ℕ) → gcd (c ^ i) (b ^ j) ≡ 1) where
   too_few : (k j : ℕ) → j < k → b ^ k ∣ c ^ j * b ^ j → ⊥
   too_few k j less divides =
+      -- fewer factors than b^k has: then a power of b would divide one of c,
       let some : 0 < b ^ j = omega (arith, one-le-pow j b (omega arith)) in
       let sum : (k - j) + j ≡ k = omega arith in
       let split : b ^ k ≡ b ^ (k - j) * b ^ j = ap (λ n. b ^ n) (sym sum) ∙ pow-add b (k - j) j in
       let of_c : b ^ (k - j) ∣ c ^ j = divides_less (b ^ (k - j)) (c ^ j) (b ^ j) some
       (subst (λ (n : ℕ). n ∣ c ^ j * b ^ j) split divides) in
+      -- which it has no divisor in common with, so that it is 1,
       let one : b ^ (k - j) ≡ 1 = eq-one_of_dvd-one
       (subst (λ (g : ℕ). b ^ (k - j) ∣ g) (coprime j (k - j))
       ((IsGcd-gcd (c ^ j) (b ^ (k - j))).2 (b ^ (k - j)) of_c (dvd_refl (b ^ (k - j))))) in
+      -- but it has a factor b
       let more : suc (k - j - 1) ≡ k - j = omega arith in
       let last : b ^ (k - j) ≡ b ^ (k - j - 1) * b = ap (λ n. b ^ n) (sym more) ∙ pow-suc b (k - j - 1) in
       omega (arith, one, last, mul-le 1 2 (b ^ (k - j - 1)) b (one-le-pow (k - j - 1) b (omega arith)) several)
@@ -157,7 +162,7 @@ module _ (d rest left : ℕ) (positive : 0 < d) (fits : d < 2 ^ 64)
       subst (λ (n : ℕ). 2 ∣ n) value (dvd_trans 2 even (dvd-mul_right rest (5 ^ (28 - left)))) in
       omega (arith, odd_part d positive fits, mod-eq-zero_of_dvd 2 inside)
 
-  -- it has no 28 fives
+  -- it has no 28 fives: 5^27 is the greatest power of five below 2^64
   some_left : 0 < left
   some_left =
       elim (cases_eq left 0) [

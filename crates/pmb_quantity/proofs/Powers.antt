@@ -1,4 +1,5 @@
--- The table of powers of five, computed as a whole.
+-- The table of powers of five, `POWERS_OF_FIVE`, computed as a whole and read for each: for
+-- `power_of_five`.
 use Rattle.std.proofs.Common.{◌≡◌, ℕ, ◌^◌, ◌≤◌, true, ◌==◌, get_or, refl, sym, arith}
 use Rattle.std.proofs.lemmas.Bool.{agree_below, agree_below_at, eqb-true}
 use Rattle.pmb_quantity.specs.declared.quantity.TheConstants.{POWERS_OF_FIVE}

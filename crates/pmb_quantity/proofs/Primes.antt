@@ -1,4 +1,6 @@
--- Numbers without a prime factor, and what they have in common with its powers.
+-- Numbers without a factor two or five, and what they have in common with its powers: nothing. For
+-- `places_of`, `without_fives` and the other functions that take twos and fives out of a number. A
+-- prime that divides a product divides a factor (`Cancels`).
 use Rattle.std.proofs.Common.{◌≡◌, ◌≢◌, ℕ, zero, suc, inl, inr, ◌-◌, ◌*◌, ◌/◌, ◌%◌, ◌^◌, ◌<◌, ◌≤◌, sym, ap, ◌∙◌, subst}
 use Rattle.std.proofs.Common.{arith}
 use Rattle.std.specs.Int.{◌∣◌}

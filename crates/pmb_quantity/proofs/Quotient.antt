@@ -1,4 +1,6 @@
--- The quantity of one number by another.
+-- The quantity of one number by another: for `Quantity::new` and `Quantity::negated`. The quotient
+-- is the lowest terms with the value, or too large, and then no quantity has it; both signs may
+-- change.
 use Rattle.std.proofs.Common.{◌≡◌, ℕ, zero, suc, ◌^◌, ◌<◌, inl, inr, ℤ, pos, negsuc, neg_ℤ, ◌*ℤ◌, unsigned_abs, Result}
 use Rattle.std.proofs.Common.{Ok, Err, IfOk, sym, ap, ◌∙◌, subst, arith}
 use Rattle.std.specs.Int.{◌∣◌}

@@ -1,4 +1,7 @@
--- Numbers in texts, and the fractions that they make.
+-- Numbers in texts, and the fractions that they make: for `Quantity::parse`,
+-- `Quantity::from_decimal` and the functions of `parse.rt`. Digits are read one by one into a
+-- number; zeros at the end of digits after a point go; whole part and rest are put together over a
+-- power of ten, and the cases of `reading` are told apart by lengths and by the first byte.
 use Rattle.std.proofs.Common.{◌≡◌, ◌≢◌, ℕ, zero, suc, ◌+◌, ◌-◌, ◌*◌, ◌/◌, ◌^◌, ◌<◌, ◌≤◌, cond, eq-eqb, pos, List, []}
 use Rattle.std.proofs.Common.{◌∷◌, ◌++◌, length, length-append, take, drop, get_or, ◌⊎◌, Some, None, Result, Ok, Err}
 use Rattle.std.proofs.Common.{refl, sym, ap, ◌∙◌, inl, inr, arith, take-append-drop}
@@ -27,6 +30,7 @@ use Rattle.pmb_quantity.proofs.Fitted.{lowest-fits, lowest-numerator, lowest-den
 use Rattle.pmb_quantity.proofs.TextLemmas.{ten_at_most}
 
 -- ---- digits and their number
+-- 48 to 57 are the digits
 pub is_digit_at : (ds : List ℕ) (i : ℕ) → AllDigits 10 ds → i < length ds → (48 ≤ get_or ds i 0) × (get_or ds i 0 ≤ 57)
 is_digit_at ds i digits inside = let at = digit_at ds i digits inside in (omega (arith, at), omega (arith, at))
 
@@ -124,6 +128,7 @@ some_below limit n x is =
 kept_some : (d e : ℕ) (es : List ℕ) → with_last d (e ∷ es) ≡ d ∷ e ∷ es
 kept_some d e es = refl
 
+-- 48 is the digit 0
 pub zero_goes : (ds : List ℕ) (n : ℕ) → n < length ds → get_or ds n 0 ≡ 48 → without_last_zeros (take (n + 1) ds)
     ≡ without_last_zeros (take n ds)
 zero_goes [] n inside zero_at = absurd (omega arith)
@@ -179,10 +184,12 @@ module _ (w rest scale : ℕ) (positive : 0 < scale) where
   pub mixed-reduced : lowest_terms (pos (w * scale + rest)) scale
       ≡ lowest_terms (pos (w * (scale / gcd rest scale) + rest / gcd rest scale)) (scale / gcd rest scale)
   mixed-reduced =
+      -- both parts of the fraction without what they have in common,
       let g = gcd rest scale in
       let g_positive : 0 < g = gcd_positive rest scale positive in
       let scale_is : scale / g * g ≡ scale = div-mul_cancel g (IsGcd-gcd rest scale).1 in
       let rest_is : rest / g * g ≡ rest = div-mul_cancel g (IsGcd-gcd rest scale).0 in
+      -- and the sum of whole and rest over the smaller denominator
       let sum_is : (w * (scale / g) + rest / g) * g ≡ w * scale + rest =
       omega (arith, rest_is, ap (λ x. w * x) scale_is) in
       sym (ap (λ n. lowest_terms (pos n) (scale / g * g)) sum_is ∙ ap (lowest_terms (pos (w * scale + rest))) scale_is)
@@ -262,6 +269,7 @@ unfolding reading
 reading-none [] none = refl
 reading-none (c ∷ cs) none = absurd (omega arith)
 
+-- 45 is the minus sign
 pub reading-minus : (text : List ℕ) (c : ℕ) (cs : List ℕ) → text ≡ c ∷ cs → c ≡ 45
     → reading text ≡ negated (numeral_value (numeral_of cs))
 unfolding reading

@@ -1,4 +1,6 @@
--- A quantity's text reads back as that quantity.
+-- A quantity's text reads back as that quantity: the law `text_reads_back`. Written as a decimal,
+-- digits around a point make the same fraction times a power of ten; written with a slash, the two
+-- numbers are read as they are. Zeros that reading drops change no value (`Shortened`).
 use Rattle.std.proofs.Common.{◌≡◌, ℕ, zero, suc, ◌+◌, ◌-◌, ◌*◌, ◌/◌, ◌%◌, ◌^◌, ◌<◌, ◌≤◌, Bool, true, cond, ◌&&◌, eq-eqb}
 use Rattle.std.proofs.Common.{List, [], ◌∷◌, ◌++◌, length, inl, inr, Option, Some, None, Result, Ok, ℤ, pos, negsuc}
 use Rattle.std.proofs.Common.{unsigned_abs, refl, sym, ap, ◌∙◌, subst, arith}
@@ -100,10 +102,13 @@ parts-whole (d ∷ ds) some = refl
 -- ---- zeros at the end Both the number of the digits and its power of ten are a factor more than
 -- those of the digits that are kept.
 record Shortened (ds kept : List ℕ) : Type 0 where
+  -- the digits that go are worth this factor,
   factor : ℕ
   positive : 0 < factor
   shorter : length kept ≤ length ds
+  -- which the power of ten has more,
   scale : 10 ^ length ds ≡ 10 ^ length kept * factor
+  -- and so has the number
   value : (n : ℕ) → digits_value_after 10 n ds ≡ digits_value_after 10 n kept * factor
 
 -- the factor stays where both are longer by a digit
@@ -241,22 +246,27 @@ module _ (n d : ℕ) (n_fits : n < 2 ^ 62) (d_fits : d < 2 ^ 62) (positive : 0 <
       → numeral_value (numeral_of (magnitude_text n d (Some places)))
       ≡ Ok (record { numerator = pos n; denominator = d })
   reads-point places exact =
+      -- the text has the whole part, and `places` digits of the rest
       let unit = 10 ^ places / d in
       let after = n % d * unit in
       let front = decimal_is_IsNumeral (n / d) (omega arith) in
+      -- 10^places is the denominator times `unit`
       let power_is : d * unit ≡ 10 ^ places = omega (arith, div-add-mod' (10 ^ places) d, exact.0) in
       let unit_positive : 0 < unit =
       elim (cases_eq unit 0) [
         | inl none ↦ absurd (omega (arith, power_is, ap (λ x. d * x) none, ten_positive places))
         | inr some ↦ omega arith
       ] in
+      -- the rest is a number of `places` digits
       let after_small : after < 10 ^ places = omega
       (arith, power_is, mul-lt-mul_of_pos_right (mod_below n d positive) unit_positive) in
       let back_is : digits_value 10 (padded places after) ≡ after = digits_value-padded places after after_small in
       let length_is : length (padded places after) ≡ places = length-padded places after in
+      -- together the digits are the numerator times `unit`,
       let number_is : n / d * 10 ^ places + after ≡ n * unit =
       omega (arith, ap (λ x. n / d * x) power_is, ap (λ x. x * unit) (div-add-mod' n d)) in
       let made : ℕ → ℕ → Result Fraction QuantityFault = λ (x y : ℕ). fitted (lowest_terms (pos x) y) in
+      -- so they read as that over 10^places, of which `unit` goes out
       ap numeral_value (numeral_of-point (decimal (n / d)) places after front.0) ∙ point_value-whole (decimal (n / d))
       (padded places after) (omega (arith, length_is, exact.1))
       ∙ ap (λ x. made (digits_value 10 (decimal (n / d)) * 10 ^ x + digits_value 10 (padded places after)) (10 ^ x))

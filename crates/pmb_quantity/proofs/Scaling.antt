@@ -1,4 +1,6 @@
--- Whole numbers times a natural number.
+-- Whole numbers times a natural number: their order, and that a positive factor is taken off
+-- again. For the law `lowest_terms`, `Quantity::new` and `Quantity::negated` (`LawLemmas` uses
+-- it).
 use Rattle.std.proofs.Common.{◌≡◌, ◌≢◌, ℕ, zero, suc, ◌*◌, ◌<◌, ℤ, pos, negsuc, neg_ℤ, ◌*ℤ◌, ◌<ℤ◌, refl, sym, ap, ◌∙◌}
 use Rattle.std.proofs.Common.{arith}
 use Rattle.std.proofs.Math.Nat.{mul-lt-mul_of_pos_right, mul_assoc, mul_comm, zero-mul}

@@ -1,4 +1,6 @@
--- No shorter decimal reads as the quantity that a text writes.
+-- No shorter decimal reads as the quantity that a text writes: the law `text_is_shortest`. A
+-- decimal with k digits after its point makes a denominator that goes into 10^k;
+-- the text uses the least such power, and no more digits before the point than the whole part has.
 use Rattle.std.proofs.Common.{◌≡◌, ◌≢◌, ℕ, zero, suc, ◌+◌, ◌-◌, ◌*◌, ◌/◌, ◌%◌, ◌^◌, ◌<◌, ◌≤◌, ◌⊎◌, inl, inr, Bool, true}
 use Rattle.std.proofs.Common.{false, cond, ◌==◌, eq-eqb, List, [], ◌∷◌, ◌++◌, codes, length, length-append, take, drop}
 use Rattle.std.proofs.Common.{Option, Some, None, Result, Ok, Err, ℤ, pos, negsuc, neg_ℤ, unsigned_abs, refl, sym, ap}
@@ -104,21 +106,27 @@ module _ (front kept : List ℕ) (room : ℕ) where
       → length (magnitude_text (number / gcd number power) (power / gcd number power)
       (places_of (power / gcd number power))) ≤ length front + room
   magnitude_shortest some front_digits kept_all short fits small =
+      -- numerator and denominator in lowest terms
       let g = gcd number power in
       let n = number / g in
       let d = power / g in
       let is = IsGcd-gcd number power in
       let power_positive : 0 < power = ten_positive (length kept) in
+      -- the denominator goes into the decimal's power of ten, so that the least power is no
+      -- greater
       let d_divides : d ∣ power = subst (λ (x : ℕ). d ∣ x) (div-mul_cancel g is.1) (dvd-mul_right d g) in
       let passes : fits_places d (length kept) ≡ true = eq-eqb (power % d) 0 (mod-eq-zero_of_dvd d d_divides) in
       let least = first_of-least (fits_places d) 0 25 (length kept) (omega arith) (omega arith) passes in
       let places_is : places_of d ≡ Some least.0 = places_of-is d ∙ least.1 in
+      -- the whole part is the number of the digits before the point,
       let whole : n / d ≡ digits_value 10 front = whole_part number power g power_positive is.0 is.1
       ∙ div-mul-add (digits_value 10 front) power (digits_value 10 kept) (digits_value-lt 10 kept kept_all) in
       let front_small : digits_value 10 front < 2 ^ 64 = omega (arith, whole, div-le_self n d) in
+      -- and is written with no more digits
       let front_length : length (decimal (n / d)) ≤ length front = subst (λ (x : ℕ). length (decimal x) ≤ length front)
       (sym whole) (length-decimal-le (length front) (digits_value 10 front) some
       (digits_value-lt 10 front front_digits) front_small) in
+      -- nor are more written after the point
       let after = n % d * (10 ^ least.0 / d) in
       let after_length : length (after_point least.0 after) ≤ room = length-after_point least.0 after room
       (λ positive. omega (arith, least.2, fits (omega (arith, least.2)))) in
@@ -134,9 +142,11 @@ record IsPoint (front rest back : List ℕ) : Type 0 where
   digits : AllDigits 10 back
   room : 0 < length back → length back + 1 ≤ length rest
 
+-- Front and rest of a text write no number, a decimal, or two numbers round a slash (47).
 parts_of : (front rest : List ℕ) → (numeral_parts front rest ≡ None)
     ⊎ (((back : List ℕ) × IsPoint front rest back) ⊎ ((back : List ℕ) × (rest ≡ 47 ∷ back)))
 parts_of [] rest = inl refl
+-- digits alone
 parts_of (d ∷ ds) [] = inr (inl (
   [],
   record {
@@ -147,6 +157,7 @@ parts_of (d ∷ ds) [] = inr (inl (
         λ positive. absurd (omega arith);
   },
 ))
+-- a mark after them: only digits may follow, and then it is a point (46) or a slash
 parts_of (d ∷ ds) (mark ∷ back) =
     let by_test : (b : Bool) → are_digits back ≡ b → numeral_parts (d ∷ ds) (mark ∷ back)
     ≡ cond b (marked mark (d ∷ ds) back) None = λ b test. ap (λ t. cond t (marked mark (d ∷ ds) back) None) test in

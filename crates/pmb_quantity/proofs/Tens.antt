@@ -1,4 +1,5 @@
--- Powers of ten as twos and fives.
+-- Powers of ten as twos and fives: for `Quantity::from_decimal`, `places_of`, `unit_of` and
+-- `push_magnitude`. 10^p is 5^p * 2^p, in whatever parts the fives and twos are taken.
 use Rattle.std.proofs.Common.{◌≡◌, ℕ, ◌+◌, ◌-◌, ◌*◌, ◌%◌, ◌^◌, ◌<◌, ◌≤◌, sym, ap, ◌∙◌, arith}
 use Rattle.std.proofs.lemmas.Nat.{pow_pos, pow-add, mul-pow, mul-le, shl_whole}
 use Rattle.std.proofs.Math.Nat.{mul_assoc, mul_comm, one-le-pow, pow-le-pow_right}

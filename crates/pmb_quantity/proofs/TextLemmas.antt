@@ -1,4 +1,6 @@
--- Texts of numbers.
+-- Texts of numbers: how long they are, digits by pairs, and the search for the number of places.
+-- For the functions of `text.rt` and `parse.rt` and the laws on texts. A number of two digits more
+-- is the text of the number by 100 and these two.
 use Rattle.std.proofs.Common.{◌≡◌, ℕ, zero, suc, ◌+◌, ◌-◌, ◌/◌, ◌%◌, ◌^◌, ◌<◌, ◌≤◌, Bool, true, false, cond, ◌==◌, Some}
 use Rattle.std.proofs.Common.{None, [], ◌∷◌, ◌++◌, length, length-append, append_assoc, ℤ, pos, negsuc, ◌<ℤ◌, ◌≤ℤ◌}
 use Rattle.std.proofs.Common.{refl, ap, ◌∙◌, arith}
@@ -13,6 +15,7 @@ pub short_decimal : (n : ℕ) → n < 2 ^ 62 → length (decimal n) ≤ 19
 short_decimal n small = length-decimal-le 19 n (omega arith) (omega arith) (omega arith)
 
 -- two digits, and two digits more
+-- 48 is the digit 0
 pub decimal_pair : (n : ℕ) → 10 ≤ n → n < 100 → decimal n ≡ (48 + n / 10) ∷ (48 + n % 10) ∷ []
 decimal_pair n large small =
     decimal_step n large (omega arith) ∙ ap (λ ds. ds ++ (48 + n % 10) ∷ []) (decimal_digit (n / 10) (omega arith))
@@ -78,6 +81,7 @@ first_of-none test from zero none = refl
 first_of-none test from (suc count) none = absurd (omega arith)
 
 -- the sign
+-- 45 is the minus sign
 pub minus-negative : (z : ℤ) → z <ℤ pos 0 → minus z ≡ 45 ∷ []
 minus-negative (pos n) less = absurd (omega (arith, ints))
 minus-negative (negsuc n) less = refl

@@ -1,4 +1,6 @@
--- Twos in a number, and what it has in common with a power of two.
+-- Twos in a number, and what it has in common with a power of two: for `Quantity::from_words`,
+-- `common_halvings`, `without_fives` and `places_of`. The number of zero bits at the end is the
+-- number of its twos; without them it is odd, and an odd number has nothing in common with 2^j.
 use Rattle.std.proofs.Common.{◌≡◌, ℕ, zero, suc, inl, inr, ◌+◌, ◌-◌, ◌*◌, ◌/◌, ◌%◌, ◌^◌, ◌<◌, ◌≤◌, min, pos, sym, ap}
 use Rattle.std.proofs.Common.{◌∙◌, arith}
 use Rattle.std.specs.Int.{bit_at, w64, trailing_zeros}

@@ -1,4 +1,6 @@
 //! The parts of a quantity's text.
+//!
+//! Its rows: `tests_numbers`, `src/formats/quantity.rt`; `tests/rows/numbers.txt`.
 ghost use Rattle.std.specs.Prelude.{◌≡◌, ◌≤◌, length, IfSome};
 ghost use Rattle.std.specs.Bool.{OnTrue};
 ghost use Rattle.std.specs.Str.Parse.{AllDigits};

@@ -1,4 +1,6 @@
 //! Quantities: exact fractions.
+//!
+//! Its rows: `tests_numbers`, `src/formats/quantity.rt`.
 ghost use Rattle.std.specs.Prelude.{◌≡◌, ℕ, ◌-◌, ◌*◌, ◌^◌, ◌<◌, ◌≤◌, pos, unsigned_abs, IfOk};
 ghost use Rattle.pmb_quantity.specs.Fraction.{Fraction, HasValue, IsQuantity, gcd, lowest_terms};
 

@@ -1,4 +1,6 @@
 //! How a quantity is written.
+//!
+//! Its rows: `tests_numbers`, `src/formats/quantity.rt`; `tests/rows/numbers.txt`.
 ghost use Rattle.std.specs.Prelude.{◌≡◌, ◌+◌, ◌*◌, ◌/◌, ◌%◌, ◌^◌, ◌<◌, ◌≤◌, [], ◌∷◌, ◌++◌, length, Some, IfSome};
 ghost use Rattle.std.specs.Fmt.{decimal};
 ghost use Rattle.arrayvec.specs.ArrayString.{array_string_len};

@@ -11,7 +11,7 @@ use pmb_bus::Event;
 use pmb_packet_state::laws::some_packet_is_under_way;
 use pmb_transaction::Transaction;
 
-/// What a piece of a capture came to.
+/// The result of a piece of a capture.
 #[derive(Debug, Drop, PartialEq, Eq)]
 pub enum Outcome {
     /// All of it is used. A packet may be under way.
@@ -22,12 +22,12 @@ pub enum Outcome {
     Refused(Refusal),
 }
 
-/// How many events of a piece were used, and what they came to.
+/// How many events of a piece were used, and the result.
 #[derive(Debug, Drop, PartialEq, Eq)]
 pub struct Feed {
     /// How many events of the piece were used.
     pub used: usize,
-    /// What they came to.
+    /// The result of these events.
     pub outcome: Outcome,
 }
 

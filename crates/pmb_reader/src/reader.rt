@@ -1,7 +1,7 @@
 //! Reads packets.
 //!
 //! A [`Reader`] is between packets or inside one, or it holds a refusal, or it passes events over
-//! up to the next STOP. The packet under way is an [`PacketState`], which alone knows what a packet
+//! up to the next STOP. The packet under way is a [`PacketState`], which alone knows what a packet
 //! is; here events are counted and refusals are kept.
 
 ghost use Rattle.std.specs.Prelude.{◌≡◌, ◌<◌, ◌≤◌, ◌↔◌, ◌+◌, ℕ, IfSome, IsSome, None, List, [], length, true};
@@ -22,14 +22,14 @@ use pmb_packet_state::{Move, PacketState};
 use pmb_table::Profile;
 use pmb_transaction::{Reason, Transaction};
 
-/// What one event came to.
+/// The result of one event.
 #[derive(Clone, Copy, Debug, PartialEq, Eq)]
 pub enum Took {
     /// It was used, and the packet continues.
     Continues,
     /// It was used, and ends the packet of [`Reader::packet`].
     Packet,
-    /// It was not used: no packet goes on with it.
+    /// It was not used: no packet can have this event here.
     Refused(Refusal),
 }
 

@@ -1,4 +1,7 @@
--- The registers that a device begins with, command by command.
+-- The registers that a device begins with, command by command. For the functions of `first.rt`
+-- that add them (`first_bytes`, `push_pages`, `push_registers`, `add_registers`, `add_command`,
+-- `no_places`). The registers so far are those of the commands before; a command adds one for each
+-- of its pages, or one for all, and the place of its code spans just these (`ArePlaces`).
 use Rattle.std.proofs.Common.{◌≡◌, ◌≢◌, ◌⊎◌, inl, inr, ℕ, zero, suc, ◌+◌, ◌<◌, Bool, true, false, cond, Option, Some}
 use Rattle.std.proofs.Common.{None, List, [], ◌∷◌, ◌++◌, length, map, take, drop, set, get_or, replicate, nat_eq}
 use Rattle.std.proofs.Common.{option_map, option_and_then, refl, sym, ap, ◌∙◌, subst, arith, eq-eqb, eqb-true, add-one}
@@ -41,6 +44,7 @@ found_code code (x ∷ cs) command is = elim (pick (nat_eq x.entry.code code) x 
 
 module _ (device : DeviceParts) (code : ℕ) (form : Form) where
   -- VOUT_MODE begins with the mode
+  -- 0x20 is VOUT_MODE
   pub mode_at : (initial : Option (List ℕ)) → code ≡ 0x20 → first_bytes_at device code initial form ≡ device.vout_mode
       ∷ []
   mode_at initial same = rw (eq-eqb code 0x20 same) refl
@@ -178,6 +182,7 @@ of_no_other device code other apart = none_of_some device code other (command_wi
 
 module _ (code : ℕ) (rs fresh : List RegisterData) where
   -- a new code has all of what is new
+  -- the new ones come after all others
   place_of_new : (place : RegisterRange) → NoneHas code rs → place.start ≡ length rs → place.end ≡ length (rs ++ fresh)
       → IsPlaceOf code place (rs ++ fresh)
   place_of_new place none starts ends =

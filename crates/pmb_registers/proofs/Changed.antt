@@ -1,4 +1,5 @@
--- A change of each element, one after another.
+-- A change of each element of a list, one after another: for the loop of `change_each`. The first
+-- i are changed and the others are as before; changing the element at i keeps that with i + 1.
 use Rattle.std.proofs.Common.{◌≡◌, ℕ, zero, suc, ◌+◌, ◌<◌, List, [], ◌∷◌, ◌++◌, length, map, take, drop, set, get_or}
 use Rattle.std.proofs.Common.{arith, add-one}
 

@@ -1,4 +1,5 @@
--- Clearing bits byte by byte.
+-- Clearing bits byte by byte: for the loop of `clear_bits`. After i masks the bytes are those that
+-- the first i masks clear; a mask's byte m leaves the bits of 255 - m.
 use Rattle.std.proofs.Common.{◌≡◌, ℕ, zero, suc, ◌+◌, ◌-◌, ◌<◌, ◌≤◌, List, [], ◌∷◌, length, take, set, get_or, min}
 use Rattle.std.proofs.Common.{refl, sym, ap, ◌∙◌, arith, add-one}
 use Rattle.std.specs.Prelude.{bit_and}
@@ -9,6 +10,7 @@ pub cleared_none : (bytes : List ℕ) → bytes ≡ cleared_bits [] bytes
 cleared_none [] = refl
 cleared_none (byte ∷ bytes) = refl
 
+-- 255 - m has the bits that the mask m doesn't clear
 cleared_at : (written bytes : List ℕ) (i : ℕ) → i < length written → i < length bytes
     → set (cleared_bits (take i written) bytes) i
     (bit_and (get_or (cleared_bits (take i written) bytes) i 0) (255 - get_or written i 0))

@@ -1,4 +1,6 @@
--- Looking for a register.
+-- Looking for a register of a code that answers for a page: for the loop of `bytes_on`. None of
+-- the first i registers is the one; the next one is, and its bytes are held, or it is not, and
+-- there are i + 1.
 use Rattle.std.proofs.Common.{◌≡◌, ℕ, zero, suc, ◌+◌, ◌<◌, Bool, true, false, ◌&&◌, cond, Option, Some, None, List, []}
 use Rattle.std.proofs.Common.{◌∷◌, length, map, take, get_or, nat_eq, option_map, refl, sym, ap, ◌∙◌, arith, add-one}
 use Rattle.std.proofs.Common.{eq-eqb}

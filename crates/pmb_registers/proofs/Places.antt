@@ -1,4 +1,7 @@
--- A change, and a search, in the place of a code alone.
+-- A change, and a search, among the registers of one code alone: for `bytes_in`, `change_in`,
+-- `clear_in_each`, `Registers::change` and `Registers::clear_faults`. The place of a code cuts the
+-- list of registers in three; the parts before and after have other codes, which the change
+-- leaves alone, and the search passes over.
 use Rattle.std.proofs.Common.{◌≡◌, ℕ, ◌+◌, ◌-◌, ◌≤◌, Bool, true, false, ◌&&◌, cond, Option, Some, None, List, [], ◌∷◌}
 use Rattle.std.proofs.Common.{◌++◌, length, map, take, drop, get_or, nat_eq, option_map, refl, sym, ap, ◌∙◌, subst}
 use Rattle.std.proofs.Common.{arith}
@@ -113,19 +116,23 @@ module _ (code selected : ℕ) (change : List ℕ → List ℕ) where
       (map register_data (take (place.end - place.start) (drop place.start rs)))
       → map register_data (put_mid place.start (place.end - place.start) rs ys) ≡ changed selected (nat_eq code) change
       (map register_data rs)
+  -- the three parts
   changed_in_place place rs ys is done =
       let front = take place.start rs in
       let mid = take (place.end - place.start) (drop place.start rs) in
       let back = drop place.end rs in
+      -- what is written: the part in the middle is new
       let written : map register_data (put_mid place.start (place.end - place.start) rs ys) ≡ map register_data front
       ++ (map register_data ys ++ map register_data (drop (place.end - place.start) (drop place.start rs))) =
       map_parts register_data front ys (drop (place.end - place.start) (drop place.start rs)) in
       let same_back : drop (place.end - place.start) (drop place.start rs) ≡ back =
       behind_is place.start place.end rs is.ordered in
+      -- the parts before and after have other codes, so a change of all registers leaves them
       let front_stays : changed selected (nat_eq code) change (map register_data front) ≡ map register_data front =
       others_stay (map register_data front) (none_in_front code place rs is) in
       let back_stays : changed selected (nat_eq code) change (map register_data back) ≡ map register_data back =
       others_stay (map register_data back) (none_behind code place rs is) in
+      -- that change, part by part
       let all : changed selected (nat_eq code) change
       (map register_data front ++ (map register_data mid ++ map register_data back))
       ≡ changed selected (nat_eq code) change (map register_data front)

@@ -1,4 +1,7 @@
 -- The list of the codes of status registers, and clearing the registers whose codes are listed.
+-- For the loop of `status_codes` and for `clear_in_each`. Codes are below 256, so that a list of
+-- those below 256 has all; clearing code by code comes to clearing all at once, since to clear
+-- twice is to clear.
 use Rattle.std.proofs.Common.{◌≡◌, inl, inr, ℕ, ◌+◌, ◌<◌, ◌≤◌, Bool, true, false, ◌&&◌, ◌||◌, cond, Option, None, List}
 use Rattle.std.proofs.Common.{[], ◌∷◌, length, map, take, get_or, nat_eq, refl, sym, ap, ◌∙◌, arith}
 use Rattle.std.specs.List.{AllByRecursion}
@@ -14,8 +17,11 @@ use Rattle.pmb_registers.specs.machine.StatusCodes.{is_listed, AreStatusCodes}
 
 -- Listed are the codes of status registers that are below a number.
 pub record AreStatusCodesBelow (device : DeviceParts) (n : ℕ) (codes : List ℕ) : Type 0 where
+  -- there are at most n of them
   pub few : length codes ≤ n
+  -- below n just the status codes are listed
   pub below : (code : ℕ) → code < n → is_listed codes code ≡ is_status device code
+  -- and from n on none yet
   pub above : (code : ℕ) → n ≤ code → is_listed codes code ≡ false
 
 -- no command has a code of two bytes

@@ -1,4 +1,6 @@
 //! The bits of STATUS_CML that a simulated device sets.
+//!
+//! Its rows: `tests_devices`, `src/registers/written.rt`, `src/registers/answers.rt`.
 
 ghost use Rattle.std.specs.Prelude.{◌≡◌};
 ghost use Rattle.pmb_registers.specs.Apply.{bit_value};

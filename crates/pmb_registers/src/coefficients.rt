@@ -1,4 +1,6 @@
 //! What a device answers to COEFFICIENTS (PMBus Part II 1.3 section 14.1).
+//!
+//! Its rows: `tests_devices`, `src/registers/answers.rt`, `src/devices/sessions.rt`.
 
 ghost use Rattle.std.specs.Prelude.{◌≡◌};
 ghost use Rattle.pmb_registers.specs.Answer.{answer_coefficients, coefficient_bytes, coefficients_of};

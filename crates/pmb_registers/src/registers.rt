@@ -4,6 +4,8 @@
 //! is found by its code in one step, and what a write costs does not grow with the registers of
 //! others. `status_codes` lists the commands with status bits, so that CLEAR_FAULTS goes to their
 //! registers alone.
+//!
+//! Its rows: `tests_devices`, `src/registers/written.rt`, `answers.rt`, `applied.rt`.
 
 ghost use Rattle.std.specs.Prelude.{◌≡◌, ◌≤◌, [], IfOk, IfSome, if◌then◌else◌, length, map, nat_eq, option_map};
 ghost use Rattle.std.specs.Option.{unwrap_or};

@@ -1,4 +1,6 @@
 //! What a device replies to a read or a call.
+//!
+//! Its rows: `tests_devices`, `src/registers/answers.rt`.
 
 ghost use Rattle.std.specs.Prelude.{◌≡◌};
 ghost use Rattle.pmb_registers.specs.Reply.{reply_bytes};

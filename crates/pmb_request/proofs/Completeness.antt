@@ -1,4 +1,7 @@
--- A reader takes each word of a request's line, and stands at its end.
+-- A reader takes each word of a request's line, and stands at its end. For the laws `one_request`,
+-- `one_request_fault`, `no_request_with_a_fault` and `request_or_fault`, and for `parse_request`.
+-- Word by word along the spelling of a wording: keyword, address, code, operands, and `pec` or
+-- nothing.
 use Rattle.std.proofs.Common.{◌≡◌, ℕ, Bool, true, false, Option, Some, List, [], ◌∷◌, ◌++◌, map, refl, sym, ap, ◌∙◌}
 use Rattle.std.proofs.Common.{append_assoc}
 use Rattle.pmb_line.specs.declared.token.Token.{Token}

@@ -1,4 +1,7 @@
--- How a line goes on, wherever a reader stands, and that it says so.
+-- Wherever a reader stands in a line that is no write, some words end the line, and what it says
+-- then is known. For `parse_request`, `parse_write` and the law `request_or_fault`. Where a word
+-- is missing `00` is put in for an address, a code or a quantity: so a word is a fault only if no
+-- line can have it there.
 use Rattle.std.proofs.Common.{◌≡◌, ◌≢◌, ℕ, true, false, Some, List, [], ◌∷◌, ◌++◌, refl, sym, subst, arith}
 use Rattle.std.specs.Prelude.{codes}
 use Rattle.pmb_line.specs.declared.token.Token.TheVariants as said
@@ -14,12 +17,17 @@ use Rattle.pmb_request.proofs.Steps.{append-nil, spelled, wanted-append}
 
 -- Words that end a line.
 pub record Completes (s : Partial) : Type 0 where
+  -- the words
   pub more : List (List ℕ)
+  -- what is missing, which they say
   pub missing : List Wanted
+  -- the command and the task that the whole line asks for
   pub command : Command
   pub task : Task
+  -- the words so far, and the missing ones, are a spelling of that
   pub are : AreWanted missing more
   pub whole : spelled s ++ missing ≡ asking command task
+  -- it is not too large if the words so far are not
   pub within : Room s → IsWithin (Ask command task)
 
 -- an address and a code
@@ -29,7 +37,9 @@ zero_zero = codes "00" ∷ codes "00" ∷ []
 abbrev byte_zero : Wanted
 byte_zero = token (said.Byte 0)
 
+-- after the keyword: address, code, and for `set` a quantity
 after_verb : (verb : Verb) → Completes (at_address verb)
+-- by the verb: `read`
 after_verb Read = record {
   more = zero_zero;
   missing = byte_zero ∷ byte_zero ∷ [];
@@ -40,6 +50,7 @@ after_verb Read = record {
   whole = refl;
   within = λ room. tt;
 }
+-- `call`, with no bytes
 after_verb Call = record {
   more = zero_zero;
   missing = byte_zero ∷ byte_zero ∷ [];
@@ -50,6 +61,7 @@ after_verb Call = record {
   whole = refl;
   within = λ room. omega arith;
 }
+-- `set`, which wants a quantity
 after_verb Set = record {
   more = codes "00" ∷ zero_zero;
   missing = byte_zero ∷ byte_zero ∷ text (codes "00") ∷ [];
@@ -59,6 +71,7 @@ after_verb Set = record {
   whole = refl;
   within = λ room. tt;
 }
+-- `get`
 after_verb Get = record {
   more = zero_zero;
   missing = byte_zero ∷ byte_zero ∷ [];
@@ -70,7 +83,9 @@ after_verb Get = record {
   within = λ room. tt;
 }
 
+-- after the address: the code, and for `set` a quantity
 after_address : (verb : Verb) (a : ℕ) → Completes (at_code verb a)
+-- by the verb, as above
 after_address Read a = record {
   more = codes "00" ∷ [];
   missing = byte_zero ∷ [];
@@ -112,6 +127,7 @@ after_address Get a = record {
 }
 
 pub completes : (s : Partial) → s ≢ writing → Completes s
+-- before the first word: `get 00 00`
 completes nothing other = record {
   more = codes "get" ∷ zero_zero;
   missing = text (codes "get") ∷ byte_zero ∷ byte_zero ∷ [];
@@ -124,6 +140,7 @@ completes nothing other = record {
 completes writing other = absurd (other refl)
 completes (at_address verb) other = after_verb verb
 completes (at_code verb a) other = after_address verb a
+-- after the code of `set`: a quantity
 completes (at_quantity a c) other = record {
   more = codes "00" ∷ [];
   missing = text (codes "00") ∷ [];
@@ -134,6 +151,7 @@ completes (at_quantity a c) other = record {
   whole = refl;
   within = λ room. tt;
 }
+-- after the code: the line may end there
 completes (behind a c task) other = record {
   more = [];
   missing = [];
@@ -144,6 +162,7 @@ completes (behind a c task) other = record {
   whole = refl;
   within = λ room. room;
 }
+-- after `pec`: it ends there
 completes (ended a c task) other = record {
   more = [];
   missing = [];
@@ -163,6 +182,7 @@ ends s front c so_far = subst (λ xs. AreWanted xs (front ++ c.more)) c.whole
 
 -- What is asked for, where no word is missing.
 pub record Finished (s : Partial) (wording : Wording) : Type 0 where
+  -- the command and the task that the words ask for
   pub command : Command
   pub task : Task
   pub is : wording ≡ Ask command task

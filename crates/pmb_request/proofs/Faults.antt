@@ -1,4 +1,7 @@
--- What is wrong with a line, told by where a reader stands.
+-- What is wrong with a line, by where a reader stands: a word that no line can have there,
+-- one for which there is no room, or the end where a word is missing. For `parse_request`,
+-- `parse_write` and the law `request_or_fault`. By `Completions` some line begins with the words
+-- before, and by `Completeness` none with the faulty one.
 use Rattle.std.proofs.Common.{◌≡◌, ◌≢◌, ℕ, Some, None, List, [], ◌∷◌, ◌++◌, length, sym, ap, subst, inl, inr, ◌∙◌}
 use Rattle.std.proofs.lemmas.List.{map-append}
 use Rattle.pmb_line.specs.declared.word_fault.WordFault.{WordFault}

@@ -1,4 +1,7 @@
--- A line spells one request at most, has one first fault at most, and never both.
+-- A line spells one request at most, has one first fault at most, and never both: the laws
+-- `one_request`, `one_request_fault` and `no_request_with_a_fault`. A reader that takes the words
+-- is a function, so that one wording has them; faults are of three kinds, blank, at a word, or of
+-- the line as a whole, and two first ones of any kinds are at the same place.
 use Rattle.std.proofs.Common.{◌≡◌, ◌≢◌, ℕ, false, Option, Some, Ok, Err, List, [], ◌∷◌, ◌++◌, map, refl, sym, ap, subst}
 use Rattle.std.proofs.Common.{inl, inr, ◌∙◌, append_assoc}
 use Rattle.std.specs.Prelude.{codes}
@@ -149,7 +152,9 @@ is_room = record { begun = begun; room_before = room_before }
 
 -- A fault of a line as a whole.
 data WholeFault (line : List ℕ) (f : RequestFault) : Type 0 where
+  -- the end of the line is where a word is missing
   short : (at : ℕ) → f ≡ Line (line_fault.BadWord at) → IsCutShort line at → WholeFault line f
+  -- the quantity's text can't be read
   quantity : (why : QuantityFault) → f ≡ Quantity why → IsBadQuantity line why → WholeFault line f
 
 abbrev KindOfLine : List ℕ → RequestFault → Type 0

@@ -1,4 +1,7 @@
--- What words ask for, taken one after the other.
+-- What words ask for, taken one after the other by a reader that stands at a place of a line
+-- (`Partial`). For `parse_request`, `parse_write` and the steps of `command_words.rt`. Words one
+-- after the other lead where the second ones lead from where the first ones led; where there is
+-- room after a word, there was room before it.
 use Rattle.std.proofs.Common.{◌≡◌, ℕ, ◌≤◌, Option, Some, None, List, [], ◌∷◌, ◌++◌, length, refl, sym, ap, subst, inl}
 use Rattle.std.proofs.Common.{inr, ◌⊎◌, ◌∙◌, append_assoc, arith, length-append}
 use Rattle.pmb_line.specs.declared.token.Token.{Token}
@@ -54,6 +57,7 @@ byte_room (Some (said.Byte b)) next s after had is room =
     had b (subst Room (sym same) room)
 byte_room _ next s after had is room = cc is
 
+-- 255 bytes are the most that a call sends
 fewer : (bytes : List ℕ) (b : ℕ) → length (bytes ++ b ∷ []) ≤ 255 → length bytes ≤ 255
 fewer bytes b few = omega (arith, length-append bytes (b ∷ []))
 

@@ -1,4 +1,7 @@
--- Each line spells a request, or has a first fault.
+-- Each line spells a request, or has a first fault: the law `request_or_fault`. A reader goes
+-- through the words: each leads to a next place with room, or is the fault; at the end a word is
+-- missing or there is a wording. Of a quantity the text is read or not; `write` is decided below,
+-- for transactions.
 use Rattle.std.proofs.Common.{◌≡◌, ◌≢◌, ℕ, ◌≤◌, ◌⊎◌, Option, Some, IfSome, Result, Ok, Err, List, [], ◌∷◌, ◌++◌, length}
 use Rattle.std.proofs.Common.{refl, ap, subst, inl, inr, ◌∙◌, arith}
 use Rattle.std.proofs.lemmas.Bool.{cases_lt}
@@ -94,6 +97,7 @@ IsDecided P = P ⊎ (P → ⊥)
 task_room : (a c : ℕ) (task : Task) → IsDecided (Room (behind a c task))
 task_room a c to_read = inl tt
 task_room a c (to_call bytes) =
+    -- 255 bytes are the most that a call sends
     elim (cases_lt 255 (length bytes)) [
       | inl many ↦ inr
           (λ (within : length bytes ≤ 255). absurd (omega (arith, many, within)))
@@ -181,10 +185,13 @@ module _ (mode : ℕ → Option ℕ) (line : List ℕ) where
       inr (Quantity fault, record { command = c; text = text; spells = spells; bad = is })
 
   of_wording : (wording : Wording) → Spells (texts (line_words line)) wording → IsWithin wording → IsRequest
+  -- WRITE
   of_wording (Write parts) spells within =
       inl (WriteParts parts, record { wording = Write parts; spells = spells; within = within; means = refl })
+  -- READ
   of_wording (Ask c to_read) spells within =
       inl (ReadBytes c, record { wording = Ask c to_read; spells = spells; within = within; means = refl })
+  -- CALL
   of_wording (Ask c (to_call bytes)) spells within =
       inl (
         CallBytes c bytes,
@@ -196,7 +203,9 @@ module _ (mode : ℕ → Option ℕ) (line : List ℕ) where
               refl;
         },
       )
+  -- SET: if its quantity can be read
   of_wording (Ask c (to_set text)) spells within = quantity_read c text (reading text) refl spells
+  -- GET: with the VOUT_MODE byte that its device has
   of_wording (Ask c to_get) spells within =
       inl (
         requests.Get c (mode c.addr),

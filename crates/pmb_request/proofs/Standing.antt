@@ -1,4 +1,7 @@
--- How pieces of a line lead from one place of a reader to the next.
+-- How the pieces of a line lead from one place of a reader to the next, or to a fault: an address,
+-- a code, a byte, a quantity, `pec`, the end. For `parse_read`, `parse_call`, `parse_set`,
+-- `parse_get` and the steps of `command_words.rt`. The words before were taken with room; one more
+-- that fits is taken, and any other one is the first fault, at its own place.
 use Rattle.std.proofs.Common.{◌≡◌, ◌≢◌, ℕ, ◌≤◌, ◌<◌, Option, Some, None, List, [], ◌∷◌, ◌++◌, length, refl, sym, ap}
 use Rattle.std.proofs.Common.{subst, inl, inr, ◌∙◌, append_assoc, arith, length-append}
 use Rattle.std.proofs.lemmas.List.{map-append}
@@ -185,6 +188,7 @@ byte_unfit all end s to word before left wants stands same none =
 -- a byte more of a call
 pub call_on : (all : List Word) (a c : ℕ) (bytes new : List ℕ) (b : ℕ) (word : Word) (before left : List Word)
     → StandsAt all (behind a c (to_call bytes)) before → before ≡ word ∷ left
+    -- 255 bytes are the most that a call sends
     → said_byte (token_of word.text) ≡ Some b → length bytes < 255 → new ≡ bytes ++ b ∷ []
     → StandsAt all (behind a c (to_call new)) left
 call_on all a c bytes new b word before left stands same is few added =

@@ -1,4 +1,6 @@
--- What the words so far are, told by where a reader stands.
+-- What the words so far are, by where a reader stands: just those that lead there
+-- (`spelled`). For `parse_request` and the laws on requests. Each step adds what it wanted of the
+-- word, so that a reader that took all words has read a spelling.
 use Rattle.std.proofs.Common.{◌≡◌, ◌≢◌, ℕ, Bool, true, false, Option, Some, None, List, [], ◌∷◌, ◌++◌, refl, sym, ap}
 use Rattle.std.proofs.Common.{subst, inl, inr, ◌∙◌, append_assoc}
 use Rattle.std.proofs.lemmas.List.{map-append}
@@ -52,8 +54,10 @@ wanted-append (x ∷ xs) ys (w ∷ ws) vs front back = (front.0, wanted-append x
 
 -- A word leads from one place to another: it is what has to come there.
 pub record Leads (s : Partial) (word : List ℕ) (after : Partial) : Type 0 where
+  -- what had to come
   pub wanted : Wanted
   pub adds : spelled after ≡ spelled s ++ wanted ∷ []
+  -- and the word is that
   pub is : IsWanted wanted word
 
 -- the place that a step led to

@@ -1,4 +1,6 @@
--- What is answered to a whole line.
+-- What is returned for a whole line, from what is known of its words. For `parse_request`,
+-- `parse_write` and the law `request_or_fault`. A request of the words is one of the line, and a
+-- fault at a word is named as the line's; the first word is `write`, a verb, or a fault.
 use Rattle.std.proofs.Common.{◌≡◌, ℕ, Option, Some, None, Result, Ok, Err, List, ◌∷◌, length, refl, sym, ap, subst, ◌∙◌}
 use Rattle.std.specs.Prelude.{IfOk, IfErr}
 use Rattle.pmb_command.specs.Parts.{DeviceParts}

@@ -1,4 +1,6 @@
--- Lines that begin with `write`, which are read as those of transactions.
+-- Lines that begin with `write`, which are read as those of transactions. For `parse_write` and
+-- the law `request_or_fault`. No other request begins so, so that such a line, its beginnings, its
+-- room and its faults are those of a transaction's line.
 use Rattle.std.proofs.Common.{◌≡◌, ℕ, false, Option, Some, List, [], ◌∷◌, ◌++◌, map, refl, sym, ap, subst, inl, inr}
 use Rattle.std.proofs.Common.{◌∙◌}
 use Rattle.std.specs.Prelude.{codes}

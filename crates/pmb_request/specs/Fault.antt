@@ -32,7 +32,7 @@ pub record BeginsRequest (front : List (List ℕ)) : Type 0 where
   pub wording : Wording
   pub spells : Spells (front ++ more) wording
 
--- There is room for what the words say so far: a request that is not too large goes on with them.
+-- There is room for what the words say so far: a request that is not too large can have them there.
 -- The `+` after the 16th part of a write needs no room yet; the address after it does.
 pub data HasRoom (front : List (List ℕ)) : Type 0 where
   goes_on : (more : List (List ℕ)) (wording : Wording) → Spells (front ++ more) wording → IsWithin wording

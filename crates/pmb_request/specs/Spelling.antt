@@ -57,7 +57,7 @@ operands (to_call bytes) = map (λ b. token (Byte b)) bytes
 operands (to_set quantity) = text quantity ∷ []
 operands to_get = []
 
--- `pec` where it is so, else nothing
+-- `pec` if the flag is set, else nothing
 abbrev pub mark : Bool → List Wanted
 mark true = token Pec ∷ []
 mark false = []

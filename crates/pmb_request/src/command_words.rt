@@ -2,6 +2,8 @@
 //!
 //! A contract says what is answered where all words of a line are given, and those so far stand where
 //! the piece begins: `Partial` of `specs/machine/Reading` lists the places.
+//!
+//! Its rows: `tests_lines`, `src/requests/rows.rt`, `src/requests/long.rt`.
 
 ghost use Rattle.std.specs.Prelude.{◌≡◌, ◌↔◌, ℕ, true, Some, List, Ok, Err};
 ghost use Rattle.pmb_line.specs.Left.{end, words_left};

@@ -1,3 +1,7 @@
+//! A request: what a host is asked to do.
+//!
+//! Its rows: `tests_lines`, `src/requests/rows.rt`; `tests/rows/requests.txt`.
+
 use arrayvec::ArrayVec;
 use pmb_quantity::Quantity;
 use pmb_transaction::Part;

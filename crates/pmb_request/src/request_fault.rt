@@ -1,3 +1,7 @@
+//! Why a line spells no request, and the text of that.
+//!
+//! Its rows: `tests_lines`, `src/requests/rows.rt`; `tests/rows/requests.txt`.
+
 ghost use Rattle.std.specs.Prelude.{◌≡◌, ◌≤◌, length};
 ghost use Rattle.pmb_request.specs.RequestFault.{fault_text, quantity_fault_name};
 

@@ -1,4 +1,6 @@
 //! Requests as lines of text.
+//!
+//! Its rows: `tests_lines`, `src/requests/rows.rt`, `modes.rt`; `tests/rows/requests.txt`.
 
 ghost use Rattle.std.specs.Prelude.{◌≡◌, ◌↔◌, ℕ, true, Option, Some, List, IfOk, IfErr};
 ghost use Rattle.pmb_command.specs.Parts.{DeviceParts};

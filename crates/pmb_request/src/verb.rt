@@ -1,4 +1,6 @@
 //! The first word of a request that asks a command code for something.
+//!
+//! Its rows: `tests_lines`, `src/requests/rows.rt`.
 
 ghost use Rattle.std.specs.Prelude.{◌≡◌};
 ghost use Rattle.pmb_line.specs.Token.{token_of as token_of_word};

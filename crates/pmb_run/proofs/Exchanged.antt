@@ -1,5 +1,7 @@
--- The transaction that a request comes to on devices in good states: it has a packet, the host has an
--- end to tell, and the devices are in good states after it.
+-- The transaction that a request comes to on devices in good states: it has a packet, the host has
+-- an end to tell, and the devices are in good states after it. For the law `some_running`. By the
+-- cases of `Exchanges`: a write, a write refused at a value of PAGE, a reply, or a device that
+-- refuses to be read; a reply fits its form since the device's registers do.
 use Rattle.std.proofs.Common.{◌≡◌, ℕ, ◌+◌, ◌*◌, ◌%◌, ◌/◌, inl, inr, Option, Some, None, Result, Ok, Err, List, [], ◌∷◌}
 use Rattle.std.proofs.Common.{◌++◌, length, length-append, map, nat_eq, true, false, refl, sym, ap, subst, ◌∙◌, arith}
 use Rattle.std.specs.Prelude.{IfSome}
@@ -49,6 +51,7 @@ use Rattle.pmb_run.proofs.Replies.{reply_small}
 
 -- some data of each form
 some_data : (form : Form) → (reply : List ℕ) × Fits form reply
+-- zeros, as many as the form takes; an empty Block
 some_data Zero = ([], record { small = tt; taken = refl })
 some_data One = (0 ∷ [], record { small = (omega arith, tt); taken = refl })
 some_data Two = (0 ∷ 0 ∷ [], record { small = (omega arith, (omega arith, tt)); taken = refl })
@@ -114,14 +117,17 @@ allowed_behind device (part ∷ before) body write = write
 module _ (profile : List DeviceParts) (members : List InState) (bus : IsBus profile)
     (devices_are : map (λ m. m.device) members ≡ profile)
     (all : AllByRecursion IsMember members) (number : Option NumberFormat) where
-  -- What a task asks for has a packet, whatever reply fits, and where a number is read that has two bytes.
+  -- What a task asks for has a packet, whatever reply fits, and where a number is read that has
+  -- two bytes.
   pub record IsAsked (task : TransactionData) : Type 0 where
+    -- with any reply that fits
     pub packets : (reply : List ℕ) → IfSome (reply_form profile task) (λ form. Fits form reply)
         → HasPacket profile (replied task reply)
     pub words : (format : NumberFormat) → number ≡ Some format → reply_form profile task ≡ Some Two
 
   -- A transaction has a packet and an end, and leads to good states.
   pub record Ending (done : TransactionData) : Type 0 where
+    -- the end that the host returns
     pub packet : HasPacket profile done
     pub end : HostStep
     pub ends : EndsWith number done end
@@ -148,18 +154,22 @@ module _ (profile : List DeviceParts) (members : List InState) (bus : IsBus prof
       → AllByRecursion (IsTaken members) before → WritesNoPage members part
       → Ending (Refused (record { parts = before; addr = part.addr; sent = part.code ∷ part.bytes; at_read = false }))
   part_ends before part behind asked taken wrong =
+      -- the packet of the whole write tells the legs of its parts
       let whole = asked.packets [] tt in
       let legs = all_parts (HasLeg profile) before part behind
       (have_legs profile bus (before ++ part ∷ behind) whole.1.legs whole.1.each) in
       let has = legs.1 in
+      -- this part's body is 00h, the code of PAGE, and the value
       let body = page_body has.device has.accepted part.code part.bytes part.pec has.body has.allowed wrong.page in
       let sent = part.code ∷ part.bytes in
       let code_is : part.code ≡ 0x00 = wrong.page in
       let content_is : part.bytes ≡ body.value ∷ [] = body.content_is in
       let split : sent ≡ 0x00 ∷ body.value ∷ [] = cc (code_is, content_is) in
+      -- at most 15 parts come before it
       let few = whole.1.few in
       let lengths : length (before ++ part ∷ behind) ≡ length before + length (part ∷ behind) =
       length-append before (part ∷ behind) in
+      -- the events of the refused leg, and of the parts before
       let last = leg (write_address part.addr ∷ []) ++ nacked sent in
       let events = legs_events profile (map (part_bytes profile) before) in
       let t : RefusedData = record { parts = before; addr = part.addr; sent = sent; at_read = false } in
@@ -173,6 +183,7 @@ module _ (profile : List DeviceParts) (members : List InState) (bus : IsBus prof
             legs = events;
             each = parts_events profile before legs.0;
             last = last;
+            -- the refused leg: the value of PAGE got NACK
             refused = record {
               device = has.device;
               known = has.known;
@@ -191,8 +202,10 @@ module _ (profile : List DeviceParts) (members : List InState) (bus : IsBus prof
             spelled = refl;
           },
         );
+        -- the host reports the leg and the byte
         end = Failed (faults.Refused (length before + 1) (length sent) false);
         ends = refl;
+        -- each device took the parts before, or notes the value
         after = all_good_after (Refused t) members
             (
             λ m at is.
@@ -225,6 +238,7 @@ module _ (profile : List DeviceParts) (members : List InState) (bus : IsBus prof
             spelled = refl;
           },
         );
+        -- the second leg, at its address
         end = Failed (faults.Refused 2 0 true);
         ends = refl;
         after = all_good_after (Refused t) members
@@ -251,10 +265,12 @@ module _ (profile : List DeviceParts) (members : List InState) (bus : IsBus prof
     read_answered_ends : (reply : List ℕ) → IsAnswered members (Read t) address body (Ok reply)
         → Ending (replied (Read t) reply)
     read_answered_ends reply is =
+        -- a packet of this read, with some reply, tells the device and the form
         let packet = read_packet.1 in
         let here : t.addr ≡ is.member.device.address = same_Some t.addr address is.asked ∙ sym is.is_at.address_is in
         let same : packet.device ≡ is.member.device =
         same_device profile members bus devices_are is.member is.is_at.one_of t.addr packet.device packet.known here in
+        -- the device's answer is a reply of that form
         let m : IsMember is.member = of_contained IsMember members is.member all is.is_at.one_of in
         let form = packet.form in
         let read : (forms is.member.device t.code).read ≡ Some form =
@@ -265,8 +281,10 @@ module _ (profile : List DeviceParts) (members : List InState) (bus : IsBus prof
           small = reply_small is.member.device m.kept is.member.state m.good body reply is.answers;
           taken = read_taken is.member.device m.accepted is.member.state t.code form read m.good.fits reply told;
         } in
+        -- the form is the profile's for this code
         let form_is : (forms_at profile t.addr t.code).read ≡ Some form =
         ap (λ (s : Shape). s.read) (forms_are profile t.addr t.code packet.device packet.known) ∙ packet.read in
+        -- the host tells it as bytes, or as a value of two
         let reply_is = telling number form reply fits
         (λ format some. same_Some form Two (sym form_is ∙ asked.words format some)) in
         record {
@@ -309,11 +327,13 @@ module _ (profile : List DeviceParts) (members : List InState) (bus : IsBus prof
     call_answered_ends : (reply : List ℕ) → IsAnswered members (Call t) address body (Ok reply)
         → Ending (replied (Call t) reply)
     call_answered_ends reply is =
+        -- as for a read: the packet of this call, with some reply
         let packet = call_packet.1 in
         let form = is.asks.0 in
         let m : IsMember is.member = of_contained IsMember members is.member all is.is_at.one_of in
         let told : answer is.member.device is.member.state (t.code ∷ wire form t.bytes) ≡ Ok reply =
         ap (λ (bs : List ℕ). answer is.member.device is.member.state bs) (sym is.asks.1.spelled) ∙ is.answers in
+        -- the device's answer is a reply of the form that it was called in
         let fits : Fits form reply = record {
           small = reply_small is.member.device m.kept is.member.state m.good body reply is.answers;
           taken = called_taken is.member.device m.accepted is.member.state t.code form t.bytes is.asks.1.called

@@ -1,4 +1,7 @@
--- What a bench has heard with one event more.
+-- What a bench has heard with one event more: as long as the events begin a packet, its reader
+-- stands after them, and at the packet's end its context knows the transaction. For `Bench::hear`,
+-- `Bench::next` and `put_events`. An event of a packet continues it or ends it; it is never
+-- refused.
 use Rattle.std.proofs.Common.{◌≡◌, ◌≢◌, ℕ, ◌+◌, List, [], ◌∷◌, ◌++◌, length, get_or, refl, sym, ◌∙◌, subst}
 use Rattle.std.proofs.Common.{append_assoc, append-nil, ◌⊎◌, inl, inr, arith}
 use Rattle.std.proofs.lemmas.List.{length-append}
@@ -58,14 +61,17 @@ module _ (bench : Bench) (reader : Reader) (ts : List TransactionData) (n : ℕ)
       → ReaderTakes (bench_profile bench) (Open n before) event took reader
       → HasSeen bench.context (bench_profile bench) ts → Packet (bench_profile bench) t ((before ++ event ∷ []) ++ rest)
       → HaveRead (record bench { reader = reader }) ts n (before ++ event ∷ []) t rest
+  -- the packet continues, and nothing is left of it: so it would have ended here
   other_read under_way answers.Continues [] other takes seen packet =
       let events = before ++ event ∷ [] in
       let whole : Packet (bench_profile bench) t events = subst (λ (es : List Event). Packet (bench_profile bench) t es)
       (append-nil events) packet in
       absurd ((under_way (bench_profile bench) reader n events takes.1).no_packet events [] (sym (append-nil events))
       (t, whole))
+  -- the packet continues
   other_read under_way answers.Continues (next ∷ rest) other takes seen packet = (takes.1, seen)
   other_read under_way answers.Packet rest other takes seen packet = absurd (other refl)
+  -- a refusal: but a packet has these events
   other_read under_way (answers.Refused refusal) rest other takes seen packet =
       absurd (takes.0.refused (inr (rest, (t, packet))))
 

@@ -1,4 +1,7 @@
--- A host on the bench, from its first signal to the end that it tells.
+-- A host on the bench, from its first signal to the end that it tells. For `take_host`,
+-- `take_request`, `take_text` of the runner and the law `some_running`. After some signals, at
+-- most 4,161, their events are put out and the exchange stands after them; at the end the
+-- transaction is one more that the bench has recorded, and it is counted as done or failed.
 use Rattle.std.proofs.Common.{◌≡◌, ◌≢◌, ◌≤◌, ℕ, ◌+◌, Bool, true, false, Option, List, [], ◌∷◌, ◌++◌, map, refl, sym}
 use Rattle.std.proofs.Common.{◌∙◌, ap, subst, append-nil, arith}
 use Rattle.std.proofs.lemmas.Grind.{flat_map-append}
@@ -106,8 +109,11 @@ runs_first ts bench request host exchange stands new not_empty there = record {
 pub record HostRuns (ts : List TransactionData) (first : ExchangeStanding) (sent : ℕ) (bench : Bench)
     (exchange : Exchange) (held_old : Option (List ℕ)) (waiting_old : List ℕ) (held_new : Option (List ℕ))
     (waiting_new : List ℕ) : Type 0 where
+  -- 4,161 is the greatest number of signals (`signals_are_few` of pmb_host)
   pub few : sent ≤ 4161
+  -- the events of these signals,
   pub events : List Event
+  -- which were put out as text
   pub writes : PutsText held_old waiting_old held_new waiting_new (canonical_text events)
   pub runs : RunsHost ts bench exchange (record first { events = events; sent = sent })
 
@@ -127,7 +133,8 @@ sent_more add_up ts first sent bench after exchange next h0 h1 h2 w0 w1 w2 runs 
 
 -- ---- how it ends
 
--- After the end the bench stands between requests, with the transaction among those that were recorded.
+-- After the end the bench stands between requests, with the transaction among those that were
+-- recorded.
 pub stands_behind : (ts : List TransactionData) (bench : Bench) (exchange : Exchange) (standing : ExchangeStanding)
     (end : HostStep)
     → RunsHost ts bench exchange standing → (over : IsOver standing end bench.bus)

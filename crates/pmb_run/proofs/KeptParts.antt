@@ -1,4 +1,7 @@
--- What is kept of each part of a profile, by its place.
+-- What is kept of each part of a profile, by its place: for the loops of `profile_is_kept`,
+-- `commands_are_kept` and `command_is_kept`, and the law `some_running`. What holds at each place
+-- holds of all parts; the command at a place is the one with its code, so that contracts by code
+-- speak of it.
 use Rattle.std.proofs.Common.{◌≡◌, ℕ, zero, suc, ◌<◌, ◌+◌, Option, Some, None, List, [], ◌∷◌, length, refl, ap, subst}
 use Rattle.std.proofs.Common.{◌∙◌, arith, option_map, map, Bool, cond, nat_eq, eq-eqb, true, false, inl, inr}
 use Rattle.std.specs.Prelude.{slice_get, IfSome}

@@ -1,4 +1,6 @@
--- The devices of a bus and their states: what a transaction makes of them.
+-- The devices of a bus with their states, which fit them and hold bytes: at first, and after each
+-- transaction. For the law `some_running`. A transaction that is recorded writes data that fit,
+-- and of PAGE a page or ffh, so that the states of `States` stay good.
 use Rattle.std.proofs.Common.{◌≡◌, ℕ, zero, suc, ◌<◌, ◌⊎◌, inl, inr, Bool, true, false, Option, Some, None, cond, List}
 use Rattle.std.proofs.Common.{[], ◌∷◌, ◌++◌, map, nat_eq, refl, sym, ap, subst, ◌∙◌, arith}
 use Rattle.std.specs.Prelude.{IfSome}
@@ -70,6 +72,7 @@ module _ (device : DeviceParts) (accepted : IsDevice device) where
   command_small c kept (Some form) =
       let initial = initial_small c.initial form kept.initial in
       let first : AreByteValues (first_bytes device c form) =
+      -- 0x20 is VOUT_MODE
       picked AreByteValues (nat_eq c.entry.code 0x20) (device.vout_mode ∷ []) (unwrap_or c.initial (zeros form))
       (accepted.byte, tt) initial in
       on_pages c.entry.code (first_bytes device c form) (own_pages device.pages c.entry.paged) first
@@ -150,7 +153,9 @@ module _ (profile : List DeviceParts) (members : List InState) (bus : IsBus prof
         → (value : ℕ) → part.bytes ≡ value ∷ []
         → (value < m.device.pages) ⊎ (value ≡ all_pages)
     page_taken part taken here page value is = elim (cases_lt value m.device.pages) [
+      -- a page of the device
       | inl small ↦ inl small
+      -- a larger value: ffh, or one that is not taken
       | inr large ↦
           elim (cases_eq value all_pages) [
             | inl all ↦ inr all

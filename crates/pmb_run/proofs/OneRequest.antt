@@ -1,4 +1,7 @@
--- What is taken of one request line.
+-- What a runner does with one request line: nothing for a blank one, a fault, or the events and
+-- the end of its host. For `take_text`, `take_request` and `take_host` of the runner. Each case
+-- names the answer of the line, the text that was put out, and where runner and bench stand after
+-- it.
 use Rattle.std.proofs.Common.{◌≡◌, ◌≢◌, ◌≤◌, ℕ, Option, List, [], ◌∷◌, ◌++◌, refl, sym, ◌∙◌, ap, subst, append-nil}
 use Rattle.std.proofs.Common.{arith}
 use Rattle.std.specs.Borrow.{Bor}
@@ -78,6 +81,7 @@ host_taken add_up ts before after bench going request host line sent end exchang
     new spells runs ended puts profile_is bench_is lines_are tally_is =
     let first = beginning_on ts before.bench request host stands new in
     let over = ended.over in record {
+      -- the transaction that was recorded, and the end that the host returned
       answer = Recorded over.done runs.events (end_text end);
       answers = record {
         request = request;
@@ -91,15 +95,18 @@ host_taken add_up ts before after bench going request host line sent end exchang
         ends = over.told;
         told = refl;
       };
+      -- the events were put out, then the line of the end
       writes = add_up h0 h1 h3 w0 w1 w3 (canonical_text runs.events) (result_line (end_text end)) runs.writes
           (add_up h1 h2 h3 w1 w2 w3 [] (result_line (end_text end)) ended.writes puts);
       same = ap (λ (b : Bench). b.profile) bench_is ∙ profile_is;
       lines = lines_are;
+      -- it counts as done or failed as the transaction is
       tally = tally_is ∙ counted_as new.number over.done end before.tally over.told;
       stands = subst (λ (b : Bench). BenchStands b (ts ++ over.done ∷ [])) (sym bench_is)
           (stands_behind ts bench next (record first { events = runs.events; sent = sent }) end ended.runs over);
     }
 
+-- 4,162 is one more than the most (`signals_are_few` of pmb_host)
 -- A host never sends so many signals.
 pub never_taken : (ts : List TransactionData) (first : ExchangeStanding) (before after : Runner) (bench : Bench)
     (exchange : Exchange) (line : List ℕ) (sent : ℕ) (h0 h1 : Option (List ℕ)) (w0 w1 : List ℕ)

@@ -1,4 +1,7 @@
--- What is run of bytes is one text and one tally.
+-- What is run of bytes is one text and one tally: the laws `one_running` and
+-- `ended_lines_come_first`. Line by line: a line spells one request or has one fault, the request
+-- comes to one transaction with one packet, and the host's end has one text; so the devices are
+-- the same at the next line.
 use Rattle.std.proofs.Common.{◌≡◌, ℕ, Option, List, [], ◌∷◌, ◌++◌, map, refl, sym, ◌∙◌, ap, subst}
 use Rattle.pmb_bus.specs.declared.event.Event.{Event}
 use Rattle.pmb_command.specs.Parts.{DeviceParts}
@@ -138,7 +141,9 @@ module _ (profile : List DeviceParts) (laws : RunLaws profile) where
 
   -- the answers to lines that begin some others
   record Front (before : List TransactionData) (given : List TextLine) (answers : List RunAnswer) : Type 0 where
+    -- the answers to the first lines
     front : List RunAnswer
+    -- and those to the others
     after : List RunAnswer
     split : answers ≡ front ++ after
     each : RunsEach profile before given front

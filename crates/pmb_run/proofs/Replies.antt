@@ -1,4 +1,6 @@
--- The reply of a device in a good state: bytes, and as many as its form takes.
+-- The reply of a device in a good state is bytes. For the law `some_running`. A read is answered
+-- with a register's bytes; COEFFICIENTS, the one call that is answered, with two words and an
+-- exponent.
 use Rattle.std.proofs.Common.{◌≡◌, ℕ, ◌<◌, ◌%◌, ◌/◌, ◌^◌, Bool, true, false, ◌&&◌, Option, Some, None, Result, Ok, Err}
 use Rattle.std.proofs.Common.{cond, List, [], ◌∷◌, ◌++◌, nat_eq, option_map, subst, arith}
 use Rattle.std.specs.Prelude.{ℤ, pos, negsuc, ◌≤ℤ◌, IfSome}
@@ -98,6 +100,7 @@ module _ (device : DeviceParts) (kept : IsKeptDevice device) where
         found_bytes (find (λ r. nat_eq r.code code && is_of_page state.page r.page) state.registers)
         (found_has HoldsBytes (λ r. nat_eq r.code code && is_of_page state.page r.page) state.registers good.small)
     page_bytes code (byte ∷ behind) =
+        -- 0x30 is COEFFICIENTS
         one_of_two (nat_eq code 0x30) (answer_coefficients device (byte ∷ behind)) (Err BadCommand)
         (called_bytes (byte ∷ behind)) tt
 

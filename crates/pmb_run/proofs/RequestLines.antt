@@ -1,4 +1,6 @@
--- Request lines that are answered one after the other.
+-- Request lines that are answered one after the other: for `RunnerLineTask::take_line`. The
+-- answers so far are those of the lines so far, each on the devices as the transactions before
+-- left them; one line more adds its answer, its text under its number, and one to the tally.
 use Rattle.std.proofs.Common.{◌≡◌, ℕ, ◌+◌, Bool, true, false, cond, List, [], ◌∷◌, ◌++◌, length, refl, sym, ◌∙◌, ap}
 use Rattle.std.proofs.Common.{subst, append-nil, append_assoc, arith, count_by, length-append}
 use Rattle.std.proofs.lemmas.List.Sums.{fold-append}
@@ -129,19 +131,23 @@ pub answers_more : (start before after : Runner) (given : List TextLine) (text :
     → BenchStands after.bench (recorded_so_far start before given text stands ++ recorded_by answer)
     → RunnerStands start after (given ++ line ∷ []) (text ++ answer_text number answer)
 answers_more start before after given text line answer number number_is same lines_are tally_is stands answered bench =
+    -- the answers so far
     let was = stands.answered.given in
     let numbered : number ≡ capped (length was.answers + 1) = omega (arith, number_is, stands.number) in
+    -- the profile is that of the start
     let profile_is = ap (λ (p : Bor (List DeviceParts)). p.now) stands.same in
     let one = subst (λ (p : List DeviceParts). RunsLine p (all_recorded was.answers) line answer) profile_is answered in
     record {
       same = same ∙ stands.same;
       answered = record {
+        -- one answer more, of one line more
         given = record {
           answers = was.answers ++ answer ∷ [];
           each = answers-append (bench_profile start.bench) [] given (line ∷ []) was.answers (answer ∷ []) was.each
               (one, tt);
           whole = (λ i. was.whole i ++ answer_text (numbered i) answer)
               ∙ sym (answers_after-push answer_text was.answers answer);
+          -- and its text after the others
         };
         counts = subst (λ (t : Tally). Counted (was.answers ++ answer ∷ []) t) (sym tally_is)
             (counts_more before.tally was.answers answer stands.answered.counts);

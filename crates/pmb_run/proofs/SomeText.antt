@@ -1,4 +1,7 @@
--- Some text is run of any bytes.
+-- Some text is run of any bytes: the law `some_running`. What the layers below say of one line and
+-- one request (`SomeLaws`) gives an answer to each: a request that is allowed comes to a
+-- transaction (`Exchanged`), any other line is refused or blank, and the devices stay in good
+-- states for the next.
 use Rattle.std.proofs.Common.{◌≡◌, ℕ, ◌⊎◌, inl, inr, Option, List, [], ◌∷◌, ◌++◌, map, refl, sym, subst, append-nil}
 use Rattle.std.specs.Prelude.{IfSome, count_by}
 use Rattle.std.specs.List.{AllByRecursion}
@@ -96,9 +99,12 @@ module _ (profile : List DeviceParts) (bus : IsBus profile) (laws : SomeLaws pro
           → (word : ℕ) (number : Option NumberFormat)
           → IsAllowed profile request word number → Answered before (RunsText profile before line)
       run_some request spells word number allowed =
+          -- the devices as the transactions before left them
           let members = all_after before (first_members profile) in
           let devices_are = devices_after before profile in
+          -- the request comes to a transaction on them,
           let exchange = laws.some_exchange members request word number devices_are allowed in
+          -- which has a packet and an end
           let ending =
           exchanged profile members bus devices_are good number (task_of request word) exchange.0 (record {
             packets = λ reply fits. laws.packets request word number reply allowed fits;

@@ -1,4 +1,7 @@
--- The state of a simulated device that fits it and holds bytes alone: what transactions make of it is so too.
+-- The state of a simulated device that fits it and holds bytes alone: what a transaction makes of
+-- it fits and holds bytes too. For the law `some_running`. As in `FittingStates` of pmb_devices,
+-- with the bytes besides: data of a write are bytes, and setting or clearing bits of a byte gives
+-- a byte.
 use Rattle.std.proofs.Common.{◌≡◌, ℕ, ◌<◌, ◌≤◌, ◌-◌, ◌⊎◌, Bool, true, false, ◌&&◌, Option, Some, None, cond, is_some}
 use Rattle.std.proofs.Common.{List, [], ◌∷◌, length, map, nat_eq, refl, sym, ap, subst, ◌∙◌, arith}
 use Rattle.std.specs.Int.Bits.{bit_and, bit_or}
@@ -70,6 +73,7 @@ one_of (byte ∷ next ∷ more) is = absurd (omega (arith, is))
 
 -- PAGE is written with one byte
 pub page_is : (device : DeviceParts) (form : Form) (content : List ℕ) → IsDevice device
+    -- 0x00 is the code of PAGE
     → (forms device 0x00).write ≡ Some form → Fits form content
     → (value : ℕ) × (content ≡ value ∷ [])
 page_is device form content accepted written fits =
@@ -136,6 +140,7 @@ module _ (device : DeviceParts) where
     bit_good : (bit : CmlBit) → IsGood device (with_bit device bit before)
     bit_good bit =
         let set : List ℕ → List ℕ = map (λ (byte : ℕ). bit_or byte (bit_value bit)) in
+        -- 0x7e is STATUS_CML
         if_good (is_some (forms device 0x7e).read)
         (record { page = before.page; registers = changed before.page (nat_eq 0x7e) set before.registers }) before
         (λ some. kept_good (nat_eq 0x7e) set (λ bytes. length-map bytes (λ (byte : ℕ). bit_or byte (bit_value bit)))
@@ -154,6 +159,7 @@ module _ (device : DeviceParts) where
           → register_form command.entry.shape ≡ Some own → nat_eq code other ≡ true → (bytes : List ℕ)
           → Takes own (length bytes) → Takes own (length content)
       data_taken some other command own known register same bytes taken =
+          -- the write of this register's code, in the register's form
           let code_is : code ≡ other = eqb-true code other same in
           let as_written : command.entry.shape.write ≡ Some form =
           ap (λ (o : Option CommandParts). (shape_of o).write) (sym known) ∙ ap (λ (n : ℕ). (forms device n).write)
@@ -168,11 +174,13 @@ module _ (device : DeviceParts) where
           ap (λ (f : Form). same_form f Zero) (page_form device form accepted
           (subst (λ (n : ℕ). (forms device n).write ≡ Some form) zero written))
 
-      -- What a complete write makes of the state, where a value of PAGE is one of the device's pages, or ffh.
+      -- What a complete write makes of the state, where a value of PAGE is one of the device's
+      -- pages, or ffh.
       pub write_good : (code ≡ 0x00 → (selected_by before.page content < device.pages)
           ⊎ (selected_by before.page content ≡ all_pages))
           → IsGood device (after_write device code content before)
       write_good valid =
+          -- PAGE, whose code is 00h
           if_good (nat_eq code 0x00) _ _
           (
           λ page.
@@ -182,16 +190,19 @@ module _ (device : DeviceParts) where
           )
           (
           λ other.
+          -- CLEAR_FAULTS, whose code is 03h
           if_good (nat_eq code 0x03) _ _
           (λ clear. kept_good (is_status device) (map (λ byte. 0)) (λ bytes. length-map bytes (λ (byte : ℕ). 0))
           (λ bytes small. zeros_small bytes))
           (
           λ neither.
+          -- a command without data changes nothing
           if_good (is_form Zero (forms device code).write) before _ (λ zero. good)
           (
           λ filled.
           let some : same_form form Zero ≡ false =
           flip_zero form (subst (λ (o : Option Form). is_form Zero o ≡ false) written filled) in
+          -- a status register: bits are cleared; any other one takes the data
           if_good (is_status device code) _ _ (λ status. kept_good (nat_eq code) (cleared_bits content)
           (cleared_length content) (cleared_small content))
           (λ plain. changed_good before.page good.fits.page (nat_eq code) (λ old. content) (data_taken some)

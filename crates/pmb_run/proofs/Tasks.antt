@@ -1,4 +1,6 @@
--- A request that is allowed asks for one transaction, and is read in one format.
+-- A request that is allowed asks for one transaction, and is read in one number format. For the
+-- laws `one_running` and `ended_lines_come_first`. Device and command are found by address and
+-- code, and the format by the command and VOUT_MODE; a quantity has one nearest code.
 use Rattle.std.proofs.Common.{◌≡◌, ℕ, Option, Some, None, Ok, List, refl, sym, ap, subst, ◌∙◌}
 use Rattle.pmb_command.specs.Parts.{CommandParts, DeviceParts, command_with}
 use Rattle.pmb_format.specs.Coding.{IsNearest}
@@ -20,13 +22,16 @@ module _ (profile : List DeviceParts) where
   same_format : (c : Command) (mode : Option ℕ) (a b : NumberFormat) → HasNumber profile c mode a
       → HasNumber profile c mode b → a ≡ b
   same_format c mode a b has also =
+      -- the device is one,
       let one = has.number_is in
       let other = also.number_is in
       let devices : Some one.device ≡ Some other.device = sym one.known ∙ other.known in
       let device : one.device ≡ other.device = cc devices in
+      -- so is its command,
       let commands : Some one.command ≡ Some other.command = sym one.has
       ∙ ap (λ (d : DeviceParts). command_with c.code d.commands) device ∙ other.has in
       let command : one.command ≡ other.command = cc commands in
+      -- and its format
       let same : Ok a ≡ Ok b =
       one.number_is ∙ ap (λ (d : DeviceParts). number_of d.vout_direct mode one.command.entry.kind) device
       ∙ ap (λ (it : CommandParts). number_of other.device.vout_direct mode it.entry.kind) command

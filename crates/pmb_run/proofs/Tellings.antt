@@ -1,4 +1,6 @@
--- What a host tells of the end of its request is one text.
+-- What a host tells of the end of its request is one text. For the laws `one_running` and
+-- `ended_lines_come_first`. A reply is told as its bytes, or as the value of the one word that two
+-- bytes are; a refusal by the leg and the byte, which the transaction says.
 use Rattle.std.proofs.Common.{◌≡◌, ◌/◌, ◌%◌, ℕ, Bool, true, false, Option, Some, List, sym, ap, ◌∙◌, arith}
 use Rattle.pmb_format.specs.Coding.{value_of}
 use Rattle.pmb_transaction.specs.Transaction.{PartData, TransactionData, Write, Read, Call, Refused, Alert, NoAlert}

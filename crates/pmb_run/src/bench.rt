@@ -1,4 +1,6 @@
 //! What stays from one request to the next.
+//!
+//! Its rows: `tests/rows/requests.txt`, `tests/rows/sessions.txt`.
 
 ghost use Rattle.std.specs.Prelude.{◌≡◌, ℕ, List, [], ◌++◌, IfOk, OnOk};
 ghost use Rattle.pmb_bus.specs.Event.{canonical_text};

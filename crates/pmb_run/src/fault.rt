@@ -1,4 +1,6 @@
 //! Faults of hosts as text.
+//!
+//! Its rows: `tests/rows/requests.txt`.
 
 ghost use Rattle.std.specs.Prelude.{◌≡◌, ◌+◌, ◌≤◌, ◌++◌, Bool, ℕ, length};
 ghost use Rattle.pmb_run.specs.Answer.{host_fault_text, mode_fault_name, place_text, range_fault_name};

@@ -1,4 +1,6 @@
 //! Requests in; packets and results out.
+//!
+//! Its rows: `tests_tasks`, `src/lines.rt`; `tests/rows/requests.txt`, `tests/rows/sessions.txt`.
 
 ghost use Rattle.std.specs.Prelude.{◌≡◌};
 ghost use Rattle.pmb_io.specs.Runs.{AsTool, Ran};

@@ -1,4 +1,6 @@
 //! The line that tells how a request ended.
+//!
+//! Its rows: `tests/rows/requests.txt`.
 
 ghost use Rattle.std.specs.Prelude.{◌≡◌, ◌+◌, ◌≤◌, ◌++◌, ◌∷◌, [], length};
 ghost use Rattle.hex.specs.Hex.{encode_lower};

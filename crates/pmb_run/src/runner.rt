@@ -1,4 +1,6 @@
 //! The requests of an input, run one after the other.
+//!
+//! Its rows: `tests/rows/requests.txt`.
 
 ghost use Rattle.std.specs.Prelude.{◌≡◌, ◌≤◌, ℕ, List, [], OnOk, length};
 ghost use Rattle.pmb_io.specs.Calls.{WriterTells};

@@ -35,8 +35,8 @@ use pmb_table::laws::accepted_bus;
 pub enum PieceEnd {
     /// All of it is used.
     All,
-    /// A word is no token. `used` bytes of the piece are used: with the next one no text of events
-    /// goes on.
+    /// A word is no token. `used` bytes of the piece are used: no valid text has the next byte
+    /// there.
     Fault { used: usize, fault: LexFault },
 }
 
@@ -64,8 +64,8 @@ impl<'p> Scan<'p> {
     /// Takes the words of the next piece of the text, and tells a visitor what comes of them, up to
     /// a word that is no token.
     ///
-    /// A packet that is under way at a fault is not reported. What follows is for a new scan: nothing
-    /// is said of what this one takes then.
+    /// A packet that is unfinished at a fault is not reported. After a fault, begin a new scan: the
+    /// behaviour of this one is unspecified.
     ///
     /// # Errors
     ///

@@ -68,7 +68,8 @@ pub trait Visitor {
             (W.told writer.old).held waiting.old.items (W.told writer.new).held waiting.new.items) }
         ensures failed { WriterTells (W.told writer.old) (W.told writer.new) result };
 
-    /// An event came that no packet goes on with, and is refused. It is the first that is passed over.
+    /// An event came that no packet can have there, and is refused. It is the first that is passed
+    /// over.
     fn visit_refusal<W: Sink>(
         &mut self,
         event: Event,

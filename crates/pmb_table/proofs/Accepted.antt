@@ -1,4 +1,6 @@
--- What holds of each command that a device may have, and of each device of a bus.
+-- What holds of each command that a device may have, and of each device of a bus: it holds with
+-- one more of them, and of the one that a search finds. For `read_devices`, `read_next`,
+-- `standard_ones` and `DeviceProfile::entry` and `initial`.
 use Rattle.std.proofs.Common.{◌++◌, List, [], ◌∷◌, Bool, true, false, cond, Some, nat_eq}
 use Rattle.std.specs.Prelude.{IfSome}
 use Rattle.std.specs.List.{AllByRecursion, find}

@@ -1,4 +1,7 @@
--- A command that is put among commands which have codes of their own, and the map that holds them.
+-- A command that is put among commands which have codes of their own, and the map that holds them:
+-- for `CommandMap::new`, `put`, `with_capacity`, `without_initial` and `bare_copy`. A place is
+-- kept for each code; a command that is put replaces the one of its code or goes last, and all
+-- others stay where they were.
 use Rattle.std.proofs.Common.{◌≡◌, ℕ, zero, suc, ◌+◌, ◌<◌, ◌≤◌, Bool, true, false, cond, List, [], ◌∷◌, ◌++◌, length}
 use Rattle.std.proofs.Common.{map, set, Some, nat_eq, refl, sym, ap, subst, ◌∙◌, arith}
 use Rattle.std.specs.List.{AllByRecursion, IsDistinct, position_or_len, slice_get}
@@ -130,16 +133,20 @@ pub found_put : (c : Command) (es after : List (ℕ × Command)) (places : List 
     → after ≡ insert_entry nat_eq es c.entry.code c → IsDistinct nat_eq (keys_of after)
     → n ≡ position_or_len (nat_eq c.entry.code) (keys_of es) → IsFoundByCode after (set places c.entry.code n)
 found_put c es after places n found small within is once last =
+    -- the commands, and the entry of each at its code after it
     let cs : List CommandParts = commands_view es in
     let held : AreAtTheirCodes after = subst AreAtTheirCodes (sym is) (held_after c es found.held) in
     let parts : commands_view after ≡ put (command_parts c) cs = ap commands_view is
     ∙ put-insert_entry c es found.held in
     let own : IsDistinct nat_eq (codes_of (commands_view after)) = HaveOwnCodes-from_keys after held once in
+    -- where the code stands: at its old place, or at the end
     let place : n ≡ place_in c.entry.code (codes_of cs) =
     last ∙ sym (place_is c.entry.code (keys_of es)) ∙ ap (place_in c.entry.code) (codes_from_keys es found.held) in
+    -- its command is there,
     let here : slice_get (codes_of (commands_view after)) n ≡ Some c.entry.code =
     ap (λ all. slice_get (codes_of all) n) parts ∙ ap (slice_get (codes_of (put (command_parts c) cs))) place
     ∙ put_there (command_parts c) cs in
+    -- and each other one is where it was
     let others : (i m : ℕ) → slice_get (codes_of (commands_view after)) i ≡ Some m → (m ≡ c.entry.code → ⊥)
     → slice_get (codes_of cs) i ≡ Some m =
     λ i m at other. put_other (command_parts c) cs i m (sym (ap (λ all. slice_get (codes_of all) i) parts) ∙ at)

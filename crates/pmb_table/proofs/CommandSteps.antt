@@ -1,4 +1,6 @@
--- One more table of a device, and all that are left.
+-- One more table of a device, and all that are left: for the loops of `read_devices` and
+-- `read_commands`. The tables from a place on give what the one there gives, and
+-- then those after it.
 use Rattle.std.proofs.Common.{◌≡◌, ℕ, ◌+◌, ◌<◌, List, [], ◌∷◌, ◌++◌, length, drop, get_or, Result, Ok, Err, sym, ap}
 use Rattle.std.proofs.Common.{◌∙◌}
 use Rattle.toml.specs.Data.{Data, Items, item}

@@ -1,4 +1,6 @@
--- One more device, and all that are left.
+-- One more device, and all that are left: for `read_devices`, `array_rule` and `places_of`. After
+-- a device that was read the values after it go on from there; its address is new, and its place
+-- is kept.
 use Rattle.std.proofs.Common.{◌≡◌, ℕ, ◌+◌, ◌<◌, ◌≤◌, List, [], ◌∷◌, ◌++◌, map, set, take, Ok, Some, option_map, suc}
 use Rattle.std.proofs.Common.{length, refl, ap, sym, subst, ◌∙◌, arith}
 use Rattle.std.specs.Prelude.{slice_get}

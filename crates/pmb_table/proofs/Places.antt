@@ -1,4 +1,7 @@
--- Numbers of their own, and the places that are kept for them.
+-- Numbers of their own, addresses or codes, and the places that are kept for them: for
+-- `Profile::device`, `Profile::place_of`, `CommandMap::get` and those that write places. A search
+-- by number finds what stands at its kept place, and nothing where another number, or none, stands
+-- there.
 use Rattle.std.proofs.Common.{◌≡◌, ◌⊎◌, ℕ, zero, suc, ◌<◌, Bool, true, false, Option, Some, None, List, [], ◌∷◌, ◌++◌}
 use Rattle.std.proofs.Common.{length, map, option_map, take, set, nat_eq, inl, inr, ⊎_elim, refl, sym, ap, subst, ◌∙◌}
 use Rattle.std.specs.List.{AllByRecursion, IsDistinct, find, list_any, slice_get}

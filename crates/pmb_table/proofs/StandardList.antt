@@ -1,4 +1,6 @@
--- The list of the standard commands, code by code.
+-- The list of the standard commands, code by code: for `standard_ones` and
+-- `StandardCommands::commands`. The list so far has the codes below n, so that the next one goes
+-- last; a copy without initial bytes is the list itself.
 use Rattle.std.proofs.Common.{◌≡◌, ℕ, zero, suc, ◌+◌, ◌<◌, List, [], ◌∷◌, ◌++◌, map, filter_map, length, Option, None}
 use Rattle.std.proofs.Common.{Some, inr, ⊎_elim, refl, sym, ap, subst, ◌∙◌, arith, add-one, add-zero, zero-add}
 use Rattle.std.specs.List.{AllByRecursion, range_with_len, cons_option}
@@ -27,6 +29,7 @@ abbrev pub standard_from : ℕ → ℕ → List CommandParts
 standard_from a n = map bare (filter_map standard_entry (range_with_len a n))
 
 -- those of all codes
+-- 256: as many codes as a byte has
 pub standard_from-all : (n : ℕ) → n ≡ 256 → standard_from 0 n ≡ standard_commands
 unfolding standard_commands
 standard_from-all n all = ap (standard_from 0) all

@@ -1,4 +1,5 @@
--- The codes that earlier tables of a device have: no two are one, so there is room for each.
+-- The codes that earlier tables of a device have: no two are one, so there are at most 256, and
+-- room for each new one. For `read_next` and the functions of a `CommandMap`.
 use Rattle.std.proofs.Common.{◌≡◌, ℕ, ◌<◌, ◌≤◌, List, [], ◌∷◌, ◌++◌, length, true, nat_eq, ⊎_elim, arith}
 use Rattle.std.specs.List.{AllByRecursion, list_any}
 use Rattle.std.proofs.lemmas.Bool.{eqb-true, false≢true, or_cases}

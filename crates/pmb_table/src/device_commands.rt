@@ -1,4 +1,6 @@
 //! The commands of a device, as the tables of a profile change the standard ones.
+//!
+//! Its rows: `tests_commands`, `src/parts.rt`, `src/sample.rt`; `tests/rows/profiles.txt`.
 
 ghost use Rattle.std.specs.Prelude.{◌≡◌, ◌⊎◌, ◌≤◌, [], length, Ok, Err, IfOk, if◌then◌else◌};
 ghost use Rattle.std.specs.List.{AllByRecursion};

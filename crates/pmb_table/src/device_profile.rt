@@ -1,4 +1,6 @@
 //! A device of a bus, as a profile describes it.
+//!
+//! Its rows: `tests_commands`, `src/parts.rt`, `src/sample.rt`; `tests/rows/profiles.txt`.
 
 ghost use Rattle.std.specs.Prelude.{◌≡◌, ◌<◌, length, option_map, slice_get, IfSome};
 ghost use Rattle.pmb_command.specs.Bus.{IsDevice, IsEntry, IsInitial};

@@ -1,4 +1,6 @@
 //! The table of a profile's text, a TOML document.
+//!
+//! Its rows: `tests/rows/profiles.txt`.
 
 ghost use Rattle.std.specs.Prelude.{◌≡◌, ◌⊎◌, ◌↔◌, IsUtf8, Err, IfOk, IfErr};
 ghost use Rattle.toml.specs.Errors.{IsBlank, IsMemory};

@@ -1,4 +1,6 @@
 //! Where a profile is wrong.
+//!
+//! Its rows: `tests/rows/profiles.txt`.
 
 use pmb_keys::FaultKind;
 

@@ -1,4 +1,6 @@
 //! Where a fault of a profile lies.
+//!
+//! Its rows: `tests/rows/profiles.txt`.
 
 ghost use Rattle.std.specs.Prelude.{◌≡◌, ◌≢◌};
 ghost use Rattle.pmb_table.specs.Profile.{at_top, at_device, at_command};

@@ -3,6 +3,8 @@
 //! Each packet looks a device up by its address, so `places` says for each address where its device
 //! stands. An address without a device has a place too, which says nothing: `place_of` looks whether
 //! the device there has the address.
+//!
+//! Its rows: `tests_commands`, `src/parts.rt`, `src/sample.rt`; `tests/rows/profiles.txt`.
 
 ghost use Rattle.std.specs.Prelude.{◌≡◌, ◌⊎◌, ◌≤◌, length, option_map, slice_get, Ok, Err, Some, IfOk, IfErr, IfNone, IfSome, IsUtf8};
 ghost use Rattle.std.specs.List.{AllByRecursion};

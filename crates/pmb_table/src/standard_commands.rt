@@ -2,6 +2,8 @@
 //!
 //! The standard's table is searched once a profile, for the first device that has its commands. What
 //! was found is kept, and each further device gets a copy of it.
+//!
+//! Its rows: `tests_commands`, `src/standard_commands.rt`, `src/sample.rt`.
 
 ghost use Rattle.std.specs.Prelude.{◌≡◌, IfOk};
 ghost use Rattle.std.specs.List.{AllByRecursion};

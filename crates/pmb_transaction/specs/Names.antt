@@ -19,7 +19,7 @@ reason_name TooShort = codes "TooShort"
 reason_name WrongEvent = codes "WrongEvent"
 reason_name Truncated = codes "Truncated"
 
--- a name where it is so, before others
+-- a name if the flag is set, before others
 abbrev pub with_name : Bool → List ℕ → List (List ℕ) → List (List ℕ)
 with_name true name names = name ∷ names
 with_name false name names = names

@@ -151,7 +151,7 @@ pub fn bytes_follow_in_a_reply()
     pec_is_a_byte();
 }
 
-/// After a byte of a reply ACK may follow where such an answer goes on.
+/// After a byte of a reply ACK may follow where such an answer continues.
 pub fn replies_go_on()
     ensures { (profile : List DeviceParts) (addr : ℕ) (device : DeviceParts) (body bytes : List ℕ) (byte : ℕ) → IsBus profile
         → device_with addr profile ≡ Some device
@@ -196,7 +196,7 @@ pub fn bytes_follow_in_an_alert()
     pec_is_a_byte();
 }
 
-/// After such a byte ACK may follow where the answer at the Alert Response Address goes on.
+/// After such a byte ACK may follow where the answer at the Alert Response Address continues.
 pub fn alerts_go_on()
     ensures { (profile : List DeviceParts) (bytes : List ℕ) (byte : ℕ) → IsBus profile
         → (MayFollow profile (leg (read_address alert_address ∷ bytes) ++ Byte byte ∷ []) Ack

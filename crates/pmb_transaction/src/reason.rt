@@ -3,7 +3,7 @@
 ghost use Rattle.std.specs.Prelude.{◌≡◌, ◌≤◌, length};
 ghost use Rattle.pmb_transaction.specs.Names.{reason_name};
 
-/// Why no packet goes on with an event, or that the events ended inside one.
+/// Why no packet can have an event at its place, or that the events ended inside one.
 #[derive(Clone, Copy, Debug, PartialEq, Eq)]
 pub enum Reason {
     /// The first byte of a packet addresses a device for reading, where nothing was written to it.
@@ -16,7 +16,7 @@ pub enum Reason {
     UnknownDevice,
     /// A command code was acknowledged that begins no body allowed there.
     UnknownCommand,
-    /// A reply goes on after its last byte.
+    /// A reply continues after its last byte.
     TooLong,
     /// A reply ends before its last byte.
     TooShort,

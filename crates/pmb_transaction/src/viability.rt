@@ -53,7 +53,7 @@ pub fn events_take_turns()
 {}
 
 /// After complete parts and a leg of which some bytes were taken, any byte may follow where some
-/// body that is allowed there begins with these and goes on, and else none.
+/// body that is allowed there begins with these and continues, and else none.
 pub fn bytes_follow_inside_a_body()
     ensures { (profile : List DeviceParts) (parts : List PartData) (legs : List Event) (addr : ℕ) (device : DeviceParts)
         (bytes : List ℕ) (byte : ℕ) → IsBus profile → length parts ≤ 15 → IsDistinct nat_eq (addresses parts)

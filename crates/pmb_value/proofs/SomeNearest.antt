@@ -1,4 +1,7 @@
--- Each quantity in the range of a format has a nearest code.
+-- Each quantity in the range of a format has a nearest code, and any other is below or above it:
+-- for the law `quantities_have_answers`. There are at most 2^16 codes and what is asked of each is
+-- decided; so the best one is found by a search, and of two that are equally near the even one is
+-- taken.
 use Rattle.std.proofs.Common.{◌≡◌, ◌≢◌, ℕ, zero, suc, ◌%◌, ◌^◌, ◌<◌, ◌≤◌, ◌⊎◌, inl, inr, ℤ, pos, ◌*ℤ◌, ◌-ℤ◌, ◌<ℤ◌, ◌≤ℤ◌}
 use Rattle.std.proofs.Common.{unsigned_abs, sym, ◌∙◌, ap, subst, arith}
 use Rattle.std.proofs.lemmas.Int.{ints, by_lt_z}
@@ -59,8 +62,10 @@ module _ (f : Coding) (separated : IsSeparated f) (decide : (k : ℕ) → Decide
   best : (n : ℕ) → (m : ℕ) × f.IsCode m × ((k : ℕ) → k < n → f.IsCode k → distance f q m ≤ distance f q k)
   best zero = (some_code.0, some_code.1, λ k less code. absurd (omega (arith, less)))
   best (suc n) =
+      -- the best of those below n, and whether n is a code
       let so_far = best n in
       elim (decide n) [
+        -- it is none: the best stays
         | inr no_code ↦ (
           so_far.0,
           so_far.1,
@@ -69,6 +74,7 @@ module _ (f : Coding) (separated : IsSeparated f) (decide : (k : ℕ) → Decide
             | inr behind ↦ absurd (no_code (subst f.IsCode (omega (arith, less, behind)) code))
           ],
         )
+        -- it is nearer: it is the best now
         | inl is_code ↦
             elim (cases_lt (distance f q n) (distance f q so_far.0)) [
               | inl nearer ↦ (
@@ -80,6 +86,7 @@ module _ (f : Coding) (separated : IsSeparated f) (decide : (k : ℕ) → Decide
                       let distances = ap (distance f q) same in omega (arith, distances)
                 ],
               )
+              -- it is not: the best stays
               | inr farther ↦ (
                 so_far.0,
                 so_far.1,
@@ -94,8 +101,10 @@ module _ (f : Coding) (separated : IsSeparated f) (decide : (k : ℕ) → Decide
 
   -- no code is nearer, and it is canonical
   record IsBest (c : ℕ) : Type 0 where
+    -- it is a code, and canonical,
     code : f.IsCode c
     canonical : f.IsCanonical c
+    -- and none is nearer
     none_nearer : (k : ℕ) → f.IsCode k → distance f q c ≤ distance f q k
 
   -- the canonical code of one of which none is nearer

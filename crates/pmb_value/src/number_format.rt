@@ -1,4 +1,6 @@
 //! A number format of two bytes, whichever it is.
+//!
+//! Its rows: `tests/rows/numbers.txt`.
 use crate::vout::VoutFormat;
 use pmb_format::{Format, RangeFault, Steps};
 use pmb_linear::{Linear11, Linear11Fixed};

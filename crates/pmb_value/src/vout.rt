@@ -1,4 +1,6 @@
 //! The format that VOUT_MODE names.
+//!
+//! Its rows: `tests_numbers`, `src/formats/vout.rt`; `tests/rows/numbers.txt`.
 ghost use Rattle.std.specs.Prelude.{◌≡◌, ◌%◌, ◌^◌, ◌<◌};
 ghost use Rattle.pmb_value.specs.Vout.{format_of, linear_of};
 ghost use Rattle.pmb_format.specs.Words.{twos_complement};

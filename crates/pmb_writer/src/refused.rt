@@ -54,7 +54,7 @@ fn is_asked(forms: Shape) -> bool
     forms.read.is_some() || forms.call.is_some()
 }
 
-/// Whether a body may go on after a code and these bytes.
+/// Whether a body may continue after a code and these bytes.
 fn may_go_on(first: bool, mode: PecMode, forms: Shape, bytes: &[u8]) -> bool
     ensures { result ≡ may_go_on first mode forms bytes.now }
 {

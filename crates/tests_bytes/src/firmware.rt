@@ -1,4 +1,4 @@
-//! The programs at the heads of `pmb_lexer` and `pmb_firmware`, and texts that are cut.
+//! The program at the head of `pmb_firmware`, and texts that are cut.
 
 mod cuts;
 mod doc;

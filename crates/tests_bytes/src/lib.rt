@@ -1,5 +1,6 @@
 //! Tests of bytes: capture text, packet error codes and addresses (`pmb_bus`), places in a text
-//! (`pmb_places`), what firmware calls (`pmb_lexer`, `pmb_firmware`), readers and writers (`pmb_io`).
+//! (`pmb_places`), C functions that allocate nothing (`pmb_firmware`), readers and writers
+//! (`pmb_io`).
 #![tactic(auto)]
 
 #[cfg(test)]

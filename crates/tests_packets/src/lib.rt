@@ -1,5 +1,5 @@
 //! Tests of packets by hand: transactions (`pmb_transaction`), their checks and their text
-//! (`pmb_writer`), the bytes of a leg (`pmb_leg`), and what events have said (`pmb_partial_packet`).
+//! (`pmb_writer`), the bytes of a leg (`pmb_leg`), and unfinished packets (`pmb_partial_packet`).
 #![tactic(auto)]
 
 #[cfg(test)]

@@ -6,7 +6,7 @@ use pmb_io::{Io, Sink, Source, Tally, ToolFault};
 use pmb_table::{Profile, SAMPLE};
 use std::test::Fail;
 
-/// The program of the README.
+/// The program of docs/library.md.
 #[test]
 fn shows_from_bytes_that_were_read_already(rt: HostRuntime) -> Result<(), Fail> {
     let profile = Profile::from_toml(rt.alloc(), SAMPLE.as_bytes())?;

@@ -1,4 +1,4 @@
-//! Profiles, their keys, the bus that one makes, and what helps with a fault.
+//! Profiles, their keys, the bus that one makes, and hints for mistakes.
 
 use pmb_hints::hints;
 use pmb_io::Io;

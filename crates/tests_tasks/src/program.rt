@@ -15,7 +15,7 @@ fn a_capture_is_shown(rt: HostRuntime) {
     assert!(rt; err.into_inner().is_empty());
 }
 
-// Without words, not even the program's own, its help is told.
+// No arguments, not even the program's name, prints its help.
 #[test]
 fn no_words_ask_for_nothing(rt: HostRuntime) {
     let mut reader = Failing::new(Io::new(b"".as_slice()));

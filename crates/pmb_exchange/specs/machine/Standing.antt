@@ -53,7 +53,7 @@ pub record HasHeard (standing : ExchangeStanding) (history : List AnsweredSignal
   pub answers : AreAnswered standing.members Outside history
   pub in_turn : AreSentInTurn standing.job history
 
--- Signals go on.
+-- More signals follow.
 pub record IsRunning (standing : ExchangeStanding) (history : List AnsweredSignal) (bus : Bus) : Type 0 where
   pub heard : HasHeard standing history
   pub stands : BusStandsAt bus (record { past = standing.past; members = standing.members; history = history })

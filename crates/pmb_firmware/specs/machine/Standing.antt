@@ -1,4 +1,4 @@
--- Where a lexer stands in a text, and the lexer of `pmb_bus` that goes on as it does.
+-- Where a lexer stands in a text, and the lexer of `pmb_bus` that continues in the same way.
 use Rattle.std.specs.Prelude.{◌≡◌, ℕ, ◌≤◌, true, false, Option, Some, None, List, [], ◌∷◌, ◌++◌, length, codes}
 use Rattle.pmb_bus.specs.declared.event.Event.{Event}
 use Rattle.pmb_bus.specs.declared.lexer.LexFault.{LexFault}
@@ -41,7 +41,7 @@ pub record IsFaulted (lexer : PmbLexer) (fault : LexFault) : Type 0 where
   pub place : 4 ≤ lexer.place
   pub kept : fault ≡ BadToken lexer.at
 
--- ---- the lexer that goes on as it does
+-- ---- the lexer that continues in the same way
 
 -- a lexer was given bytes in which no word ends, or no text begins with them
 abbrev pub ResumesBehind : List ℕ → Option Lexer → Type 0

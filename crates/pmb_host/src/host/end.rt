@@ -1,4 +1,6 @@
-//! How a host ends: STOP, and what the request came to.
+//! How a host ends: STOP, and the result of the request.
+//!
+//! Its rows: `tests_host`, `src/host/ends.rt`, `src/host/answers.rt`.
 
 ghost use Rattle.std.specs.Prelude.{◌≡◌, ◌≤◌, List, length};
 ghost use Rattle.pmb_host.specs.Host.{HostStanding, FirstSteps};

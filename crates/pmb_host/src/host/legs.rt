@@ -1,4 +1,6 @@
 //! The legs that a host sends, byte by byte, while each is acknowledged.
+//!
+//! Its rows: `tests_host`, `src/host/ends.rt`, `src/host/longest.rt`.
 
 ghost use Rattle.std.specs.Prelude.{◌≡◌, ◌≤◌, ◌-◌, ◌++◌, ◌<◌, ◌&&◌, if◌then◌else◌, List, is_some, length, nat_eq, slice_get, option_map, IfSome, None, [], ◌∷◌, true, false};
 ghost use Rattle.std.specs.Option.{option_to_list};

@@ -1,4 +1,6 @@
 //! The reply that a host reads: it asks for each byte, and keeps it.
+//!
+//! Its rows: `tests_host`, `src/host/ends.rt`, `src/host/answers.rt`.
 
 ghost use Rattle.std.specs.Prelude.{ℕ, Bool, Some, ◌++◌, ◌<◌, List, length, [], ◌∷◌};
 ghost use Rattle.pmb_host.specs.Host.{HostStanding, FirstSteps};

@@ -1,4 +1,6 @@
 //! A host for each sort of request.
+//!
+//! Its rows: `tests_host`, `src/host/ends.rt`, `src/host/faults.rt`.
 
 ghost use Rattle.std.specs.Prelude.{◌≡◌, [], ◌∷◌, MatchResult, map};
 ghost use Rattle.pmb_request.specs.Request.{CallBytes, Get, ReadBytes, Set, WriteParts};

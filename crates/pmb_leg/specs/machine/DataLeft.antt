@@ -87,7 +87,7 @@ abbrev pub BeginsData : Form → PecMode → List ℕ → List ℕ → Type 0
 BeginsData form mode before bytes = (all : List ℕ) × (rest : List ℕ) × SpellsSomeData form mode before all
     × (all ≡ bytes ++ rest)
 
--- and go on
+-- and continue after them
 abbrev pub IsInside : Form → PecMode → List ℕ → List ℕ → Type 0
 IsInside form mode before bytes = (all : List ℕ) × SpellsSomeData form mode before all × IsProperPrefix bytes all
 

@@ -104,7 +104,7 @@ abbrev pub IsAskedOfSource : Answerer → List DeviceParts → PacketState → L
 IsAskedOfSource sources.Device profile u front addr = HasAsked profile u front addr
 IsAskedOfSource sources.Alert profile u front addr = (front ≡ []) × (addr ≡ alert_address)
 
--- the answer that is kept answers that
+-- the stored answer belongs to the leg's request
 pub record AnswersDevice (u : PacketState) : Type 0 where
   pub written : Written
   pub is : u.leg ≡ Some written
@@ -186,7 +186,7 @@ packet_of u = u.kept.last
 
 -- ---- one event more
 
--- The packet goes on with an event, and this is its place then.
+-- The packet can have an event here, and this is its place then.
 pub record GoesOn (profile : List DeviceParts) (events : List Event) (event : Event)
     (after : PacketState) : Type 0 where
   pub known : after.profile.now ≡ profile

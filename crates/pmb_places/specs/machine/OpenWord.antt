@@ -8,7 +8,7 @@ pub record OpenWordStandsAt (word : OpenWord) (text : List ℕ) : Type 0 where
   pub comment : word.in_comment ≡ ends_in_comment text
 
 -- After a text and a piece, whether both end in a comment, and how many bytes of the piece come
--- before its part of the word under way. With none the word goes on from before the piece.
+-- before its part of the word under way. With none the word began before the piece.
 pub record IsTail (text piece : List ℕ) (in_comment : Bool) (from : ℕ) : Type 0 where
   pub comment : in_comment ≡ ends_in_comment (text ++ piece)
   pub word : open_word (text ++ piece) ≡ (if from == 0 then open_word text else []) ++ drop from piece

@@ -62,7 +62,7 @@ pub record RunsHost (ts : List TransactionData) (bench : Bench) (exchange : Exch
   pub n : ℕ
   pub heard : HaveHeard bench ts n standing.events
 
--- It goes on: some more events were recorded and put out.
+-- It continues: some more events were recorded and put out.
 pub record GoesOn (ts : List TransactionData) (standing : ExchangeStanding) (bench : Bench) (exchange : Exchange)
     (held_old : Option (List ℕ)) (waiting_old : List ℕ) (held_new : Option (List ℕ))
     (waiting_new : List ℕ) : Type 0 where

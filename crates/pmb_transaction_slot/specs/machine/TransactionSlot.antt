@@ -34,7 +34,7 @@ kept_data kept = record {
       transaction_data (of_last kept.last kept);
 }
 
--- The write has at least so many, and nobody answered in the transaction that says so.
+-- The write has at least `count` parts; `NoAlert` is stored as such.
 pub record IsKept (kept : Inside) : Type 0 where
   pub within : kept.count ≤ length (parts_of kept.write)
   pub none : kept.no_alert ≡ kinds.NoAlert

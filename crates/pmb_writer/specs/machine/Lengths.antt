@@ -23,7 +23,7 @@ abbrev pub is_whole_wire : Option Form → List ℕ → Bool
 is_whole_wire None bytes = false
 is_whole_wire (Some form) bytes = nat_eq (length bytes) (wire_length form bytes)
 
--- A body may go on after a code and some bytes: that of a write, or in a first leg of a call.
+-- A body may continue after a code and some bytes: that of a write, or in a first leg of a call.
 abbrev pub may_go_on : Bool → PecMode → Shape → List ℕ → Bool
 may_go_on first mode shape bytes = leaves_room shape.write (pec_length mode) bytes
     || (first && leaves_room shape.call 0 bytes)

@@ -34,7 +34,7 @@ impl Found {
         }
     }
 
-    // Notes an answer, and says whether the text may go on.
+    // Notes an answer, and says whether the text may continue.
     fn note(&mut self, step: Step) -> Result<bool, AllocError> {
         match step {
             Step::Need => return Ok(false),

@@ -1,4 +1,4 @@
-//! The programs at the heads of `pmb_lexer` and `pmb_firmware`.
+//! The program at the head of `pmb_firmware`, in two parts.
 
 use crate::compare::same;
 use pmb_bus::{Event, Lexed, Step};

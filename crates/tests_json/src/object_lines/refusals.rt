@@ -31,7 +31,7 @@ static ROWS: [Row; 5] = [
     (&[Event::Start, Event::Byte(0x19), Event::Ack], None, Reason::Truncated, Kinds::BYTE, "{\"at\":62,\"line\":6,\"column\":30,\"kind\":\"refusal\",\"reason\":\"Truncated\",\"expected\":[\"Byte\"],\"got\":null,\"reply\":\"\"}\n"),
     // S b0 A ee: no such command
     (&[Event::Start, Event::Byte(0xb0), Event::Ack, Event::Byte(0xee)], Some(Event::Ack), Reason::UnknownCommand, Kinds::NACK, "{\"at\":62,\"line\":6,\"column\":30,\"kind\":\"refusal\",\"reason\":\"UnknownCommand\",\"expected\":[\"Nack\"],\"got\":\"Ack\",\"device\":\"58\",\"code\":\"ee\",\"sent\":\"ee\"}\n"),
-    // S b0 A 03 A: a Send Byte that may end, or go on with an error code or another part
+    // S b0 A 03 A: a Send Byte that may end, or an error code or another part may follow
     (&[Event::Start, Event::Byte(0xb0), Event::Ack, Event::Byte(0x03), Event::Ack], Some(Event::Nack), Reason::WrongEvent, Kinds::STOP, "{\"at\":62,\"line\":6,\"column\":30,\"kind\":\"refusal\",\"reason\":\"WrongEvent\",\"expected\":[\"Stop\"],\"got\":\"Nack\",\"device\":\"58\",\"code\":\"03\",\"command\":\"CLEAR_FAULTS\",\"sent\":\"03\"}\n"),
 ];
 

@@ -35,7 +35,7 @@ impl<'p> Compared<'p> {
         }
     }
 
-    /// Has both go on after a refusal that the reader holds, the refused event first.
+    /// Has both continue after a refusal that the reader holds, the refused event first.
     fn go_on(&mut self, event: Event) -> Result<bool, AllocError> {
         self.reader.resync();
         self.plain.resync();

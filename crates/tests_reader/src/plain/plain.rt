@@ -54,7 +54,7 @@ fn last_leg(events: &[Event]) -> LastLeg {
     leg
 }
 
-/// Why no packet goes on with an event, where these kinds may come.
+/// Why no packet can have an event there, where these kinds may come.
 fn reason(events: &[Event], event: Event, expected: Kinds) -> Reason {
     let leg = last_leg(events);
     match event {

@@ -43,7 +43,7 @@ static ROWS: [Row; 10] = [
     Row { capture: b"S b0 A 03", events: b"S b0 A 03 ", places: &[], used: 9, bad: None, end: Some(4) },
     // a word whose first byte begins no token
     Row { capture: b"S b0 A oops P\n", events: b"S b0 A ", places: &[], used: 7, bad: Some(7), end: Some(3) },
-    // one that goes on where a token can't
+    // one that continues where a token can't
     Row { capture: b"S b0 A 03 A P\nS b0 A 0x ", events: b"S b0 A 03 A packet S b0 A ", places: &[], used: 22, bad: Some(21), end: Some(9) },
     // one that ends where a token can't
     Row { capture: b"S b0 A 3", events: b"S b0 A ", places: &[], used: 8, bad: Some(7), end: Some(3) },
