@@ -34,8 +34,7 @@ returns c before =
     let bytes = c.args.bytes.now in
     let long : wire_length c.in-Some.form bytes ≡ length bytes =
     omega (arith, c.wire_length-whole.ensures.length, c.if-bytes-whole.false, c.if-bytes-whole-2.false) in
-    subst (λ (f : Option Form). IsTrue c.may_carry.result ↔ IsInsideData f c.args.mode before bytes) (sym c.in-Some.is)
-        (
+    subst (λ (f : Option Form). IsTrue c.may_carry.result ↔ IsInsideData f c.args.mode before bytes) (sym c.in-Some.is) (
       λ is. left_code c.in-Some.form c.args.mode before bytes
           (small_items bytes (λ k. omega (arith, c.type_inv.bytes k))) long (c.may_carry.ensures.0 is),
       λ inside. c.may_carry.ensures.1 (allows_code c.in-Some.form c.args.mode before bytes inside
