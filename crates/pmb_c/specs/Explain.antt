@@ -1,5 +1,5 @@
 -- What is said of a profile's fault.
-use Rattle.std.specs.Prelude.{◌≡◌, ℕ, Result, Ok, Err, List, length}
+use Rattle.std.specs.Prelude.{◌≡◌, ◌≢◌, ℕ, Result, Ok, Err, List, [], length}
 use Rattle.pmb_command.specs.Parts.{DeviceParts}
 use Rattle.pmb_io.specs.Count.{capped}
 use Rattle.pmb_in_memory.specs.Laid.{laid}
@@ -11,10 +11,11 @@ use Rattle.pmb_c.specs.declared.result.PmbResult.{PmbResult}
 use Rattle.pmb_firmware.specs.declared.call_status.CallStatus.TheVariants.{Done, NoMemory}
 use Rattle.pmb_c.specs.Result.{result_of_fault, result_of_status}
 
--- Some text stands in the room, as far as it fits, and this is its length. It is for people, and no
--- definition says which text it is.
+-- Some text stands in the room, as far as it fits, and this is its length. It is not empty. It is for
+-- people, and no definition says which text it is.
 pub record IsLaid (before after : List ℕ) (count : ℕ) : Type 0 where
   pub text : List ℕ
+  pub some : text ≢ []
   pub room : after ≡ laid text before
   pub counted : count ≡ capped (length text)
 

@@ -2,6 +2,8 @@
 //!
 //! Its rows: `tests/rows/hints.txt`.
 
+ghost use Rattle.std.specs.Prelude.{◌≢◌, []};
+
 use crate::lines::hints;
 use arrayvec::ArrayString;
 use pmb_table::ProfileFault;
@@ -29,7 +31,10 @@ pub fn fault_text(fault: ProfileFault) -> FaultText {
 }
 
 /// What `pmb profile` reports of a fault of the profile in `text`: the fault, and the lines that help.
-pub fn explanation(alloc: Global, text: &[u8], fault: ProfileFault) -> Explanation {
+pub fn explanation(alloc: Global, text: &[u8], fault: ProfileFault) -> Explanation
+    // Some text is there for each fault.
+    ensures { result.bytes ≢ [] }
+{
     let mut lines = Explanation::new();
     let _ = lines.try_push_str("pmb: ");
     let _ = lines.try_push_str(fault_text(fault).as_str());

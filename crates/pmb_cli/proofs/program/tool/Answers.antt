@@ -23,7 +23,7 @@ returns-in-Ok-clause-ran g c =
     (c.args.reader.now, out, c.args.err.now) (c.run_task.new.reader, c.run_task.new.out, c.run_task.new.err)
     c.run_task.result) c.in-Ok.ensures.ok_quiet.0
     (subst (λ (err : g.row.E.Denot). DidTask g.R.Source.told g.W.Sink.told g.E.Sink.told SAMPLE.now asking
-    (c.args.reader.now, c.asked.new.out, err) (c.run_task.new.reader, c.run_task.new.out, c.run_task.new.err)
+    (c.args.reader.now, c.parse_command.new.out, err) (c.run_task.new.reader, c.run_task.new.out, c.run_task.new.err)
     c.run_task.result) c.in-Ok.ensures.ok_quiet.1 c.run_task.ensures) in (
       c.run_task.result,
       c.code.ensures,
@@ -54,7 +54,7 @@ returns-in-Ok-clause-ran g c =
 pub returns-in-Err-clause-ran : goal.returns-in-Err-clause-ran
 returns-in-Err-clause-ran g c =
     let tells : StatusTells g.R.Source.told g.W.Sink.told (c.args.reader.now, c.args.out.now)
-    (c.args.reader.now, c.asked.new.out) c.in-Err.status = record {
+    (c.args.reader.now, c.parse_command.new.out) c.in-Err.status = record {
       unwritten = c.in-Err.ensures.wrote.unwritten;
       none_failed = λ other. (refl, c.in-Err.ensures.wrote.none_failed other);
       io_failed = λ failed. inr (inl (c.in-Err.ensures.wrote.io_failed failed));

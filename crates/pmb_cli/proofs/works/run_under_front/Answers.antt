@@ -125,12 +125,12 @@ returns g c =
 pub returns-in-Err : goal.returns-in-Err
 returns-in-Err g c =
     let fault = c.in-Err.fault in
-    let is_failed_read : c.tell.result ≡ IoFailed → fault ≡ Read = λ failed.
+    let is_failed_read : c.report.result ≡ IoFailed → fault ≡ Read = λ failed.
     is_read fault (λ is. c.in-Err.ensures.no_write (ap (λ (f : ToolFault). Err f) is))
-    (λ is. c.in-Err.ensures.few_reads (ap (λ (f : ToolFault). Err f) is)) (sym c.tell.ensures.status ∙ failed) in
+    (λ is. c.in-Err.ensures.few_reads (ap (λ (f : ToolFault). Err f) is)) (sym c.report.ensures.status ∙ failed) in
     record {
       did = record {
-        wrote = λ ended. absurd (fault_failed fault (subst EndedWell c.tell.ensures.status ended));
+        wrote = λ ended. absurd (fault_failed fault (subst EndedWell c.report.ensures.status ended));
         part = λ failed. inr (part_of_profile g.R.Source.told c.one_front.ensures.stays g.W.Sink.told
             (working (wanted_of c.args.work.now)) c.args.reader.now c.front.new.reader _
             (c.in-Err.ensures.before_read (ap (λ (f : ToolFault). Err f) (is_failed_read failed))));
@@ -139,7 +139,7 @@ returns-in-Err g c =
         unwritten = λ _. refl;
         none_failed = λ other. (
           c.in-Err.ensures.no_read
-              (no_failed_read _ fault (λ failed. other (c.tell.ensures.status ∙ failed)) refl),
+              (no_failed_read _ fault (λ failed. other (c.report.ensures.status ∙ failed)) refl),
           refl,
         );
         io_failed = λ failed. inl (
@@ -151,11 +151,11 @@ returns-in-Err g c =
       bad = λ bad. inr (
         refl,
         inl (c.in-Err.ensures.too_long
-            (ap (λ (f : ToolFault). Err f) (is_too_long fault (sym c.tell.ensures.status ∙ bad)))),
+            (ap (λ (f : ToolFault). Err f) (is_too_long fault (sym c.report.ensures.status ∙ bad)))),
       );
       bad_format = λ none. absurd none;
       memory = λ memory. inr (inl (c.in-Err.ensures.before_memory
-          (ap (λ (f : ToolFault). Err f) (is_memory fault (sym c.tell.ensures.status ∙ memory)))));
-      err_text = λ failed. c.tell.ensures.err_told;
-      quiet = λ ended. absurd (fault_failed fault (subst EndedWell c.tell.ensures.status ended));
+          (ap (λ (f : ToolFault). Err f) (is_memory fault (sym c.report.ensures.status ∙ memory)))));
+      err_text = λ failed. c.report.ensures.err_told;
+      quiet = λ ended. absurd (fault_failed fault (subst EndedWell c.report.ensures.status ended));
     }

@@ -30,13 +30,13 @@ returns-in-Ok g c = record {
 -- There was no memory for the sample.
 pub returns-in-Err : goal.returns-in-Err
 returns-in-Err g c =
-    let no_memory : c.tell.result ≡ NoMemory = rw c.in-Err.ensures.memory at c.tell.ensures.status in
+    let no_memory : c.report.result ≡ NoMemory = rw c.in-Err.ensures.memory at c.report.ensures.status in
     record {
       did = does_none _ _ _ _ _ (inr no_memory);
       tells = refused_tells g.R.Source.told g.W.Sink.told _ _ _ _ (inr no_memory) refl (none_in_all _);
       bad = λ bad. absurd (no_memory_is_not_bad _ no_memory bad);
       bad_format = λ none. absurd none;
       memory = λ memory. refl;
-      err_text = λ failed. c.tell.ensures.err_told;
+      err_text = λ failed. c.report.ensures.err_told;
       quiet = λ ended. absurd (refused_ended _ (inr no_memory) ended);
     }

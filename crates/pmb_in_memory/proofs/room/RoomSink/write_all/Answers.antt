@@ -5,7 +5,7 @@ use Rattle.pmb_in_memory.proofs.room.RoomSink.write_all.Goals as goal
 
 pub invariant_of-self-clause-kept : goal.invariant_of-self-clause-kept
 invariant_of-self-clause-kept g c =
-    let before = g.P.Place.before in
+    let before = g.P.BufferId.before in
     let text = c.args.self.now.written.bytes in
     let piece = c.args.bytes.now in
     let kept = c.min-kept.result in
