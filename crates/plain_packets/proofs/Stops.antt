@@ -1,4 +1,6 @@
--- Where the one STOP of a packet is.
+-- Where the one STOP of a packet is: events without any, and STOP after them. For `write_events`
+-- and `end_with` of `src/packets.rt`, and `push_byte` and `push_leg` of `src/legs.rt`, which build
+-- a packet event by event. One event more that is no STOP leaves none among them.
 use Rattle.std.proofs.Common.{◌≡◌, ◌≢◌, List, [], ◌∷◌, ◌++◌, refl, sym, subst, arith}
 use Rattle.std.specs.List.{All, Contains}
 use Rattle.std.proofs.lemmas.List.Elements.{All-contains, All-push, Contains-append_right}

@@ -1,4 +1,7 @@
 //! The bytes of a leg, and its events.
+//!
+//! Its rows: `tests_packets`, `src/legs/written.rt` and `answers.rt`, and
+//! `src/transactions/packet_rows.rt`.
 
 ghost use Rattle.std.specs.Prelude.{◌≢◌, IfOk};
 ghost use Rattle.plain_packets.specs.Stops.{NoneStops};

@@ -1,4 +1,6 @@
 //! The events of a transaction, built rule by rule.
+//!
+//! Its rows: `tests_packets`, `src/transactions/packet_rows.rt` and `no_packet_rows.rt`.
 
 ghost use Rattle.std.specs.Prelude.{IfOk};
 ghost use Rattle.pmb_transaction.specs.Capture.{EndsAtFirstStop};

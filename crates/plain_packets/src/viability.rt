@@ -3,6 +3,8 @@
 //! A list of events is viable if it is empty or some packet begins with it. Transactions are tried
 //! whose addresses, codes and data are those of the events as far as they go. Where an address or a
 //! code is missing each one is tried, and missing data are 0.
+//!
+//! Its rows: `tests_packets`, `src/transactions/refusal_rows.rt`.
 
 ghost use Rattle.std.specs.Prelude.{◌≡◌, [], Ok, true};
 

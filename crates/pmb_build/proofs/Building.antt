@@ -1,4 +1,6 @@
--- Lines that are built one after the other.
+-- Lines that are built one after the other: the answers so far, the text they have, and the counts.
+-- For `BuilderLineTask::take_line`. One line more adds one answer, its text and one to a count that
+-- stays at the greatest u64.
 use Rattle.std.proofs.Common.{◌≡◌, ℕ, ◌+◌, Bool, cond, List, [], ◌∷◌, ◌++◌, length, sym, ◌∙◌, ap, subst, arith}
 use Rattle.std.proofs.Common.{count_by, length-append}
 use Rattle.std.proofs.lemmas.List.Sums.{fold-append}

@@ -1,4 +1,7 @@
--- What the bytes of a common line are.
+-- The bytes of a line that stands as most do: `write` or `read`, two digits a byte, one space
+-- before each word. For `byte_of` and `QuickReader` of `src/common_lines.rt`, which look at single
+-- bytes. The first bytes of a text are named one by one, and what follows them is the rest; 32 is a
+-- space.
 use Rattle.std.proofs.Common.{◌≡◌, ℕ, ◌+◌, ◌-◌, ◌*◌, ◌<◌, ◌≤◌, Bool, true, false, List, [], ◌∷◌, ◌++◌, codes, drop}
 use Rattle.std.proofs.Common.{length, map, take, sym, ◌∙◌, ap, append-nil, append_assoc, arith, length-drop}
 use Rattle.std.specs.Prelude.{◌/◌, ◌%◌, slice_index}

@@ -1,4 +1,6 @@
--- What is built of bytes is one text and one tally.
+-- What is built of bytes is one text and one tally, and the text of the lines that have ended comes
+-- first. For the laws `one_building` and `ended_lines_come_first`. A line has one answer: a
+-- transaction has one packet, and a line without one has one first fault (laws of `pmb_line`).
 use Rattle.std.proofs.Common.{◌≡◌, ℕ, List, [], ◌∷◌, ◌++◌, refl, sym, ◌∙◌, ap, subst}
 use Rattle.pmb_bus.specs.declared.event.Event.{Event}
 use Rattle.pmb_command.specs.Parts.{DeviceParts}
@@ -69,6 +71,7 @@ module _ (profile : List DeviceParts) (one_transaction : (ws : List (List ℕ)) 
 
   -- the answers to lines that begin some others
   record Front (given : List TextLine) (answers : List BuildAnswer) : Type 0 where
+    -- the answers to these lines, and those to the others
     front : List BuildAnswer
     after : List BuildAnswer
     split : answers ≡ front ++ after

@@ -1,4 +1,5 @@
--- Some text is built of any bytes.
+-- Some text is built of any bytes. For the law `some_building`. Each line parses or has a first
+-- fault (a law of `pmb_line`), so each has an answer, and the answers have a text and a tally.
 use Rattle.std.proofs.Common.{ℕ, ◌⊎◌, inl, inr, List, [], ◌∷◌, refl}
 use Rattle.std.specs.Prelude.{count_by}
 use Rattle.pmb_command.specs.Parts.{DeviceParts}

@@ -1,4 +1,6 @@
 //! The lines of an input, built one after the other.
+//!
+//! Its rows: `tests/rows/lines.txt`; `tests_tasks`, `src/lines.rt`.
 
 ghost use Rattle.std.specs.Prelude.{◌≡◌, ◌≢◌, ℕ, ◌++◌, ◌∷◌, [], List, OnOk};
 ghost use Rattle.pmb_io.specs.Calls.{WriterTells};

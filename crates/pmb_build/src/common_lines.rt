@@ -4,6 +4,8 @@
 //!
 //! Such a line is read at a look and not word by word. It is the line of a transaction, so by a law it
 //! spells that transaction. Any other line is left to a [`LineReader`].
+//!
+//! Its rows: `tests/rows/lines.txt`.
 
 ghost use Rattle.std.specs.Prelude.{◌≡◌, ◌<◌, ◌∷◌, [], IfErr, IfOk, IfSome, map, slice_index, true};
 ghost use Rattle.hex.specs.Hex.{encode_lower, lower_digits};

@@ -1,4 +1,6 @@
 //! The line that tells a line's fault.
+//!
+//! Its rows: `tests/rows/lines.txt`.
 
 ghost use Rattle.std.specs.Prelude.{◌≡◌, ◌+◌, ◌≤◌, ◌++◌, length};
 ghost use Rattle.pmb_build.specs.Answer.{numbered_text};

@@ -1,4 +1,6 @@
 //! Lines in, packets out.
+//!
+//! Its rows: `tests/rows/lines.txt`; `tests_tasks`, `src/lines.rt`.
 
 ghost use Rattle.pmb_io.specs.Runs.{AsTool, Ran};
 ghost use Rattle.pmb_build.specs.Lines.{building};

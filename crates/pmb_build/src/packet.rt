@@ -1,4 +1,6 @@
 //! Packets as text.
+//!
+//! Its rows: `tests/rows/lines.txt`.
 
 ghost use Rattle.std.specs.Prelude.{OnOk};
 ghost use Rattle.pmb_bus.specs.Event.{text_of};

@@ -1,4 +1,6 @@
--- The packet of one leg at the Alert Response Address.
+-- The packet of one leg at the Alert Response Address, answered or not, from its bytes and back.
+-- For `keep_alert` and `keep_nacked`. Its bytes are the address byte, and then a byte with or
+-- without a packet error code; anything else with such legs is a refused packet.
 use Rattle.std.proofs.Common.{◌≡◌, ◌+◌, ◌*◌, ◌≤◌, ◌<◌, ℕ, Bool, inl, inr, List, [], ◌∷◌, ◌++◌, length, take, refl, sym}
 use Rattle.std.proofs.Common.{ap, subst, ◌∙◌, arith, length-append}
 use Rattle.pmb_bus.specs.declared.event.Event.{Event}

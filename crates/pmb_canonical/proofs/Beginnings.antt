@@ -1,4 +1,7 @@
--- What is taken of a text before which the legs of a canonical packet stand.
+-- What is taken from a text that begins with the legs of a canonical packet: their bytes, up to
+-- where each leg ends. For `front_legs`, `take_group`, `keep_part` and the functions of
+-- `src/refused.rt`, whose contracts say that a packet that is there is found. START, STOP and a
+-- byte with NACK are told apart by their first characters.
 use Rattle.std.proofs.Common.{◌≡◌, ℕ, ◌%◌, ◌<◌, ◌≤◌, Bool, true, nat_eq, Option, Some, None, List, [], ◌∷◌, ◌++◌}
 use Rattle.std.proofs.Common.{length, take, drop, refl, sym, ap, subst, ◌∙◌, arith, append_assoc, length-append}
 use Rattle.std.proofs.lemmas.List.{length-take-le, take-append-drop}
@@ -38,6 +41,7 @@ pub record IsNacked (all : List ℕ) : Type 0 where
   pub front : List ℕ
   pub last : ℕ
   pub whole : all ≡ front ++ last ∷ []
+  -- the bytes are below 256, and the text is START, those with ACK, and the last with NACK
   pub small_front : AreByteValues front
   pub small_last : last < 256
   pub text : (rest : List ℕ) → canonical_text (leg_events Nacked all) ++ rest ≡ start
@@ -68,6 +72,7 @@ pub record IsBoth (written : ℕ) (all : List ℕ) : Type 0 where
   pub front : List ℕ
   pub back : List ℕ
   pub last : ℕ
+  -- the first leg has as many bytes as were written
   pub long : length front ≡ written
   pub whole : all ≡ (front ++ back) ++ last ∷ []
   pub small_front : AreByteValues front
@@ -76,6 +81,7 @@ pub record IsBoth (written : ℕ) (all : List ℕ) : Type 0 where
   pub to_read : ℕ
   pub small_to_read : to_read < 256
   pub odd : to_read % 2 ≡ 1
+  -- the second leg's text begins with its address byte, which is odd
   pub begins : (rest : List ℕ) → (more : List ℕ)
       × (acked_text back ++ (end_text last ++ rest) ≡ canonical_text (Byte to_read ∷ []) ++ more)
   pub text : (rest : List ℕ) → canonical_text (leg_events (Both written) all) ++ rest ≡ start
@@ -88,6 +94,7 @@ both_by : (front behind : List ℕ) → AreByteValues front → AreByteValues be
     → IsBoth (length front) (front ++ behind)
 both_by front [] first second enough odd = absurd odd
 both_by front (to_read ∷ tail) first second enough odd =
+    -- the last byte of the second leg, which has NACK
     let ended = ends to_read tail in
     let parts = small_ended ended.front ended.last (subst AreByteValues ended.whole second) in
     let whole : front ++ to_read ∷ tail ≡ front ++ (ended.front ++ ended.last ∷ []) =
@@ -104,7 +111,9 @@ both_by front (to_read ∷ tail) first second enough odd =
       to_read = to_read;
       small_to_read = second.0;
       odd = odd;
+      -- so its text begins with its address byte
       begins = λ rest. first_of_nacked ended.front ended.last to_read tail rest ended.whole;
+      -- and the text of both is the first leg's, START, and the second's
       text = λ rest.
           ap (λ (l : List ℕ). canonical_text (leg_events (Both (length front)) l) ++ rest) whole
           ∙ ap (λ (l : List ℕ). l ++ rest) (read_text front ended.front ended.last)
@@ -124,6 +133,7 @@ is_both written all are =
     (small-drop written all are.small) enough are.reads))
 
 -- What `take_acked` says of bytes that all find room.
+-- 516: two legs of at most 258 bytes each, with their address bytes
 abbrev pub TakesAll : List ℕ → List ℕ → List ℕ → List ℕ → Type 0
 TakesAll text old new behind = (front rest : List ℕ) → AreByteValues front → NoneAcked rest
     → length (old ++ front) ≤ 516
@@ -250,9 +260,11 @@ pub both_second : (written : ℕ) (behind second front new all rest : List ℕ) 
     → (result ≡ Some (Both written)) × (new ≡ all)
 both_second written behind second front new all rest result are first begins finds split =
     let both = is_both written all are in
+    -- the text after the first leg is START and the second leg
     let joined : start ++ second ≡ start ++ (acked_text both.back ++ (end_text both.last ++ rest)) = sym begins
     ∙ split in
     let here : second ≡ acked_text both.back ++ (end_text both.last ++ rest) = cc joined in
+    -- whose bytes find room after the first leg's
     let few : length (front ++ both.back) ≤ 515 =
     omega (
       arith,
@@ -263,6 +275,7 @@ both_second written behind second front new all rest result are first begins fin
       length-append both.front both.back,
       are.few,
     ) in
+    -- so they are found, with NACK at the end
     let found = finds both.back both.last rest
     (record { small = both.small_back; small_last = both.small_last; few = few }) here in
     let long : length front ≡ written = ap length first ∙ both.long in (

@@ -1,4 +1,7 @@
--- Where the data of a leg's bytes stand.
+-- Where the data stand among the bytes of a packet: after the address byte and the code in a
+-- written leg, after both address bytes in a read or a call. For `written`, `read` and `called` of
+-- `src/packets.rt`. The packet error code covers all bytes before the data, whichever leg they are
+-- in.
 use Rattle.std.proofs.Common.{◌≡◌, ℕ, suc, ◌+◌, ◌-◌, ◌<◌, ◌≤◌, Bool, true, false, List, [], ◌∷◌, ◌++◌, length, get_or}
 use Rattle.std.proofs.Common.{take, drop, refl, sym, ap, ◌∙◌, arith, append_assoc, length-append}
 use Rattle.std.proofs.lemmas.List.{length-take-le, take-append-drop}
@@ -71,12 +74,16 @@ call_reply profile address code sent reply with_pec bytes written says =
 -- What was found in bytes of which the first leg has so many.
 pub record IsFound (device : DeviceParts) (form : Form) (code : ℕ) (sent reply : List ℕ) (with_pec : Bool)
     (bytes : List ℕ) (written : ℕ) : Type 0 where
+  -- the first leg begins with the address byte for writing and the code
   pub enough : 2 ≤ length bytes
   pub to_write : get_or bytes 0 0 ≡ write_address device.address
   pub command_code : get_or bytes 1 0 ≡ code
+  -- the second leg begins where the first ends
   pub within : (2 ≤ written) × (written < length bytes)
+  -- between the code and the second leg are the data that are sent
   pub sends : take (written - 2) (drop 2 bytes) ≡ wire form sent
   pub to_read : get_or bytes written 0 ≡ read_address device.address
+  -- after the second address byte is the reply, with its packet error code
   pub replies : drop (written + 1) bytes ≡ checked with_pec (take (written + 1) bytes) (wire form reply)
 
 -- that is what the legs of a call are
@@ -90,20 +97,24 @@ pub spells_call : (device : DeviceParts) (form : Form) (code : ℕ) (sent reply 
 spells_call device form code sent reply with_pec [] written is = absurd (omega (arith, is.enough))
 spells_call device form code sent reply with_pec (a ∷ []) written is = absurd (omega (arith, is.enough))
 spells_call device form code sent reply with_pec (a ∷ b ∷ rest) written is =
+    -- the data that are sent have the length of the first leg but for two bytes
     let bytes = a ∷ b ∷ rest in
     let sent_long : length (take (written - 2) rest) ≡ written - 2 =
     length-take-le (written - 2) rest (omega (arith, is.within)) in
     let long : written ≡ 2 + length (wire form sent) = omega (arith, sent_long, ap length is.sends, is.within) in
+    -- so the first leg is the address byte, the code and these data
     let front = write_address device.address ∷ code ∷ wire form sent in
     let two_more : written ≡ suc (suc (written - 2)) = omega (arith, is.within) in
     let one_more : written + 1 ≡ suc written = omega arith in
     let first : take written bytes ≡ front =
     ap (λ (n : ℕ). take n bytes) two_more ∙ cc (is.to_write, is.command_code, is.sends) in
+    -- and after it comes the address byte for reading
     let before : take (written + 1) bytes ≡ front ++ read_address device.address ∷ [] =
     ap (λ (n : ℕ). take n bytes) one_more
     ∙ take-suc bytes written 0 (is.within.1)
     ∙ ap (λ (l : List ℕ). l ++ get_or bytes written 0 ∷ []) first
     ∙ ap (λ (n : ℕ). front ++ n ∷ []) is.to_read in
+    -- the rest is the reply
     let behind = checked with_pec (front ++ read_address device.address ∷ []) (wire form reply) in (
       long,
       sym (take-append-drop (written + 1) bytes)

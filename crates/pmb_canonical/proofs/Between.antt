@@ -1,4 +1,6 @@
--- The text of a packet that is taken at once, and that it ends between words.
+-- The text of a packet that was taken at once is its canonical text, and ends between words. For
+-- `CanonicalReader::take` and the law `canonical_packets_are_read`. A packet's only STOP is its
+-- last event, whose text ends with LF.
 use Rattle.std.proofs.Common.{◌≡◌, ◌≤◌, ℕ, Option, Some, None, List, [], ◌∷◌, ◌++◌, length, take, sym, ap, subst, ◌∙◌}
 use Rattle.std.proofs.Common.{arith, append_assoc, length-append}
 use Rattle.std.specs.Prelude.{IfSome}

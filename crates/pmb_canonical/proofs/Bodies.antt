@@ -1,4 +1,7 @@
 -- Bodies of which something is left, and those that ask for a reply, by the data after the code.
+-- For `are_data`, `go_on`, `is_inside_body` and `is_request` of `src/refused.rt`. Data are whole
+-- where there are as many bytes as they say; where some are missing, zeros complete them, so fewer
+-- bytes begin a body.
 use Rattle.std.proofs.Common.{◌≡◌, ℕ, ◌-◌, ◌<◌, ◌≤◌, ◌⊎◌, inl, inr, zero, suc, Bool, true, false, is_some, Option, Some}
 use Rattle.std.proofs.Common.{None, List, [], ◌∷◌, ◌++◌, length, replicate, refl, sym, ap, subst, ◌∙◌, append_assoc}
 use Rattle.std.proofs.Common.{arith, length-append}
@@ -78,9 +81,11 @@ pub begun_data : (form : Form) (mode : PecMode) (before bytes : List ℕ) → Ar
     → length bytes < wire_length form bytes
     → IsInsideData (Some form) mode before bytes
 begun_data form mode before bytes small more =
+    -- zeros for the bytes that are missing
     let left : ℕ = wire_length form bytes - length bytes - 1 in
     let zeros : List ℕ = replicate left 0 in
     let padded : List ℕ = bytes ++ 0 ∷ zeros in
+    -- they don't change how many there are to be
     let long : wire_length form padded ≡ length padded =
     omega (
       arith,
@@ -89,6 +94,7 @@ begun_data form mode before bytes small more =
       length-replicate {A = ℕ} left 0,
       more,
     ) in
+    -- so these are data, and any code that the mode allows follows
     let found = whole form padded (small-append bytes (0 ∷ zeros) small (omega arith, small_zeros left)) long in
     let chosen = some_pec mode in
     let code : List ℕ = code_behind chosen.0 (before ++ wire form found.0) in (

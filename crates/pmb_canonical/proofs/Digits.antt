@@ -1,4 +1,6 @@
--- The table of digits, computed as a whole and told of each byte.
+-- The table `DIGITS`, computed as a whole: the value of a lower-case hex digit, and 256 for another
+-- byte; and the text of a byte, two digits and a space. For `digit_value` and `spelled_byte` of
+-- `src/words.rt`. A digit tells its value, so two digits tell their byte; 32 is a space.
 use Rattle.std.proofs.Common.{◌≡◌, ℕ, ◌+◌, ◌*◌, ◌/◌, ◌%◌, ◌<◌, Bool, true, ◌==◌, ◌⊎◌, inl, inr, get_or, [], ◌∷◌, refl}
 use Rattle.std.proofs.Common.{sym, ap, ◌∙◌, arith}
 use Rattle.std.specs.Prelude.{◌||◌, nat_le, nat_lt}

@@ -1,4 +1,6 @@
--- The last byte of a leg with NACK, and the text of both legs.
+-- The last byte of a leg, which has NACK, and the text of one leg or of both. For `keep_nacked`,
+-- `refused_byte` and `unread`, and for all files here that put a packet's text together. Each byte
+-- with its ACK is five characters, so the length of a text is counted from its bytes.
 use Rattle.std.proofs.Common.{◌≡◌, ◌≤◌, ℕ, ◌+◌, ◌*◌, List, [], ◌∷◌, ◌++◌, length, drop, refl, ap, ◌∙◌, arith}
 use Rattle.std.proofs.Common.{append_assoc, length-append}
 use Rattle.std.proofs.Math.Seq.{take-append_seam, drop-append_seam}
@@ -12,6 +14,7 @@ use Rattle.pmb_canonical.specs.Front.{acked_text, end_text}
 use Rattle.pmb_canonical.proofs.Texts.{text-append, length-acked_text}
 
 -- bytes, by their last one
+-- (the bytes before the last, and the last)
 pub record Ended (bytes : List ℕ) : Type 0 where
   pub front : List ℕ
   pub last : ℕ

@@ -1,4 +1,6 @@
--- What a look-up finds passes its test, and is one of the elements.
+-- What a look-up in a profile finds: the device has the address, and what is read or called has
+-- data. For `addressed`, `called` and `unread`. What passes a search's test, and what holds of each
+-- element, holds of the one that is found.
 use Rattle.std.proofs.Common.{◌≡◌, ℕ, Bool, true, false, Option, Some, None, List, [], ◌∷◌, nat_eq, refl, sym, ap}
 use Rattle.std.proofs.Common.{subst, ◌∙◌, arith}
 use Rattle.std.specs.Prelude.{◌*◌, ◌/◌, ◌%◌, IfSome, cond, option_map}

@@ -1,4 +1,6 @@
--- The words at the front of a text, by its first bytes.
+-- The words at the front of a text, by its first characters: two digits and a space, then `A `, or
+-- `N P` and LF. For `front_acked`, `front_last` and `is_even` of `src/words.rt`. Each character is
+-- compared with the one that would stand there, whatever follows.
 use Rattle.std.proofs.Common.{◌≡◌, ℕ, ◌%◌, ◌<◌, ◌≤◌, Option, Some, None, List, [], ◌∷◌, ◌++◌, length, get_or, drop, sym}
 use Rattle.std.proofs.Common.{ap, ◌∙◌, arith}
 use Rattle.std.specs.Prelude.{IfSome}
@@ -29,6 +31,7 @@ pub short_acked : (text : List ℕ) (byte : ℕ) (rest : List ℕ) → length te
 unfolding encode_with
 short_acked text byte rest short same = let long = ap length same in omega (arith, long)
 
+-- 65 is `A`, 32 the space after it
 pub other_ack : (text : List ℕ) (byte : ℕ) (rest : List ℕ) → text ≡ acked_text (byte ∷ []) ++ rest
     → get_or text 3 0 ≡ 65
 unfolding encode_with
@@ -68,6 +71,7 @@ pub short_last : (text : List ℕ) (byte : ℕ) (rest : List ℕ) → length tex
 unfolding encode_with
 short_last text byte rest short same = let long = ap length same in omega (arith, long)
 
+-- 78 is `N`, 80 `P`, 32 the space between, 10 LF
 pub other_nack : (text : List ℕ) (byte : ℕ) (rest : List ℕ) → text ≡ end_text byte ++ rest → get_or text 3 0 ≡ 78
 unfolding encode_with
 other_nack text byte rest same = ap (λ (l : List ℕ). get_or l 3 0) same

@@ -1,4 +1,7 @@
--- Bytes taken from the front of a text.
+-- Bytes with their ACKs, taken from the front of a text one by one: those taken so far, what is
+-- left, and that none is left in front at the end. For `push_acked` of `src/packet_bytes.rt`, its
+-- loop, and `take_acked`. A byte with its ACK is five characters, so 516 bytes, the most of two
+-- legs, are 2,580.
 use Rattle.std.proofs.Common.{◌≡◌, ℕ, ◌+◌, ◌-◌, ◌*◌, ◌<◌, ◌≤◌, min, ◌⊎◌, inl, inr, List, [], ◌∷◌, ◌++◌, length, take}
 use Rattle.std.proofs.Common.{drop, set, refl, sym, ap, ◌∙◌, arith, append_assoc, length-append, length-drop}
 use Rattle.std.proofs.Common.{length-set}
@@ -82,6 +85,7 @@ module _ (text : List ℕ) (old : List ℕ) (new : List ℕ) (behind : List ℕ)
 -- Bytes with their ACKs were put into the first places, and what is left of the text finds room.
 pub record PutSoFar (text : List ℕ) (old : List ℕ) (len : ℕ) (places : List ℕ) (rest : List ℕ) : Type 0 where
   pub taken : TakenFront text old (take len places) rest
+  -- what is left of the text finds room: five characters a byte, 516 bytes
   pub room : 5 * len + length rest ≤ 2580
   pub all_places : length places ≡ 516
 
@@ -140,6 +144,8 @@ module _ (part : List ℕ) (tail : List ℕ) (old : List ℕ) (new : List ℕ) (
       (front : List ℕ) (behind : List ℕ) (small : AreByteValues front) (none : NoneAcked behind)
       (fits : length (old ++ front) ≤ 516)
       (same : part ++ tail ≡ acked_text front ++ behind) where
+    -- where fewer than five characters are left, the text is cut, and more was there than finds
+    -- room
     none_by : (byte : ℕ) (more : List ℕ) → byte < 256 → rest ++ tail ≡ acked_text (byte ∷ []) ++ more
         → (length rest < 5) ⊎ (5 ≤ length rest) → ⊥
     none_by byte more is_byte at_front (inr enough) =

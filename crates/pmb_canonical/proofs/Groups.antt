@@ -1,4 +1,7 @@
--- The parts of a group, one after the other, and what ends it.
+-- The parts of a group, one leg after the other, and what ends it: STOP, or a leg in which
+-- something is refused. For `take_group` and `keep_nacked`. Each leg is a part of a device of its
+-- own, and after it comes START and another leg, or the end; a leg that is kept is the one that
+-- stands there, since its bytes tell it.
 use Rattle.std.proofs.Common.{◌≡◌, ℕ, ◌+◌, ◌-◌, ◌*◌, ◌<◌, ◌≤◌, ◌⊎◌, inl, inr, Bool, false, List, [], ◌∷◌, ◌++◌, length}
 use Rattle.std.proofs.Common.{drop, nat_eq, refl, sym, ap, subst, ◌∙◌, arith, append_assoc, length-append}
 use Rattle.std.specs.List.{AllByRecursion, IsDistinct, list_any}
@@ -108,6 +111,7 @@ pub part_taken : (profile : List DeviceParts) (text : List ℕ) (old new : List 
     → first ≡ acked_text bytes ++ behind
     → more ≡ count + (1 + 2 * length bytes) → TakenParts profile text new more behind
 part_taken profile text old new bytes rest first behind count more taken adds begins split many =
+    -- the leg is one more part
     let one : PartEvents profile adds.part (leg bytes) =
     record {
       device = adds.says.device;
@@ -118,12 +122,14 @@ part_taken profile text old new bytes rest first behind count more taken adds be
       spelled = ap leg adds.says.spelled;
     } in
     record {
+      -- its events come after those of the parts before it
       legs = taken.legs ++ leg bytes;
       each = subst (λ (ps : List PartData). PartsEvents profile ps (taken.legs ++ leg bytes)) (sym adds.added)
           (parts_more profile old taken.legs adds.part (leg bytes) taken.each one);
       distinct = subst (λ (ps : List PartData). IsDistinct nat_eq (addresses ps)) (sym adds.added)
           (distinct_with old adds.part taken.distinct adds.other);
       few = omega (arith, ap length adds.added, length-append old (adds.part ∷ []), adds.room);
+      -- so does its text
       split =
           taken.split
           ∙ ap (λ (l : List ℕ). canonical_text taken.legs ++ l)
@@ -152,6 +158,7 @@ pub takes_parts : (profile : List DeviceParts) (text : List ℕ) (parts : List P
     → 1 ≤ length parts → rest ≡ stop ++ behind → used ≡ length text - length behind
     → TakesPacket profile text used count (Write parts)
 takes_parts profile text parts rest behind used count taken some ends long =
+    -- STOP ends the text of the legs
     let split : text ≡ canonical_text (taken.legs ++ Stop ∷ []) ++ behind =
     taken.split
     ∙ ap (λ (l : List ℕ). canonical_text taken.legs ++ l) ends
@@ -177,22 +184,29 @@ takes_parts profile text parts rest behind used count taken some ends long =
 -- ---- parts that follow
 
 -- The next one, after START.
+-- The text after START is a part's leg: its bytes, and what follows them (`behind`), where no byte
+-- with ACK or NACK stands. Its address is none of those taken.
 pub record NextPart (profile : List DeviceParts) (taken : List ℕ) (text : List ℕ) : Type 0 where
   pub part : PartData
   pub bytes : List ℕ
   pub behind : List ℕ
+  -- the bytes say the part
   pub says : OneWritten profile part.addr part.code part.bytes part.pec bytes
   pub small : AreByteValues bytes
   pub few : length bytes ≤ 516
+  -- the text is these bytes with their ACKs, and after them neither a byte with ACK nor one with
+  -- NACK
   pub split : text ≡ acked_text bytes ++ behind
   pub ended : NoneAcked behind
   pub no_nack : NoneNacked behind
+  -- another address, room for a part, and the parts that follow it
   pub other : IsNew part.addr taken
   pub room : length taken < 16
   pub more : MoreParts profile (taken ++ part.addr ∷ []) behind
 
 -- or, after START, a leg in which something is refused
 pub record NextRefused (profile : List DeviceParts) (taken : List ℕ) (text : List ℕ) : Type 0 where
+  -- the parts before it, by their addresses
   pub parts : List PartData
   pub same : addresses parts ≡ taken
   pub bytes : List ℕ
@@ -271,19 +285,23 @@ next_by : (profile : List DeviceParts) (taken text : List ℕ) (parts : List Par
     → IsDistinct nat_eq (taken ++ addresses parts) → length taken + length parts ≤ 16 → AreBytes legs
     → EndsGroup profile (taken ++ addresses parts) last
     → start ++ text ≡ canonical_text (legs ++ last) ++ rest → NextLeg profile taken text
+-- no part is left and STOP follows, but the text has START
 next_by profile taken text [] legs last rest each distinct few small (inl alone) split =
     absurd (start_or_stop text rest (start ++ text) refl
     (split ∙ ap (λ (l : List Event). canonical_text (l ++ last) ++ rest) each
     ∙ ap (λ (l : List Event). canonical_text l ++ rest) alone))
+-- no part is left: the leg in which something is refused
 next_by profile taken text [] legs last rest each distinct few small (inr refused) split =
     inr (refused_next profile taken text last rest refused
     (split ∙ ap (λ (l : List Event). canonical_text (l ++ last) ++ rest) each))
+-- another part: its leg's bytes, and the text after them
 next_by profile taken text (part ∷ parts) legs last rest each distinct few small ends split =
     let one = each.3 in
     let bytes = write_address part.addr ∷ one.body in
     let first : legs ≡ leg bytes ++ each.1 = each.2 ∙ ap (λ (l : List Event). l ++ each.1) one.spelled in
     let own : AreBytes (acked bytes ++ each.1) = subst AreBytes first small in
     let behind = canonical_text (each.1 ++ last) ++ rest in
+    -- the text is START, these bytes with their ACKs, and what is after them
     let whole : canonical_text (legs ++ last) ++ rest ≡ start ++ (acked_text bytes ++ behind) =
     ap (λ (l : List Event). canonical_text (l ++ last) ++ rest) first
     ∙ ap (λ (l : List Event). canonical_text l ++ rest) (append_assoc (leg bytes) each.1 last)
@@ -291,6 +309,7 @@ next_by profile taken text (part ∷ parts) legs last rest each distinct few sma
     ∙ append_assoc (canonical_text (leg bytes)) (canonical_text (each.1 ++ last)) rest
     ∙ leg_text bytes behind in
     let joined : start ++ text ≡ start ++ (acked_text bytes ++ behind) = split ∙ whole in
+    -- which is another leg or STOP, so these bytes are all of the leg
     let stands : StartOrStop rest behind = begins_leg profile (taken ++ addresses (part ∷ parts)) parts each.1 last rest
     behind each.4 ends refl in
     inl (record {
@@ -305,6 +324,7 @@ next_by profile taken text (part ∷ parts) legs last rest each distinct few sma
       no_nack = none_nacked rest behind stands;
       other = new_behind taken part.addr (addresses parts) distinct;
       room = omega (arith, few);
+      -- after it come the other parts, and what ends the group
       more = record {
         parts = parts;
         legs = each.1;

@@ -1,4 +1,6 @@
--- The first characters of an event's text.
+-- The first characters of an event's text, by which it is told. For `front_event` of
+-- `src/events.rt`. 83, 65, 78 and 80 are the letters `S`, `A`, `N` and `P`; a byte's text begins
+-- with a digit, which is none of them.
 use Rattle.std.proofs.Common.{◌≡◌, ◌≢◌, ℕ, ◌/◌, ◌<◌, ◌≤◌, List, [], ◌∷◌, ◌++◌, length, get_or, refl, sym, ap, arith}
 use Rattle.hex.specs.Hex.{encode_with}
 use Rattle.pmb_bus.specs.declared.event.Event.{Event}
@@ -70,6 +72,7 @@ is_no_stop Stop inside is = inside
 -- a byte, by its digits
 pub record IsByteThere (event : Event) (text : List ℕ) : Type 0 where
   pub byte : ℕ
+  -- the event, and its three characters at the front of the text
   pub is : event ≡ Byte byte
   pub small : byte < 256
   pub three : 3 ≤ length text

@@ -1,4 +1,7 @@
--- How many events and bytes legs have, and that their bytes are below 256.
+-- How many events and bytes legs have, and that their bytes are below 256. For
+-- `CanonicalReader::take`, `keep_write`, `keep_both` and the other functions that keep a packet, by
+-- PacketLegs, Groups and RefusedLegs. A byte is two events; data have at most 256 bytes, a leg at
+-- most 258 after its address byte.
 use Rattle.std.proofs.Common.{◌≡◌, ℕ, ◌+◌, ◌*◌, ◌≤◌, Bool, true, false, List, [], ◌∷◌, ◌++◌, length, refl, ap, arith}
 use Rattle.std.proofs.Common.{length-append}
 use Rattle.pmb_bus.specs.declared.event.Event.{Event}

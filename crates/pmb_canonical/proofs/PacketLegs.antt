@@ -1,4 +1,7 @@
--- The legs of canonical packets, and the packets of such legs.
+-- From the legs at the front of a text to the packet, and back: what bytes say is a packet's
+-- events, and each packet has legs that say it. For `CanonicalReader::take`, `keep_write`,
+-- `keep_both` and `keep_unread`. One lemma a sort of packet in each direction; the way back shows
+-- that no packet in canonical text is left out.
 use Rattle.std.proofs.Common.{◌≡◌, ℕ, ◌+◌, ◌*◌, ◌%◌, ◌≤◌, ◌<◌, inl, inr, Bool, true, false, List, [], ◌∷◌, ◌++◌, length}
 use Rattle.std.proofs.Common.{nat_eq, refl, sym, ap, subst, ◌∙◌, arith, append_assoc, length-append}
 use Rattle.std.proofs.lemmas.List.{append-nil}
@@ -49,6 +52,7 @@ pub takes_write : (profile : List DeviceParts) (text rest : List ℕ) (address c
     (record { addr = address; code = code; bytes = data_bytes; pec = with_pec } ∷ []))
 takes_write profile text rest address code data_bytes with_pec bytes used count says split long many = record {
   events = leg bytes ++ Stop ∷ [];
+  -- one part, whose leg is the packet's only one
   packet = record {
     some = omega arith;
     few = omega arith;
@@ -72,6 +76,7 @@ takes_write profile text rest address code data_bytes with_pec bytes used count 
   };
   rest = rest;
   split = split;
+  -- four characters for START and STOP, five a byte; two events a byte
   bytes = long ∙ sym (length-written_text bytes);
   all = omega (arith, many, length-append (acked bytes) (Stop ∷ []), length-acked bytes);
 }
@@ -150,11 +155,13 @@ pub takes_call : (profile : List DeviceParts) (text rest : List ℕ) (address co
 takes_call profile text rest address code sent data_bytes with_pec bytes written used count says some split used_bytes
     many =
     let t : CallData = record { addr = address; code = code; bytes = sent; reply = data_bytes; pec = with_pec } in
+    -- the bytes of the first leg, and those after the second address byte
     let front = write_address address ∷ code ∷ wire says.form sent in
     let reply = checked with_pec (front ++ read_address address ∷ []) (wire says.form data_bytes) in
     let long : written ≡ length front = omega (arith, says.first) in
     let some_reply : 1 ≤ length reply = omega
     (arith, long, some, ap length says.spelled, length-append front (read_address address ∷ reply)) in
+    -- so both legs are those of the call
     takes_both profile text rest (Call t) front (read_address address ∷ reply) bytes written used count
     (record {
       device = says.device;
@@ -220,9 +227,11 @@ takes_unread profile text rest address sent bytes written used count says split 
 
 -- The legs that stand at the front of a text, and what they say.
 pub record PacketLegs (profile : List DeviceParts) (text : List ℕ) : Type 0 where
+  -- which legs there are, their bytes, and the text after them
   pub legs : PacketShape
   pub all : List ℕ
   pub rest : List ℕ
+  -- their bytes are such legs, they say a packet, and the text begins with them
   pub are : IsOfLegs legs all
   pub follows : Follows legs rest
   pub say : SayLegs profile text legs all
@@ -284,6 +293,7 @@ begins_refused profile (part ∷ parts) legs address sent others each =
 
 module _ (profile : List DeviceParts) (bus : IsBus profile)
     (are_bytes : (t : TransactionData) (events : List Event) → Packet profile t events → AreBytes events)
+    -- 257: a body's front; 258: a body. What bodies_are_short of pmb_transaction says
     (few_inside : (device : DeviceParts) (parts : List PartData) (front : List ℕ) → IsInsideBody device parts front
     → length front ≤ 257)
     (few_asked : (device : DeviceParts) (parts : List PartData) (body : List ℕ) → Allowed device parts body
@@ -293,6 +303,7 @@ module _ (profile : List DeviceParts) (bus : IsBus profile)
       → text ≡ canonical_text events ++ rest
       → PacketLegs profile text
   write_legs part events rest packet split =
+      -- the part's leg is the only one, and its bytes are below 256
       let here = packet.each.3 in
       let all = write_address part.addr ∷ here.body in
       let first : packet.legs ≡ leg all =
@@ -329,10 +340,12 @@ module _ (profile : List DeviceParts) (bus : IsBus profile)
       → MoreParts profile (part.addr ∷ []) (canonical_text behind ++ rest)
       → text ≡ canonical_text (leg (write_address part.addr ∷ here.body) ++ behind) ++ rest → PacketLegs profile text
   first_leg part own here behind rest small begins more split =
+      -- the first leg's bytes, and the address byte that follows its START
       let all = write_address part.addr ∷ here.body in
       let begun = write_address begins.0 in
       let small_behind : AreBytes (Start ∷ Byte begun ∷ begins.1) =
       subst AreBytes begins.2 (behind_acked all behind small) in
+      -- the text is the first leg's, then that of the others
       let split_first : text ≡ canonical_text (leg all) ++ (canonical_text behind ++ rest) =
       split
       ∙ ap (λ (l : List ℕ). l ++ rest) (text-append (leg all) behind)
@@ -348,6 +361,7 @@ module _ (profile : List DeviceParts) (bus : IsBus profile)
               few_in_leg profile part here;
           reads = tt;
         };
+        -- an even address byte follows, so the leg is the first of a group
         follows = record {
           byte = begun;
           small = small_behind.0;
@@ -380,11 +394,13 @@ module _ (profile : List DeviceParts) (bus : IsBus profile)
       let later = packet.each.1 in
       let all = write_address part.addr ∷ here.body in
       let behind = later ++ Stop ∷ [] in
+      -- the first part's leg, the others after it, and STOP
       let first : packet.legs ≡ leg all ++ later = packet.each.2 ∙ ap (λ (l : List Event). l ++ later) here.spelled in
       let spelled : events ≡ leg all ++ behind =
       packet.spelled ∙ ap (λ (l : List Event). l ++ Stop ∷ []) first ∙ append_assoc (leg all) later (Stop ∷ []) in
       let small : AreBytes (leg all ++ behind) =
       subst AreBytes spelled (are_bytes (Write (part ∷ next ∷ more)) events packet) in
+      -- so the others follow as those of a group
       first_leg part packet.each.0 here behind rest small
       (begins_part profile next more later (Stop ∷ []) packet.each.4)
       (record {
@@ -431,9 +447,11 @@ module _ (profile : List DeviceParts) (bus : IsBus profile)
       → text ≡ canonical_text events ++ rest
       → PacketLegs profile text
   read_legs t events rest packet split =
+      -- the bytes of both legs
       let front = write_address t.addr ∷ t.code ∷ [] in
       let before = front ++ read_address t.addr ∷ [] in
       let reply = checked t.pec before (wire packet.form t.reply) in
+      -- the reply has a byte, by the profile's rules for what is read
       let on_wire : 1 ≤ length (wire packet.form t.reply) =
       some_on_wire packet.form t.reply packet.fits
       (read_has_data profile t.addr t.code packet.device packet.form bus packet.known packet.read) in
@@ -442,6 +460,7 @@ module _ (profile : List DeviceParts) (bus : IsBus profile)
       (packet.spelled ∙ sym (both_read front (read_address t.addr) reply some))
       (omega (arith, few_checked t.pec before (wire packet.form t.reply), few_on_wire packet.form t.reply packet.fits))
       (omega arith)
+      -- and the legs say this read
       (inr (
         omega (arith, some),
         inl (
@@ -468,9 +487,11 @@ module _ (profile : List DeviceParts) (bus : IsBus profile)
       → text ≡ canonical_text events ++ rest
       → PacketLegs profile text
   call_legs t events rest packet split =
+      -- the bytes of both legs
       let front = write_address t.addr ∷ t.code ∷ wire packet.form t.bytes in
       let before = front ++ read_address t.addr ∷ [] in
       let reply = checked t.pec before (wire packet.form t.reply) in
+      -- both the data sent and the reply have a byte
       let not_zero : packet.form ≡ Zero → ⊥ = call_has_data profile t.addr t.code packet.device packet.form bus
       packet.known packet.called in
       let sent_on_wire : 1 ≤ length (wire packet.form t.bytes) =
@@ -486,6 +507,7 @@ module _ (profile : List DeviceParts) (bus : IsBus profile)
         few_on_wire packet.form t.bytes packet.sent,
       ))
       (omega arith)
+      -- and the legs say this call
       (inr (
         omega (arith, some, length-append front (read_address t.addr ∷ reply)),
         inr (
@@ -534,12 +556,14 @@ module _ (profile : List DeviceParts) (bus : IsBus profile)
       → packet.last ≡ nacked_leg (write_address address ∷ sent) → length sent ≤ 515
       → SaysNacked profile parts (write_address address ∷ sent)
       → text ≡ canonical_text events ++ rest → PacketLegs profile text
+  -- no parts: the refused leg is alone
   refused_legs [] address sent events rest packet spelled few says split =
       nacked_legs (Refused (record { parts = []; addr = address; sent = sent; at_read = false })) events rest
       (write_address address ∷ sent) packet
       (packet.spelled ∙ ap (λ (l : List Event). l ++ packet.last ++ Stop ∷ []) packet.each
       ∙ ap (λ (l : List Event). l ++ Stop ∷ []) spelled)
       (omega arith) (omega (arith, few)) (inl says) split
+  -- after parts: they are a group, which the refused leg ends
   refused_legs (part ∷ parts) address sent events rest packet spelled few says split =
       let here = packet.each.3 in
       let later = packet.each.1 in
@@ -547,6 +571,7 @@ module _ (profile : List DeviceParts) (bus : IsBus profile)
       let last = nacked_leg (write_address address ∷ sent) ++ Stop ∷ [] in
       let behind = later ++ last in
       let first : packet.legs ≡ leg all ++ later = packet.each.2 ∙ ap (λ (l : List Event). l ++ later) here.spelled in
+      -- the first part's leg, the others, and the refused one
       let whole : events ≡ leg all ++ behind =
       packet.spelled
       ∙ ap (λ (l : List Event). l ++ packet.last ++ Stop ∷ []) first
@@ -567,6 +592,7 @@ module _ (profile : List DeviceParts) (bus : IsBus profile)
         few = omega (arith, packet.few);
         small = bytes_before later last small_behind;
         last = last;
+        -- the refused leg ends the group
         ends = inr (record {
           parts = part ∷ parts;
           same = refl;
@@ -605,6 +631,7 @@ module _ (profile : List DeviceParts) (bus : IsBus profile)
       → PacketLegs profile text
   byte_legs parts address first more events rest packet split =
       let here = packet.refused in
+      -- at most 257 bytes begin a body, and one more is refused
       let few : length (first ∷ more) ≤ 258 =
       omega (
         arith,
@@ -612,6 +639,7 @@ module _ (profile : List DeviceParts) (bus : IsBus profile)
         length-append here.front (here.last ∷ []),
         few_inside here.device parts here.front here.begins,
       ) in
+      -- so this leg is refused after the parts
       refused_legs parts address (first ∷ more) events rest packet here.spelled (omega (arith, few))
       (record {
         address = address;
@@ -651,6 +679,7 @@ module _ (profile : List DeviceParts) (bus : IsBus profile)
       → PacketLegs profile text
   unread_legs address sent events rest last packet here spelled split =
       let front = write_address address ∷ sent in
+      -- a body that asks has at most 258 bytes
       let few : length sent ≤ 258 = few_asked here.device [] sent (inr here.body) in
       both_legs (Refused (record { parts = []; addr = address; sent = sent; at_read = true })) events rest front
       (read_address address) [] packet

@@ -1,4 +1,6 @@
--- PacketShape in which something is refused.
+-- A leg in which a device refused something, after parts of a group or without any: what its bytes
+-- say, and its packet. For `keep_refused`, `keep_nacked` and `take_group`. What is refused is the
+-- address byte, or a byte where a body goes on; the parts before matter by their addresses alone.
 use Rattle.std.proofs.Common.{◌≡◌, ◌+◌, ◌*◌, ◌<◌, ℕ, Bool, true, false, inl, inr, List, [], ◌∷◌, ◌++◌, length, nat_eq}
 use Rattle.std.proofs.Common.{refl, sym, ap, subst, ◌∙◌, arith, append_assoc, length-append}
 use Rattle.std.specs.List.{list_any}
@@ -147,14 +149,17 @@ pub takes_refused : (profile : List DeviceParts) (text : List ℕ) (parts : List
     → behind ≡ canonical_text (nacked_leg bytes ++ Stop ∷ []) ++ rest
     → used + length rest ≡ length text → count ≡ before + 1 + 2 * length bytes → TakesPacket profile text used count t
 takes_refused profile text parts before behind bytes rest t used count taken of_leg ends long many =
+    -- the events are those of the parts, of this leg, and STOP
     let last = nacked_leg bytes in
     let events = taken.legs ++ last ++ Stop ∷ [] in
+    -- and so is the text
     let split : text ≡ canonical_text events ++ rest =
     taken.split
     ∙ ap (λ (l : List ℕ). canonical_text taken.legs ++ l) ends
     ∙ sym (append_assoc (canonical_text taken.legs) (canonical_text (last ++ Stop ∷ [])) rest)
     ∙ ap (λ (l : List ℕ). l ++ rest) (sym (text-append taken.legs (last ++ Stop ∷ [])))
     ∙ ap (λ (l : List Event). canonical_text l ++ rest) (sym (append_assoc taken.legs last (Stop ∷ []))) in
+    -- so they are a refused packet
     subst (TakesPacket profile text used count) (sym of_leg.is)
     (record {
       events = events;

@@ -1,4 +1,6 @@
--- PacketShape at the front of a text, by what was taken of it.
+-- The legs at the front of a text, by what was taken of it: one written leg, the first of a group,
+-- a leg whose last byte has NACK, or two. For `front_legs` of `src/legs.rt`. The text is START, the
+-- bytes that were taken with their ACKs, and what comes after them.
 use Rattle.std.proofs.Common.{◌≡◌, ℕ, ◌+◌, ◌≤◌, Option, Some, None, List, [], ◌∷◌, ◌++◌, length, sym, ap, subst, ◌∙◌}
 use Rattle.std.proofs.Common.{arith, append_assoc, length-append}
 use Rattle.std.specs.Prelude.{IfSome}

@@ -1,4 +1,7 @@
--- The canonical text of acknowledged bytes, and where it ends.
+-- The canonical text of bytes with their ACKs: end to end, how long, and where it ends. For
+-- `front_legs`, `take_second` and `take_group`, and for most files here. After STOP, START or a
+-- byte with NACK no byte with its ACK stands in front, so two lists of such bytes in one text are
+-- one, or one begins the other.
 use Rattle.std.proofs.Common.{◌≡◌, ◌<◌, ℕ, ◌*◌, ◌/◌, ◌%◌, List, [], ◌∷◌, ◌++◌, length, refl, sym, ap, ◌∙◌, arith}
 use Rattle.std.proofs.lemmas.Grind.{flat_map-append}
 use Rattle.hex.specs.Hex.{encode_with}
@@ -88,6 +91,7 @@ first_of_nacked (x ∷ front) last byte bytes rest same =
 
 -- what one of two lists of acknowledged bytes goes on with, where the texts are the same
 pub record GoesOn (taken : List ℕ) (all : List ℕ) (behind : List ℕ) (rest : List ℕ) : Type 0 where
+  -- the bytes that one list has more, which follow in the text
   pub left : List ℕ
   pub whole : all ≡ taken ++ left
   pub text : behind ≡ acked_text left ++ rest

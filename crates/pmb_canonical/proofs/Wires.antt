@@ -1,4 +1,7 @@
--- Data in a form before bytes, and the packet error code after them.
+-- The data of a form at the front of bytes, and the packet error code after them. For `whole_data`
+-- and `data_from` of `src/checked.rt`, and `are_data`, `go_on` and `keep_refused`. The form, or the
+-- count of a block, says how many bytes they are (`wire_length`), so bytes of that number are data,
+-- and what is after them is the code or nothing.
 use Rattle.std.proofs.Common.{◌≡◌, ℕ, ◌+◌, ◌<◌, ◌≤◌, zero, suc, Bool, true, false, List, [], ◌∷◌, ◌++◌, length, get_or}
 use Rattle.std.proofs.Common.{take, drop, refl, sym, ap, ◌∙◌, arith, length-append}
 use Rattle.std.proofs.lemmas.List.{append-nil, length-take-le, take-append-drop}
@@ -46,6 +49,7 @@ block_within count bytes byte small there =
 
 pub within : (form : Form) (bytes : List ℕ) → AreByteValues bytes → wire_length form bytes ≤ length bytes
     → Within form bytes
+-- as many bytes as the form has
 within Zero bytes small there = record {
   data_bytes = take 0 bytes;
   fits =
@@ -76,6 +80,7 @@ within Eight bytes small there = record {
       record { small = small-take 8 bytes small; taken = length-take-le 8 bytes there };
   spelled = refl;
 }
+-- a block has at least its count
 within Block [] small there = absurd (omega (arith, there))
 within Block (count ∷ bytes) small there = block_within count bytes small.0 small.1 (omega (arith, there))
 

@@ -1,4 +1,6 @@
 //! What is said at the Alert Response Address.
+//!
+//! Its rows: `tests_reader`, `src/canonical/rows.rt` and `compared.rt`.
 
 ghost use Rattle.std.specs.Prelude.{◌≡◌, true};
 ghost use Rattle.pmb_transaction.specs.Transaction.{TransactionData};

@@ -3,6 +3,8 @@
 //! The bytes of a packet are collected in `bytes`, which no contract speaks of: a try that fails
 //! leaves them after, and nothing is read from them. The parts of a group are kept one by one, so
 //! such a try can leave some of them kept too.
+//!
+//! Its rows: `tests_reader`, `src/canonical/rows.rt` and `compared.rt`; `tests/rows/captures.txt`.
 
 ghost use Rattle.std.specs.Prelude.{◌≡◌, ◌<◌, ◌≤◌, ◌+◌, ◌*◌, ◌++◌, List, ℕ, IsSome, IfSome, length};
 ghost use Rattle.pmb_bus.specs.Event.{canonical_text};

@@ -1,4 +1,6 @@
 //! Data in a form, and the packet error code after them.
+//!
+//! Its rows: `tests_reader`, `src/canonical/rows.rt` and `compared.rt`.
 
 ghost use Rattle.std.specs.Prelude.{◌≡◌, ◌≤◌, Bool, IfSome, IsSome, List, Some, ℕ, length, drop, take};
 ghost use Rattle.pmb_command.specs.PecMode.{AllowsPec};

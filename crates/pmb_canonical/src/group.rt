@@ -2,6 +2,8 @@
 //! refused may end the group.
 //!
 //! Each part is kept as soon as its leg is read, so that the bytes of one leg alone are collected.
+//!
+//! Its rows: `tests_reader`, `src/canonical/rows.rt` and `compared.rt`.
 
 ghost use Rattle.std.specs.Prelude.{◌≡◌, ◌<◌, ◌≤◌, ◌++◌, ◌∷◌, [], IfSome, IsSome, length, true};
 ghost use Rattle.pmb_command.specs.Parts.{IsNew};

@@ -1,4 +1,6 @@
 //! The laws of canonical packets: each function is its contract, and does nothing.
+//!
+//! Its rows: `tests_reader`, `src/canonical/example.rt`.
 
 ghost use Rattle.std.specs.Prelude.{◌≡◌, ◌∷◌, [], List, ℕ, take};
 ghost use Rattle.pmb_bus.specs.Event.{canonical_text};

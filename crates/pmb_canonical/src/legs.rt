@@ -1,4 +1,6 @@
 //! The legs of a packet at the front of a text.
+//!
+//! Its rows: `tests_reader`, `src/canonical/rows.rt` and `compared.rt`.
 
 ghost use Rattle.std.specs.Prelude.{◌≡◌, ◌≤◌, List, ℕ, Some, [], ◌++◌, IfSome, length};
 ghost use Rattle.pmb_bus.specs.Event.{canonical_text};

@@ -1,4 +1,6 @@
 //! A leg whose last byte has NACK, after the parts of a group or without any.
+//!
+//! Its rows: `tests_reader`, `src/canonical/rows.rt` and `compared.rt`.
 
 ghost use Rattle.std.specs.Prelude.{◌≡◌, true};
 ghost use Rattle.pmb_canonical.specs.Nacked.{IsOfNacked, SaysNacked};

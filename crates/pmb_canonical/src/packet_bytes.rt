@@ -2,6 +2,8 @@
 //!
 //! An `ArrayVec` clears each place that is no longer in use. Here they stay as they are: none is
 //! read before a byte is put there, and a packet pays for none that it doesn't use.
+//!
+//! Its rows: `tests_reader`, `src/canonical/rows.rt` and `compared.rt`.
 
 ghost use Rattle.std.specs.Prelude.{◌≡◌, ◌≤◌, ◌<◌, ◌+◌, ◌*◌, ◌++◌, ◌∷◌, [], false, length, nat_eq};
 ghost use Rattle.pmb_canonical.specs.Front.{NoneAcked, TakenFront};

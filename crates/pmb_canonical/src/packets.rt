@@ -2,6 +2,8 @@
 //! something is refused are in `refused`, and alerts are in `alerts`.
 //!
 //! A new kind of packet needs a function here.
+//!
+//! Its rows: `tests_reader`, `src/canonical/rows.rt` and `compared.rt`.
 
 ghost use Rattle.std.specs.Prelude.{◌≡◌, Bool, IfSome, IsSome, List, Some, ℕ, option_map};
 ghost use Rattle.pmb_bus.specs.Address.{write_address};

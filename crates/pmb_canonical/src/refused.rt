@@ -2,6 +2,8 @@
 //!
 //! A byte may be refused wherever one may come: after the address, and inside a body that is allowed
 //! there. Its value does not count.
+//!
+//! Its rows: `tests_reader`, `src/canonical/rows.rt` and `compared.rt`.
 
 ghost use Rattle.std.specs.Prelude.{◌≡◌, ◌↔◌, ◌≤◌, ◌<◌, ◌+◌, [], ◌∷◌, IfSome, IsSome, IsTrue, List, ℕ, length};
 ghost use Rattle.pmb_bus.specs.Address.{write_address};

@@ -3,6 +3,8 @@
 //! Each word is taken with the one space that follows it. `DIGITS` is laid out 16 bytes a row, the
 //! high digit of the byte down and the low digit across; the proof of `digit_value` computes over
 //! the whole table that each entry is the value of its digit.
+//!
+//! Its rows: `tests_reader`, `src/canonical/rows.rt` and `compared.rt`.
 
 ghost use Rattle.std.specs.Prelude.{◌≡◌, ◌↔◌, ◌⊎◌, ◌≤◌, ◌<◌, List, [], ◌∷◌, ◌++◌, ◌%◌, ℕ, IfSome, IsSome, Some, drop, length, nat_eq, true};
 ghost use Rattle.pmb_bus.specs.declared.event.Event.{Event as BusEvent};

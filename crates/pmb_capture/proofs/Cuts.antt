@@ -1,4 +1,6 @@
--- The counts of a capture that is cut after a STOP.
+-- The counts of a capture that is cut after a STOP add up to those of the whole. For the law
+-- `counts_add_up`. The readings of both pieces make that of the whole (a law of `pmb_transaction`);
+-- moving an outcome keeps its kind, and no outcome of the first piece is an end inside a packet.
 use Rattle.std.proofs.Common.{◌≡◌, ℕ, ◌+◌, List, [], ◌∷◌, ◌++◌, length, Bool, true, false, not, inl, inr, refl, sym}
 use Rattle.std.proofs.Common.{◌∙◌, ap, subst, arith}
 use Rattle.std.specs.List.{All}
@@ -189,14 +191,17 @@ module _ (output : OutputText) (profile : List DeviceParts)
       → WritesUpToBadWord output profile back b t → WritesSum (front ++ back) s t
   both_to_bad_word front back a b s t cut x y =
       let n = length cut.events in
+      -- the first piece spells the events of the cut, so these are read
       let same = one_spelling front x.events cut.events x.spells cut.spells in
       let reads = subst (λ (es : List Event). Reading profile es x.outcomes) same x.reads in
       let outcomes = x.outcomes ++ moved n y.outcomes in
+      -- nothing of the first piece is left out, and what is counted of both adds up
       let left = but_of_both n x.outcomes y.outcomes (whole cut.events x.outcomes cut.stop reads) in
       let packets = ap packets_in left ∙ packets_of_both n x.outcomes (but_truncation y.outcomes) in
       let refusals : refusals_in (but_truncation outcomes) + 1
       ≡ refusals_in x.outcomes + (refusals_in (but_truncation y.outcomes) + 1) =
       omega (arith, ap refusals_in left ∙ refusals_of_both n x.outcomes (but_truncation y.outcomes)) in
+      -- the bad word stands in the second piece, further on by the first
       let place = length front + y.place in (
         outcomes_text output (but_truncation outcomes) ++ (bad_token_line (capped place) ++ output.at_end (sum_of s t)),
         inr

@@ -1,4 +1,7 @@
--- What is written where a text ends, or a word of it is no token.
+-- What is written where a capture's text ends, or a word of it is no token: the refusal of an end
+-- inside a packet, the line of the bad word, and the tally. For `Capture::end_events` and
+-- `stop_at`, `CaptureEngine::take` and `end`, and `fronts_are_written`. What came so far is
+-- written; the last span or the bad word is added.
 use Rattle.std.proofs.Common.{◌≡◌, ℕ, ◌+◌, Option, Some, None, Result, OnOk, List, [], ◌∷◌, ◌++◌, length, map}
 use Rattle.std.proofs.Common.{append-nil, ◌⊎◌, inl, inr, sym, ◌∙◌, ap, subst, refl, append_assoc, arith}
 use Rattle.std.proofs.lemmas.List.{map-append}
@@ -70,9 +73,11 @@ module _ {O : Type 0} (TextOf : O → OutputText) (StandsBehind : O → List Tra
       → WritesUpToBadWord (TextOf start.output) profile bytes (text ++ fault_text (TextOf start.output) after fault)
       after
   writes_bad start now reached last profile after text bytes (BadToken at) under end stands bad fault_is refused =
+      -- all outcomes, of which the end inside a packet isn't written
       let output = TextOf start.output in
       let outcomes = map outcome (reached.spans ++ last) in
       let left = all_but_the_end reached last end in
+      -- the place of the fault is that of the bad word, which goes to the end from both
       let at_is : at ≡ capped bad.0 = fault_is.2 ∙ ap capped (same_place fault_is.0 bad.0 _ _ fault_is.1 bad.1) in
       record {
         events = reached.events;
@@ -84,6 +89,7 @@ module _ {O : Type 0} (TextOf : O → OutputText) (StandsBehind : O → List Tra
             (stands.lines ∙ ap (outcomes_text output) (sym left))
             ∙ ap (λ (k : ℕ). outcomes_text output (but_truncation outcomes)
             ++ (bad_token_line k ++ output.at_end after)) at_is;
+        -- the bad word counts as one more refusal
         counts = rw left (refusal_counted now.tally after (packets_in (map outcome reached.spans))
             (refusals_in (map outcome reached.spans)) refused stands.counts);
       }
@@ -226,6 +232,7 @@ module _ {O : Type 0} (TextOf : O → OutputText) (StandsBehind : O → List Tra
       → Spans written.reached.profile events (written.reached.spans ++ others)
       → WritesFront (TextOf start.account.output) (capture_profile start) bytes text
   whole_front start now bytes text events last others written end spells spans =
+      -- what was written, and what the other spans would add
       let reached = written.reached in
       let output = TextOf start.account.output in
       let before = map outcome reached.spans in
@@ -242,6 +249,7 @@ module _ {O : Type 0} (TextOf : O → OutputText) (StandsBehind : O → List Tra
         spells = subst (λ (l : List ℕ). Spells l events) written.is_text spells;
         reads = subst (λ (p : List DeviceParts). Reading p events outcomes) written.profile
             (spans_read reached.profile (reached.spans ++ others) 0 events spans);
+        -- so the text goes on with these lines and the end's
         lines = sym (append_assoc text more_text end_text)
             ∙ ap (λ t. (t ++ more_text) ++ end_text) written.written.lines
             ∙ ap (λ t. t ++ end_text) (sym (text_append output [] before more)
@@ -255,6 +263,7 @@ module _ {O : Type 0} (TextOf : O → OutputText) (StandsBehind : O → List Tra
       → EndsWith written.reached last → FirstBadWord written.reached.text written.reached.events place
       → WritesFront (TextOf start.account.output) (capture_profile start) bytes text
   bad_front start now bytes text place last written end bad =
+      -- all outcomes but the end inside a packet, and one refusal more
       let reached = written.reached in
       let output = TextOf start.account.output in
       let outcomes = map outcome (reached.spans ++ last) in
@@ -272,6 +281,7 @@ module _ {O : Type 0} (TextOf : O → OutputText) (StandsBehind : O → List Tra
         bad = subst (λ (l : List ℕ). FirstBadWord l reached.events place) written.is_text bad;
         reads = subst (λ (p : List DeviceParts). Reading p reached.events outcomes) written.profile
             (reads_as reached last end);
+        -- so the text goes on with the bad word's line and the end's
         lines = ap (λ t. t ++ end_text) (written.written.lines
             ∙ ap (outcomes_text output) (sym (all_but_the_end reached last end)));
         counts = record { packets_counted = refl; refusals_counted = refl };

@@ -1,4 +1,6 @@
--- The outcomes that an account is told, one by one.
+-- The outcomes that an account is told, one by one: each is counted, and its line goes out. For
+-- `visit_packet`, `visit_refusal` and `visit_whole` of `src/account.rt`. Counts stay at the
+-- greatest u64, and the text of outcomes is that of those before and the new one's.
 use Rattle.std.proofs.Common.{◌≡◌, ℕ, ◌+◌, Option, List, [], ◌∷◌, ◌++◌, map, add-zero, sym, ◌∙◌, ap, subst, arith}
 use Rattle.std.proofs.lemmas.List.{map-append}
 use Rattle.pmb_io.specs.declared.tally.Tally.{Tally}

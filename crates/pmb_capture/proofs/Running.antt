@@ -1,4 +1,6 @@
--- What a run over a capture wrote, in the words of captures.
+-- What a run over a capture wrote, told as its command tells it. For `write_capture` of
+-- `src/commands/written.rt`. The loop over pieces has a job of its own, of the `Capture` it began
+-- with; where a fault ended it, the bytes so far begin a text.
 use Rattle.std.proofs.Common.{◌≡◌, ℕ, Ok, Err, List, sym, subst}
 use Rattle.pmb_bus.specs.Text.{BeginsText}
 use Rattle.pmb_command.specs.Parts.{DeviceParts}

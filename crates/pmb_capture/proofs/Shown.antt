@@ -1,4 +1,6 @@
--- What is written for bytes is one text and one tally.
+-- What is written for bytes is one text and one tally, and a capture without refusals is written as
+-- its packets with their notes. For the laws `one_showing`, `one_check` and `captures_are_shown`.
+-- Bytes spell one list of events or have one first bad word, and events have one reading.
 use Rattle.std.proofs.Common.{◌≡◌, ℕ, ◌+◌, List, [], ◌∷◌, ◌++◌, length, map, append-nil, inl, inr, refl, sym, ◌∙◌, ap}
 use Rattle.std.proofs.Common.{subst, arith}
 use Rattle.pmb_bus.specs.declared.event.Event.{Event}
@@ -45,6 +47,7 @@ module _ (output : OutputText) (profile : List DeviceParts) where
       → ((text : List ℕ) (a b : List Event) (i : ℕ) → Spells text a → FirstBadWord text b i → ⊥)
       → (bytes a b : List ℕ) (s t : Tally) → Writes output profile bytes a s → Writes output profile bytes b t
       → (a ≡ b) × (s ≡ t)
+  -- both spell events: the same ones, with the same outcomes
   one_text reading spelling bad_word no_bad bytes a b s t (inl x) (inl y) =
       let events = spelling bytes x.events y.events x.spells y.spells in
       let same = reading y.events x.outcomes y.outcomes
@@ -52,10 +55,12 @@ module _ (output : OutputText) (profile : List DeviceParts) where
       let tally = tally_same s t (packets_in x.outcomes) (refusals_in x.outcomes) x.counts
       (subst (λ l. IsTallyOf (packets_in l) (refusals_in l) t) (sym same) y.counts) in
       (same_text output a b _ _ s t x.lines y.lines (ap (outcomes_text output) same) tally, tally)
+  -- a text that spells events has no bad word
   one_text reading spelling bad_word no_bad bytes a b s t (inl x) (inr y) =
       absurd (no_bad bytes x.events y.events y.place x.spells y.bad)
   one_text reading spelling bad_word no_bad bytes a b s t (inr x) (inl y) =
       absurd (no_bad bytes y.events x.events x.place y.spells x.bad)
+  -- both have a bad word: the same one, after the same events
   one_text reading spelling bad_word no_bad bytes a b s t (inr x) (inr y) =
       let bad = bad_word bytes x.events y.events x.place y.place x.bad y.bad in
       let same = reading y.events x.outcomes y.outcomes

@@ -1,4 +1,6 @@
--- Something is written for any bytes: they spell events, or have a first word that is no token.
+-- Something is written for any bytes: they spell events, or have a first word that is no token. For
+-- the laws `some_showing` and `some_check`. Each list of events has a reading (a law of
+-- `pmb_transaction`), and its outcomes have lines.
 use Rattle.std.proofs.Common.{ℕ, ◌+◌, ◌⊎◌, inl, inr, List, ◌++◌, refl}
 use Rattle.pmb_bus.specs.declared.event.Event.{Event}
 use Rattle.pmb_bus.specs.Text.{FirstBadWord, Spells}

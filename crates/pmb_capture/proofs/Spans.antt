@@ -1,4 +1,6 @@
--- What spans read as, and which of them are ends inside a packet.
+-- What spans read as, and which of them are ends inside a packet. For Endings, and so for
+-- `Capture::end_events` and `fronts_are_written`. An event's reason is never that of an end, so
+-- exactly the spans that are not whole are left out of what is written before the end.
 use Rattle.std.proofs.Common.{◌≡◌, ℕ, ◌+◌, Some, None, false, List, [], ◌∷◌, ◌++◌, filter, length, map, append-nil, inl}
 use Rattle.std.proofs.Common.{inr, refl, sym, ◌∙◌, ap, subst}
 use Rattle.std.proofs.lemmas.List.Elements.{filter-append}

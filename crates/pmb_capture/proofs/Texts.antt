@@ -1,4 +1,7 @@
--- The text of outcomes and then others.
+-- The text of outcomes, and then of others; a line put together from its pieces. For
+-- `append_refusal` of `src/lines.rt` and `append_transaction` of `src/packet_lines.rt`. A line
+-- depends on the transactions before it alone, so the text of two lists is that of the first and
+-- then that of the second after it.
 use Rattle.std.proofs.Common.{◌≡◌, ℕ, ◌+◌, Bool, not, List, [], ◌∷◌, ◌++◌, count_by, codes, cond, sym, ap, ◌∙◌, refl}
 use Rattle.std.proofs.Common.{append_assoc, append-nil}
 use Rattle.std.proofs.lemmas.List.Elements.{filter-append}

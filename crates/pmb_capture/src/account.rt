@@ -1,4 +1,6 @@
 //! What comes of a capture, counted and written as it comes.
+//!
+//! Its rows: `tests/rows/captures.txt`; `tests_tasks`, `src/captures.rt`.
 
 ghost use Rattle.std.specs.Prelude.{◌≡◌, ◌++◌, [], ℕ, List, OnOk, map};
 ghost use Rattle.pmb_bus.specs.declared.lexer.LexFault.TheVariants.{BadToken};

@@ -1,5 +1,7 @@
 //! What is kept from one piece of a capture's text to the next: where the scan is, and the account of
 //! what came of it.
+//!
+//! Its rows: `tests/rows/captures.txt`; `tests_tasks`, `src/captures.rt`.
 
 ghost use Rattle.std.specs.Prelude.{◌≡◌, ℕ, ◌++◌, [], List, OnOk, map};
 ghost use Rattle.pmb_bus.specs.declared.lexer.LexFault.TheVariants.{BadToken};

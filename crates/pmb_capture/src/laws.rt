@@ -1,4 +1,6 @@
 //! Laws over the definitions alone.
+//!
+//! Its rows: `tests_tasks`, `src/captures.rt`, where laws are called.
 
 ghost use Rattle.std.specs.Prelude.{◌≡◌, ℕ, List, [], ◌∷◌, ◌++◌, length};
 ghost use Rattle.pmb_bus.specs.declared.event.Event.{Event};

@@ -1,4 +1,6 @@
 //! The lines of refusals, of words that are no token, and of a tally.
+//!
+//! Its rows: `tests/rows/captures.txt`.
 
 ghost use Rattle.std.specs.Prelude.{◌≡◌, ◌+◌, ◌≤◌, ℕ, List, Bool, bit_and, ◌==◌, [], ◌∷◌, ◌++◌, length, codes};
 ghost use Rattle.pmb_bus.specs.Kinds.{bits};

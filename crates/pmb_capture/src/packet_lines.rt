@@ -1,4 +1,6 @@
 //! A line with a note for each packet.
+//!
+//! Its rows: `tests/rows/captures.txt`.
 
 ghost use Rattle.std.specs.Prelude.{◌≡◌, ◌+◌, ◌≤◌, ◌++◌, ◌∷◌, [], List, length, OnOk};
 ghost use Rattle.pmb_io.specs.Calls.{WriterTells};

@@ -1,4 +1,6 @@
 //! No line for a packet, and one for the tally at the end.
+//!
+//! Its rows: `tests/rows/captures.txt`, by `check`.
 
 ghost use Rattle.pmb_capture.specs.Check.{checked_output};
 

@@ -1,4 +1,6 @@
--- Digits without the zeros at their end.
+-- Digits without the zeros at their end: a last 0 goes, another digit stays, and some digit stays
+-- of a number that isn't 0. For `append_digits` and `append_part` of `src/decimal.rt`. A writer
+-- divides by ten while the last digit is 0; 48 is the digit 0, 46 the point.
 use Rattle.std.proofs.Common.{◌≡◌, ◌≢◌, ℕ, zero, suc, ◌+◌, ◌-◌, ◌/◌, ◌%◌, ◌^◌, ◌<◌, ◌≤◌, cond, ◌==◌, eq-eqb, inl, inr}
 use Rattle.std.proofs.Common.{List, [], ◌∷◌, ◌++◌, length, refl, sym, ap, ◌∙◌, subst, arith}
 use Rattle.std.specs.Char.{digit_value}

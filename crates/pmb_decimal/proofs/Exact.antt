@@ -1,5 +1,7 @@
 -- Where a quantity has no more digits after the point than may be written, its nearest decimal is
--- its own text.
+-- its own text. For the law `exact_decimals_are_texts`. A denominator that divides a power of ten
+-- makes the units a whole number; the fewest such places leave a last digit that isn't 0, so the
+-- zeros that go are those of the places more.
 use Rattle.std.proofs.Common.{◌≡◌, ◌≢◌, ℕ, zero, suc, ◌+◌, ◌-◌, ◌*◌, ◌/◌, ◌%◌, ◌^◌, ◌<◌, ◌≤◌, Bool, true, false, inl}
 use Rattle.std.proofs.Common.{inr, Some, None, ◌++◌, ℤ, pos, negsuc, unsigned_abs, refl, sym, ap, ◌∙◌, subst, arith}
 use Rattle.std.specs.Fmt.{decimal}
@@ -49,6 +51,7 @@ first_of-first test from (suc count) found is =
 
 -- that many places write the fraction exactly, and one less doesn't
 record HasPlaces (d places : ℕ) : Type 0 where
+  -- the power of ten is a multiple of the denominator, and the power before it is none
   exact : 10 ^ places % d ≡ 0
   fewest : 0 < places → 10 ^ (places - 1) % d ≢ 0
 

@@ -1,4 +1,6 @@
--- Quotients rounded half to even.
+-- Quotients rounded half to even are within half of the divisor, and even at a tie. For `rounded`
+-- and `rounded_word` of `src/rounding.rt`. Three cases: what is left is less than half, more, or
+-- half.
 use Rattle.std.proofs.Common.{◌≡◌, ℕ, zero, suc, ◌+◌, ◌*◌, ◌/◌, ◌%◌, ◌^◌, ◌<◌, ◌≤◌, inl, inr, ap, arith}
 use Rattle.std.proofs.lemmas.Bool.{cases_lt, cases_eq}
 use Rattle.std.proofs.lemmas.Bool.Decides.{nat_tests}
@@ -22,6 +24,7 @@ half_even-tie n d tie =
 
 -- r times d is within half of d of n, and r is even where it is just half
 pub record IsNear (n d r : ℕ) : Type 0 where
+  -- in doubled numbers, so that half is a whole number
   pub from_below : n * 2 ≤ r * d * 2 + d
   pub from_above : r * d * 2 ≤ n * 2 + d
   pub even_below : n * 2 ≡ r * d * 2 + d → r % 2 ≡ 0

@@ -1,4 +1,6 @@
--- What is within half a unit is nearest.
+-- What is within half a unit of a quantity, and even at a tie, is nearest to it. For the law
+-- `decimals_are_nearest`. Another number of units lies a whole unit or more away, on either side,
+-- so it is no nearer; the rounding is within half a unit (HalfEven), whatever the sign.
 use Rattle.std.proofs.Common.{◌≡◌, ℕ, ◌+◌, ◌*◌, ◌%◌, ◌^◌, ◌<◌, ◌≤◌, ℤ, pos, negsuc, suc, neg_ℤ, ◌+ℤ◌, ◌-ℤ◌, ◌*ℤ◌, ◌≤ℤ◌}
 use Rattle.std.proofs.Common.{unsigned_abs, refl, sym, ap, ◌∙◌, subst, arith}
 use Rattle.std.proofs.lemmas.Int.{ints, by_lt_z}
@@ -11,6 +13,7 @@ use Rattle.pmb_decimal.proofs.Products.{apart}
 
 -- n units are within half a unit of a fraction, and n is even where they are just half a unit away
 pub record IsWithinHalf (digits : ℕ) (q : Fraction) (n : ℤ) : Type 0 where
+  -- at most half a unit away, and even where it is half
   pub half : distance digits q n * 2 ≤ q.denominator
   pub even : distance digits q n * 2 ≡ q.denominator → unsigned_abs n % 2 ≡ 0
 

@@ -1,4 +1,6 @@
--- What is written is a number of JSON.
+-- What is written is a number of JSON: a sign, a whole number, a fraction. For the law
+-- `decimals_are_numbers`, and `nearest_is_number` of `pmb_json_fields`. The whole part is 0 or
+-- begins above it (48 is the digit 0), and what is after the point are digits.
 use Rattle.std.proofs.Common.{◌≡◌, ℕ, ◌*◌, ◌/◌, ◌%◌, ◌^◌, ◌+◌, ◌<◌, inl, inr, List, [], ◌∷◌, ◌++◌, get_or, ℤ, pos}
 use Rattle.std.proofs.Common.{negsuc, unsigned_abs, refl, sym, ap, ◌∙◌, subst, arith}
 use Rattle.std.specs.Fmt.{decimal}

@@ -1,4 +1,6 @@
--- Only one decimal is nearest.
+-- Only one decimal is nearest. For the law `one_decimal_is_nearest`. Two that are nearest are
+-- equally near, so both are even (a tie goes to the even one); but between two even numbers is a
+-- third, which is nearer than both.
 use Rattle.std.proofs.Common.{◌≡◌, ℕ, ◌%◌, ◌^◌, ◌<◌, ℤ, pos, ◌+ℤ◌, ◌-ℤ◌, ◌*ℤ◌, ◌<ℤ◌, unsigned_abs, sym, arith}
 use Rattle.std.proofs.lemmas.Int.{ints, by_lt_z}
 use Rattle.pmb_quantity.specs.Fraction.{Fraction}

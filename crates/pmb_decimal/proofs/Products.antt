@@ -1,4 +1,6 @@
--- Whole numbers times a natural number.
+-- Whole numbers times a natural number: products of two numbers are at least the factor apart, and
+-- even numbers are not neighbours. For the laws `decimals_are_nearest` and
+-- `one_decimal_is_nearest`, by Nearest and OneNearest.
 use Rattle.std.proofs.Common.{◌≡◌, ℕ, suc, ◌*◌, ◌%◌, ◌≤◌, ℤ, pos, negsuc, ◌+ℤ◌, ◌*ℤ◌, ◌<ℤ◌, ◌≤ℤ◌, unsigned_abs, arith}
 use Rattle.std.proofs.lemmas.Int.{ints}
 use Rattle.std.proofs.lemmas.Nat.{mul-le}

@@ -1,4 +1,6 @@
--- A decimal reads back as its number of units.
+-- A decimal reads back as its number of units. For the law `decimals_read_back`. The fraction of
+-- those units is at no distance from them, so they are nearest; its denominator divides the power
+-- of ten, so that many digits write it.
 use Rattle.std.proofs.Common.{◌≡◌, ◌≢◌, ℕ, zero, suc, ◌+◌, ◌-◌, ◌%◌, ◌^◌, ◌<◌, ◌≤◌, Bool, true, eq-eqb, inl, inr, Some}
 use Rattle.std.proofs.Common.{Ok, ℤ, pos, ◌-ℤ◌, ◌*ℤ◌, unsigned_abs, sym, ap, ◌∙◌, subst, arith}
 use Rattle.std.specs.Int.{◌∣◌}

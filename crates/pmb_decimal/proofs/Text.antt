@@ -1,4 +1,6 @@
--- The text of a rounded fraction.
+-- The text of a rounded fraction: the sign where it is negative and not rounded to 0 (45 is the
+-- minus), the whole part, and the digits after the point. For `append_decimal` and `append_units`
+-- of `src/decimal.rt`. By the definition of the text, with the units cut at a power of ten.
 use Rattle.std.proofs.Common.{◌≡◌, ℕ, zero, suc, ◌*◌, ◌/◌, ◌%◌, ◌^◌, ◌<◌, ◌≤◌, [], ◌∷◌, ◌++◌, ℤ, pos, negsuc, ◌<ℤ◌}
 use Rattle.std.proofs.Common.{◌≤ℤ◌, unsigned_abs, refl, ap, ◌∙◌, arith}
 use Rattle.std.proofs.lemmas.Int.{ints}

@@ -1,4 +1,6 @@
 //! The text of a decimal.
+//!
+//! Its rows: `tests_numbers`, `src/decimals/rows.rt` and `compared.rt`.
 ghost use Rattle.std.specs.Prelude.{◌≡◌, ◌+◌, ◌*◌, ◌/◌, ◌%◌, ◌^◌, ◌<◌, ◌≤◌, ◌++◌, length};
 ghost use Rattle.std.specs.Fmt.{decimal};
 ghost use Rattle.pmb_quantity.specs.QuantityText.{minus, padded};

@@ -1,4 +1,6 @@
 //! The number of digits after the point.
+//!
+//! Its rows: `tests_numbers`, `src/decimals/rows.rt` and `compared.rt`.
 ghost use Rattle.std.specs.Prelude.{◌≡◌, ◌≤◌, ◌<◌};
 
 use std::marker::Model;

@@ -1,5 +1,7 @@
 //! Laws over the definitions that the contracts cite: each is the contract of a function that does
 //! nothing.
+//!
+//! Its rows: `tests_numbers`, `src/decimals/example.rt`, where each law is called.
 ghost use Rattle.std.specs.Prelude.{ℕ, ℤ, ◌<◌, ◌≤◌};
 ghost use Rattle.pmb_quantity.specs.Fraction.{Fraction, IsQuantity};
 ghost use Rattle.pmb_decimal.specs.Laws.{HasOneNearest, ReadsBack, WritesExactText, WritesJsonNumber, WritesNearest};

@@ -1,4 +1,6 @@
 //! The number of units of the last digit that is nearest to a quantity.
+//!
+//! Its rows: `tests_numbers`, `src/decimals/rows.rt` and `compared.rt`.
 ghost use Rattle.std.specs.Prelude.{◌≡◌, ◌*◌, ◌^◌, ◌<◌, ◌≤◌};
 ghost use Rattle.pmb_decimal.specs.Decimal.{half_even};
 

@@ -1,4 +1,7 @@
--- The line of a text's first bad word, and that word with all that follows.
+-- The line of a text's first bad word (a word that is no token), and that word in the text with all
+-- that follows. For the laws `one_json`, `one_json_so_far` and `some_json`. A line ends at an LF or
+-- at the end, so a text has one line at its front, and the word in it is the same whatever comes
+-- after the line.
 use Rattle.std.proofs.Common.{◌≡◌, ℕ, List, [], ◌∷◌, ◌++◌, length, sym, ◌∙◌, ap, subst, append_assoc, refl}
 use Rattle.pmb_bus.specs.declared.event.Event.{Event}
 use Rattle.pmb_bus.specs.Event.{event_of}

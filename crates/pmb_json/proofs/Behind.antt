@@ -1,4 +1,7 @@
--- The word under way after bytes that end between words.
+-- The word under way at the end of a text, where other bytes stand before it that end between
+-- words. For the law `bad_words_stand_there`: after what was read, a bad word is found as in the
+-- text alone. Whether a comment is open is told by the bytes from left to right, and where a text
+-- ends between words none is.
 use Rattle.std.proofs.Common.{◌≡◌, ℕ, Bool, true, false, inl, inr, List, [], ◌∷◌, ◌++◌, refl, sym, ap, subst, ◌∙◌}
 use Rattle.std.proofs.Common.{append_assoc, append-nil}
 use Rattle.std.proofs.lemmas.Bool.{cases_Bool}

@@ -1,4 +1,8 @@
--- The objects of a piece of a capture beside those of the whole.
+-- The objects of a piece of a capture beside those of the whole: the whole has as many, and each
+-- says no less. For the law `texts_of_pieces_say_no_more`. First after any point of the piece
+-- (`onwards`), then for a piece that begins after a cut (`cut`). Events of the piece are counted
+-- from the cut, so its spans are moved; what transactions before the cut tell is known in the whole
+-- alone.
 use Rattle.std.proofs.Common.{◌≡◌, ℕ, ◌+◌, Bool, true, cond, List, [], ◌∷◌, ◌++◌, codes, filter, length, take, refl}
 use Rattle.std.proofs.Common.{sym, ◌∙◌, ap, subst, append_assoc, length-append, arith}
 use Rattle.std.specs.List.{All}
@@ -70,7 +74,9 @@ module _ (places : ℕ) (profile : List DeviceParts) (devices : List ℕ) (late 
   -- where the piece stands and where the whole does, with m events and some transactions before the
   -- piece
   record Beside (b w : Before) : Type 0 where
+    -- events are counted from the cut in the piece, from the front in the whole
     n : w.n ≡ m + b.n
+    -- the whole has the transactions before the cut too
     ts : w.ts ≡ before ++ b.ts
 
   agree_there : (b w : Before) → Beside b w → (ts : List TransactionData)
@@ -105,6 +111,7 @@ module _ (places : ℕ) (profile : List DeviceParts) (devices : List ℕ) (late 
   -- .. and after a bad line
   record OthersBehind (after : AfterBadToken) (w : Before) (line : BadLine) (rest : List ℕ)
       (objects : List Object) : Type 0 where
+    -- the other bad lines of the whole, its other objects and its counts
     more : List BadLine
     others : List Object
     counts : CountsData
@@ -119,6 +126,7 @@ module _ (places : ℕ) (profile : List DeviceParts) (devices : List ℕ) (late 
       → GoesOn after rest (λ bytes. ObjectsFrom piece profile after (behind_line b x) bytes more objects c)
       ((more ≡ []) × (objects ≡ []) × (c ≡ (behind_line b x).counts))
       → OthersBehind after w y rest objects
+  -- reading ends at the bad line, in both
   others_behind End b w x y rest more objects c later goes = record {
     more = [];
     others = [];
@@ -126,6 +134,7 @@ module _ (places : ℕ) (profile : List DeviceParts) (devices : List ℕ) (late 
     behind = (refl, refl, refl);
     no_more = subst (λ (os : List Object). EachSaysNoMore os []) (sym goes.1) tt;
   }
+  -- nothing follows it, in both
   others_behind Continue b w x y [] more objects c later goes = record {
     more = [];
     others = [];
@@ -133,6 +142,7 @@ module _ (places : ℕ) (profile : List DeviceParts) (devices : List ℕ) (late 
     behind = (refl, refl, refl);
     no_more = subst (λ (os : List Object). EachSaysNoMore os []) (sym goes.1) tt;
   }
+  -- its LF follows, and both read on
   others_behind Continue b w x y (lf ∷ bytes) more objects c later goes =
       let there = later bytes goes in
       record {
@@ -157,6 +167,7 @@ module _ (places : ℕ) (profile : List DeviceParts) (devices : List ℕ) (late 
   onwards : (after : AfterBadToken) (bads : List BadLine) (b w : Before) → Beside b w
       → (bytes : List ℕ) (objects : List Object) (c : CountsData)
       → ObjectsFrom piece profile after b bytes bads objects c → Others after w bytes objects
+  -- no bad line is left: the events that are left, moved
   onwards after [] b w beside bytes objects c x = record {
     bad = [];
     others = span_objects whole profile (event_place w.read w.n bytes) w.ts (moved_spans m x.spans);
@@ -173,6 +184,7 @@ module _ (places : ℕ) (profile : List DeviceParts) (devices : List ℕ) (late 
         (span_objects whole profile (event_place w.read w.n bytes) w.ts (moved_spans m x.spans))) (sym x.all)
         (spans_beside b w beside (event_place b.read b.n bytes) (event_place w.read w.n bytes) x.spans);
   }
+  -- a bad line: its events are moved, then the rest of both after it
   onwards after (bad ∷ more) b w beside bytes objects c x =
       let moved : BadLine = record {
         front = bad.front;
@@ -181,6 +193,8 @@ module _ (places : ℕ) (profile : List DeviceParts) (devices : List ℕ) (late 
         line =
             bad.line;
       } in
+      -- x has what follows the line and the objects after it (0, 1), the split (2), that the line
+      -- ends there (3) and is bad (4), its objects (5), and how reading goes on (6)
       let line = x.4 in
       let there = others_behind after b w bad moved x.0 more x.1 c
       (λ next y. onwards Continue more (behind_line b bad) (behind_line w moved) (line_beside b w beside bad) next x.1 c y)
@@ -188,6 +202,7 @@ module _ (places : ℕ) (profile : List DeviceParts) (devices : List ℕ) (late 
         bad = moved ∷ there.more;
         others = bad_line_objects whole profile w moved ++ there.others;
         counts = there.counts;
+        -- in the whole it is the same line, its spans moved
         from_there = (
           x.0,
           there.others,
@@ -203,6 +218,7 @@ module _ (places : ℕ) (profile : List DeviceParts) (devices : List ℕ) (late 
           refl,
           there.behind,
         );
+        -- its objects say no more than the whole's, and so do those after it
         no_more = subst (λ (os : List Object). EachSaysNoMore os
             (bad_line_objects whole profile w moved ++ there.others)) (sym x.5)
             (
@@ -248,6 +264,7 @@ module _ (places : ℕ) (profile : List DeviceParts) (devices : List ℕ) (late 
   -- the whole has objects, and the last of them say no less
   pub record WholeOthers (after : AfterBadToken) (bytes : List ℕ) (objects : List Object) : Type 0 where
     pub bad : List BadLine
+    -- the objects of the first piece, then those of the rest
     pub firsts : List Object
     pub others : List Object
     pub counts : CountsData
@@ -298,6 +315,7 @@ module _ (places : ℕ) (profile : List DeviceParts) (devices : List ℕ) (late 
 
   pub cut : (after : AfterBadToken) (bads : List BadLine) (back : List ℕ) (objects : List Object) (c : CountsData)
       → ObjectsFrom late_choice profile after at_first back bads objects c → WholeOthers after (front ++ back) objects
+  -- no bad line: the first piece and the rest are read as one
   cut after [] back objects c x =
       let place = event_place [] 0 (front ++ back) in
       let others = span_objects known_choice profile place before (moved_spans m x.spans) in record {
@@ -317,12 +335,18 @@ module _ (places : ℕ) (profile : List DeviceParts) (devices : List ℕ) (late 
             (spans_said places profile devices devices late AllKnown (event_place [] 0 back) place m x.spans [] before
             agree);
       }
+  -- a bad line in the rest: it is the first of the whole, and before it stand the first piece's
+  -- spans
   cut after (bad ∷ more) back objects c x =
+      -- x has what follows the line and the objects after it (0, 1), the split (2), that the line
+      -- ends there (3) and is bad (4), its objects (5), and how reading goes on (6)
       let line = x.4 in
       let there = others_behind places profile devices late m before agree spans_move after at_first at_first bad
       (in_whole bad) x.0 more x.1 c
       (λ next y. onwards places profile devices late m before agree spans_move Continue more (behind_line at_first bad)
       (behind_line at_first (in_whole bad)) (line_beside_there bad) next x.1 c y) x.6 in
+      -- where events stand in the rest and in the whole, the first piece's objects, and the line's
+      -- in the whole
       let near = event_place [] 0 (bad.front ++ bad.line) in
       let place = event_place [] 0 (front ++ bad.front ++ bad.line) in
       let firsts = span_objects known_choice profile place [] first.spans in
@@ -332,6 +356,7 @@ module _ (places : ℕ) (profile : List DeviceParts) (devices : List ℕ) (late 
         firsts = firsts;
         others = (moved ++ word) ++ there.others;
         counts = there.counts;
+        -- the line is the first bad one of the whole, after the first piece
         from_first = (
           x.0,
           there.others,
@@ -350,6 +375,7 @@ module _ (places : ℕ) (profile : List DeviceParts) (devices : List ℕ) (late 
               (sym (objects_append known_choice profile place [] first.spans (moved_spans m bad.spans))),
           there.behind,
         );
+        -- the rest's objects say no more
         no_more = subst (λ (os : List Object). EachSaysNoMore os ((moved ++ word) ++ there.others)) (sym x.5)
             (
             pairs_append (bad_line_objects late_choice profile at_first bad) (moved ++ word) x.1 there.others

@@ -1,4 +1,6 @@
--- What holds of each element of a list holds of what is taken of it.
+-- What holds of each element of a list holds of each one that is taken of it: filtered, found, at
+-- an index, in a part. For the law `each_line_is_json`, by JsonLines and Fitting, which go from a
+-- profile's devices and a capture's packets to their objects. By induction over the list.
 use Rattle.std.proofs.Common.{ℕ, zero, suc, Bool, true, false, if◌then◌else◌, Option, Some, None, List, [], ◌∷◌, ◌++◌}
 use Rattle.std.proofs.Common.{filter, slice_index_or}
 use Rattle.std.specs.Prelude.{IfSome}

@@ -1,4 +1,7 @@
--- What is still to be written if the bytes end there.
+-- What is still to be written if the bytes end where an engine stands. For the law
+-- `fronts_are_written` of `src/engine.rt`: the text so far is the beginning of what is written for
+-- the bytes. It depends on where the bytes end: in words that may be tokens, in a bad word, or in
+-- the rest of its line.
 use Rattle.std.proofs.Common.{◌≡◌, ◌⊎◌, ℕ, ◌+◌, inl, inr, List, [], ◌∷◌, ◌++◌, refl, sym, ap, subst, ◌∙◌, append_assoc}
 use Rattle.std.proofs.Common.{append-nil}
 use Rattle.pmb_bus.specs.declared.event.Event.{Event}
@@ -53,8 +56,11 @@ EndsInLastWord text events = Spells text events
 no_lf_behind : SpellsNoBadWord → (text : List ℕ) (events : List Event) (place : ℕ) → BeginsText text
     → (bad : FirstBadWord text events place) → (line rest : List ℕ) → bad.rest ≡ line ++ rest
     → HasNoLf line → IsBehindLine rest → HasNoLf bad.rest
+-- no LF so far
 no_lf_behind spells_none text events place begins bad line [] split in_line behind =
     subst (λ (l : List ℕ). HasNoLf l) (sym (split ∙ append-nil line)) in_line
+-- a byte follows the line, an LF: then the text that goes on has this bad word, and spells no
+-- events
 no_lf_behind spells_none text events place begins bad line (b ∷ rest) split in_line behind =
     let more = begins.0 in
     let longer : bad.rest ++ more ≡ line ++ (b ∷ (rest ++ more)) = ap (λ (l : List ℕ). l ++ more) split
@@ -150,6 +156,7 @@ module _ (choice : ChoiceData) (profile : List DeviceParts) (after : AfterBadTok
         let there = words.reached in
         let told = words.told.told b words.begins in
         let same = under choice profile b scan stream behind.used behind.put words there behind.put stream told in
+        -- the bad line is the word under way, with the events before it
         let bad : BadLine = record {
           front = first.front;
           events = there.events;
@@ -158,6 +165,7 @@ module _ (choice : ChoiceData) (profile : List DeviceParts) (after : AfterBadTok
           line = first.rest;
         } in
         let cut = split_line first.rest in
+        -- its front is out, and the word's object is left
         ends_bad _ behind bad (front_objects choice profile b bad) (word_object choice profile b bad ∷ [])
         (sym words.is_text ∙ first.split)
         (record {
@@ -171,6 +179,7 @@ module _ (choice : ChoiceData) (profile : List DeviceParts) (after : AfterBadTok
             word = first.word;
             no_token = first.no_token;
           };
+          -- the rest of the bytes is in its line, since no LF came
           in_line = no_lf_behind spells_none there.text there.events place words.scans.lexer.begins first cut.line
               cut.rest cut.split cut.in_line cut.behind;
           all = moved_spans b.n (there.spans ++ last);
@@ -204,6 +213,7 @@ pub ends_in : (inside : EngineState) (start now : Json) (bytes text : List ℕ) 
     → (others : List Span) × Spans reached.profile (reached.events ++ rest) (reached.spans ++ others))
     → StandsIn inside start now bytes text → WritesMore (json_choice start) (json_profile start)
     (json_bad_words start) bytes text
+-- in words: they are tokens, or the last one is the bad word
 ends_in Words start now bytes text move spells_none last_word ends follows stands =
     let behind = stands.behind in
     let words = behind.holds in
@@ -215,6 +225,7 @@ ends_in Words start now bytes text move spells_none last_word ends follows stand
     ends_in_words (json_choice start) (json_profile start) (json_bad_words start) bytes text now.scan now.stream behind
     move spells_none end.0 end.1
     (λ rest. follows there rest same words.scans.reader) (last_word there.text there.events words.scans.lexer.ended)
+-- in a bad word: its object is left
 ends_in BadWord start now bytes text move spells_none last_word ends follows stands =
     let choice = json_choice start in
     let profile = json_profile start in
@@ -226,6 +237,7 @@ ends_in BadWord start now bytes text move spells_none last_word ends follows sta
     (has.is_text ∙ ap (λ (l : List ℕ). has.bad.front ++ l) (sym (append-nil has.bad.line)))
     (bad_line_now choice profile behind.b has.bad has.so_far (solid_no_lf has.bad.line has.under_way)) refl
     (has.lines [])
+-- in the rest of its line: all its objects are out
 ends_in InLine start now bytes text move spells_none last_word ends follows stands =
     let choice = json_choice start in
     let profile = json_profile start in

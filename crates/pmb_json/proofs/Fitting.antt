@@ -1,4 +1,7 @@
--- What packets say fits into their objects.
+-- What packets say fits into their objects: addresses, codes and bytes are small, and coefficients
+-- are words. For the law `each_line_is_json`, by JsonSpans. A packet's bytes are below 256 by its
+-- definition, the coefficients by what acceptance tested of the profile, and PAGE by what
+-- transactions told (Telling).
 use Rattle.std.proofs.Common.{ℕ, nat_eq, Option, Some, None, List, [], ◌∷◌, arith}
 use Rattle.std.specs.Prelude.{IfSome, option_map}
 use Rattle.pmb_bus.specs.declared.event.Event.{Event}

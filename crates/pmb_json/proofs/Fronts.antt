@@ -1,4 +1,6 @@
--- What is written so far, and where more is wanted.
+-- What an engine has written so far, and where it wants more. For `JsonEngine::end` and the law
+-- `fronts_are_written`. Each has a case for each state of the engine: in words, in a bad word, in
+-- the rest of its line.
 use Rattle.std.proofs.Common.{◌≡◌, ◌⊎◌, ℕ, inl, inr, List, [], ◌++◌, length, refl, sym, ap, subst, ◌∙◌, append-nil}
 use Rattle.pmb_bus.specs.Text.{BeginsText, FirstBadWord}
 use Rattle.pmb_command.specs.Parts.{DeviceParts}
@@ -38,6 +40,7 @@ pub so_far_in : (inside : EngineState) (start now : Json) (bytes text : List ℕ
     → (last : List Span) × EndsWith reached last)
     → StandsIn inside start now bytes text → HasWrittenJson (json_choice start) (json_profile start)
     (json_bad_words start) bytes text
+-- in words: the spans that have ended
 so_far_in Words start now bytes text move ends stands =
     let behind = stands.behind in
     let words = behind.holds in
@@ -49,6 +52,7 @@ so_far_in Words start now bytes text move ends stands =
     behind.put words end.0 move end.1 in
     has_written (json_choice start) (json_profile start) (json_bad_words start) _ bytes text behind [] reads.0 reads.1
     reads.2
+-- in a bad word: the objects before it
 so_far_in BadWord start now bytes text move ends stands =
     let choice = json_choice start in
     let behind = stands.behind in
@@ -60,6 +64,7 @@ so_far_in BadWord start now bytes text move ends stands =
     (inl ((refl, has.under_way, behind.holds.short refl), refl))
     (has.lines [] ∙ ap (λ (l : BadLine). object_lines choice.devices
     (front_objects choice (json_profile start) behind.b l)) (same_line has.bad))
+-- in the rest of its line: its objects too
 so_far_in InLine start now bytes text move ends stands =
     let choice = json_choice start in
     let behind = stands.1.behind in
@@ -87,6 +92,7 @@ from_first after read used bytes ends (inr goes) is = let differ : End ≡ Conti
 
 pub opens_in : (inside : EngineState) (start now : Json) (bytes text : List ℕ) → StandsIn inside start now bytes text
     → IsOpenJson (json_bad_words start) bytes
+-- in words: they begin a text of events
 opens_in Words start now bytes text stands =
     let behind = stands.behind in
     let words = behind.holds in
@@ -94,6 +100,7 @@ opens_in Words start now bytes text stands =
     inl (subst (λ (l : List ℕ). BeginsText l)
     (words.is_text ∙ sym (from_first (json_bad_words start) behind.b.read behind.used bytes ends behind.first
     behind.bytes_are)) words.scans.lexer.begins))
+-- in a bad word: fewer than 32 of its bytes came
 opens_in BadWord start now bytes text stands =
     let behind = stands.behind in
     let has = behind.holds.word in
@@ -112,5 +119,6 @@ opens_in BadWord start now bytes text stands =
       under_way = has.under_way;
       short = behind.holds.short refl;
     }))
+-- in the rest of a line only where reading goes on, so this isn't asked
 opens_in InLine start now bytes text stands = is_open (json_bad_words start) bytes
     (λ ends. let differ : End ≡ Continue = sym ends ∙ stands.0 in absurd (cc differ))

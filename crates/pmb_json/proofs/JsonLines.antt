@@ -1,4 +1,6 @@
--- Each line of a text is JSON, and each of a text so far.
+-- Each line that is written for a capture is a JSON object with distinct keys, and so is each line
+-- so far. For the law `each_line_is_json`. The text is the lines of objects; each object is that of
+-- a span (JsonSpans), of a bad word or of the end, and `pmb_json_text` spells it in one line.
 use Rattle.std.proofs.Common.{◌≡◌, ℕ, ◌+◌, ◌<◌, inl, inr, List, [], ◌∷◌, ◌++◌, filter, length, refl, sym, ap, subst}
 use Rattle.std.proofs.Common.{append-nil}
 use Rattle.std.specs.List.{flat_map}
@@ -36,6 +38,7 @@ use Rattle.pmb_json.proofs.Words.{front_ends, front_keeps}
 
 -- what is spelled is JSON, in printable ASCII
 pub record SpellsJson : Type 0 where
+  -- what is spelled is that value, and has no LF in it
   pub json : (value : Json) → IsWritable value → Spells value (spelled value)
   pub line : (value : Json) → IsWritable value → FitsInLine (spelled value)
 
@@ -84,6 +87,7 @@ word_has_bytes (b ∷ text) small =
 
 -- bytes that are cut in three
 pub record BytesOf (front line rest : List ℕ) : Type 0 where
+  -- the bytes of the line, and those after it
   pub in_line : AreBytes line
   pub behind : AreBytes rest
 

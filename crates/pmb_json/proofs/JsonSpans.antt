@@ -1,4 +1,6 @@
--- The objects of spans are JSON.
+-- The objects of packets and refusals are JSON objects with distinct keys. For the law
+-- `each_line_is_json`. Laws of lower crates say it of one object (`Below`); here it is shown that
+-- what is counted, placed and said fits their premises.
 use Rattle.std.proofs.Common.{ℕ, ◌+◌, ◌-◌, Option, Some, None, List, [], ◌∷◌, ◌++◌, length, sym, subst, arith}
 use Rattle.std.specs.Prelude.{IfSome}
 use Rattle.std.specs.List.{AllByRecursion}
@@ -39,6 +41,7 @@ AreJson objects = AllByRecursion IsJson objects
 
 -- what laws of lower crates say
 pub record Below : Type 0 where
+  -- of the objects of a packet, a refusal, a bad word, and of the last ones
   pub packet : (seen : SeenData) (place : ℕ → Place) (n : ℕ) (events : List Event) (t : TransactionData)
       → ((at : ℕ) → IsPlace (place at)) → IsTransaction seen t
       → AreJson (packet_objects seen place n events t)
@@ -49,6 +52,7 @@ pub record Below : Type 0 where
   pub bad_token : (at : ℕ) (place : Place) (word : List ℕ) → IsCount at → IsPlace place → AreBytes word
       → IsJsonObject (bad_token_object at place word).members
   pub last : (c : CountsData) → AreJson (end_objects c)
+  -- places are in range: after a text, of its words, at its last word's end
   pub behind : (text : List ℕ) → IsInRange (place_behind text)
   pub words : (front text : List ℕ) → AllByRecursion IsInRange (places_from front text)
   pub end : (text : List ℕ) → IsInRange (end_of_last_word text)

@@ -1,4 +1,7 @@
--- What follows after bad lines, from the first byte on.
+-- What follows after bad lines: objects that hold from a later point on hold from the first byte
+-- on, with those of the bad lines before them. For `take_words`, `drop_line`, `end_words` and the
+-- other functions of `src/engine.rt`, which know what was written up to the last bad line
+-- (`LeadsTo`). One bad line more is put after those before it.
 use Rattle.std.proofs.Common.{◌≡◌, ◌⊎◌, ℕ, ◌+◌, inl, inr, List, [], ◌∷◌, ◌++◌, length, refl, sym, ap, subst, ◌∙◌}
 use Rattle.std.proofs.Common.{append_assoc, append-nil}
 use Rattle.pmb_bus.specs.Text.{FirstBadWord}
@@ -56,11 +59,14 @@ module _ (choice : ChoiceData) (profile : List DeviceParts) where
       (objects ++ bad_line_objects choice profile b bad)
   leads_on b bads objects bad leads is_bad =
       let own = bad_line_objects choice profile b bad in
+      -- the bytes before the line, the line, its LF and the rest, in one row
       let bytes_are : (rest : List ℕ) → b.read ++ ((bad.front ++ bad.line) ++ (10 ∷ rest)) ≡ (behind_line b bad).read
       ++ rest =
       λ rest. sym (append_assoc b.read (bad.front ++ bad.line) (10 ∷ rest))
       ∙ (ap (λ (l : List ℕ). l ++ (10 ∷ rest)) (sym (append_assoc b.read bad.front bad.line))
       ∙ sym (append_assoc ((b.read ++ bad.front) ++ bad.line) (10 ∷ []) rest)) in record {
+        -- all of it, and what is written so far: the line is put after the others, and so are its
+        -- objects
         whole = λ rest more others counts from.
             subst (λ (bytes : List ℕ). ObjectsFrom choice profile Continue at_first bytes ((bads ++ bad ∷ []) ++ more)
             ((objects ++ own) ++ others) counts) (bytes_are rest)

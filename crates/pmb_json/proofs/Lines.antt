@@ -1,4 +1,6 @@
--- A word that is no token, and the rest of its line.
+-- A bad word and the rest of its line: bytes up to an LF, what is reported of the word, and when no
+-- more of it is reported. For `drop_line`, `end_bad_word` and the law `one_json`. At most 32 bytes
+-- of a word are reported, so once it has 32, or ends, what follows changes nothing.
 use Rattle.std.proofs.Common.{◌≡◌, ◌≢◌, ℕ, ◌+◌, ◌<◌, true, inl, inr, None, List, [], ◌∷◌, ◌++◌, length, take, refl, sym}
 use Rattle.std.proofs.Common.{ap, subst, ◌∙◌, append-nil, arith, length-append}
 use Rattle.std.proofs.lemmas.Bool.{cases_Bool, cases_eq}
@@ -32,6 +34,7 @@ pub record SplitsLine (bytes : List ℕ) : Type 0 where
   pub line : List ℕ
   pub rest : List ℕ
   pub split : bytes ≡ line ++ rest
+  -- no LF is in the line, and one follows it, or nothing
   pub in_line : HasNoLf line
   pub behind : IsBehindLine rest
 
@@ -100,6 +103,7 @@ same_split (c ∷ a) (d ∷ b) x y is long =
 
 -- what is said of a front and of the bytes after it
 pub record IsBadBehind (front rest : List ℕ) (events : List Event) : Type 0 where
+  -- the front ends between words and spells the events; the word after it is no token
   pub between : EndsBetween front
   pub spells : Spells front events
   pub word : is_word (front_word rest) ≡ true

@@ -1,4 +1,6 @@
--- A word that is no token: where it is met, how it goes on, and what is put out of it.
+-- A bad word: where it is met, how it goes on, and what is written of it. For `drop_line` and
+-- `end_words` of `src/engine.rt`. The word under way of a scan stands where its line begins to be
+-- bad; its object is fixed once 32 bytes of it came, or it ended, however its line goes on.
 use Rattle.std.proofs.Common.{◌≡◌, ℕ, ◌+◌, true, List, [], ◌∷◌, ◌++◌, filter, length, take, refl, sym, ap, subst, ◌∙◌}
 use Rattle.std.proofs.Common.{add-zero, append_assoc, append-nil, arith, length-append}
 use Rattle.std.proofs.lemmas.List.Elements.{filter-append}
@@ -49,6 +51,7 @@ object_same at place word other same = rw same refl
 
 -- where it stands, by what is under way
 pub record StandsThere (b : Before) (bad : BadLine) : Type 0 where
+  -- the word under way is the whole bad line so far, and its place is that after the front
   pub opened : open_word ((b.read ++ bad.front) ++ bad.line) ≡ bad.line
   pub placed : place_of_last_word ((b.read ++ bad.front) ++ bad.line) ≡ place_behind (b.read ++ bad.front)
 
@@ -275,6 +278,7 @@ module _ (choice : ChoiceData) (profile : List DeviceParts) where
       → ((b : Before) → StreamKnows b old → StreamKnows (with_bytes b line) new)
       → InBadLine choice profile at_hand old b used put → InBadLine choice profile [] new b (used ++ line) put
   line_goes_on b line at_hand used put old new all no_lf takes has =
+      -- the line is longer by these bytes, and nothing more goes out of it
       let bad = has.bad in record {
         bad = longer_line bad line;
         so_far = longer_so_far b bad line [] at_hand (all ∙ sym (append-nil line)) has.so_far;

@@ -1,4 +1,7 @@
--- Objects and counts of spans, one list of spans after another, and moved.
+-- The objects and counts of lists of spans: one list after another, and spans that are moved by a
+-- number of events. For `put_last_word`, the law `moved_spans_count_the_same`, and all files here
+-- that join lists. Moving a span changes where its events are counted, and neither its transaction
+-- nor whether it is whole.
 use Rattle.std.proofs.Common.{◌≡◌, ℕ, ◌+◌, Some, None, List, [], ◌∷◌, ◌++◌, filter, length, refl, sym, ap, ◌∙◌}
 use Rattle.std.proofs.Common.{append_assoc, append-nil}
 use Rattle.std.proofs.lemmas.Grind.{flat_map-append}

@@ -1,4 +1,7 @@
--- What is written so far for bytes is one text.
+-- What is written so far for some bytes is one text. For the law `one_json_so_far`. Two lists of
+-- objects for the same bytes have the same first bad line (OneText), or none; a bad word stays the
+-- first of its text whatever follows, so what is written for such a text isn't that of words under
+-- way.
 use Rattle.std.proofs.Common.{◌≡◌, ℕ, Some, inl, inr, List, [], ◌∷◌, ◌++◌, filter, length, map, refl, sym, ◌∙◌, ap}
 use Rattle.std.proofs.Common.{subst, append_assoc, append-nil}
 use Rattle.pmb_bus.specs.declared.event.Event.{Event}

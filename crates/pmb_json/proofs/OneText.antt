@@ -1,4 +1,6 @@
--- What is written for bytes is one text and one tally.
+-- What is written for bytes to their end is one text and one tally. For the laws `one_json` and
+-- `texts_of_pieces_say_no_more`. Bytes have one first bad word (BadLines), so both lists of objects
+-- have the same first line, and the rest after it is shorter.
 use Rattle.std.proofs.Common.{◌≡◌, ℕ, ◌+◌, List, [], ◌∷◌, ◌++◌, filter, length, sym, ◌∙◌, ap, subst, append_assoc}
 use Rattle.pmb_bus.specs.declared.event.Event.{Event}
 use Rattle.pmb_bus.specs.Text.{FirstBadWord, Spells}

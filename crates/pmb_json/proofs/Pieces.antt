@@ -1,4 +1,7 @@
--- A piece of a capture says nothing that the whole denies.
+-- A piece of a capture says nothing that the whole denies: each member of its objects is one of the
+-- whole's, but for places, and for what is not known in the piece. For the laws
+-- `pieces_say_no_more`, `numbers_of_pieces_are_of_the_whole` and `texts_of_pieces_say_no_more`.
+-- Member by member, from what is known of PAGE and VOUT_MODE in both (`Agree`).
 use Rattle.std.proofs.Common.{◌≡◌, ℕ, zero, suc, ◌+◌, ◌<◌, ◌*◌, ◌/◌, Bool, true, false, Option, Some, None, ◌⊎◌, inl}
 use Rattle.std.proofs.Common.{inr, List, [], ◌∷◌, ◌++◌, codes, drop, take, length, map, slice_index_or, refl, sym, ◌∙◌}
 use Rattle.std.proofs.Common.{ap, subst, append_assoc, append-nil, length-take, length-drop, arith}
@@ -204,7 +207,9 @@ module _ (places : ℕ) (acc : Access) (device : DeviceParts) (code : ℕ) where
 
 -- what is known in a piece and in the whole agrees, after some transactions of each
 pub record Agree (profile : List DeviceParts) (a b : LateStart) (x y : List TransactionData) : Type 0 where
+  -- a PAGE that is known in the piece is that of the whole
   pub pages : (addr number : ℕ) → page a profile x addr ≡ Some number → page b profile y addr ≡ Some number
+  -- a VOUT_MODE likewise
   pub modes : (addr : ℕ) → (w : Option ℕ) × AgreesWith (mode a profile x addr) w × (mode b profile y addr ≡ known_as w)
 
 -- ---- lists

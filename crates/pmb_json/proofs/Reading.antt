@@ -1,4 +1,6 @@
--- Words that may be tokens: what a scan told the stream of them.
+-- Words that may be tokens: from the first byte of a scan on, what the scan told the stream, up to
+-- a bad word or the end. For `Json::new`, `take_words` and `end_words`. What was told are spans
+-- from the scan's beginning (`Reached`), and these are moved to where the capture stands.
 use Rattle.std.proofs.Common.{◌≡◌, ℕ, ◌+◌, inl, List, [], ◌++◌, drop, filter, length, take, refl, sym, ap, subst, ◌∙◌}
 use Rattle.std.proofs.Common.{append_assoc, append-nil, arith, length-drop, take-append-drop}
 use Rattle.std.proofs.lemmas.List.{map-append}
@@ -132,21 +134,25 @@ module _ (choice : ChoiceData) (profile : List DeviceParts) (b : Before) (scan :
       → EndsWith stops.there last
       → InBadWord choice profile (drop count piece) new b (used ++ take count piece) (put ++ more)
   words_to_bad piece more count fault after new last move begun solid stops end =
+      -- what the scan reached before the word, and the front before the word under way
       let there = stops.there in
       let told = stops.visited.told b words.begins in
       let rest = drop count piece in
       let front = begun there.text in
+      -- the bytes that were taken, the rest of the piece, and others after it, in one row
       let bytes_are : (others : List ℕ) → (words.reached.text ++ piece) ++ others ≡ there.text ++ (rest ++ others) =
       λ others. ap (λ (l : List ℕ). (words.reached.text ++ l) ++ others) (sym (take-append-drop count piece))
       ∙ (ap (λ (l : List ℕ). l ++ others) (sym (append_assoc words.reached.text (take count piece) rest))
       ∙ (append_assoc (words.reached.text ++ take count piece) rest others ∙ ap (λ (l : List ℕ). l ++ (rest ++ others))
       (sym stops.used_up_to))) in
+      -- so a bad word is met there
       let has = has_met choice profile b there front.0 rest (put ++ more) last new move
       (under there (put ++ more) new told) front.1 (solid there.text)
       (λ others. subst (λ (l : List ℕ). OpenWordIsBad there.text l there.events) (bytes_are others) (stops.bad others))
       end told.at.knows (lines_by there (put ++ more) new told) in record {
         word = subst (λ (l : List ℕ). HasBadWord choice profile rest new b l (put ++ more))
             (stops.used_up_to ∙ ap (λ (l : List ℕ). l ++ take count piece) words.is_text) has;
+        -- a byte of the piece is left, that which ends the word
         short = λ none. absurd (omega (
           arith,
           length-drop count piece,
@@ -183,6 +189,7 @@ module _ (choice : ChoiceData) (profile : List DeviceParts) (b : Before) (scan :
       × (own ++ said ≡ object_lines choice.devices
       (objects ++ end_objects (after_spans b.counts (there.spans ++ others))))
   reads_on there events others own said text_is told spells reads said_are =
+      -- all spans, those told and the others, with their objects and counts
       let spans = moved_spans b.n (there.spans ++ others) in
       let counts = after_spans b.counts (there.spans ++ others) in
       let place = event_place b.read b.n used in
@@ -190,9 +197,11 @@ module _ (choice : ChoiceData) (profile : List DeviceParts) (b : Before) (scan :
       let first = span_objects choice profile place b.ts (moved_spans b.n there.spans) in
       let later = span_objects choice profile place (b.ts ++ transactions_in there.spans) (moved_spans b.n others) in
       let lines = object_lines choice.devices in
+      -- the lines that were told are those of the first spans
       let own_is : own ≡ lines first =
       told [] ∙ ap (λ (l : List ℕ). lines (span_objects choice profile (event_place b.read b.n l) b.ts
       (moved_spans b.n there.spans))) (append-nil there.text ∙ text_is) in
+      -- and what is said now are those of the others, and of the end
       let said_is : said ≡ lines (later ++ end_objects counts) =
       said_are ∙ ap (λ (l : List ℕ). lines (span_objects choice profile (event_place b.read b.n l)
       (b.ts ++ transactions_in there.spans) (moved_spans b.n others) ++ end_objects counts)) text_is in (
@@ -206,6 +215,7 @@ module _ (choice : ChoiceData) (profile : List DeviceParts) (b : Before) (scan :
           behind =
               sym (counts_moved b.counts b.n (there.spans ++ others));
         },
+        -- together they are the lines of all
         ap (λ (l : List ℕ). l ++ said) own_is
             ∙ (ap (λ (l : List ℕ). lines first ++ l) said_is
             ∙ (sym (lines_append choice.devices first (later ++ end_objects counts))

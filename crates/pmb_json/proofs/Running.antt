@@ -1,4 +1,6 @@
--- What a run over a capture wrote, in the words of `json`.
+-- What a run over a capture wrote, told as `json` tells it: under its choice, its profile and what
+-- it does after a bad word. For `json` of `src/run.rt`. The engine's own job is about the `Json` it
+-- began with; its three values are those that it was made of.
 use Rattle.std.proofs.Common.{◌≡◌, ℕ, Ok, Err, List, sym, subst}
 use Rattle.pmb_command.specs.Bus.{IsBus}
 use Rattle.pmb_command.specs.Parts.{DeviceParts}

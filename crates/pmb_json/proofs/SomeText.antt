@@ -1,4 +1,6 @@
--- Something is written for any bytes.
+-- Something is written for any bytes: objects, lines and a tally. For the law `some_json`. A text
+-- spells events, or it has a first word that is no token; then its line is one bad line, and the
+-- rest after it is shorter.
 use Rattle.std.proofs.Common.{◌≡◌, ℕ, suc, zero, ◌+◌, ◌<◌, ◌≤◌, ◌⊎◌, inl, inr, List, [], ◌∷◌, ◌++◌, filter, length}
 use Rattle.std.proofs.Common.{refl, sym, ◌∙◌, ap, append_assoc, arith, length-append}
 use Rattle.pmb_bus.specs.declared.event.Event.{Event}
@@ -62,6 +64,7 @@ module _ (choice : ChoiceData) (profile : List DeviceParts) (some_spans : (n : �
       → ((there : Before) (behind : List ℕ) → length behind < length bytes → HasObjects Continue there behind)
       → HasObjects after b bytes
   up_to_bad_word after b bytes events place word later =
+      -- the line of the bad word, and the spans of the events before it
       let here : SplitsLine word.rest = split_line word.rest in
       let read = some_spans b.n events in
       let bad : BadLine = record {
@@ -71,11 +74,13 @@ module _ (choice : ChoiceData) (profile : List DeviceParts) (some_spans : (n : �
         line =
             here.line;
       } in
+      -- the bytes are cut there, and what is left is shorter
       let split : bytes ≡ word.front ++ here.line ++ here.rest =
       word.split ∙ ap (λ (l : List ℕ). word.front ++ l) here.split
       ∙ sym (append_assoc word.front here.line here.rest) in
       let long : length here.rest ≤ length bytes =
       omega (arith, ap length split, length-append (word.front ++ here.line) here.rest) in
+      -- so it has objects, which come after those of the line
       let behind = objects_behind after b bad here.rest
       (λ rest short. later (behind_line b bad) rest (omega (arith, short, long))) in (
         bad ∷ behind.0,

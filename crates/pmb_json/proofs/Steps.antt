@@ -1,4 +1,7 @@
--- A `Json` after bytes more.
+-- A `Json` after bytes more: in words, in a bad word (more of it may come, or no more of it is
+-- reported), in the rest of its line, and after the LF that ends it. For `take_words`,
+-- `take_bad_word`, `drop_line`, `end_bad_word` and `take_line` of `src/engine.rt`. What stands
+-- before the bytes at hand stays (`Behind`), and the last part of it is replaced.
 use Rattle.std.proofs.Common.{◌≡◌, ◌≢◌, ◌⊎◌, ℕ, ◌+◌, ◌<◌, ◌≤◌, true, inl, inr, List, [], ◌∷◌, ◌++◌, drop, length, take}
 use Rattle.std.proofs.Common.{refl, sym, ap, subst, ◌∙◌, append_assoc, append-nil, arith, length-append, length-take}
 use Rattle.std.proofs.Common.{take-append-drop}
@@ -362,6 +365,7 @@ module _ (choice : ChoiceData) (profile : List DeviceParts) (after : AfterBadTok
 -- ---- a line ends
 
 -- its bytes and the LF
+-- (10 is LF)
 pub with_lf : (bytes : List ℕ) (count : ℕ) → EndsLine bytes count → take (count + 1) bytes ≡ take count bytes ++ 10 ∷ []
 with_lf bytes count ends =
     let tail = drop (count + 1) bytes in
@@ -390,26 +394,32 @@ pub begins_anew : (choice : ChoiceData) (profile : List DeviceParts) (after : Af
     → Behind choice profile after (InWords choice profile scan new) (given ++ take (count + 1) at_hand) text
 begins_anew choice profile after given text at_hand count old mid new scan goes ends lines same_choice same_profile
     scans takes begin behind =
+    -- the bad line, with the bytes up to its LF
     let b = behind.b in
     let has = behind.holds in
     let bad = has.bad in
     let line = take count at_hand in
     let tail = drop (count + 1) at_hand in
     let longer = longer_line bad line in
+    -- these bytes and the LF are taken, and the rest follows
     let front_is = with_lf at_hand count ends in
     let split : at_hand ++ [] ≡ line ++ (10 ∷ tail) = append-nil at_hand
     ∙ (sym (take-append-drop count at_hand) ∙ ap (λ (l : List ℕ). line ++ l) ends.lf) in
+    -- so the line is bad as a whole
     let is_bad = bad_line_is choice profile b bad at_hand [] line (10 ∷ tail) has.so_far split has.in_line ends.in_line
     refl in
+    -- all bytes that were read end after the LF, between words
     let rest_is : take (count + 1) at_hand ≡ line ++ 10 ∷ [] = front_is in
     let read_is : ((b.read ++ bad.front) ++ bad.line) ++ take (count + 1) at_hand ≡ (behind_line b longer).read =
     ap (λ (l : List ℕ). ((b.read ++ bad.front) ++ bad.line) ++ l) rest_is
     ∙ (sym (append_assoc ((b.read ++ bad.front) ++ bad.line) line (10 ∷ []))
     ∙ ap (λ (l : List ℕ). l ++ 10 ∷ []) (append_assoc (b.read ++ bad.front) bad.line line)) in
     let between : EndsBetween (behind_line b longer).read = lines ((b.read ++ bad.front) ++ (bad.line ++ line)) in
+    -- the stream knows of them, and is cleared there
     let knows : StreamKnows (behind_line b longer) mid =
     knows_as _ (behind_line b longer).read _ _ _ _ _ mid read_is refl refl
     (takes (behind_object b bad) has.knows) in record {
+      -- reading begins anew with nothing used and nothing written
       b = behind_line b longer;
       bads = behind.bads ++ longer ∷ [];
       objects = behind.objects ++ bad_line_objects choice profile b longer;

@@ -1,4 +1,6 @@
--- Text that goes out, piece by piece.
+-- Text that goes out piece by piece, while a piece of the input is taken front by front. For
+-- `JsonEngine::take`, `take_words`, `take_bad_word`, `take_line` and `put_last_word`. Two texts
+-- that go out one after the other are one, and so are two fronts that are taken.
 use Rattle.std.proofs.Common.{◌≡◌, ℕ, Option, Result, Ok, Err, IfOk, List, [], ◌++◌, refl, sym, ap, subst, ◌∙◌}
 use Rattle.std.proofs.Common.{append_assoc, append-nil}
 use Rattle.pmb_io.specs.Engines.{PutsOut}

@@ -1,4 +1,6 @@
--- Packets tell bytes, so PAGE is one.
+-- Packets tell bytes, so PAGE stays a byte after any of them. For the law `each_line_is_json`: PAGE
+-- is a number of one object's members. What a part writes has bytes below 256 by its form, and
+-- learning keeps such a PAGE.
 use Rattle.std.proofs.Common.{ℕ, ◌<◌, if◌then◌else◌, nat_eq, Option, Some, None, List, [], ◌∷◌, fold, map, arith}
 use Rattle.std.specs.Prelude.{IfSome, option_and_then}
 use Rattle.std.specs.List.{AllByRecursion}

@@ -1,4 +1,7 @@
--- The word at the front of a text, byte by byte, and lines.
+-- The word at the front of a text byte by byte, bytes of one word, and lines. For `word_bytes` and
+-- `line_bytes` of `src/word_end.rt`, for `JsonEngine::end`, and for all files here that cut text
+-- into words. A byte ends a word if it is a separator or begins a comment; another one is its
+-- first.
 use Rattle.std.proofs.Common.{◌≡◌, ◌≢◌, ℕ, ◌||◌, ◌==◌, Bool, true, false, cond, inl, inr, List, [], ◌∷◌, ◌++◌, refl}
 use Rattle.std.proofs.Common.{sym, ap, ◌∙◌}
 use Rattle.std.specs.List.{slice_split, onto_first}
@@ -11,6 +14,7 @@ use Rattle.pmb_json.specs.machine.Ends.{ends_word}
 -- ---- the word at the front
 
 -- a byte other than `#` begins no comment
+-- (35 is `#`)
 outside : (b : ℕ) → (b ≡ 35 → ⊥) → in_comment false b ≡ false
 outside b other = elim (cases_eq b 10) [
   | inl line ↦ rw line refl

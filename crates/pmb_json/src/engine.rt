@@ -3,6 +3,8 @@
 //! Between two bad words a scan reads on, and the stream is told. A bad word's bytes are taken
 //! until 32 have come or it has ended: then its object goes out. What is left of its line is taken
 //! and dropped, and a new scan begins after it.
+//!
+//! Its rows: `tests_tasks`, `src/captures.rt`; `tests/rows/objects.txt`.
 
 ghost use Rattle.std.specs.Prelude.{◌≡◌, ◌⊎◌, ◌≢◌, ◌++◌, ◌≤◌, ◌<◌, ℕ, List, [], OnOk, IfOk, length};
 ghost use Rattle.pmb_bus.specs.Text.{front_word, open_word};

@@ -1,4 +1,7 @@
--- Members and texts that are appended one after the other.
+-- Members and texts that are appended one after the other, each with a bound on how long it is
+-- (`Appends`). For all functions of `src/bits.rt`, `data.rt`, `number.rt` and `voltage.rt`. What
+-- two calls append is what both lists of members spell, and their bounds add up; a member whose
+-- value is an array is written in three pieces.
 use Rattle.std.proofs.Common.{◌≡◌, ℕ, ◌+◌, ◌≤◌, codes, map, List, [], ◌∷◌, ◌++◌, true, ◌&&◌, not, ◌==◌, IsTrue, nat_le}
 use Rattle.std.proofs.Common.{ltb, false, length, refl, sym, ap, ◌∙◌, subst, append_assoc, length-append, arith}
 use Rattle.std.specs.List.{AllByRecursion}
@@ -109,6 +112,8 @@ plain_are_bytes : (key : List ℕ) → all_plain key ≡ true → AreBytes key
 plain_are_bytes [] plain = tt
 plain_are_bytes (byte ∷ more) plain =
     let here = and_parts (is_plain byte) (all_plain more) plain in
+    -- a plain byte is printable ASCII, 0x20 to 0x7e, and neither a quote (0x22) nor a backslash
+    -- (0x5c)
     let bounds = and_parts (nat_le 0x20 byte && nat_le byte 0x7e) (not (byte == 0x22) && not (byte == 0x5c)) here.0 in
     let few : byte ≤ 0x7e = leb-true byte 0x7e (and_parts (nat_le 0x20 byte) (nat_le byte 0x7e) bounds.0).1 in
     (omega (arith, few), plain_are_bytes more here.1)
@@ -123,6 +128,7 @@ pub array_appended : (key : List ℕ) (texts : List (List ℕ)) (most n : ℕ) {
     → b ≡ a ++ array_text Later key → length b ≤ length a + 21
     → AppendsTexts First texts most b c → d ≡ c ++ codes "]" → most + 22 ≤ n
     → Appends (named key (array_of (map string texts)) ∷ []) n a d
+-- the key and `[`, the texts, then `]`: 22 more bytes than the texts at most
 array_appended key texts most n {a} {b} {c} {d} fits begun short inside ended few =
     let values = items_text First (map string texts) in
     let long : length d ≡ length c + 1 = ap length ended ∙ length-append c (codes "]") in

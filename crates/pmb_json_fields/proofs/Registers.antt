@@ -1,4 +1,6 @@
--- Status bits.
+-- Status bits, from the highest down, and the bytes that make a register: one byte has 8 bits, two
+-- have 16, other numbers of bytes say nothing. For `append_set_bits` and `append_status` of
+-- `src/bits.rt`. The bits of a register are the highest and then those below it.
 use Rattle.std.proofs.Common.{◌≡◌, ℕ, ◌+◌, ◌*◌, zero, suc, List, [], ◌∷◌, ◌++◌, get_or, true, false, ltb, length, refl}
 use Rattle.std.proofs.Common.{ap, arith}
 use Rattle.std.proofs.lemmas.Bool.{ltb-false, ltb-true}

@@ -1,4 +1,6 @@
 //! The set bits of status registers.
+//!
+//! Its rows: `tests_json`, `src/fields/registers.rt`.
 
 ghost use Rattle.std.specs.Prelude.{◌≡◌, ◌+◌, ◌*◌, ◌<◌, ◌≤◌, ◌++◌, ◌∷◌, [], IfSome, IsTrue, codes, decimal, length, option_map};
 ghost use Rattle.pmb_command.specs.StatusBits.{bit_text};

@@ -1,4 +1,6 @@
 //! What is said of a command's data, by its kind.
+//!
+//! Its rows: `tests_json`, `src/fields/numbers.rt` and `registers.rt`.
 
 ghost use Rattle.std.specs.Prelude.{◌≡◌, ◌+◌, ◌≤◌, ◌++◌, length};
 ghost use Rattle.pmb_json_text.specs.declared.item_order.ItemOrder.TheVariants.{Later};

@@ -1,4 +1,6 @@
 //! Laws over the definitions alone. Each function is its contract, and does nothing.
+//!
+//! Its rows: `tests_json`, `src/fields/example.rt`, where each law is called.
 
 ghost use Rattle.std.specs.Prelude.{ℕ, List, Option};
 ghost use Rattle.pmb_coefficients.specs.Coefficients.{Coefficients};

@@ -1,4 +1,6 @@
 //! The value of a number: as an exact text, and as the nearest number.
+//!
+//! Its rows: `tests_json`, `src/fields/numbers.rt`.
 
 ghost use Rattle.std.specs.Prelude.{◌≡◌, ◌+◌, ◌≤◌, ◌∷◌, [], codes, length};
 ghost use Rattle.pmb_quantity.specs.QuantityText.{spelling};

@@ -1,4 +1,6 @@
 //! Members whose value is a text, and why a word has no value.
+//!
+//! Its rows: `tests_json`, `src/fields/voltages.rt` and `contexts.rt`.
 
 ghost use Rattle.std.specs.Prelude.{◌≡◌, ◌+◌, ◌*◌, ◌≤◌, ◌∷◌, [], IsTrue, length};
 ghost use Rattle.pmb_json_text.specs.Json.{string};

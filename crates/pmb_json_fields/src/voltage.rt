@@ -1,4 +1,6 @@
 //! Output voltages, which VOUT_MODE says how to read.
+//!
+//! Its rows: `tests_json`, `src/fields/voltages.rt` and `contexts.rt`.
 
 ghost use Rattle.std.specs.Prelude.{◌≡◌, ◌+◌, ◌≤◌, length};
 ghost use Rattle.pmb_value.specs.Vout.{format_of};

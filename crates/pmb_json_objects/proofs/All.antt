@@ -1,4 +1,6 @@
--- What holds of each object holds of all of a packet, and of all of the last ones.
+-- What holds of each object holds of all of a packet, and of all of the last ones. For the law
+-- `all_objects_are_json`, over what the law `objects_are_json` says of one object (`EachIsJson`). A
+-- packet's objects are those of its parts, one for each START.
 use Rattle.std.proofs.Common.{ℕ, ◌+◌, ◌^◌, ◌≤◌, List, [], ◌∷◌, Bool, drop, length, map, take, arith}
 use Rattle.std.specs.List.{AllByRecursion}
 use Rattle.pmb_bus.specs.declared.event.Event.{Event}
@@ -30,6 +32,7 @@ of_each object (x ∷ xs) each = (each x, of_each object xs each)
 
 -- what is said of each object of a packet
 pub record EachIsJson (seen : SeenData) : Type 0 where
+  -- of a part, a read, a call, a refused leg, an alert and an alert without an answer
   pub write : (at : ℕ) (place : Place) (part parts : ℕ) (p : PartData) → IsCount at → IsPlace place → IsCount part
       → IsCount parts → IsData seen p.addr p.code p.bytes
       → IsJsonObject (write_object seen at place part parts p).members

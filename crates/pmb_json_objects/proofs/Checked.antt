@@ -1,4 +1,6 @@
--- What is said of a byte that was refused.
+-- What the object of a refused byte says of its packet error code: whether the byte was the right
+-- one, after a whole write body. For `append_check` of `src/refused.rt`. Without a device, without
+-- a byte, or before the body is whole nothing is said.
 use Rattle.std.proofs.Common.{◌≡◌, ℕ, Bool, false, if◌then◌else◌, Option, Some, None, List, [], ◌∷◌, ◌++◌, refl, ap}
 use Rattle.std.proofs.Common.{◌∙◌}
 use Rattle.pmb_bus.specs.Address.{write_address}

@@ -1,4 +1,7 @@
--- What is counted, one after the other.
+-- What is counted, packet by packet: writes, reads, calls, refused packets and refusals of each
+-- device. For `count_transaction`, `count_parts` and `count_refusal` of `src/counts.rt`. One more
+-- at an address adds to that device's counts alone; the parts of a write are counted one after the
+-- other.
 use Rattle.std.proofs.Common.{◌≡◌, ℕ, ◌+◌, ◌<◌, ◌≤◌, Bool, true, false, if◌then◌else◌, nat_eq, Some, List, [], ◌∷◌}
 use Rattle.std.proofs.Common.{◌++◌, length, map, take, get_or, refl, sym, ap, ◌∙◌, subst, arith}
 use Rattle.std.proofs.lemmas.List.Sums.{sum_by-append}

@@ -1,4 +1,6 @@
--- What is said of data can be written.
+-- What is said of a command's data can be written as JSON: values, numbers, bits and what is raw.
+-- For the law `objects_are_json`. Each code's value is a quantity (Quantities), whose nearest
+-- decimal is a number; other texts are bytes below 256.
 use Rattle.std.proofs.Common.{ℕ, ◌+◌, ◌*◌, ◌/◌, ◌%◌, ◌^◌, ◌<◌, ◌==◌, if◌then◌else◌, Bool, true, false, Option, Some}
 use Rattle.std.proofs.Common.{None, Result, Ok, Err, List, [], ◌∷◌, codes, refl, arith}
 use Rattle.std.specs.Prelude.{IfSome}

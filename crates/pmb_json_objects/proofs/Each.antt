@@ -1,4 +1,7 @@
--- Each object can be written, and its keys are some of a list.
+-- Each object is JSON with distinct keys: a part, a read, a call, a refused leg, an alert, a
+-- refusal, a bad token, counts and the end. For the law `objects_are_json`. An object is up to five
+-- lists of members in a row; each list can be written, and its keys are some of its part of one
+-- list, in order, so none comes twice.
 use Rattle.std.proofs.Common.{ℕ, zero, suc, ◌/◌, Bool, true, false, nat_eq, Option, Some, None, List, [], ◌∷◌, ◌++◌}
 use Rattle.std.proofs.Common.{codes, map, refl, sym, subst, arith, take}
 use Rattle.std.specs.Prelude.{IfSome}
@@ -81,6 +84,7 @@ pub keys_of_said : FiveKeys → DataKeysAreSome
 keys_of_said five seen a addr code bytes = said_of_device five seen a addr code (device_with addr seen.profile) bytes
 
 pub record Below : Type 0 where
+  -- what laws of `pmb_json_text`, `pmb_decimal`, `pmb_quantity` and `pmb_json_fields` say
   pub numbers : DigitsAreNumbers
   pub decimals : DecimalsAreNumbers
   pub lowest : LowestTermsAre
@@ -292,11 +296,14 @@ module _ (below : Below) where
       → IsPlace place → IsCount part → IsCount parts → IsData seen p.addr p.code p.bytes
       → IsJsonObject (write_object seen at place part parts p).members
   write_is_json seen at place part parts p at_few placed part_few parts_few given =
+      -- the five lists: where it begins, the part, the device, the command, the bytes and what they
+      -- say
       let said : List Member = said_of seen access.Write p.addr p.code p.bytes in
       let bytes : List Member = named (codes "bytes") (digits p.bytes) ∷ named (codes "pec") (boolean p.pec) ∷ [] in
       let head : List Member = head_members at place (codes "write") in
       let command : List Member = command_members seen p.addr p.code in
       json below (write_object seen at place part parts p).members
+      -- each can be written,
       (fine_in_row head (part_members part parts) (device_member p.addr) command (bytes ++ said)
       (fine_head below.numbers at place (codes "write") at_few placed refl)
       (fine_part below.numbers part parts part_few parts_few)
@@ -308,6 +315,7 @@ module _ (below : Below) where
               p.bytes given.formats given.small,
         ),
       ))
+      -- and has its keys, in the order of all
       (in_order head (part_members part parts) (device_member p.addr) command (bytes ++ said) (tested _ head_keys refl)
       (keys_of_part part parts) (tested _ device_keys refl)
       (behind_refused [] command (tested [] refused_keys refl) (keys_of_command seen p.addr p.code))
@@ -407,6 +415,8 @@ module _ (below : Below) where
       → IfSome (written_to front) (IsSeen seen)
       → IsJsonObject (refusal_object seen at place front event reason expected).members
   refusal_is_json seen at place front event reason expected at_few placed is =
+      -- the five lists: where it begins, why, what was written, the reply, the right packet error
+      -- code
       let device : List Member = said_device_member (said_device front) in
       let written : List Member = written_members seen (written_to front) (sent front) in
       let replied : List Member = reply_members (reply front) in
@@ -416,6 +426,7 @@ module _ (below : Below) where
       ∷ named (codes "expected") (array_of (map string (kind_names expected)))
       ∷ named (codes "got") (got_value event) ∷ device in
       json below (refusal_object seen at place front event reason expected).members
+      -- each can be written,
       (fine_in_row head why written replied right
       (fine_head below.numbers at place (codes "refusal") at_few placed refl) (
         fine_text (codes "reason") (reason_name reason) refl (reason_is_bytes reason),
@@ -426,6 +437,7 @@ module _ (below : Below) where
       )
       (fine_written below seen (written_to front) (sent front) is) (fine_reply (reply front))
       (fine_right_pec (due_pec reason front event)))
+      -- and has its keys, in the order of all
       (keys_in_row head why written replied right head_keys
       (codes "part" ∷ codes "parts" ∷ codes "reason" ∷ codes "expected" ∷ codes "got" ∷ said_keys)
       (command_keys ++ sent_keys) (codes "reply" ∷ []) due_keys

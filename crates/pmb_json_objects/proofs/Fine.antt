@@ -1,4 +1,7 @@
--- Members that can be written, and whose values have no object with a key twice.
+-- Members that can be written as JSON and whose values hold no object with a key twice (`IsFine`):
+-- texts, digits, counts, tests and lists of texts. For the laws `objects_are_json` and
+-- `all_objects_are_json`. Keys of the source are tested by computation, and names of commands are
+-- bytes by what acceptance tested.
 use Rattle.std.proofs.Common.{◌≡◌, ℕ, ◌<◌, ◌^◌, ◌/◌, ◌%◌, Bool, true, false, nat_lt, nat_eq, if◌then◌else◌, Option}
 use Rattle.std.proofs.Common.{Some, None, List, [], ◌∷◌, ◌++◌, codes, decimal, get_or, map, refl, sym, subst, arith}
 use Rattle.std.proofs.Common.{inl, inr, zero, suc}
@@ -54,6 +57,7 @@ digits_are_bytes (byte ∷ bytes) = (
 -- ---- members
 
 pub record IsFine (m : Member) : Type 0 where
+  -- its key is bytes, its value can be written, and holds no object with a key twice
   pub key : AreBytes m.key
   pub value : IsWritable m.value
   pub flat : HasDistinctKeys m.value

@@ -1,4 +1,6 @@
--- Members whose keys are some of a list, in its order.
+-- Members whose keys are some of a list, in its order (`HaveKeys`). For the law `objects_are_json`:
+-- all keys of an object are some of `object_keys`, which are distinct. For members that are known
+-- it is a test that computes.
 use Rattle.std.proofs.Common.{◌≡◌, Bool, true, false, if◌then◌else◌, List, [], ◌∷◌, ◌++◌, ℕ, refl, sym, ap, subst, inl}
 use Rattle.std.proofs.Common.{inr}
 use Rattle.std.specs.Str.{bytes_eq}
@@ -10,6 +12,7 @@ use Rattle.pmb_json_text.specs.Json.{keys as keys_of}
 use Rattle.pmb_json_text.specs.Member.{IsPart, Member, members_of}
 use Rattle.pmb_json_text.proofs.Distinct.{none_is_part, parts_in_a_row}
 
+-- The keys of members are some of these, in their order.
 pub record HaveKeys (members : List Member) (all : List (List ℕ)) : Type 0 where
   pub part : IsPart (keys members) all
 

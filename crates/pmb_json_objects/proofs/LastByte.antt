@@ -1,4 +1,6 @@
--- The byte that was refused, and those before it.
+-- Bytes with one more at their end: that is the last byte, and they are those before it. For
+-- `append_check` of `src/refused.rt`, by Checked: the byte that a device refused is the last of
+-- those sent.
 use Rattle.std.proofs.Common.{◌≡◌, ℕ, Some, List, [], ◌∷◌, ◌++◌, refl, ap}
 use Rattle.pmb_partial_packet.specs.PartialPacket.{but_last}
 use Rattle.pmb_json_objects.specs.Packets.{last_byte}

@@ -1,4 +1,7 @@
--- Members that are appended one list after the other.
+-- Members that are appended one list after the other, from the brace to the end of the line, and
+-- arrays. For all functions that write an object: `write_line`, `read_line`, `refusal_line`,
+-- `append_command` and the others. A text of members in two lists is that of the first and then,
+-- after a comma, that of the second.
 use Rattle.std.proofs.Common.{◌≡◌, ℕ, List, [], ◌∷◌, ◌++◌, codes, sym, ap, refl, ◌∙◌, append_assoc, map}
 use Rattle.std.proofs.lemmas.List.{append-nil}
 use Rattle.pmb_json_text.specs.declared.item_order.ItemOrder.{ItemOrder}

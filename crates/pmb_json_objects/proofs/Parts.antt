@@ -1,4 +1,6 @@
--- Which part, of how many.
+-- Which part of how many: a part of a group says its place and the number of parts, the only part
+-- of a write says nothing. For `append_part` of `src/members.rt`. By the definition, for one part
+-- and for several.
 use Rattle.std.proofs.Common.{◌≡◌, ℕ, ◌<◌, ◌≤◌, List, [], ◌∷◌, codes, if◌then◌else◌, ap}
 use Rattle.std.proofs.lemmas.Bool.{le-leb, lt-leb}
 use Rattle.pmb_json_text.specs.Member.{Member, named, count}

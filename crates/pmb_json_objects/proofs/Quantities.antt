@@ -1,4 +1,6 @@
--- The value of each code of each format is a quantity.
+-- The value of each code of each format is a quantity: its numerator and its denominator fit, in
+-- lowest terms. For the law `objects_are_json`, by DataMembers. The bounds are those of each
+-- format's fields (5, 11 or 16 bits, and a power of ten up to 9), and lowest terms are no larger.
 use Rattle.std.proofs.Common.{◌≡◌, ◌≢◌, ℕ, zero, suc, ◌+◌, ◌-◌, ◌*◌, ◌/◌, ◌%◌, ◌^◌, ◌<◌, ◌≤◌, inl, inr, ℤ, pos, negsuc}
 use Rattle.std.proofs.Common.{neg_ℤ, ◌+ℤ◌, ◌-ℤ◌, ◌*ℤ◌, ◌≤ℤ◌, unsigned_abs, refl, sym, ap, ◌∙◌, arith}
 use Rattle.std.proofs.lemmas.Bool.{cases_lt, cond_above, cond_below}
@@ -80,6 +82,7 @@ sixteen_bits field fits =
 
 -- ---- the linear formats
 
+-- an exponent of five bits, so a power of two up to 2 ^ 31
 power_small : (field : ℕ) → field < 32 → power (twos_complement 5 field) ≤ 2 ^ 31
 power_small field fits = pow-le-pow_right {n = 2} (omega arith) {i = unsigned_abs (twos_complement 5 field +ℤ pos 16)}
     {j = 31} (five_bits field fits)
@@ -104,6 +107,7 @@ positive_parts (pos zero) least greatest = (omega arith, omega arith)
 positive_parts (pos (suc n)) least greatest = (omega (arith, ints, greatest), omega arith)
 positive_parts (negsuc n) least greatest = (omega arith, omega (arith, ints, least))
 
+-- ten to the ninth at most
 tens_small : (k : ℕ) → k ≤ 9 → 10 ^ k ≤ 1000000000
 tens_small k few = pow-le-pow_right {n = 10} (omega arith) {i = k} {j = 9} few
 

@@ -1,4 +1,6 @@
--- The members that objects share can be written, and which keys they have.
+-- The members that objects share: where an object begins, the part, the device, the command and
+-- PAGE. They can be written, and which keys they have. For the law `objects_are_json`, by Each.
+-- PAGE and the command's name are bytes, by what is seen of the device.
 use Rattle.std.proofs.Common.{◌≡◌, ℕ, ◌<◌, Bool, true, false, nat_eq, nat_le, Option, Some, None, List, [], ◌∷◌, codes}
 use Rattle.std.proofs.Common.{refl, arith}
 use Rattle.std.specs.Prelude.{IfSome}

@@ -1,4 +1,5 @@
--- The texts of numbers and of bits are bytes.
+-- The texts of numbers and of bits are bytes below 256. For the law `objects_are_json`, by
+-- DataMembers. Digits are computed; the names of status bits are tested in the whole table.
 use Rattle.std.proofs.Common.{◌≡◌, ℕ, zero, suc, ◌+◌, ◌*◌, ◌/◌, ◌%◌, ◌^◌, ◌<◌, Bool, true, false, ◌==◌, cond, nat_eq}
 use Rattle.std.proofs.Common.{nat_lt, Option, Some, None, List, [], ◌∷◌, ◌++◌, codes, decimal, ℤ, pos, negsuc}
 use Rattle.std.proofs.Common.{unsigned_abs, reverse, slice_get, refl, arith}
@@ -83,6 +84,7 @@ all_texts [] are bit = tt
 all_texts (name ∷ names) are zero = text_at name (and_parts (is_text name) (list_all is_text names) are).0
 all_texts (name ∷ names) are (suc bit) = all_texts names (and_parts (is_text name) (list_all is_text names) are).1 bit
 
+-- Each name of a register's bits is bytes, by the test.
 record AreTexts (names : BitNames) : Type 0 where
   each : list_all is_text (reverse names) ≡ true
 
@@ -93,6 +95,8 @@ chosen false these those = those
 status_bits_are_texts : (code : ℕ) → AreTexts (status_bits code)
 unfolding status_bits
 status_bits_are_texts code =
+    -- STATUS_BYTE 0x78, STATUS_WORD 0x79, STATUS_VOUT 0x7a, STATUS_IOUT 0x7b, STATUS_INPUT 0x7c,
+    -- STATUS_TEMPERATURE 0x7d, STATUS_CML 0x7e, STATUS_FANS_1_2 0x81; no others have names
     chosen (nat_eq code 0x78) (record { each = refl })
     (chosen (nat_eq code 0x79) (record { each = refl }) (chosen (nat_eq code 0x7a) (record { each = refl })
     (chosen (nat_eq code 0x7b) (record { each = refl })

@@ -1,4 +1,6 @@
--- The objects of devices that came.
+-- The objects of devices that came, one after the other. For `put_device` and `put_counts`. A
+-- device that came has one object, one that didn't has none, so the objects of addresses are those
+-- of each in turn.
 use Rattle.std.proofs.Common.{◌≡◌, ℕ, true, Some, List, [], ◌∷◌, ◌++◌, map, ap, ◌∙◌, refl}
 use Rattle.std.proofs.lemmas.List.{map-append}
 use Rattle.std.proofs.lemmas.List.Elements.{filter-append}

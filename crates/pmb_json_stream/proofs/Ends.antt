@@ -1,4 +1,6 @@
--- Where events end.
+-- Where events end: inside a packet, or between two. For `put_bad_word` and `put_end`. The last
+-- span is an end inside a packet exactly where the reader stands in one; then its object goes out
+-- before the counts, and it counts as a refusal.
 use Rattle.std.proofs.Common.{◌≡◌, ◌≢◌, ℕ, ◌+◌, Some, None, List, [], ◌∷◌, ◌++◌, codes, length, append-nil, refl, sym}
 use Rattle.std.proofs.Common.{ap, ◌∙◌, subst, arith}
 use Rattle.pmb_bus.specs.declared.event.Event.{Event}
@@ -51,6 +53,7 @@ module _ (profile : List DeviceParts) where
 
 -- Events that end inside a packet: those of the packet are viable.
 pub record EndsInside (reached : Reached) (n : ℕ) (front : List Event) : Type 0 where
+  -- the reader stands inside a packet that began at event n
   pub standing : reached.standing ≡ Open n front
   pub viable : Viable reached.profile front
 

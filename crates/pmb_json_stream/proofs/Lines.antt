@@ -1,4 +1,6 @@
--- Lines of objects, put out one after the other.
+-- Lines of objects that go out one after the other, and what doesn't go out: an object of a device
+-- that isn't wanted has no line. For `put_no_alert`, `put_device`, `put_counts`, `put_bad_word` and
+-- `put_end`. A line is appended to the text that waits, after room was made for it.
 use Rattle.std.proofs.Common.{◌≡◌, ℕ, true, false, Option, None, List, [], ◌∷◌, ◌++◌, filter, flat_map, append-nil}
 use Rattle.std.proofs.Common.{append_assoc, refl, sym, ap, ◌∙◌, subst}
 use Rattle.std.proofs.lemmas.List.Elements.{filter-append}

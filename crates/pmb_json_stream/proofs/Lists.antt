@@ -1,4 +1,6 @@
--- Fronts of lists.
+-- Fronts of lists. For `keep_start`, which keeps the first 17 STARTs of a packet, for `put_parts`,
+-- and for `put_counts` and `put_bad_word`. A front of a front is a front, and what comes after a
+-- full one changes nothing.
 use Rattle.std.proofs.Common.{◌≡◌, ℕ, zero, suc, ◌+◌, ◌≤◌, List, [], ◌∷◌, ◌++◌, length, map, take, drop, get_or, refl}
 use Rattle.std.proofs.Common.{sym, ap, ◌∙◌, arith}
 use Rattle.std.proofs.Math.ListN.{get_or-map}

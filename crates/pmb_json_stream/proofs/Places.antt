@@ -1,4 +1,6 @@
--- The places of events.
+-- The places of events in the text. For `take_event`. By two laws of `pmb_places`: an event has its
+-- word's place, whatever follows in the text, and after all events is the end of the last word.
+-- They are premises here, since a body calls the laws.
 use Rattle.std.proofs.Common.{◌≡◌, ℕ, ◌+◌, ◌-◌, Some, List, [], ◌∷◌, ◌++◌, length, slice_index_or, sym, ap, ◌∙◌}
 use Rattle.std.proofs.Common.{length-append, arith}
 use Rattle.std.proofs.lemmas.List.{get_or_past, length-map}

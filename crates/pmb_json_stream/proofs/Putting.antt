@@ -1,4 +1,6 @@
--- Objects that a stream puts out, one after the other.
+-- Objects that a stream puts out, one after the other (`PutsObjects`). For `put_packet`,
+-- `put_parts`, `put_refusal` and the functions of each kind of packet. An object that isn't wanted
+-- puts out nothing; two lists of objects put out one after the other are one.
 use Rattle.std.proofs.Common.{◌≡◌, ℕ, true, false, Option, List, [], ◌∷◌, ◌++◌, map, refl, sym, ap, ◌∙◌}
 use Rattle.std.proofs.lemmas.List.{append_cancel_left}
 use Rattle.pmb_io.specs.Outgoing.{PutsText}

@@ -1,4 +1,6 @@
--- What spans say, one after the other.
+-- What spans say, one list after the other: their transactions, counts and objects. For each
+-- function that tells of a span more (`take_group`, `take_line`, `take_word`, `put_bad_word`,
+-- `put_end`, and the visits). By induction over the spans.
 use Rattle.std.proofs.Common.{◌≡◌, ℕ, ◌+◌, Some, None, List, [], ◌∷◌, ◌++◌, length, append-nil, append_assoc, refl, sym}
 use Rattle.std.proofs.Common.{ap, ◌∙◌}
 use Rattle.std.proofs.lemmas.List.{map-append}

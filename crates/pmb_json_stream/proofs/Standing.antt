@@ -1,4 +1,6 @@
--- What a stream keeps, one event after the other.
+-- What a stream keeps from event to event: what it was given so far, the legs and STARTs of the
+-- packet under way, and how many events came. For `take_event`, `take_packet`, `take_word` and
+-- `visit_event`. Between packets nothing is kept; while events are passed over, only that.
 use Rattle.std.proofs.Common.{◌≡◌, ℕ, ◌+◌, false, List, [], ◌∷◌, ◌++◌, length, append_assoc, length-append, sym, ap}
 use Rattle.std.proofs.Common.{◌∙◌, subst, arith}
 use Rattle.std.proofs.lemmas.Bool.{false≢true}

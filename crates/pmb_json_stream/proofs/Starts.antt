@@ -1,4 +1,6 @@
--- The objects of a packet are those that are made of what is kept of its STARTs.
+-- The objects of a packet are those that are made of what is kept of its STARTs. For `put_packet`
+-- and `put_parts`. At most 17 STARTs are kept, one for each of 16 parts and a refused leg; each
+-- object has the place of its START.
 use Rattle.std.proofs.Common.{◌≡◌, ℕ, zero, suc, ◌+◌, ◌<◌, ◌≤◌, Bool, List, [], ◌∷◌, ◌++◌, length, map, take, drop}
 use Rattle.std.proofs.Common.{get_or, append-nil, refl, sym, ap, ◌∙◌, arith}
 use Rattle.std.proofs.lemmas.List.{drop-map, length-map, map-append}

@@ -1,4 +1,7 @@
--- The lines of what was reached, one visit after the other.
+-- The lines of what was reached, visit by visit: words and events, a packet, a refusal. For
+-- `take_word`, `take_group`, `put_end` and the visits (`visit_event`, `visit_packet`,
+-- `visit_refusal`). A visit appends the lines of one span to those of the spans before it, and they
+-- stay the same whatever text follows.
 use Rattle.std.proofs.Common.{◌≡◌, ℕ, ◌+◌, Some, List, [], ◌∷◌, ◌++◌, length, append-nil, append_assoc, length-append}
 use Rattle.std.proofs.Common.{refl, sym, ap, ◌∙◌, subst, arith}
 use Rattle.pmb_bus.specs.declared.event.Event.{Event}
@@ -193,10 +196,12 @@ module _ (b : Before) (start old new : Stream) (reached : Reached) (text : List 
       (kept_objects (stream_seen old (with_reached b reached)) old.begun.items t)
       → HasToldOf b start new (behind_packet reached n front event t) (text ++ added)
   told_packet n front event t standing ends packet same passing cleared knows added added_is =
+      -- what is kept of the packet, how many events came, and its span
       let kept = kept_packet n front standing in
       let counted = counted_packet n front standing in
       let span = ReadSpan n (front ++ event ∷ []) t in
       let there = behind_packet reached n front event t in record {
+        -- the choice stays, and the stream knows the packet's transaction and counts it
         same = same_then start old new told.same same;
         at = record {
           between = told.at.between;
@@ -205,9 +210,11 @@ module _ (b : Before) (start old new : Stream) (reached : Reached) (text : List 
               (append_assoc b.ts (transactions_in reached.spans) (t ∷ [])
               ∙ ap (λ (ts : List TransactionData). b.ts ++ ts) (sym (transactions_append reached.spans (span ∷ []))))
               (sym (counts_append b.counts reached.spans (span ∷ []))) knows;
+          -- nothing of it is kept after it
           packet = keeps_none b new reached.text (n + length front + 1) (passing ∙ kept.reading) cleared;
           counted = omega (arith, counted, length-append reached.events (event ∷ []));
         };
+        -- its lines are those made of what was kept, under the choice and the profile of the start
         lines = lines_more (stream_choice start) (stream_profile start) b reached.text reached.spans span text added
             told.lines
             (subst (λ (t : List ℕ). AddsLines (stream_choice start) (stream_profile start) b reached.text reached.spans
@@ -239,6 +246,7 @@ module _ (b : Before) (start old new : Stream) (reached : Reached) (text : List 
       (Some event) refusal.reason refusal.expected ∷ [])
       → HasToldOf b start new (behind_refusal reached n front event refusal) (text ++ added)
   told_refusal law n front event refusal standing spells same keeps knows added place placed added_is =
+      -- how many events came, its span, and its line as a function of what it depends on
       let counted = counted_packet n front standing in
       let span = RefusedSpan n front event refusal in
       let there = behind_refusal reached n front event refusal in
@@ -246,6 +254,7 @@ module _ (b : Before) (start old new : Stream) (reached : Reached) (text : List 
       object_lines c.devices
       (refusal_object (seen_behind c p (b.ts ++ transactions_in reached.spans)) (capped (b.n + length reached.events)) q
       front (Some event) refusal.reason refusal.expected ∷ []) in record {
+        -- the choice stays, and the stream knows of the refusal, which tells no transaction
         same = same_then start old new told.same same;
         at = record {
           between = told.at.between;
@@ -257,6 +266,7 @@ module _ (b : Before) (start old new : Stream) (reached : Reached) (text : List 
           packet = keeps;
           counted = counts_passed (n + length front) reached.events event counted;
         };
+        -- its line has the place of the last word, since the refused event is the last that came
         lines = lines_more (stream_choice start) (stream_profile start) b reached.text reached.spans span text added
             told.lines
             (subst (λ (t : List ℕ). AddsLines (stream_choice start) (stream_profile start) b reached.text reached.spans

@@ -1,4 +1,7 @@
--- The events inside a packet, taken one by one from its canonical text.
+-- The events inside a packet, taken one by one from its canonical text. For `take_group` and
+-- `text_length` of `src/groups.rt`, since each part's object needs the place of its START. Before
+-- STOP each event is inside the packet, its text is at the front of what is left, and the next
+-- event's comes after it.
 use Rattle.std.proofs.Common.{◌≡◌, ℕ, ◌+◌, Option, Some, None, List, [], ◌∷◌, ◌++◌, length, take, drop, append-nil}
 use Rattle.std.proofs.Common.{append_assoc, length-append, refl, sym, ap, ◌∙◌, subst, arith}
 use Rattle.std.proofs.Math.Seq.{take-append_seam, drop-append_seam}
@@ -149,6 +152,7 @@ FindsStop text result = (rest : List ℕ) → text ≡ text_of Stop ++ rest → 
 
 -- one that is found is the next
 pub record IsNext (event : Event) (back : List Event) (text : List ℕ) : Type 0 where
+  -- the events after it
   pub more : List Event
   pub split : back ≡ event ∷ more
   pub is_text : text ≡ text_of event ++ canonical_text (more ++ Stop ∷ [])

@@ -1,4 +1,6 @@
--- A whole canonical packet, told at once.
+-- A whole canonical packet with one START, told at once. For `take_line` and `visit_whole`. Its
+-- text is `S `, the rest, and `P` with LF: so its START stands where the text begins, and the
+-- stream stands after it as if its events had come one by one.
 use Rattle.std.proofs.Common.{◌≡◌, ℕ, Bool, true, false, zero, suc, ◌+◌, ◌<◌, ◌≤◌, List, [], ◌∷◌, ◌++◌, codes, length}
 use Rattle.std.proofs.Common.{slice_index_or, append-nil, append_assoc, length-append, refl, sym, ap, ◌∙◌, subst, arith}
 use Rattle.std.specs.List.{Contains}
@@ -36,6 +38,7 @@ use Rattle.pmb_json_stream.proofs.Told.{AddsLines, LinesAre, lines_behind, lines
 -- ---- its events: START, others, and STOP
 
 pub record IsLine (events : List Event) : Type 0 where
+  -- the events between START and STOP
   pub rest : List Event
   pub split : events ≡ Start ∷ (rest ++ Stop ∷ [])
   pub no_stop : Contains rest Stop → ⊥
@@ -252,16 +255,19 @@ module _ (b : Before) (start mid new : Stream) (reached : Reached) (text : List 
       let there = behind_whole reached n (canonical_text (line rest)) (line rest) t in
       let bytes = reached.text ++ canonical_text (line rest) in
       let span = ReadSpan n (line rest) t in
+      -- what is kept after its START, by what was told so far
       let kept : KeepsPacket b mid (reached.text ++ codes "S ") n (Start ∷ []) =
       subst (λ (s : Standing). KeepsUnderWay b mid (reached.text ++ codes "S ") (standing_after s Start)) standing
       told.at.packet in
       let counted : n + 1 ≡ length (reached.events ++ Start ∷ []) =
       subst (λ (s : Standing). IsCountOf (standing_after s Start) (length (reached.events ++ Start ∷ []))) standing
       told.at.counted in
+      -- how many events came, with those of the packet
       let so_far : length (reached.events ++ Start ∷ []) ≡ length reached.events + 1 =
       length-append reached.events (Start ∷ []) in
       let own = two_more rest in
       let all = length-append reached.events (line rest) in
+      -- the lines so far stay, whatever bytes follow
       let before : LinesAre (stream_choice start) (stream_profile start) b bytes reached.spans text =
       subst (λ (l : List ℕ). LinesAre (stream_choice start) (stream_profile start) b l reached.spans text)
       (append_assoc reached.text (codes "S ") (rest_text rest))
@@ -272,6 +278,7 @@ module _ (b : Before) (start mid new : Stream) (reached : Reached) (text : List 
         at = record {
           between = told.at.between;
           profile = told.at.profile ∙ sym same.profile;
+          -- the stream knows all its bytes and events, and its transaction
           knows = knows_as _ (with_reached b there) new
               (append_assoc b.read (reached.text ++ codes "S ") (rest_text rest)
               ∙ ap (λ (l : List ℕ). b.read ++ l) (append_assoc reached.text (codes "S ") (rest_text rest)))

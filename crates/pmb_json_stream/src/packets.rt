@@ -1,4 +1,6 @@
 //! The objects of a packet.
+//!
+//! Its rows: `tests/rows/objects.txt`.
 
 ghost use Rattle.std.specs.Prelude.{◌≡◌, ◌+◌, ◌<◌, ◌≤◌, ◌∷◌, [], MatchOption, OnOk, drop, length, map, take};
 ghost use Rattle.pmb_io.specs.Calls.{WriterTells};

@@ -1,4 +1,7 @@
--- The digits of a number: they are a number of JSON, and come two at a time.
+-- The digits of a whole number: they are a number of JSON, and two of them come from a table at a
+-- time. For `append_number`, `append_pair`, `append_two` and `append_four` of `src/number.rt`, and
+-- the law `digits_are_a_number`. The table `PAIRS` is computed for all numbers below a hundred; 48
+-- is the digit 0, and 57 the digit 9.
 use Rattle.std.proofs.Common.{◌≡◌, ℕ, zero, suc, ◌+◌, ◌*◌, ◌/◌, ◌%◌, ◌^◌, ◌<◌, ◌≤◌, ◌==◌, ◌&&◌, Bool, List, [], ◌∷◌}
 use Rattle.std.proofs.Common.{◌++◌, length, get_or, decimal, refl, sym, ap, ◌∙◌, subst, append_assoc, arith, inl, inr}
 use Rattle.std.proofs.lemmas.Bool.{le-leb, and_from, and_parts, eqb-true}

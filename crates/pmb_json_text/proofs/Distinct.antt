@@ -1,4 +1,6 @@
--- Keys that stay distinct when some are left out, and a test of keys that computes.
+-- Keys that stay distinct where some are left out, and a test that tells distinct keys by
+-- computing. For the laws `fewer_keys_are_distinct` and `tested_keys_are_distinct`, and for the
+-- objects of `pmb_json_objects`. By induction over the keys.
 use Rattle.std.proofs.Common.{◌≡◌, ◌≢◌, ℕ, true, not, List, [], ◌∷◌, ◌++◌, refl, sym, ap, subst, inl, inr}
 use Rattle.std.proofs.lemmas.Bool.{and_parts, both_ways, not-true}
 use Rattle.std.proofs.lemmas.Slice.Eq.{bytes_eq-Decides}

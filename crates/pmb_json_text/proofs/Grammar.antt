@@ -1,4 +1,6 @@
--- What is spelled is JSON: each part of a spelling is in the grammar.
+-- What is spelled is JSON: each part of a spelling is in the grammar of RFC 8259, as specs define
+-- it. For the laws `spelling_is_json` and `line_is_json`. A plain byte stands for itself, another
+-- one is `\u` and four digits; lists and objects go member by member.
 use Rattle.std.proofs.Common.{◌≡◌, ◌≢◌, ℕ, zero, suc, ◌<◌, ◌≤◌, Bool, true, false, not, ◌&&◌, ◌==◌, nat_le, List, []}
 use Rattle.std.proofs.Common.{◌∷◌, ◌++◌, codes, slice_index, ◌⊎◌, refl, sym, ap, arith, inl, inr, cond}
 use Rattle.std.proofs.lemmas.Bool.{and_parts, both_ways, cases_Bool, eq-eqb, leb-true, not-true}
@@ -20,6 +22,7 @@ use Rattle.pmb_json_text.proofs.Plain.{plain_as_it_is}
 not_equal : (a b : ℕ) → not (a == b) ≡ true → a ≢ b
 not_equal a b differ = λ same. both_ways (a == b) (not-true (a == b) differ) (eq-eqb a b same)
 
+-- a plain byte is printable ASCII, and neither a quote (0x22) nor a backslash (0x5c)
 pub plain_parts : (byte : ℕ) → is_plain byte ≡ true → (0x20 ≤ byte) × (byte ≤ 0x7e) × (byte ≢ 0x22) × (byte ≢ 0x5c)
 plain_parts byte plain =
     let both = and_parts (nat_le 0x20 byte && nat_le byte 0x7e) (not (byte == 0x22) && not (byte == 0x5c)) plain in

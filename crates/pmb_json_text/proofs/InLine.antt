@@ -1,4 +1,6 @@
--- What is spelled is printable ASCII alone.
+-- What is spelled is printable ASCII alone, from 0x20 to 0x7e, so it has no LF and fits in one
+-- line. For the law `spelling_fits_in_line`. Each piece is so: strings by their escapes, numbers by
+-- their digits, signs by computation.
 use Rattle.std.proofs.Common.{◌≡◌, ℕ, ◌<◌, ◌≤◌, Bool, true, false, ◌&&◌, nat_le, List, [], ◌∷◌, ◌++◌, codes, refl, sym}
 use Rattle.std.proofs.Common.{◌⊎◌, subst, arith, inl, inr}
 use Rattle.std.proofs.lemmas.Bool.{and_parts, cases_Bool, leb-true}

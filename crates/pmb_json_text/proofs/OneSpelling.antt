@@ -1,4 +1,6 @@
--- Two strings of bytes that are spelled alike are the same.
+-- Two strings of bytes that are spelled alike are the same. For the law `one_string`. Byte by byte:
+-- a plain byte is its own character, an escape is six (92 117 48 48 are `\u00`), and a backslash is
+-- not plain, so they are told apart.
 use Rattle.std.proofs.Common.{◌≡◌, ℕ, ◌/◌, ◌%◌, ◌<◌, true, false, List, [], ◌∷◌, ◌++◌, codes, slice_index, Some, refl}
 use Rattle.std.proofs.Common.{sym, ap, ap₂, ◌∙◌, arith, ◌⊎◌, inl, inr, append_assoc}
 use Rattle.std.proofs.lemmas.Bool.{cases_Bool}
@@ -27,6 +29,7 @@ same_digit a b first second same =
     some_same a b (sym (IsDigits-lower_digits a first) ∙ ap hex_digit_value same ∙ IsDigits-lower_digits b second)
 
 record Step (x y : ℕ) (a b : List ℕ) : Type 0 where
+  -- the bytes are the same, and so is what follows
   byte : x ≡ y
   rest : a ≡ b
 

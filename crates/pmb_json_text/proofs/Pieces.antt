@@ -1,4 +1,7 @@
--- Members and values in pieces.
+-- Members and values in pieces, as the functions write them: a key, then its value; a comma where
+-- it isn't the first; an object and an array from begin to end. For all functions of
+-- `src/member.rt`, `text.rt` and `line.rt`, and for laws such as `members_follow_members`. By what
+-- `members_text` and `items_text` are.
 use Rattle.std.proofs.Common.{◌≡◌, ℕ, List, [], ◌∷◌, ◌++◌, codes, IsTrue, nat_le, length, refl, sym, ap, ◌∙◌}
 use Rattle.std.proofs.Common.{append_assoc, ◌≤◌}
 use Rattle.std.proofs.lemmas.Bool.{and_parts, leb-true}

@@ -1,4 +1,6 @@
--- Bytes that a string has as they are; hexadecimal digits are among them.
+-- Bytes that a string has as they are (plain ones); hexadecimal digits are among them. For
+-- `is_plain` of `src/text.rt` and `append_quoted_digits`. The table `PLAIN` is computed as a whole
+-- for all 256 bytes, and so are the digits.
 use Rattle.std.proofs.Common.{◌≡◌, ℕ, zero, suc, ◌/◌, ◌%◌, ◌<◌, ◌==◌, Bool, true, cond, ◌&&◌, codes, List, [], ◌∷◌}
 use Rattle.std.proofs.Common.{◌++◌, get_or, slice_index, refl, ap, ap₂, arith, inl, inr}
 use Rattle.std.proofs.lemmas.Bool.{agree_below, agree_below_at, and_parts, and_from, cases_lt}

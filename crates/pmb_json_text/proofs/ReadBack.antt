@@ -1,4 +1,6 @@
--- What is spelled is read back by the reader of the crate `json`, as that value.
+-- What is spelled is read back by the reader of the crate `json`, as that value. For the laws
+-- `spelling_reads_back` and `line_reads_back`. First the spelling's lexemes, then their tokens,
+-- then the value: each list and object by its first element and the others.
 use Rattle.std.proofs.Common.{◌≡◌, ℕ, ◌≤◌, Bool, true, false, cond, List, [], ◌∷◌, ◌++◌, codes, Some, option_and_then}
 use Rattle.std.proofs.Common.{refl, sym, ap, ap₂, ◌∙◌, append_assoc, append-nil}
 use Rattle.json.specs.Token.{Token, bad}

@@ -1,4 +1,6 @@
--- A number is a number by the reader of the crate `json` too.
+-- A number of our grammar is a number by the reader of the crate `json` too. For the laws
+-- `spelling_reads_back` and `line_reads_back`. Its parts are read from the front: a minus, digits,
+-- a point with digits (46 is the point), an exponent; each ends where the next begins.
 use Rattle.std.proofs.Common.{◌≡◌, ℕ, ◌+◌, ◌≤◌, Bool, true, false, cond, ◌==◌, ◌||◌, nat_le, List, [], ◌∷◌, ◌++◌}
 use Rattle.std.proofs.Common.{length, drop, Option, Some, None, option_and_then, refl, sym, ap, ap₂, ◌∙◌, subst, arith}
 use Rattle.std.proofs.Common.{inl, inr}

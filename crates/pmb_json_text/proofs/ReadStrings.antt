@@ -1,4 +1,6 @@
--- A string is read back by the reader of the crate `json`, its characters in UTF-8.
+-- A string is read back by the reader of the crate `json`, as its characters in UTF-8. For the laws
+-- `spelling_reads_back` and `line_reads_back`. Byte by byte: a plain byte is itself, an escape is a
+-- code unit below 256, which is no surrogate. 34 is the quote, 92 117 48 48 are `\u00`.
 use Rattle.std.proofs.Common.{◌≡◌, ℕ, ◌/◌, ◌%◌, ◌<◌, Bool, true, false, not, cond, ◌==◌, List, [], ◌∷◌, ◌++◌}
 use Rattle.std.proofs.Common.{slice_index, Option, Some, None, unwrap_or, option_and_then, refl, sym, ap, ap₂, ◌∙◌}
 use Rattle.std.proofs.Common.{arith, inl, inr, ◌⊎◌, append_assoc}
@@ -18,6 +20,7 @@ use Rattle.pmb_json_text.proofs.OneSpelling.{escape_as_six, plain_as_one}
 
 -- what the reader makes of a byte's spelling, before any text
 record Passes (byte : ℕ) : Type 0 where
+  -- it is read as its character, and the lexer stays inside the string
   read : (rest : List ℕ) → content plain (escaped byte ++ rest) ≡ prepend (encode_utf8 byte) (content plain rest)
   lexed : (rest : List ℕ) → lex in_string (escaped byte ++ rest) ≡ lex in_string rest
 

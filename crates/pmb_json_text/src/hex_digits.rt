@@ -3,6 +3,8 @@
 //! The digits are those of the crate `hex`, by its definition. Its functions write over bytes that are
 //! there already: a byte's digits would go into a cleared buffer and be copied from there, at four times
 //! the cost.
+//!
+//! Its rows: `tests_json`, `src/objects/objects.rt`.
 
 ghost use Rattle.std.specs.Prelude.{◌≡◌, ◌+◌, ◌*◌, ◌≤◌, ◌++◌, ◌∷◌, [], length};
 ghost use Rattle.hex.specs.Hex.{encode_lower};

@@ -1,4 +1,6 @@
 //! Where a member or a value stands among its like.
+//!
+//! Its rows: `tests_json`, `src/objects/objects.rt`.
 
 /// Whether something comes before it in its object or array: a comma stands before each but the
 /// first.

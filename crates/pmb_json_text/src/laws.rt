@@ -1,5 +1,7 @@
 //! Laws over the definitions alone: what is written is JSON, and an object with its LF is a line.
 //! Each function is its contract, and does nothing.
+//!
+//! Its rows: `tests_json`, `src/objects/laws.rt`, where each law is called.
 
 ghost use Rattle.std.specs.Prelude.{◌≡◌, ◌<◌, ◌≤◌, ◌^◌, ℕ, List, [], ◌∷◌, ◌++◌, Some, IsTrue, codes, decimal};
 ghost use Rattle.json.specs.Json.{document, max_depth};

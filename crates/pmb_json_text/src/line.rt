@@ -1,4 +1,6 @@
 //! The begin and the end of an object on a line of its own.
+//!
+//! Its rows: `tests_json`, `src/objects/objects.rt`.
 
 ghost use Rattle.std.specs.Prelude.{◌≡◌, ◌+◌, ◌≤◌, ◌++◌, codes, length};
 

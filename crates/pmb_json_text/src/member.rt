@@ -1,4 +1,6 @@
 //! Members of an object. Each takes its key, a short one of plain characters, and its place.
+//!
+//! Its rows: `tests_json`, `src/objects/objects.rt`.
 
 ghost use Rattle.std.specs.Prelude.{◌≡◌, ◌+◌, ◌*◌, ◌≤◌, ◌++◌, ◌∷◌, [], IsTrue, length, codes};
 ghost use Rattle.pmb_json_text.specs.Json.{IsNumber, null, boolean, number as number_value, string};

@@ -3,6 +3,8 @@
 //! Most numbers of an object are short: places in a capture, and counts. Those below a hundred
 //! million are written in place, two digits at a time. Longer ones are formatted by `itoa`, which
 //! clears a buffer for each, and then copied: for a short number that costs several times as much.
+//!
+//! Its rows: `tests_json`, `src/objects/numbers.rt`.
 
 ghost use Rattle.std.specs.Prelude.{◌≡◌, ◌+◌, ◌/◌, ◌%◌, ◌<◌, ◌≤◌, ◌++◌, ◌∷◌, [], decimal, length};
 

@@ -1,4 +1,6 @@
 //! Text put at the end of bytes, as it is and as it stands in a string.
+//!
+//! Its rows: `tests_json`, `src/objects/strings.rt`.
 
 ghost use Rattle.std.specs.Prelude.{◌≡◌, ◌+◌, ◌*◌, ◌≤◌, ◌++◌, length};
 ghost use Rattle.pmb_json_text.specs.Json.{string};

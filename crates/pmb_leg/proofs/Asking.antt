@@ -1,4 +1,6 @@
--- What is asked by a body, and how it is answered.
+-- What a written body asks for, and how that is answered: the form of the reply, and the packet
+-- error code over both legs. For `WrittenLeg::ask`. A body asks in one form, so the answer that is
+-- expected says the replies that the definitions allow.
 use Rattle.std.proofs.Common.{◌≡◌, ℕ, ◌↔◌, inl, inr, Bool, true, Option, Some, List, [], ◌∷◌, ◌++◌, length, sym, ap}
 use Rattle.std.proofs.Common.{subst, ◌∙◌, arith}
 use Rattle.pmb_bus.specs.Pec.{pec}

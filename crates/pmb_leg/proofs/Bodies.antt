@@ -1,4 +1,6 @@
--- Bodies, by their code and the bytes after it.
+-- Bodies as their code and the bytes after it: whole ones, those that go on, and those that begin.
+-- For `take_code` and `says`. After the code are the data of a write, of a call in a first leg, or
+-- nothing for a read (`IsBehind`); so what is said of data in a form (Lefts) is said of bodies.
 use Rattle.std.proofs.Common.{◌≡◌, ℕ, ◌<◌, ◌⊎◌, inl, inr, Bool, true, false, ◌||◌, Option, Some, None, is_some, List}
 use Rattle.std.proofs.Common.{[], ◌∷◌, ◌++◌, length, refl, sym, ap, subst, ◌∙◌, arith, length-append}
 use Rattle.std.proofs.lemmas.Bool.{or_left, or_right}
@@ -74,6 +76,7 @@ module _ (before : List ℕ) where
   spells_whole_of None mode bytes left closed spells = absurd spells
   spells_whole_of (Some form) mode bytes left is spells = spells_whole before form mode bytes left is spells
 
+  -- 257: at most a count, 255 bytes of data and a packet error code
   pub on_of : (form : Option Form) (mode : PecMode) (bytes : List ℕ) (left : DataLeft)
       → LeavesOf form mode before bytes left → goes_on left ≡ true → length bytes < 257
   on_of None mode bytes left closed on = absurd (cc (on, ap goes_on closed))
@@ -142,6 +145,7 @@ module _ (device : DeviceParts) where
   pub record Parted (place : LegPlace) (body : List ℕ) : Type 0 where
     pub code : ℕ
     pub behind : List ℕ
+    -- the body is the code and the bytes after it, which are one of these
     pub split : body ≡ code ∷ behind
     pub is : IsBehind place code behind
 

@@ -1,4 +1,6 @@
--- What the code says is left, by the bytes that were taken: at the start, and after each byte.
+-- What is left of data (`DataLeft`), by the bytes that were taken: at the start and after each
+-- byte. For `DataLeft::start`, `Answer::restart` and `Answer::at_alert`. Five states: the count, so
+-- many bytes, the packet error code, nothing, closed; each says exactly which bytes may follow.
 use Rattle.std.proofs.Common.{◌≡◌, ◌≢◌, ◌↔◌, ℕ, ◌+◌, ◌-◌, ◌<◌, ◌≤◌, ◌⊎◌, inl, inr, zero, suc, Bool, true, false}
 use Rattle.std.proofs.Common.{if◌then◌else◌, nat_eq, nat_lt, Option, Some, None, List, [], ◌∷◌, ◌++◌, length, refl, sym}
 use Rattle.std.proofs.Common.{ap, subst, ◌∙◌, append_assoc, arith, length-append, eq-eqb}
@@ -250,6 +252,7 @@ module _ (before : List ℕ) where
 
   pub inside : (form : Form) (mode : PecMode) (bytes : List ℕ) (left : DataLeft) → Leaves form mode before bytes left
       → goes_on left ≡ true → IsInside form mode before bytes
+  -- the count is missing: an empty block begins so
   inside form mode bytes Count (is, none) on =
       let w : SpellsSomeData Block mode before (checked (some_pec mode).0 before (0 ∷ [])) =
       of_data Block mode [] (record { small = tt; taken = omega arith }) in
@@ -261,6 +264,7 @@ module _ (before : List ℕ) where
             (checked_is (some_pec mode).0 before (0 ∷ [])),
       ) in
       subst (λ (f : Form). IsInside f mode before bytes) (sym is) (subst (IsInside Block mode before) (sym none) first)
+  -- bytes are missing: zeros complete them
   inside form mode bytes (Data n) is on =
       let whole = is.front ++ zeros n in
       let long : length whole ≡ length is.front + n = omega (arith, length-append is.front (zeros n), length_zeros n) in
@@ -279,12 +283,14 @@ module _ (before : List ℕ) where
         proper bytes (zeros n ++ code) all
             (omega (arith, is.some, length_zeros n, length-append (zeros n) code)) split,
       )
+  -- the packet error code is missing
   inside form mode bytes Code is on =
       let last = pec (before ++ wire form is.whole) in (
         wire form is.whole ++ last ∷ [],
         (is.whole, true, record { fits = is.fits; allowed = is.allowed; spelled = refl }),
         record { next = last; rest = []; split = ap (λ (bs : List ℕ). bs ++ last ∷ []) (sym is.spelled) },
       )
+  -- nothing is missing, or no data begin so
   inside form mode bytes Nothing is on = absurd (cc on)
   inside form mode bytes Closed is on = absurd (cc on)
 

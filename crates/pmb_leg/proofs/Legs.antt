@@ -1,4 +1,6 @@
--- Written legs, by what the code keeps of them.
+-- Written legs, by what the code keeps of them: which byte may follow, which is taken, and what is
+-- kept after it. For `WrittenLeg::begins`, `goes_on`, `take_code` and `take_data`. What is left of
+-- a write and of a call is kept side by side, and a byte is taken if either takes it.
 use Rattle.std.proofs.Common.{◌≡◌, ◌≢◌, ℕ, ◌<◌, ◌⊎◌, ◌↔◌, inl, inr, Bool, true, false, ◌||◌, ◌==◌, IsTrue, List, []}
 use Rattle.std.proofs.Common.{◌∷◌, ◌++◌, length, refl, sym, subst, arith}
 use Rattle.std.proofs.lemmas.Bool.{eqb-true, or_left, or_right}
@@ -157,6 +159,7 @@ module _ (leg : Kept) where
   tells_takes [] kept some parts here byte small = absurd (cc some)
   tells_takes (code ∷ behind) is some parts here byte small = takes_is leg code behind is parts here byte small
 
+  -- 258: the bytes of a body, at most
   pub tells_room : (bytes : List ℕ) → IsKeptLeg leg bytes → bytes ≢ [] → (byte : ℕ)
       → (takes leg.write leg.crc byte || takes leg.call leg.crc byte) ≡ true → length bytes < 258
   tells_room [] kept some byte taken = absurd (some refl)

@@ -1,4 +1,7 @@
--- Answers, by what the code keeps of them.
+-- Answers, by what the code keeps of them: which byte may follow, whether they are whole, and what
+-- they say. For `Answer::begins`, `goes_on`, `take`, `is_whole`, `reply`, `at_alert` and
+-- `restart_at_alert`. Only the packet error code of the bytes before the reply is kept
+-- (`CountsAlone`): the code over both depends on nothing else of them.
 use Rattle.std.proofs.Common.{◌≡◌, ℕ, ◌<◌, ◌↔◌, Bool, true, false, IsTrue, List, [], ◌∷◌, ◌++◌, length, refl, sym, ap}
 use Rattle.std.proofs.Common.{subst, ◌∙◌, append_assoc, arith}
 use Rattle.pmb_bus.specs.Pec.{pec}
@@ -24,6 +27,8 @@ same_code : (before others : List ℕ) → CountsAlone before → pec others ≡
 same_code before others alike same false bytes = refl
 same_code before others alike same true bytes = ap (λ (b : ℕ). bytes ++ b ∷ []) (alike others bytes same)
 
+-- `before` are the bytes before the reply, which its code covers; `alike`, that their code alone
+-- counts; `is`, that it is the one kept
 module _ (form : Form) (mode : PecMode) (code : ℕ) (before : List ℕ) (alike : CountsAlone before)
     (is : pec before ≡ code) where
   abbrev expected : Expected
@@ -69,6 +74,9 @@ module _ (form : Form) (mode : PecMode) (code : ℕ) (before : List ℕ) (alike 
 
 -- ---- what the code answers
 
+-- What is kept of an answer under way: `is.before` are the bytes before the reply, which its code
+-- covers too; `is.alike` says that of these only their code counts, `is.crc` that the code so far
+-- is kept, and `is.left` what may follow.
 module _ (a : Inside) (is : IsAnswered a) where
   abbrev expects : Expected
   expects = record { form = a.form; mode = a.mode; code = a.code }
@@ -123,6 +131,7 @@ module _ (a : Inside) (is : IsAnswered a) where
   says_data reply spells = says a.form a.mode a.code is.before is.alike is.code reply
       (has_code a.left a.mode) a.bytes.items spells
 
+  -- 257: at most a count, 255 bytes of data and a packet error code
   pub has_room : (byte : ℕ) → IsByte byte → BeginsAnswer (IsReply expects) (a.bytes.items ++ byte ∷ [])
       → length a.bytes.items < 257
   has_room byte small begins =

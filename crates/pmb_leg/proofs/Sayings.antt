@@ -1,4 +1,6 @@
--- What the bytes of a written leg say, by what the code keeps of them.
+-- What the bytes of a written leg say, by what the code keeps of them: a whole write, a read, a
+-- call, or none. For `WrittenLeg::says` and `request`. A body is whole where nothing is left, or
+-- where the code is the one thing left and need not come.
 use Rattle.std.proofs.Common.{◌≡◌, ℕ, inl, inr, Bool, true, false, Option, Some, None, is_some, List, [], ◌∷◌, refl}
 use Rattle.std.proofs.Common.{sym, ap, subst, ◌∙◌}
 use Rattle.pmb_command.specs.declared.form.Form.{Form}

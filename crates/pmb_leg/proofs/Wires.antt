@@ -1,4 +1,6 @@
--- The wire of a form before other bytes: where it ends.
+-- The bytes of a form's data before others, and where they end. For `DataLeft::start`, `take_code`,
+-- `take_data` and `Answer::take`, by Lefts. The form says how many bytes there are, or a block's
+-- count does, so two data at the front of the same bytes are one.
 use Rattle.std.proofs.Common.{◌≡◌, ℕ, ◌+◌, ◌<◌, zero, suc, Bool, true, false, List, [], ◌∷◌, ◌++◌, length, replicate}
 use Rattle.std.proofs.Common.{refl, sym, ap, ◌∙◌, arith, length-append}
 use Rattle.std.proofs.lemmas.List.{append-nil, length-replicate}

@@ -2,6 +2,8 @@
 //!
 //! An answer is data in a form and the packet error code where the mode allows one. Which bytes may
 //! come follows from what is `left` and from the code so far; the bytes are kept for the reply.
+//!
+//! Its rows: `tests_packets`, `src/legs/answers.rt`.
 
 ghost use Rattle.std.specs.Prelude.{◌≡◌, ◌↔◌, [], ◌∷◌, ◌++◌, IsTrue, IsSome, IfSome, List, Bool, ℕ};
 ghost use Rattle.pmb_bus.specs.Pec.{pec};

@@ -1,4 +1,6 @@
 //! What the bytes of a leg say, borrowed from it.
+//!
+//! Its rows: `tests_packets`, `src/legs/written.rt` and `answers.rt`.
 
 /// What a write body says, after the address.
 #[derive(Clone, Copy, Debug)]

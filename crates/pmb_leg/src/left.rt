@@ -3,6 +3,8 @@
 //! One small state for the body of a write, for the body of a call, and for an answer. `Data`
 //! counts down; the form is not needed again after the first byte, nor are the bytes that were
 //! taken.
+//!
+//! Its rows: `tests_packets`, `src/legs/written.rt` and `answers.rt`.
 
 ghost use Rattle.std.specs.Prelude.{◌≡◌, ◌||◌, ℕ, List};
 ghost use Rattle.pmb_command.specs.Wire.{wire};

@@ -4,6 +4,8 @@
 //! of a read or a call. Of a write and of a call it is kept what is left, and each byte after the
 //! code moves both on; where one of them no longer fits the bytes, it stays closed. A read body
 //! ends with the code.
+//!
+//! Its rows: `tests_packets`, `src/legs/written.rt`.
 
 ghost use Rattle.std.specs.Prelude.{◌≡◌, ◌≢◌, ◌<◌, ◌≤◌, ◌↔◌, Bool, [], ◌∷◌, ◌++◌, IsTrue, IsSome, IfSome, length, List, ℕ, false, true};
 ghost use Rattle.pmb_command.specs.Fitting.{calls_fit};

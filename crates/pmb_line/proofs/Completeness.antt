@@ -1,4 +1,7 @@
--- A reader takes each word of a transaction's line, and stands at its end.
+-- A reader (`run` of specs/machine/Reading) takes each word of a transaction's line and stands at
+-- its end, where the transaction is found. For the laws `one_transaction`, `line_spells` and
+-- `parse_or_fault`, and for faults: what the reader doesn't take begins no line. A line is its
+-- keyword, its parts and its bytes, each list taken word by word.
 use Rattle.std.proofs.Common.{◌≡◌, ℕ, Bool, true, false, Option, Some, List, [], ◌∷◌, ◌++◌, map, refl, sym, ap, subst}
 use Rattle.std.proofs.Common.{◌∙◌, append_assoc}
 use Rattle.std.proofs.lemmas.List.{map-append}
@@ -16,8 +19,10 @@ use Rattle.pmb_line.proofs.Steps.{room_before}
 
 -- Where a reader stands after the whole line of a transaction.
 pub record Reached (t : TransactionData) : Type 0 where
+  -- where the reader stands, and that all words lead there
   pub at : Partial
   pub ran : run (Some nothing) (map Some (tokens t)) ≡ Some at
+  -- the transaction found there, and there is room where it isn't too large
   pub finished : finish at ≡ Some t
   pub room : IsWithin t → Room at
 

@@ -1,4 +1,7 @@
--- How a line goes on, wherever a reader stands.
+-- From each place where a reader of a line may stand, words that complete the line: so words that
+-- fit begin some line. For Faults, and so for `read_words` and the law `no_parse_with_a_fault`: a
+-- word that doesn't fit is the first at fault, and no word before it. Missing bytes are `00`, and
+-- the reply of a read may be empty.
 use Rattle.std.proofs.Common.{◌≡◌, ◌≢◌, ℕ, true, false, Some, List, [], ◌∷◌, ◌++◌, map, refl, sym, ap, ◌∙◌}
 use Rattle.std.proofs.Common.{append_assoc, arith, length-append}
 use Rattle.std.specs.Prelude.{codes}
@@ -27,12 +30,15 @@ RoomMore s = Room s
 
 -- Words that end a line.
 pub record Completes (s : Partial) : Type 0 where
+  -- the words that are missing, and what they say
   pub more : List (List ℕ)
   pub said : List Token
+  -- the transaction of the whole line
   pub t : TransactionData
   pub says : map token_of more ≡ map Some said
   pub spells : spelled s ++ said ≡ tokens t
   pub has_line : HasLine t
+  -- it isn't too large if there was room, and no word is missing where the line may end here
   pub within : RoomMore s → IsWithin t
   pub finishes : (u : TransactionData) → finish s ≡ Some u → (said ≡ []) × (t ≡ u)
 
@@ -57,6 +63,7 @@ pub no_pec : (xs : List Token) → xs ++ mark Pec false ≡ xs
 no_pec xs = append-nil xs
 
 pub completes : (s : Partial) → Completes s
+-- before the first word: `alert none`
 completes nothing = record {
   more = codes "alert" ∷ codes "none" ∷ [];
   said = Alert ∷ Nobody ∷ [];
@@ -68,6 +75,7 @@ completes nothing = record {
   finishes = λ u is. cc is;
   within = λ room. tt;
 }
+-- in a write: an address and a code, and its parts so far stay
 completes (write_next ps) =
     let p = part_with 0 0 [] false in
     record {
@@ -85,6 +93,7 @@ completes (write_next ps) =
             omega arith;
       });
     }
+-- a code
 completes (write_code ps a) =
     let p = part_with a 0 [] false in
     record {
@@ -98,6 +107,7 @@ completes (write_code ps a) =
       finishes = λ u is. cc is;
       within = λ room. parts_push 16 ps p room;
     }
+-- the part may end here, or after its `pec`
 completes (write_data ps a c bs) =
     let p = part_with a c bs false in
     record {
@@ -124,6 +134,7 @@ completes (write_pec ps a c bs) =
       finishes = λ u is. (refl, cc is);
       within = λ room. parts_push 16 ps p room;
     }
+-- in a read: address, code and `:`, with an empty reply
 completes read_next = record {
   more = codes "00" ∷ codes "00" ∷ codes ":" ∷ [];
   said = Byte 0 ∷ Byte 0 ∷ Colon ∷ [];
@@ -134,6 +145,7 @@ completes read_next = record {
   finishes = λ u is. cc is;
   within = λ room. omega arith;
 }
+-- a code and `:`
 completes (read_code a) = record {
   more = codes "00" ∷ codes ":" ∷ [];
   said = Byte 0 ∷ Colon ∷ [];
@@ -144,6 +156,7 @@ completes (read_code a) = record {
   finishes = λ u is. cc is;
   within = λ room. omega arith;
 }
+-- `:`
 completes (read_colon a c) = record {
   more = codes ":" ∷ [];
   said = Colon ∷ [];
@@ -154,6 +167,7 @@ completes (read_colon a c) = record {
   finishes = λ u is. cc is;
   within = λ room. omega arith;
 }
+-- the reply may end anywhere, and after its `pec`
 completes (read_reply a c bs) = record {
   more = [];
   said = [];
@@ -174,6 +188,7 @@ completes (read_pec a c bs) = record {
   finishes = λ u is. (refl, cc is);
   within = λ room. room;
 }
+-- in a call: likewise
 completes call_next = record {
   more = codes "00" ∷ codes "00" ∷ codes ":" ∷ [];
   said = Byte 0 ∷ Byte 0 ∷ Colon ∷ [];
@@ -184,6 +199,7 @@ completes call_next = record {
   finishes = λ u is. cc is;
   within = λ room. record { few_sent = omega arith; few_replied = omega arith };
 }
+-- a code and `:`
 completes (call_code a) = record {
   more = codes "00" ∷ codes ":" ∷ [];
   said = Byte 0 ∷ Colon ∷ [];
@@ -194,6 +210,7 @@ completes (call_code a) = record {
   finishes = λ u is. cc is;
   within = λ room. record { few_sent = omega arith; few_replied = omega arith };
 }
+-- `:`, and the bytes so far are sent
 completes (call_data a c bs) = record {
   more = codes ":" ∷ [];
   said = Colon ∷ [];
@@ -204,6 +221,7 @@ completes (call_data a c bs) = record {
   finishes = λ u is. cc is;
   within = λ room. room;
 }
+-- the reply may end anywhere, and after its `pec`
 completes (call_reply a c bs rs) = record {
   more = [];
   said = [];
@@ -224,6 +242,7 @@ completes (call_pec a c bs rs) = record {
   finishes = λ u is. (refl, cc is);
   within = λ room. room;
 }
+-- in what a device refused: an address
 completes (refused_next ps) = record {
   more = codes "00" ∷ [];
   said = Byte 0 ∷ [];
@@ -234,6 +253,7 @@ completes (refused_next ps) = record {
   finishes = λ u is. cc is;
   within = λ room. record { few_parts = room; few_sent = omega arith };
 }
+-- what was sent may end anywhere
 completes (refused_sent ps a bs) = record {
   more = [];
   said = [];
@@ -244,6 +264,7 @@ completes (refused_sent ps a bs) = record {
   finishes = λ u is. (refl, cc is);
   within = λ room. room;
 }
+-- after a part with its `pec`: `+`, then an address
 completes (refused_pec ps a c bs) =
     let p = part_with a c bs true in
     record {
@@ -258,6 +279,7 @@ completes (refused_pec ps a c bs) =
       finishes = λ u is. cc is;
       within = λ room. record { few_parts = parts_push 15 ps p room; few_sent = omega arith };
     }
+-- after `read` the line ends
 completes (refused_read ps a bs) = record {
   more = [];
   said = [];
@@ -268,6 +290,7 @@ completes (refused_read ps a bs) = record {
   finishes = λ u is. (refl, cc is);
   within = λ room. room;
 }
+-- after `alert`: `none`
 completes alert_next = record {
   more = codes "none" ∷ [];
   said = Nobody ∷ [];
@@ -278,6 +301,7 @@ completes alert_next = record {
   finishes = λ u is. cc is;
   within = λ room. tt;
 }
+-- after the byte the line may end, and after its `pec`
 completes (alert_byte b) = record {
   more = [];
   said = [];
@@ -298,6 +322,7 @@ completes (alert_pec b) = record {
   finishes = λ u is. (refl, cc is);
   within = λ room. tt;
 }
+-- after `none` it ends
 completes alert_none = record {
   more = [];
   said = [];

@@ -1,4 +1,6 @@
--- The table of digits, computed as a whole and told of each byte.
+-- The table `DIGITS`, computed as a whole for all 256 bytes: it gives a hex digit's value, and 255
+-- for other bytes. For `digit` of `src/token.rt`, and for SomeReading, where a byte that two digits
+-- spell is below 256.
 use Rattle.std.proofs.Common.{◌≡◌, ℕ, ◌<◌, ◌≤◌, Bool, true, ◌==◌, Option, Some, None, get_or, refl, sym, ap, arith}
 use Rattle.std.specs.Prelude.{unwrap_or}
 use Rattle.std.proofs.lemmas.Bool.{agree_below, agree_below_at, eqb-true}

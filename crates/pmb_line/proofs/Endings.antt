@@ -1,4 +1,7 @@
--- How each kind of line ends.
+-- How each kind of line ends: the end of the words, or a `pec` that may be left out, and for a part
+-- of a write a `+` or the end. For `read_data`, `read_reply` and `alert_into`. What a look at the
+-- next words returns is matched with the reader's place, so that a word that comes too late doesn't
+-- fit there.
 use Rattle.std.proofs.Common.{◌≡◌, ℕ, Bool, true, false, Option, Some, None, Result, Ok, Err, List, [], ◌∷◌, ◌++◌, refl}
 use Rattle.std.proofs.Common.{subst, ◌∙◌}
 use Rattle.pmb_transaction.specs.Transaction.{PartData, TransactionData}

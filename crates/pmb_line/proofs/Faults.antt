@@ -1,4 +1,7 @@
--- What is wrong with a line, told by where a reader stands.
+-- The first fault of a line, told by where a reader stands: a word that doesn't fit (BadWord), one
+-- for which there is no room (TooLong), a line that ends too early. For `read_any` and
+-- `read_words`, and the laws `one_line_fault` and `parse_or_fault`. The words before it begin some
+-- line (Completions), and with it no line begins, since a reader takes each line (Completeness).
 use Rattle.std.proofs.Common.{◌≡◌, ◌≢◌, ℕ, ◌≤◌, ◌<◌, Option, Some, None, List, [], ◌∷◌, ◌++◌, map, length, refl, sym}
 use Rattle.std.proofs.Common.{ap, subst, ◌⊎◌, inl, inr, ◌∙◌, arith}
 use Rattle.std.proofs.lemmas.Bool.{cases_lt}
@@ -27,6 +30,7 @@ use Rattle.pmb_line.proofs.Completeness.{last_of, reached}
 
 -- A list whose images split.
 pub record Splits {A B : Type 0} (f : A → B) (xs : List A) (front back : List B) : Type 0 where
+  -- the elements before and after, and their images
   pub before : List A
   pub behind : List A
   pub split : xs ≡ before ++ behind
@@ -74,6 +78,7 @@ splits_last f xs front y same =
 
 -- A part of a line was taken.
 pub record Passed (words : List (Option Token)) (rest : List (Option Token)) (at : Partial) : Type 0 where
+  -- where the reader stands after the first of them
   pub mid : Partial
   pub ran : run (Some nothing) words ≡ Some mid
   pub then : run (Some mid) rest ≡ Some at
@@ -259,6 +264,7 @@ ran_texts ws before s same is = ap (run (Some nothing)) (sym (said_texts ws) ∙
 record Before (line : List ℕ) (s : Partial) (word : Located) : Type 0 where
   before : List Word
   here : Word
+  -- the words before it, and this one, are those of the line there
   stands : At line before here
   ran_before : run (Some nothing) (map token_of (texts before)) ≡ Some s
   is : located here ≡ word
@@ -296,6 +302,7 @@ bad_word line place fault =
       word = b.here;
       stands = b.stands;
       place = fault.place_is ∙ ap (λ (w : Located). w.at) (sym b.is);
+      -- with it no line begins
       unfit = λ begun. no_line (texts b.before) b.here.text fault.s b.ran_before unfit
           (subst BeginsLine (texts_more b.before b.here) begun);
     }
@@ -314,6 +321,7 @@ too_long line place fault =
       word = b.here;
       stands = b.stands;
       place = fault.place_is ∙ ap (λ (w : Located). w.at) (sym b.is);
+      -- a line begins with it, but there is no room for what it says
       fits = subst BeginsLine (sym (texts_more b.before b.here))
           (begins (texts b.before ++ b.here.text ∷ []) fault.after ran_all);
       full = λ room. no_room (texts b.before) b.here.text fault.s fault.after b.ran_before fits_so fault.full
@@ -338,6 +346,7 @@ cut_short line place fault =
     record {
       some = no_words (line_words line) fault.s is fault.begun;
       room = has_room (texts (line_words line)) fault.s is fault.stands.room;
+      -- a transaction that it spells would be found here, and none is
       unfinished = λ t spells.
           let whole = reached t spells.has_line in
           let there : run (Some nothing) (map token_of (texts (line_words line))) ≡ Some whole.at =

@@ -1,4 +1,6 @@
--- The first word of a line, and a line as a whole.
+-- A line as a whole: its first word is a keyword, the rest is read from there, and what is returned
+-- is what the line spells or its first fault. For `read_any` and `read_words`. A reader stands
+-- before the first word at first (`begin`), and the parts of the answer are those of `ReadsLine`.
 use Rattle.std.proofs.Common.{◌≡◌, ℕ, Some, None, Result, Ok, Err, List, [], ◌∷◌, map, length, refl, ap, subst, ◌∙◌}
 use Rattle.std.specs.Prelude.{OnOk, IfErr}
 use Rattle.pmb_transaction.specs.Transaction.{TransactionData}

@@ -1,4 +1,7 @@
--- Words that stand as in most lines.
+-- Words at the front of a text that stand as in most lines: a byte after a space, `write ` and
+-- `read `, ` : `. For `common_byte` and `common_keyword` of `src/front_word.rt`, which look at
+-- these bytes alone. Such a word is the first of the text's words, since no byte of it ends a word,
+-- and a space or the end comes after it.
 use Rattle.std.proofs.Common.{◌≡◌, ℕ, ◌≤◌, ◌+◌, false, Option, Some, None, IfSome, List, [], ◌∷◌, ◌++◌, length}
 use Rattle.std.proofs.Common.{length-append, map, drop, refl, sym, ap, subst, ◌∙◌, arith}
 use Rattle.std.specs.Prelude.{slice_index}
@@ -24,6 +27,7 @@ front at b w rest token go ends says =
     says
 
 -- and one after a space
+-- (32 is a space)
 behind_space : (at : ℕ) (b : ℕ) (w rest : List ℕ) (token : Token) → AllGo (b ∷ w) → EndsWord rest
     → token_of (b ∷ w) ≡ Some token
     → map located (words_from at (32 ∷ b ∷ w ++ rest)) ≡ record { at = at + 1; token = Some token }
@@ -85,6 +89,7 @@ at_front text rest b w token end is go says long = record {
       ∙ drop-append_seam (b ∷ w) (32 ∷ rest)))))));
 }
 
+-- the codes of `write` and of the space after it
 pub write_in_front : (text : List ℕ) → 6 ≤ length text → slice_index text 0 ≡ 119 → slice_index text 1 ≡ 114
     → slice_index text 2 ≡ 105 → slice_index text 3 ≡ 116 → slice_index text 4 ≡ 101
     → slice_index text 5 ≡ 32 → IsFront text (record { start = 0; end = 5; token = Write })
@@ -98,6 +103,7 @@ write_in_front (a ∷ b ∷ c ∷ []) long is0 is1 is2 is3 is4 is5 = absurd (ome
 write_in_front (a ∷ b ∷ c ∷ d ∷ []) long is0 is1 is2 is3 is4 is5 = absurd (omega (arith, long))
 write_in_front (a ∷ b ∷ c ∷ d ∷ e ∷ []) long is0 is1 is2 is3 is4 is5 = absurd (omega (arith, long))
 
+-- the codes of `read` and of the space after it
 pub read_in_front : (text : List ℕ) → 5 ≤ length text → slice_index text 0 ≡ 114 → slice_index text 1 ≡ 101
     → slice_index text 2 ≡ 97 → slice_index text 3 ≡ 100 → slice_index text 4 ≡ 32
     → IsFront text (record { start = 0; end = 4; token = Read })
@@ -110,6 +116,7 @@ read_in_front (a ∷ b ∷ []) long is0 is1 is2 is3 is4 = absurd (omega (arith, 
 read_in_front (a ∷ b ∷ c ∷ []) long is0 is1 is2 is3 is4 = absurd (omega (arith, long))
 read_in_front (a ∷ b ∷ c ∷ d ∷ []) long is0 is1 is2 is3 is4 = absurd (omega (arith, long))
 
+-- the codes of a space, `:` and a space
 pub colon_in_front : (text : List ℕ) → 3 ≤ length text → slice_index text 0 ≡ 32 → slice_index text 1 ≡ 58
     → slice_index text 2 ≡ 32 → IsFront text (record { start = 1; end = 2; token = Colon })
 colon_in_front (a ∷ b ∷ c ∷ rest) long is0 is1 is2 =

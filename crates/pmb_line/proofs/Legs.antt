@@ -1,4 +1,7 @@
--- How a reader goes on after what was sent to an address of a refused packet.
+-- How a reader goes on after the bytes that were sent to an address of a refused packet: by `read`,
+-- by `pec` or `+` that make a part of them, or by the line's end. For `push_part`, `read_refused`
+-- and `end_leg` of `src/refused.rt`. At that place (`refused_sent`) each other word doesn't fit,
+-- and a part needs a code and room.
 use Rattle.std.proofs.Common.{◌≡◌, ℕ, ◌≤◌, ◌+◌, Bool, true, false, Option, Some, None, Ok, List, [], ◌∷◌, ◌++◌, length}
 use Rattle.std.proofs.Common.{refl, sym, ap, subst, arith}
 use Rattle.pmb_transaction.specs.Transaction.{PartData, TransactionData}

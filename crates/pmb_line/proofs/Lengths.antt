@@ -1,4 +1,6 @@
--- A line has no LF, and that of a transaction which is not too large is short.
+-- A line holds no LF, and the line of a transaction that isn't too large has at most 12,544 bytes.
+-- For the law `lines_are_short`. Each word is counted with the space before it: a byte is three, a
+-- part with 255 bytes of data at most 775, so 16 of them with a `+` each fit.
 use Rattle.std.proofs.Common.{◌≡◌, ◌≢◌, ℕ, zero, suc, ◌+◌, ◌*◌, ◌/◌, ◌%◌, ◌≤◌, Bool, true, false, not, ◌==◌, ◌&&◌}
 use Rattle.std.proofs.Common.{get_or, List, [], ◌∷◌, ◌++◌, map, length, length-append, refl, ap, ◌∙◌, arith}
 use Rattle.std.specs.List.{All, AllByRecursion, flat_map}
@@ -19,6 +21,7 @@ use Rattle.pmb_line.proofs.Writings.{behind-append}
 
 abbrev no_lf : List ℕ → Bool
 no_lf [] = true
+-- 10 is LF
 no_lf (b ∷ text) = not (b == 10) && no_lf text
 
 no_lf-append : (a b : List ℕ) → no_lf a ≡ true → no_lf b ≡ true → no_lf (a ++ b) ≡ true
@@ -134,12 +137,14 @@ line_length first others = length-append (token_text first) (behind others)
 
 -- the line of a transaction that is not too large
 pub line_is_short : (t : TransactionData) → IsWithin t → length (line t) ≤ 12544
+-- 16 parts of up to 777
 line_is_short (says.Write ps) within = omega (
   arith,
   line_length Write (parts ps),
   size-parts ps within.each,
   within.few,
 )
+-- a read: its words in order
 line_is_short (says.Read t) within =
     omega (
       arith,
@@ -152,6 +157,7 @@ line_is_short (says.Read t) within =
       size-bytes t.reply,
       size-mark Pec t.pec,
     )
+-- a call: the same with the bytes that are sent
 line_is_short (says.Call t) within =
     let spoken = bytes t.bytes ++ Colon ∷ bytes t.reply in
     omega (
@@ -168,6 +174,7 @@ line_is_short (says.Call t) within =
       size-bytes t.reply,
       size-mark Pec t.pec,
     )
+-- up to 15 parts, an address and 258 bytes
 line_is_short (says.Refused t) within =
     let before = flat_map part_before t.parts in
     let spoken = before ++ Byte t.addr ∷ bytes t.sent in

@@ -1,4 +1,7 @@
--- The line that is written for a transaction spells it.
+-- The line that is written for a transaction spells it, with a comment after it too. For the laws
+-- `line_spells`, `packet_has_line` and `comments_say_nothing`. Each token's text has no blank and
+-- no CR, so the text between spaces is one word, and that word says the token; digits are computed
+-- for all sixteen.
 use Rattle.std.proofs.Common.{◌≡◌, ℕ, ◌<◌, ◌+◌, ◌*◌, ◌/◌, ◌%◌, Bool, true, false, not, ◌==◌, ◌&&◌, Option, Some, None}
 use Rattle.std.proofs.Common.{List, [], ◌∷◌, ◌++◌, map, length, slice_index, refl, sym, ap, subst, ◌∙◌, arith}
 use Rattle.std.proofs.Common.{append-nil, append_assoc}
@@ -25,6 +28,7 @@ use Rattle.pmb_line.proofs.WordLemmas.{AllGo, word_then}
 
 -- a byte that is one of a word, and no CR
 abbrev is_plain : ℕ → Bool
+-- 13 is CR
 is_plain b = not (ends_line_word b) && not (b == 13)
 
 abbrev all_plain : List ℕ → Bool
@@ -96,6 +100,7 @@ token_says _ small = refl
 
 -- a text with a byte
 record Shape (text : List ℕ) : Type 0 where
+  -- the first byte, and the others
   b : ℕ
   w : List ℕ
   is : text ≡ b ∷ w
@@ -140,6 +145,7 @@ one_word at text rest shape go ends =
 
 -- a text at whose front a word ends, and that has no word of its own
 pub record IsWordless (tail : List ℕ) : Type 0 where
+  -- a word before it ends there, and there are no words in it
   pub ends : EndsWord tail
   pub none : (at : ℕ) → words_from at tail ≡ []
 
@@ -172,6 +178,7 @@ words_spaced (t ∷ ts) tail small wordless =
 
 abbrev no_cr : List ℕ → Bool
 no_cr [] = true
+-- 13 is CR
 no_cr (b ∷ rest) = not (b == 13) && no_cr rest
 
 no_cr-append : (a b : List ℕ) → no_cr a ≡ true → no_cr b ≡ true → no_cr (a ++ b) ≡ true
@@ -252,7 +259,9 @@ small_before (p ∷ ps) small = small-append (part_before p) (flat_map part_befo
     (small-append (part p) (Plus ∷ []) (small_part p small.0) (tt, tt)) (small_before ps small.1)
 
 small_tokens : (t : TransactionData) → HasBytes t → AllByRecursion IsSmall (tokens t)
+-- the keyword, then the bytes of each part
 small_tokens (says.Write ps) small = (tt, small_parts ps small)
+-- address and code, then the reply
 small_tokens (says.Read t) small = (
   tt,
   (
@@ -260,6 +269,7 @@ small_tokens (says.Read t) small = (
     (small.1, (tt, small-append (bytes t.reply) (mark Pec t.pec) (small_bytes t.reply small.2) (small_pec t.pec))),
   ),
 )
+-- the same with the bytes that are sent, before `:`
 small_tokens (says.Call t) small = (
   tt,
   (
@@ -272,6 +282,7 @@ small_tokens (says.Call t) small = (
     ),
   ),
 )
+-- the parts, then the refused address and its bytes
 small_tokens (says.Refused t) small = (
   tt,
   small-append (flat_map part_before t.parts ++ Byte t.addr ∷ bytes t.sent) (mark Read t.at_read)
@@ -309,6 +320,7 @@ pub noted_line_spells : (t : TransactionData) (comment : List ℕ) → HasLine t
     → SpellsTransaction (texts (line_words (line t ++ (codes " # " ++ comment)))) t
 noted_line_spells t comment has_line has_bytes =
     let small = small_tokens t has_bytes in
+    -- 32 and 35 are the space and `#`
     let rest = without_cr (32 ∷ comment) in
     record {
       has_line = has_line;

@@ -1,4 +1,5 @@
--- A fault of a line's words is one of the line.
+-- A fault of a line's words is one of the line under any profile. For `read_line`, which finds the
+-- words' faults first, and for the law `parse_or_fault`. By the two definitions, case by case.
 use Rattle.std.proofs.Common.{ℕ, List}
 use Rattle.pmb_command.specs.Parts.{DeviceParts}
 use Rattle.pmb_line.specs.declared.word_fault.WordFault.{WordFault}

@@ -1,4 +1,7 @@
--- A line has one first fault at most, and none where it parses.
+-- A line has one first fault at most, and none where it parses. For the laws `one_line_fault` and
+-- `no_parse_with_a_fault`. OneWordsFault says it of lines of any kind, from what is meant by room
+-- for words; here it is shown of room in a transaction's line, and of the faults of a whole line
+-- (cut short, invalid).
 use Rattle.std.proofs.Common.{◌≡◌, ◌≢◌, ℕ, Some, List, [], ◌∷◌, ◌++◌, map, refl, sym, ap, subst, inl, inr, ◌∙◌}
 use Rattle.std.proofs.lemmas.List.{map-append}
 use Rattle.pmb_command.specs.Bus.{IsBus}

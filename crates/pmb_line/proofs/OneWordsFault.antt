@@ -1,4 +1,7 @@
--- A line has one first fault at most, for lines of any kind.
+-- A line has one first fault at most, for lines of any kind: those of transactions
+-- (`one_line_fault`) and those of requests, in `pmb_request`. A word at fault is one for which
+-- there is no room, while there is room for those before it; of two such words neither comes before
+-- the other. A fault of the whole line leaves room for all its words.
 use Rattle.std.proofs.Common.{◌≡◌, ◌≢◌, ℕ, List, [], ◌∷◌, ◌++◌, refl, sym, ap, subst, ◌∙◌, append_assoc}
 use Rattle.std.proofs.lemmas.List.{map-append}
 use Rattle.pmb_line.specs.declared.word_fault.WordFault.{WordFault}
@@ -50,6 +53,7 @@ pub record IsRoom (Begins HasRoom : List (List ℕ) → Type 0) : Type 0 where
 record Stops (HasRoom : List (List ℕ) → Type 0) (line : List ℕ) : Type 0 where
   before : List Word
   word : Word
+  -- there is room for the words before it, and with it there is none
   stands : At HasRoom line before word
   full : HasRoom (texts (before ++ word ∷ [])) → ⊥
 

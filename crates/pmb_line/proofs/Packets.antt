@@ -1,4 +1,6 @@
--- A transaction that has a packet has a line.
+-- A transaction that has a packet under an accepted profile has a line, and its bytes are below
+-- 256. For the laws `packet_has_line` and `comments_say_nothing`. The profile's addresses and codes
+-- are bytes, and a write has a part.
 use Rattle.std.proofs.Common.{◌≡◌, ◌≢◌, ℕ, ◌<◌, ◌≤◌, Bool, true, false, Some, List, [], ◌∷◌, length, refl, sym, subst}
 use Rattle.std.proofs.Common.{inl, inr, arith}
 use Rattle.std.specs.List.{AllByRecursion}

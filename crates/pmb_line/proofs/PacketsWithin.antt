@@ -1,4 +1,7 @@
--- A transaction that has a packet is not too large.
+-- A transaction that has a packet isn't too large for a line: at most 16 parts, 255 bytes of data
+-- each, and 258 bytes sent before a refusal. For the laws `lines_are_short` and
+-- `no_parse_with_a_fault`. Forms bound the data, and the law `bodies_are_short` of
+-- `pmb_transaction` a body.
 use Rattle.std.proofs.Common.{ℕ, ◌≤◌, Bool, true, false, List, [], ◌∷◌, length, ap, inl, inr, arith, length-append}
 use Rattle.std.specs.List.{AllByRecursion}
 use Rattle.pmb_bus.specs.declared.event.Event.{Event}

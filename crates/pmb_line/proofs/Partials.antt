@@ -1,4 +1,6 @@
--- What the words so far are, told by where a reader stands.
+-- The words that lead to a place of a reader (`spelled`), and lists of their tokens. For Steps,
+-- Completeness, Completions and Faults, and so for `read_words` and its laws. Each place holds the
+-- numbers that were read, so it tells the words.
 use Rattle.std.proofs.Common.{◌≡◌, ℕ, true, List, [], ◌∷◌, ◌++◌, refl, sym, ap, ◌∙◌, append_assoc}
 use Rattle.std.specs.List.{flat_map}
 use Rattle.std.proofs.lemmas.List.{map-append}

@@ -1,4 +1,6 @@
--- How a reader goes on to the `:` of a read or a call, and from there.
+-- How a reader goes on to the `:` of a read or a call, through its reply, to `pec` or the end. For
+-- `read_call` and `read_reply` of `src/reply.rt`. Reads and calls are taken together (`Asked`):
+-- each fact is computed for both.
 use Rattle.std.proofs.Common.{◌≡◌, ◌≢◌, ℕ, ◌≤◌, true, false, Option, Some, None, List, [], ◌∷◌, ◌++◌, length, refl, sym}
 use Rattle.std.proofs.Common.{subst, arith}
 use Rattle.pmb_line.specs.declared.token.Token.{Token}

@@ -1,5 +1,7 @@
--- Each line spells a transaction that is not too large, or has a first fault; and such a transaction
--- has a packet, or a first fault.
+-- Each line spells a transaction that isn't too large, or has a first fault; and under a profile
+-- such a transaction has a packet, or a first fault. For the law `parse_or_fault`, and for requests
+-- in `pmb_request`. The reader is followed word by word: whether a word fits, and whether there is
+-- room for it, is decided.
 use Rattle.std.proofs.Common.{◌≡◌, ◌≢◌, ℕ, ◌+◌, ◌<◌, ◌≤◌, ◌⊎◌, Bool, true, false, Option, Some, None, IfSome, List, []}
 use Rattle.std.proofs.Common.{◌∷◌, ◌++◌, map, length, refl, inl, inr, ◌∙◌, subst, append-nil, arith}
 use Rattle.std.specs.Prelude.{codes, if◌then◌else◌}
@@ -68,6 +70,7 @@ call_within bs rs =
 
 refused_within : (ps : List PartData) (bs : List ℕ) → IsDecided (IsRefusedWithin ps bs)
 refused_within ps bs =
+    -- 15: the parts before a refused leg at most; 258: the bytes of a body at most
     decided_by (λ (has : ArePartsWithin 15 ps × (length bs ≤ 258)). record { few_parts = has.0; few_sent = has.1 })
     (λ has. (has.few_parts, has.few_sent))
     (both (parts_within 15 ps) (is_at_most (length bs) 258))
@@ -141,9 +144,11 @@ at_end all end s stands =
     ]
 
 reads_on : (all : List Located) (end : ℕ) (s : Partial) (left : List Located) → LineStandsAt all s left → IsRead all end
+-- all words were taken
 reads_on all end s [] stands = at_end all end s stands
 reads_on all end s (word ∷ left) stands =
     elim (cases (step s word.token)) [
+      -- the next word doesn't fit
       | inl unfit ↦ inr (
         BadWord word.at,
         inl (record {
@@ -158,7 +163,9 @@ reads_on all end s (word ∷ left) stands =
       )
       | inr found ↦
           elim (room_or_not found.0) [
+            -- it fits, and there is room: the rest is read from there
             | inl room ↦ reads_on all end found.0 left (next all s found.0 word left stands found.1 room)
+            -- it fits, and there is no room
             | inr full ↦ inr (
               TooLong word.at,
               record {

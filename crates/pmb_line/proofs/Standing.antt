@@ -1,4 +1,7 @@
--- How pieces of a line lead from one place of a reader to the next.
+-- From one place of a reader to the next: one word more, bytes, the end, and each way in which a
+-- word is missing, doesn't fit or finds no room. For `take_bytes`, `read_part`, `read_leg`,
+-- `read_read` and the other functions that read a piece of a line. Each gives what their contracts
+-- promise (`LineStandsAt`, `IsWordFaultOf`) from one `step`.
 use Rattle.std.proofs.Common.{◌≡◌, ◌≢◌, ℕ, ◌≤◌, Option, Some, None, List, [], ◌∷◌, ◌++◌, map, length, refl, sym, ap}
 use Rattle.std.proofs.Common.{subst, inl, inr, ◌∙◌, append_assoc, arith, length-append}
 use Rattle.std.proofs.lemmas.List.{map-append}

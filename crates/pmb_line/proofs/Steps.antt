@@ -1,4 +1,7 @@
--- What a word more adds.
+-- What one word more adds to the words so far (`spelled`), and that there was room before it. For
+-- the laws `one_transaction` and `line_spells`, and for each function that reads words. One lemma a
+-- place of the reader, each going through the tokens that may come there; then for several words in
+-- a row (`ran`).
 use Rattle.std.proofs.Common.{◌≡◌, ℕ, ◌≤◌, Bool, true, false, Option, Some, None, List, [], ◌∷◌, ◌++◌, map, length}
 use Rattle.std.proofs.Common.{refl, sym, ap, subst, ◌⊎◌, inl, inr, ◌∙◌, append_assoc, arith, length-append}
 use Rattle.std.specs.List.{AllByRecursion}
@@ -18,9 +21,11 @@ use Rattle.pmb_line.proofs.Partials.{spelled, bytes-push, append-nil, parts_befo
 
 -- a word that leads from `s` to `after`
 pub record Leads (s : Partial) (token : Token) (after : Partial) : Type 0 where
+  -- the token is the next of the words, and room after it is room before it
   pub adds : spelled after ≡ spelled s ++ token ∷ []
   pub had_room : Room after → Room s
 
+-- A word that says a token, and where that leads.
 pub record LeadsBy (s : Partial) (word : Option Token) (after : Partial) : Type 0 where
   pub token : Token
   pub is : word ≡ Some token
@@ -194,6 +199,7 @@ leads_refused_next ps _ after is = cc is
 leads_refused_sent : (ps : List PartData) (a : ℕ) (bs : List ℕ) (word : Option Token) (after : Partial)
     → step (refused_sent ps a bs) word ≡ Some after
     → LeadsBy (refused_sent ps a bs) word after
+-- 258: the bytes of a body, at most
 leads_refused_sent ps a bs (Some (Byte b)) after is =
     led (refused_sent ps a (bs ++ b ∷ [])) (record {
       adds = more_bytes (Refused ∷ parts_before ps) (Byte a ∷ []) bs b;
@@ -201,6 +207,7 @@ leads_refused_sent ps a bs (Some (Byte b)) after is =
     }) is
 leads_refused_sent ps a bs (Some Read) after is =
     led (refused_read ps a bs) (record { adds = refl; had_room = λ room. room }) is
+-- 15: the parts before a refused leg, at most
 leads_refused_sent ps a (c ∷ bs) (Some Pec) after is =
     led (refused_pec ps a c bs) (record {
       adds = sym (append_assoc (Refused ∷ parts_before ps) (Byte a ∷ Byte c ∷ bytes bs) (Pec ∷ []));

@@ -1,4 +1,5 @@
--- The table of two digits, computed as a whole and told of each byte.
+-- The table `TWO_DIGITS`, computed as a whole for all 256 bytes: at 2b and 2b + 1 are the two hex
+-- digits of b. For `append_byte` of `src/byte_text.rt`, which pushes a space (32) and these two.
 use Rattle.std.proofs.Common.{◌≡◌, ◌∙◌, ℕ, ◌+◌, ◌*◌, ◌/◌, ◌%◌, ◌<◌, Bool, true, ◌==◌, List, [], ◌∷◌, ◌++◌, get_or, refl}
 use Rattle.std.proofs.Common.{sym, ap, append_assoc}
 use Rattle.std.specs.Prelude.{slice_index}

@@ -1,4 +1,6 @@
--- Words spell one transaction at most.
+-- Words spell one transaction at most. For the laws `one_transaction`, `line_spells` and
+-- `packet_has_line`. A reader takes the words of both and stands at one place (Completeness), where
+-- it finds one transaction.
 use Rattle.std.proofs.Common.{◌≡◌, ℕ, Some, List, sym, ap, ◌∙◌}
 use Rattle.pmb_transaction.specs.Transaction.{TransactionData}
 use Rattle.pmb_line.specs.Spelling.{SpellsTransaction}

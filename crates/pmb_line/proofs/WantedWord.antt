@@ -1,4 +1,6 @@
--- Words that were taken, and words that were not.
+-- A word that was taken is the one that was wanted. For `take_colon`, `take_plus`, `take_pec` and
+-- `take_wanted_plus` of `src/pieces.rt`. It is the located word of the list, by its place and its
+-- token.
 use Rattle.std.proofs.Common.{◌≡◌, ℕ, Option, Some, List, ◌∷◌, ap, ◌∙◌}
 use Rattle.pmb_line.specs.declared.token.Token.{Token}
 use Rattle.pmb_line.specs.declared.words.Located.{Located}

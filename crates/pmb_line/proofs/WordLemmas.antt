@@ -1,4 +1,7 @@
--- The first word of a text.
+-- The words of a text from its front: a blank is passed over, a comment ends them, and the first
+-- word is the bytes up to the next blank. For `next_word`, `before_cr` and `word_at` of
+-- `src/words.rt`, and for `common_byte`. A word is built from its last byte to its first
+-- (`lengthened`), so a word of n bytes is shown by induction over n.
 use Rattle.std.proofs.Common.{◌≡◌, ℕ, ◌<◌, ◌≤◌, ◌+◌, zero, suc, true, false, ◌==◌, List, [], ◌∷◌, ◌++◌, length, take}
 use Rattle.std.proofs.Common.{drop, slice_index, ◌-◌, Some, length-drop, refl, sym, ap, subst, inl, inr, ◌∙◌, arith}
 use Rattle.std.specs.Prelude.{if◌then◌else◌, nat_lt, option_map}
@@ -113,6 +116,7 @@ front_word (suc n) at (b ∷ rest) within each ends =
     ∙ ap (λ m. record { at = at; text = b ∷ take (suc n) rest } ∷ words_from m (drop (suc n) rest)) (omega arith)
 
 -- a line without the CR at its end
+-- (13 is CR)
 pub cr_left_out : (n : ℕ) (line : List ℕ) → length line ≡ suc n → slice_index line n ≡ 13
     → take n line ≡ without_cr line
 cr_left_out n [] long last = absurd (omega arith)

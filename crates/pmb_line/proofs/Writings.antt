@@ -1,4 +1,6 @@
--- What is written piece by piece.
+-- The text of a line, piece by piece: the keyword, then each token after a space. For
+-- `append_line`, `append_parts` and `line_of` of `src/line_text.rt`. What was appended so far is
+-- the old text and the first of the tokens' texts; all of it is ASCII, and so text in UTF-8.
 use Rattle.std.proofs.Common.{◌≡◌, ℕ, ◌≤◌, ◌-◌, Bool, true, false, ◌&&◌, ltb, Result, Ok, Err, get_or, take, drop, List}
 use Rattle.std.proofs.Common.{[], ◌∷◌, ◌++◌, map, length, refl, sym, ap, ◌∙◌, append_assoc, arith}
 use Rattle.std.specs.Prelude.{codes, IsOk, MatchResult}

@@ -2,6 +2,8 @@
 //!
 //! `TWO_DIGITS` has a row for each high digit, so that it is checked by looking at it; the proof of
 //! `append_byte` computes over the whole table that each pair is what the definition says.
+//!
+//! Its rows: `tests_lines`, `src/lines/rows.rt`.
 
 ghost use Rattle.std.specs.Prelude.{◌≡◌, ◌+◌, ◌≤◌, ◌++◌, ◌∷◌, [], length, codes};
 ghost use Rattle.hex.specs.Hex.{encode_lower};

@@ -1,5 +1,7 @@
 //! Words that stand as they do in most lines, told at a look: a byte after a space, with a space or
 //! the line's end after it; `write` and `read` at the front, `:` between spaces, `pec` at the end.
+//!
+//! Its rows: `tests_lines`, `src/lines/rows.rt`.
 
 ghost use Rattle.std.specs.Prelude.{◌≡◌, IfSome, true};
 ghost use Rattle.pmb_line.specs.machine.Front.{EndsWord, IsFront, common_byte};

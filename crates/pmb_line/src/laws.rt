@@ -1,4 +1,6 @@
 //! Laws over the definitions of lines. Each function ensures one, and does nothing.
+//!
+//! Its rows: `tests_lines`, `src/lines/laws.rt`, where each law is called.
 
 ghost use Rattle.std.specs.Prelude.{◌≡◌, ◌≢◌, ◌≤◌, ◌⊎◌, ℕ, List, ◌++◌, codes, length};
 ghost use Rattle.std.specs.List.{All};

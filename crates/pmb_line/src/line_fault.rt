@@ -1,3 +1,6 @@
+//! What is wrong with a line. Its rows: `tests_lines`, `src/lines/rows.rt` and `long.rt`;
+//! `tests/rows/lines.txt`.
+
 ghost use Rattle.std.specs.Prelude.{◌≡◌, ◌+◌, ◌≤◌, ◌++◌, length};
 ghost use Rattle.pmb_line.specs.LineFault.{fault_text, invalid_name, word_fault};
 

@@ -1,4 +1,6 @@
 //! A transaction of each kind, to read lines into.
+//!
+//! Its rows: `tests_lines`, `src/lines/rows.rt`, `long.rt` and `words.rt`.
 
 ghost use Rattle.std.specs.Prelude.{IfOk, IfErr};
 ghost use Rattle.pmb_transaction.specs.Transaction.{transaction_data};

@@ -1,4 +1,6 @@
 //! Lines as they are written.
+//!
+//! Its rows: `tests_lines`, `src/lines/rows.rt` and `long.rt`; `tests/rows/captures.txt`.
 
 ghost use Rattle.std.specs.Prelude.{◌≡◌, ◌+◌, ◌*◌, ◌≤◌, ◌++◌, ◌∷◌, [], length, map, codes, true, false};
 ghost use Rattle.std.specs.List.{flat_map};

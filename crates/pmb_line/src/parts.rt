@@ -2,6 +2,8 @@
 //!
 //! A contract says what is answered where all words of a line are given, and those so far stand
 //! where this kind begins: `LineStandsAt` of `specs/machine/Reading` lists the places.
+//!
+//! Its rows: `tests_lines`, `src/lines/rows.rt` and `long.rt`; `tests/rows/lines.txt`.
 
 ghost use Rattle.std.specs.Prelude.{◌≡◌, ◌+◌, ◌<◌, ◌≤◌, ◌++◌, ◌∷◌, List, [], length, map, take, true, IfOk, Ok};
 ghost use Rattle.pmb_transaction.specs.Transaction.{Write as says_write, PartData, part_data};

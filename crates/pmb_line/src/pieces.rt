@@ -1,4 +1,6 @@
 //! Pieces of a line: a byte, bytes, a word that is wanted or may come, the end.
+//!
+//! Its rows: `tests_lines`, `src/lines/rows.rt` and `long.rt`; `tests/rows/lines.txt`.
 
 ghost use Rattle.std.specs.Prelude.{◌≡◌, ◌<◌, ◌≤◌, length};
 ghost use Rattle.pmb_line.specs.machine.Left.{left, end};

@@ -1,4 +1,6 @@
 //! Reading what a device refused.
+//!
+//! Its rows: `tests_lines`, `src/lines/rows.rt` and `long.rt`; `tests/rows/lines.txt`.
 
 ghost use Rattle.std.specs.Prelude.{◌≡◌, ◌<◌, List, [], length, map, true, Ok};
 ghost use Rattle.pmb_transaction.specs.Transaction.{Refused as says_refused, part_data};

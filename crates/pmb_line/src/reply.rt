@@ -1,4 +1,6 @@
 //! Reading what stands after `read` and after `call`, up to the reply's end.
+//!
+//! Its rows: `tests_lines`, `src/lines/rows.rt` and `long.rt`; `tests/rows/lines.txt`.
 
 ghost use Rattle.std.specs.Prelude.{List};
 ghost use Rattle.pmb_transaction.specs.Transaction.{Read as says_read, Call as says_call};

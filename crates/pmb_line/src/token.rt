@@ -2,6 +2,8 @@
 //!
 //! `DIGITS` is drawn as the code charts are, 16 bytes a row, so that it is checked by looking at it;
 //! the proof of `digit` computes over the whole table that it is what the definition says.
+//!
+//! Its rows: `tests_lines`, `src/lines/rows.rt`.
 
 ghost use Rattle.std.specs.Prelude.{◌≡◌, ◌<◌, IfSome};
 ghost use Rattle.hex.specs.Hex.{hex_digit_value};

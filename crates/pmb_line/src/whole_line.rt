@@ -1,4 +1,6 @@
 //! Lines read into transactions that are kept.
+//!
+//! Its rows: `tests_lines`, `src/lines/rows.rt` and `long.rt`; `tests/rows/lines.txt`.
 
 ghost use Rattle.std.specs.Prelude.{◌≡◌, OnOk, IfOk, IfErr, List, []};
 ghost use Rattle.pmb_transaction.specs.Transaction.{transaction_data};

@@ -1,3 +1,5 @@
+//! What is wrong with a line's words. Its rows: `tests_lines`, `src/lines/rows.rt` and `long.rt`.
+
 /// Why a line spells no transaction. A place is an offset in the line.
 #[derive(Clone, Copy, Debug, PartialEq, Eq)]
 pub enum WordFault {

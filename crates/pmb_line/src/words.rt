@@ -1,4 +1,6 @@
 //! The words of a line, one after the other.
+//!
+//! Its rows: `tests_lines`, `src/lines/words.rt` and `rows.rt`.
 
 ghost use Rattle.std.specs.Prelude.{◌≡◌, ℕ, ◌+◌, ◌^◌, ◌<◌, ◌≤◌, false, true, length, drop, slice_index, [], option_map};
 ghost use Rattle.pmb_line.specs.Words.{bounds, is_blank as is_blank_byte, word_behind, line_words, words_from, without_cr};

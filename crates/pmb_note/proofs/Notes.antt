@@ -1,4 +1,6 @@
--- A note by what a context keeps is the note after the transactions that it was given.
+-- A note by what a context keeps is the note after the transactions that it was given. For
+-- `Context::note` and `append_note`. A note depends on the profile and on each device's VOUT_MODE
+-- alone, and the context keeps the mode that the transactions selected.
 use Rattle.std.proofs.Common.{◌≡◌, ℕ, Result, Ok, Err, Option, Some, None, List, [], ◌∷◌, ◌++◌, codes, map, slice_get}
 use Rattle.std.proofs.Common.{refl, ap, ◌∙◌}
 use Rattle.std.specs.List.{flat_map}

@@ -1,4 +1,5 @@
--- Texts with no LF.
+-- Texts with no LF (10), by a test that is computed. For the law `notes_are_short`, and for the
+-- texts of `pmb_laws`. A text end to end with another has none where neither has one.
 use Rattle.std.proofs.Common.{◌≡◌, ◌≢◌, ℕ, zero, suc, Bool, true, not, ◌==◌, ◌&&◌, get_or, List, [], ◌∷◌, ◌++◌, refl}
 use Rattle.std.specs.List.{All}
 use Rattle.std.proofs.lemmas.Bool.{and_from, and_parts, both_ways, eq-eqb, not-true}

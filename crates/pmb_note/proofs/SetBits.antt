@@ -1,4 +1,6 @@
--- The set bits of a register: those above the highest are passed over, and those below it stay.
+-- The set bits of a register from the highest down: those above it are passed over, those below it
+-- stay. For `highest_bit`, `without` and `append_set_bits` of `src/status.rt`. A value below 2 ^
+-- top has no bit from top on; without its highest bit the others are as before.
 use Rattle.std.proofs.Common.{◌≡◌, ◌∙◌, ℕ, ◌+◌, ◌*◌, ◌/◌, ◌%◌, ◌^◌, ◌-◌, ◌<◌, ◌≤◌, ◌==◌, Bool, true, false, cond, List}
 use Rattle.std.proofs.Common.{[], ◌++◌, codes, refl, sym, ap, subst, inl, inr, arith}
 use Rattle.std.specs.Prelude.{zero, suc}

@@ -1,4 +1,6 @@
--- A note has no LF, and that of a transaction which has a packet is short.
+-- A note has no LF, and that of a transaction with a packet is at most 8,192 bytes. For the law
+-- `notes_are_short`. The bounds are added up from the parts: a number 131, a register 288 (16 bits
+-- of 18), a command 320 with its name of 32, a part after another one 323, and at most 16 parts.
 use Rattle.std.proofs.Common.{◌≡◌, ℕ, zero, suc, ◌+◌, ◌*◌, ◌/◌, ◌%◌, ◌^◌, ◌<◌, ◌≤◌, Bool, true, false, not, ◌==◌}
 use Rattle.std.proofs.Common.{nat_lt, Option, Some, None, Ok, Err, Result, ℤ, pos, negsuc, unsigned_abs, List, [], ◌∷◌}
 use Rattle.std.proofs.Common.{◌++◌, map, length, length-append, refl, ap, ◌∙◌, subst, inl, inr, arith}
@@ -39,6 +41,7 @@ use Rattle.pmb_note.proofs.StatusLemmas.{names_are_short, names_have_no_lf}
 
 -- a text with no LF, and with so many bytes at most
 pub record IsShort (most : ℕ) (text : List ℕ) : Type 0 where
+  -- no LF, so one line; and at most so many bytes
   pub one : no_lf text ≡ true
   pub few : length text ≤ most
 
@@ -131,6 +134,7 @@ found_below test from (suc count) =
     later None below = tt
     later (Some place) below = omega (arith, below)
 
+-- 25: the most digits after the point that a quantity's text may have, and one more is none
 few_places : (d : ℕ) → IfSome (places_of d) (λ place. place < 25)
 unfolding places_of
 few_places d = found_below (λ places. 10 ^ places % d == 0) 0 25

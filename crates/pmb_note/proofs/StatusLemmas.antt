@@ -1,4 +1,6 @@
--- The names of status bits are short and have no LF.
+-- The names of status bits have at most 17 characters and no LF, and a register has one byte or
+-- two. For `append_status` and `name_of_bit` of `src/status.rt`, and `name_of_bit` of
+-- `pmb_json_fields`. The names are tested in the whole table, by computation.
 use Rattle.std.proofs.Common.{◌≡◌, ◌≢◌, Bor, option_map, ℕ, ◌≤◌, sym, subst, Bool, true, false, ◌&&◌, cond, Option}
 use Rattle.std.proofs.Common.{Some, None, List, [], ◌∷◌, length, reverse, nat_eq, slice_get, refl}
 use Rattle.std.specs.Option.{option_flatten, IfSome}
@@ -15,6 +17,7 @@ is_short (Some name) = nat_le (length name) 17 && no_lf name
 
 -- what is said of a name that is short
 record IsShortName (name : List ℕ) : Type 0 where
+  -- 17 characters at most, and no LF
   few : length name ≤ 17
   one : no_lf name ≡ true
 
@@ -30,6 +33,7 @@ all_short [] are bit = tt
 all_short (name ∷ names) are zero = short_at name (and_parts (is_short name) (list_all is_short names) are).0
 all_short (name ∷ names) are (suc bit) = all_short names (and_parts (is_short name) (list_all is_short names) are).1 bit
 
+-- Each name of a register's bits is short, by the test.
 record AreShort (names : BitNames) : Type 0 where
   each : list_all is_short (reverse names) ≡ true
 
@@ -40,6 +44,8 @@ chosen false these those = those
 status_bits_are_short : (code : ℕ) → AreShort (status_bits code)
 unfolding status_bits
 status_bits_are_short code =
+    -- STATUS_BYTE 0x78, STATUS_WORD 0x79, STATUS_VOUT 0x7a, STATUS_IOUT 0x7b, STATUS_INPUT 0x7c,
+    -- STATUS_TEMPERATURE 0x7d, STATUS_CML 0x7e, STATUS_FANS_1_2 0x81; no others have names
     chosen (nat_eq code 0x78) (record { each = refl })
     (chosen (nat_eq code 0x79) (record { each = refl }) (chosen (nat_eq code 0x7a) (record { each = refl })
     (chosen (nat_eq code 0x7b) (record { each = refl })

@@ -1,4 +1,7 @@
--- Texts that are appended one after the other.
+-- Texts that are appended one after the other, each with a bound on how long it is (`Appends`). For
+-- `append_parts`, `append_text`, `append_alert`, `append_digits`, `append_bit`, `append_value` and
+-- the others of this crate. Two texts appended are one, and their bounds add up; 320 and 323 bound
+-- a part and one after another.
 use Rattle.std.proofs.Common.{◌≡◌, ℕ, ◌+◌, ◌*◌, ◌<◌, ◌≤◌, ◌-◌, codes, get_or, map, take, drop, Bool, true, ◌&&◌, ltb}
 use Rattle.std.proofs.Common.{List, [], ◌∷◌, ◌++◌, length, refl, sym, ap, ◌∙◌, subst, append_assoc, arith}
 use Rattle.std.specs.Str.{IsAscii}

@@ -1,4 +1,6 @@
 //! PAGE and VOUT_MODE of the devices of a bus.
+//!
+//! Its rows: `tests_lines`, `src/notes/contexts.rt` and `rows.rt`; `tests/rows/captures.txt`.
 
 ghost use Rattle.std.specs.Prelude.{◌≡◌, ◌+◌, ◌<◌, ◌++◌, ◌∷◌, [], List, fold, length, map, option_map, slice_get, Some};
 ghost use Rattle.pmb_command.specs.Parts.{DeviceParts, device_with};

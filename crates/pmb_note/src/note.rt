@@ -1,4 +1,6 @@
 //! Notes of transactions.
+//!
+//! Its rows: `tests_lines`, `src/notes/rows.rt` and `long.rt`; `tests/rows/captures.txt`.
 
 ghost use Rattle.std.specs.Prelude.{◌≡◌, ◌+◌, ◌*◌, ◌/◌, ◌≤◌, ◌++◌, ◌∷◌, [], ℕ, List, Option, codes, flat_map, length, map};
 ghost use Rattle.hex.specs.Hex.{encode_lower};

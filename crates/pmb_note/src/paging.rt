@@ -1,4 +1,6 @@
 //! PAGE and VOUT_MODE of one device.
+//!
+//! Its rows: `tests_lines`, `src/notes/contexts.rt`; `tests/rows/captures.txt`.
 
 ghost use Rattle.std.specs.Prelude.{◌≡◌, ◌||◌, nat_eq};
 ghost use Rattle.std.specs.List.{list_all};

@@ -1,4 +1,6 @@
 //! The set bits of status registers.
+//!
+//! Its rows: `tests_lines`, `src/notes/registers.rt` and `long.rt`.
 
 ghost use Rattle.std.specs.Prelude.{◌≡◌, ◌+◌, ◌*◌, ◌^◌, ◌<◌, ◌≤◌, ◌++◌, IfSome, codes, length, option_map};
 ghost use Rattle.pmb_command.specs.StatusBits.{bit_text};

@@ -1,4 +1,6 @@
 //! Text that is appended to bytes.
+//!
+//! Its rows: `tests_lines`, `src/notes/rows.rt`.
 
 ghost use Rattle.std.specs.Prelude.{◌+◌, ◌≤◌, length};
 ghost use Rattle.pmb_note.specs.machine.Written.{Appends};

@@ -1,4 +1,6 @@
 //! What the data of a command say by its kind.
+//!
+//! Its rows: `tests_lines`, `src/notes/rows.rt`; `tests/rows/captures.txt`.
 
 ghost use Rattle.std.specs.Prelude.{◌≡◌, ◌+◌, ◌*◌, ◌≤◌, ◌<◌, length, option_map};
 ghost use Rattle.pmb_command.specs.Entry.{entry_parts};

@@ -1,4 +1,7 @@
--- One event more in a leg that is read.
+-- One event more in a leg that is read, of a device that was asked or at the Alert Response
+-- Address. For `in_answer`, `answer_on`, `end_reply`, `end_alert`, `read_device_on` and the other
+-- functions of `src/read_leg.rt`. The answers that are kept (`expected`) are those that the laws of
+-- `pmb_transaction` speak of, so a law on answers holds of what is kept.
 use Rattle.std.proofs.Common.{◌≡◌, ℕ, ◌⊎◌, Bool, true, Some, List, [], ◌∷◌, ◌++◌, ◌↔◌, sym, ap, subst, ◌∙◌}
 use Rattle.std.proofs.Common.{append_assoc}
 use Rattle.std.proofs.lemmas.List.{append-nil}
@@ -99,22 +102,27 @@ pub answer_law : (profile : List DeviceParts) → IsBus profile
     → IsAskedOfSource source profile u front addr → AnswersSource source u
     → (Holds (front ++ leg (read_address addr ∷ bytes)) ↔ Says (IsReply u.answer.expected) said)
 answer_law profile bus u sources.Device front addr bytes Holds Says said same device_law alert_law asked answers =
+    -- the law, for the device and the body that were kept
     let here = device_law asked.written.device.address asked.written.device asked.written.bytes bus asked.known in
+    -- at the address that the events have
     let addressed =
     subst
     (λ (a : ℕ). Holds (leg (write_address asked.written.device.address ∷ asked.written.bytes)
     ++ leg (read_address a ∷ bytes)) ↔ Says (IsAnswer asked.written.device asked.written.device.address
     asked.written.bytes) said)
     (sym asked.at) here in
+    -- and for the events before this leg
     let spelled =
     subst
     (λ (es : List Event). Holds (es ++ leg (read_address addr ∷ bytes))
     ↔ Says (IsAnswer asked.written.device asked.written.device.address asked.written.bytes) said)
     (sym asked.spelled) addressed in
+    -- the answers that are kept are those of the law
     let one =
     same (IsReply u.answer.expected) (IsAnswer asked.written.device asked.written.device.address asked.written.bytes)
     (device_answers profile u front addr asked answers) in
     (λ follows. one.1 (spelled.0 follows), λ so. spelled.1 (one.0 so))
+-- at the Alert Response Address no leg comes before
 answer_law profile bus u sources.Alert front addr bytes Holds Says said same device_law alert_law asked answers =
     let addressed = subst (λ (a : ℕ). Holds (leg (read_address a ∷ bytes)) ↔ Says IsAlertAnswer said)
     (sym asked.1) alert_law in
@@ -176,9 +184,12 @@ pub reply_ends : (profile : List DeviceParts) → IsBus profile
     ++ leg (read_address written.device.address ∷ bytes)) ++ Byte byte ∷ []))
     → Ends events
 reply_ends profile bus u written events is at reply with_pec says Ends law =
+    -- the leg that is kept is the one that asked
     let same = same_kept_leg u at.asked.written written at.asked.is is in
+    -- what was read is an answer to its body
     let said = (device_says profile u written is at.answers reply with_pec u.answer.bytes).0 says in
     let known = subst (λ (w : Written). device_with w.device.address profile ≡ Some w.device) same at.asked.known in
+    -- so the law ends the packet, here with the events as they are kept
     let ends = law said.form at.bytes at.byte known said.asked said.fits said.mode (sym at.last ∙ said.spelled) in
     let front = at.asked.spelled ∙ ap (λ (w : Written). leg (write_address w.device.address ∷ w.bytes)) same in
     let addr = at.asked.at ∙ ap (λ (w : Written). w.device.address) same in

@@ -1,4 +1,5 @@
--- The device with an address.
+-- The device with an address, found or not. For `take_address`. A search finds a device that passes
+-- its test, which is that it has the address; the profile that is kept is the one of the contract.
 use Rattle.std.proofs.Common.{◌≡◌, ℕ, Bool, true, false, [], ◌∷◌, if◌then◌else◌, Option, Some, None, List, ap, sym}
 use Rattle.std.proofs.Common.{subst, ◌∙◌, nat_eq, option_map, refl}
 use Rattle.std.proofs.lemmas.Bool.{eqb-true}

@@ -1,4 +1,6 @@
--- After which events there is no place between packets.
+-- After which events there is no place between packets: at each other place some event came. For
+-- `expected`, `is_between`, `take_packet` and `take_canonical`. Each place but `Between` names the
+-- last event of those under way.
 use Rattle.std.proofs.Common.{◌≡◌, List, [], ◌∷◌, ◌++◌, refl, sym, ◌∙◌}
 use Rattle.pmb_bus.specs.declared.event.Event.{Event}
 use Rattle.pmb_command.specs.Parts.{DeviceParts}

@@ -1,4 +1,6 @@
--- The kinds that may follow after a byte.
+-- The set of kinds that may follow after a byte: ACK, NACK or both. For `expected_at_address`,
+-- `expected_at_read_address`, `expected_behind_byte` and `expected_behind_answer_byte`. Other kinds
+-- don't have their turn there.
 use Rattle.std.proofs.Common.{◌≡◌, ℕ, ◌<◌, ◌↔◌, Bool, true, false, Option, Some, None, is_some, option_map, Bor, List}
 use Rattle.std.proofs.Common.{refl, sym, ◌∙◌}
 use Rattle.pmb_bus.specs.declared.event.Event.{Event}
@@ -12,6 +14,7 @@ use Rattle.pmb_packet_state.proofs.Steps.{EndsWith, TakeTurns, not_its_turn}
 -- the kinds of answers
 pub record AreAnswers (kinds : Kinds) (ack nack : Bool) : Type 0 where
   pub known : bits kinds < 32
+  -- ACK and NACK are in the set as said, and no other kind is
   pub ack_is : holds kinds Ack ≡ ack
   pub nack_is : holds kinds Nack ≡ nack
   pub no_start : holds kinds Start ≡ false

@@ -1,4 +1,5 @@
--- The kinds that may follow after a byte that was taken.
+-- The set of kinds that may follow after a byte that was taken: START, a byte and STOP. For
+-- `expected_in_leg`. ACK and NACK don't have their turn there.
 use Rattle.std.proofs.Common.{◌≡◌, ℕ, ◌<◌, ◌↔◌, Bool, true, false, List, refl, sym, ◌∙◌}
 use Rattle.pmb_bus.specs.declared.event.Event.{Event}
 use Rattle.pmb_bus.specs.declared.event.Event.TheVariants.{Start, Byte, Ack, Nack, Stop}
@@ -11,6 +12,7 @@ use Rattle.pmb_packet_state.proofs.Steps.{EndsWith, TakeTurns, not_its_turn}
 -- the kinds of events that are no answers
 pub record AreNoAnswers (kinds : Kinds) (start byte stop : Bool) : Type 0 where
   pub known : bits kinds < 32
+  -- START, bytes and STOP are in the set as said, and no answer is
   pub start_is : holds kinds Start ≡ start
   pub byte_is : holds kinds (Byte 0) ≡ byte
   pub stop_is : holds kinds Stop ≡ stop

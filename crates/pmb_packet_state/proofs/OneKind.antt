@@ -1,4 +1,6 @@
--- The kind that alone may follow.
+-- The set of one kind, where that alone may follow: a byte, STOP or START. For `expected`. Kinds
+-- are bits: 1 is START, 2 a byte, 4 ACK, 8 NACK, 16 STOP; so each event is in its own set and in no
+-- other.
 use Rattle.std.proofs.Common.{◌≡◌, ℕ, ◌⊎◌, inl, inr, true, List, [], ◌∷◌, ◌++◌, refl, sym, ap, subst, ◌∙◌, arith}
 use Rattle.pmb_bus.specs.declared.event.Event.{Event}
 use Rattle.pmb_bus.specs.declared.event.Event.TheVariants.{Start, Byte, Ack, Nack, Stop}

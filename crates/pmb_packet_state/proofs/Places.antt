@@ -1,4 +1,5 @@
--- The place of a leg after parts.
+-- The place of a leg after parts: the first of its packet where there are none, else a later one
+-- (`LegPlace`). For `place_behind` of `src/legs.rt`, which counts the parts that are kept.
 use Rattle.std.proofs.Common.{◌≡◌, ◌≢◌, List, [], ◌∷◌, length, refl, arith}
 use Rattle.pmb_leg.specs.declared.place.LegPlace.TheVariants.{First, Later}
 use Rattle.pmb_leg.specs.Leg.{place_of}

@@ -1,4 +1,7 @@
--- Why an event may not come, by the place where the events end.
+-- Why an event may not come, by the place where the events end. For `reason` of `src/reason.rt` and
+-- what it calls (`byte_reason`, `ack_reason`, `taken_reason`, `reason_of_ack`, `reason_of_nack`).
+-- Each place names the last event; where another kind alone may follow, the place tells the one
+-- reason that is drawn for such an end.
 use Rattle.std.proofs.Common.{◌≡◌, ◌≢◌, ℕ, ◌<◌, ◌≤◌, ◌⊎◌, inl, inr, Bool, true, false, Some, List, [], ◌∷◌, ◌++◌}
 use Rattle.std.proofs.Common.{length, refl, sym, ap, subst, ◌∙◌, arith, append_assoc, bit_and, ◌==◌}
 use Rattle.std.proofs.lemmas.List.{same_from_push}
@@ -62,6 +65,7 @@ late_here place (inr (inr (inr (inr (inr (inr is)))))) = ap late is
 -- events that end with another one than START
 record EndsElsewhere (events : List Event) : Type 0 where
   pub last : Event
+  -- the last event is no START
   pub other : last ≢ events_are.Start
   pub ends : EndsWith events last
 
@@ -72,6 +76,7 @@ ends_late : (profile : List DeviceParts) (u : PacketState) (place : PacketPlace)
 ends_late profile u Between events is here = absurd (cc is)
 ends_late profile u Start events is here = absurd (cc is)
 ends_late profile u Restart events is here = absurd (cc is)
+-- at an address byte
 ends_late profile u (Address addr) events is here = record {
   last = Byte (write_address addr);
   other = λ same. cc same;
@@ -81,6 +86,7 @@ ends_late profile u (Address addr) events is here = record {
         ∙ sym (append_assoc here.legs (events_are.Start ∷ []) (Byte (write_address addr) ∷ []));
   };
 }
+-- after a byte of a written leg that was taken, and after one without an answer
 ends_late profile u Leg events is here =
     record {
       last = Ack;
@@ -90,6 +96,7 @@ ends_late profile u Leg events is here =
     }
 ends_late profile u (LegByte byte) events is here =
     record { last = Byte byte; other = λ same. cc same; ends = byte_ends profile u byte events here }
+-- at a read address, after a byte that was read, and after one without an answer
 ends_late profile u (ReadAddress source) events is here = record {
   last = Byte (read_address here.addr);
   other = λ same. cc same;
@@ -198,8 +205,10 @@ pub ack_elsewhere : (turns : TakeTurns) (profile : List DeviceParts) (begins : (
     → MayFollow profile (events_are.Start ∷ Byte (read_address alert_address) ∷ []) Ack
     → (u : PacketState) (place : PacketPlace) (events : List Event) → plain place ≡ true
     → IsPacketPlace place profile u events → FollowsAlone profile events Nack → ⊥
+-- between packets START alone may follow
 ack_elsewhere turns profile begins bus device alert u Between events is here alone =
     cc (begins Nack (subst (λ (es : List Event). MayFollow profile es Nack) here alone.follows))
+-- elsewhere NACK has no turn,
 ack_elsewhere turns profile begins bus device alert u Start events is here alone =
     not_its_turn turns profile events events_are.Start Nack (record { front = []; split = here.0 }) refl alone.follows
 ack_elsewhere turns profile begins bus device alert u (Address addr) events is here alone = cc is
@@ -209,6 +218,7 @@ ack_elsewhere turns profile begins bus device alert u Leg events is here alone =
 ack_elsewhere turns profile begins bus device alert u (LegByte byte) events is here alone = cc is
 ack_elsewhere turns profile begins bus device alert u Restart events is here alone =
     not_its_turn turns profile events events_are.Start Nack (start_ends profile u events here) refl alone.follows
+-- and at a read address ACK may follow too
 ack_elsewhere turns profile begins bus device alert u (ReadAddress source) events is here alone =
     cc (alone.alone Ack (read_may_be_answered Ack profile bus u source events device alert here))
 ack_elsewhere turns profile begins bus device alert u (Answer source) events is here alone =

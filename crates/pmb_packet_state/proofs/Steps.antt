@@ -1,4 +1,7 @@
--- One event more at a place.
+-- One event more at a place: what a step comes to, from one law on what may follow. For the
+-- functions of `src/written_leg.rt` and `src/read_leg.rt` (`at_start`, `at_restart`,
+-- `behind_address`, `answer_on`, `at_end` and others). An event that may follow leads to the place
+-- that the function gives; one out of its turn is refused.
 use Rattle.std.proofs.Common.{◌≡◌, ◌≢◌, ℕ, ◌⊎◌, inl, inr, true, false, List, [], ◌∷◌, ◌++◌, refl, sym, ap, subst, ◌∙◌}
 use Rattle.std.proofs.Common.{append_assoc}
 use Rattle.pmb_bus.specs.declared.event.Event.{Event}

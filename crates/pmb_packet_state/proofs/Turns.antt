@@ -1,4 +1,6 @@
--- The events that have their turn at a place.
+-- The events that have their turn at a place, and that what a step comes to is what an event comes
+-- to. For `PacketState::step`. An event without its turn may not follow (a law of
+-- `pmb_transaction`), so the step refuses it and need not ask.
 use Rattle.std.proofs.Common.{◌≡◌, ◌≢◌, true, List, [], ◌∷◌, ◌++◌, refl, subst, sym}
 use Rattle.pmb_bus.specs.declared.event.Event.{Event}
 use Rattle.pmb_bus.specs.declared.event.Event.TheVariants as events_are

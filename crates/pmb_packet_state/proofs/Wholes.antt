@@ -1,4 +1,5 @@
--- A whole canonical packet that is taken at once.
+-- A whole canonical packet that is taken at once. For `take_canonical`: it is a packet of the
+-- profile that is kept, and where one is taken, one lies at the front of the text.
 use Rattle.std.proofs.Common.{◌≡◌, ℕ, Option, Some, None, IsSome, IfSome, List, subst}
 use Rattle.pmb_command.specs.Parts.{DeviceParts}
 use Rattle.pmb_canonical.specs.declared.canonical_reader.TakenPacket.{TakenPacket}

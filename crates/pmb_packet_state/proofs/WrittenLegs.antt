@@ -1,4 +1,7 @@
--- One event more in a leg that is written.
+-- One event more in a leg that is written: the first address, bytes of a body, STOP, START and the
+-- next address. For the functions of `src/written_leg.rt` (`at_start`, `begin_part`, `end_leg`,
+-- `end_write`) and for `expected_at_address`. The leg that is kept stands after the parts that are
+-- kept, so the laws of `pmb_transaction` hold of it.
 use Rattle.std.proofs.Common.{◌≡◌, ℕ, ◌+◌, ◌*◌, ◌/◌, ◌%◌, ◌<◌, ◌≤◌, Bool, true, false, Some, List, [], ◌∷◌, ◌++◌}
 use Rattle.std.proofs.Common.{length, nat_eq, ◌↔◌, refl, sym, ap, subst, ◌∙◌, append_assoc, length-append, arith, ◌||◌}
 use Rattle.std.specs.List.{IsDistinct}
@@ -58,6 +61,7 @@ first_follows profile byte events event law is sent first =
     subst (λ (e : Event). MayFollow profile events e) (sym sent)
     (subst (λ (es : List Event). MayFollow profile es (Byte byte)) (sym is) (law first))
 
+-- 25 is 0x19, the address byte of the Alert Response Address
 pub no_first_address : (byte : ℕ) → (byte % 2 ≡ 0 → ⊥) → (byte ≡ 25 → ⊥) → IsFirstAddress byte → ⊥
 no_first_address byte odd other (written_first addr seven is) = odd (omega arith)
 no_first_address byte odd other (alert_first is) = other is
@@ -187,6 +191,7 @@ kept_leg profile u written events is at = (
 )
 
 -- after a byte
+-- 258: the bytes of a body, at most
 pub kept_byte : (profile : List DeviceParts) (u : PacketState) (written : Written) (byte : ℕ) (events : List Event)
     → u.leg ≡ Some written
     → (at : BehindByte profile u byte events)
@@ -285,10 +290,12 @@ module _ (profile : List DeviceParts) (bus : IsBus profile) (kept : KeptData) (w
       }))
       ((events ++ Nack ∷ []) ++ Stop ∷ [])
   refused_byte_ends byte events law inside small is =
+      -- the packet of the law, for the leg that is kept
       let packet = law parts at.legs written.device.address written.device written.bytes byte bus at.has.few
       at.has.distinct at.has.each at.another at.known inside small in
       let spelled : events ≡ (at.legs ++ leg (write_address written.device.address ∷ written.bytes)) ++ Byte byte ∷ [] =
       is ∙ ap (λ (es : List Event). es ++ Byte byte ∷ []) at.spelled in
+      -- at the events as they are,
       let here =
       subst (λ (es : List Event). Packet profile
       (Refused (record {
@@ -298,6 +305,7 @@ module _ (profile : List DeviceParts) (bus : IsBus profile) (kept : KeptData) (w
         at_read =
             false;
       })) ((es ++ Nack ∷ []) ++ Stop ∷ [])) (sym spelled) packet in
+      -- and with the parts that are kept
       subst (λ (ps : List PartData). Packet profile
       (Refused (record {
         parts = ps;
@@ -375,8 +383,10 @@ pub part_begins : (profile : List DeviceParts) (bus : IsBus profile) (u after : 
     → after.kept.parts ≡ u.kept.parts ++ part ∷ []
     → AtAddress profile after addr (events ++ Byte (2 * addr) ∷ [])
 part_begins profile bus u after written parts front events addr at is few seven another law part same body pushed =
+    -- the leg makes one more part, by the law
     let more = law parts at.legs written.device.address written.device part.code part.bytes part.pec written.bytes bus
     at.has.few at.has.distinct at.has.each at.another at.known body in
+    -- which is the part that is kept
     let one : PartData = record {
       addr = written.device.address;
       code = part.code;
@@ -387,6 +397,7 @@ part_begins profile bus u after written parts front events addr at is few seven 
     let part_is : one ≡ part = ap (λ (a : ℕ). part_of a part.code part.bytes part.pec) (sym same) in
     let kept : after.kept.parts ≡ parts ++ one ∷ [] =
     pushed ∙ ap (λ (ps : List PartData). ps ++ part ∷ []) at.has.same ∙ ap (λ (p : PartData). parts ++ p ∷ [])
+    -- so after START the address byte stands after these parts
     (sym part_is) in record {
       parts = parts ++ one ∷ [];
       legs = at.legs ++ leg (write_address written.device.address ∷ written.bytes);
@@ -421,6 +432,7 @@ is_next_part device parts addr bytes next (reply_leg alone asked is) = absurd (o
 
 -- and where it addresses for reading
 pub record AskedLeg (device : DeviceParts) (parts : List PartData) (addr : ℕ) (bytes : List ℕ) (read : ℕ) : Type 0 where
+  -- no parts before it, and the address is that of the leg that asked
   pub alone : parts ≡ []
   pub request : IsRequest device bytes
   pub at : read ≡ addr

@@ -1,4 +1,6 @@
 //! The kinds of the events that may come.
+//!
+//! Its rows: `tests_reader`, `src/reader/rows.rt` and `src/plain`; `tests/rows/captures.txt`.
 
 ghost use Rattle.std.specs.Prelude.{◌≡◌, ◌<◌, false, List};
 ghost use Rattle.pmb_bus.specs.declared.event.Event.{Event as BusEvent};

@@ -1,4 +1,6 @@
 //! What a leg is that is written, among those of its packet.
+//!
+//! Its rows: `tests_reader`, `src/reader/rows.rt` and `src/plain`; `tests/rows/captures.txt`.
 
 ghost use Rattle.std.specs.Prelude.{◌≡◌, ◌↔◌, IsTrue, List, length};
 ghost use Rattle.pmb_leg.specs.Leg.{IsRequest, place_of};

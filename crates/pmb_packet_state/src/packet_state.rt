@@ -4,6 +4,8 @@
 //! and of the answer under way stands in `specs/machine/PacketState`. A new place needs its lines there,
 //! in `IsPacketPlace` and `has_turn`, and its arm in `step_by_place`, in `expected`, and in
 //! `byte_reason` and `ack_reason`.
+//!
+//! Its rows: `tests_reader`, `src/reader/rows.rt` and `src/plain`; `tests/rows/captures.txt`.
 
 ghost use Rattle.std.specs.Prelude.{◌≡◌, ◌≢◌, ◌<◌, ◌≤◌, ◌↔◌, IfSome, IsSome, true, List, [], length};
 ghost use Rattle.pmb_bus.specs.declared.event.Event.{Event as BusEvent};

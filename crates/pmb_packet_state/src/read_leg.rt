@@ -1,4 +1,6 @@
 //! An event more, at the places of a leg that is read, and after NACK.
+//!
+//! Its rows: `tests_reader`, `src/reader/rows.rt` and `src/plain`; `tests/rows/captures.txt`.
 
 ghost use Rattle.std.specs.Prelude.{◌≡◌};
 ghost use Rattle.pmb_bus.specs.declared.event.Event.{Event as BusEvent};

@@ -1,4 +1,6 @@
 //! Why an event may not come.
+//!
+//! Its rows: `tests_reader`, `src/reader/rows.rt` and `src/plain`; `tests/rows/captures.txt`.
 
 ghost use Rattle.std.specs.Prelude.{◌≡◌, List};
 ghost use Rattle.pmb_bus.specs.declared.event.Event.{Event as BusEvent};

@@ -1,4 +1,6 @@
 //! An event more, at the places of a leg that is written.
+//!
+//! Its rows: `tests_reader`, `src/reader/rows.rt` and `src/plain`; `tests/rows/captures.txt`.
 
 ghost use Rattle.std.specs.Prelude.{◌≡◌, ◌<◌, ◌≤◌, ◌+◌, ◌*◌, ◌↔◌, IsTrue, true, false, List, ◌∷◌, length, nat_eq};
 ghost use Rattle.std.specs.List.{list_any};

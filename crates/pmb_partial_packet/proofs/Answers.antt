@@ -1,4 +1,6 @@
--- What is kept of the legs is what they say, where they are short.
+-- What is kept of the legs is what they say, where they are short: the bytes that were written, and
+-- the reply. For `PartialPacket::sent` and `reply`. Of at most 258 bytes, a body's most, none is
+-- left out; the last written leg is the first one found from the end.
 use Rattle.std.proofs.Common.{◌≡◌, ℕ, ◌≤◌, ◌⊎◌, ◌%◌, ◌==◌, Bool, true, false, Option, Some, None, inl, inr, List, []}
 use Rattle.std.proofs.Common.{◌∷◌, ◌++◌, length, reverse, option_map, refl, sym, ap, subst, ◌∙◌}
 use Rattle.std.specs.List.{AllByRecursion, find}
@@ -26,6 +28,7 @@ short_backwards (leg ∷ all) short =
 record IsFound (all : List (List ℕ)) : Type 0 where
   address : ℕ
   bytes : List ℕ
+  -- 258: the bytes of a body, at most
   few : length bytes ≤ 258
   found : find is_written all ≡ Some (address ∷ bytes)
 

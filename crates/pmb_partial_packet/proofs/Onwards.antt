@@ -1,4 +1,7 @@
--- The bytes of legs, after one event more.
+-- The bytes of legs after one event more, and what is kept of them. For `PartialPacket::start`,
+-- `begin`, `take` and `take_byte`, by Stands. START begins a leg, a byte makes the last one longer,
+-- other events change nothing; legs are in a list with the last one first. 258 bytes of a leg are
+-- kept, a body's most.
 use Rattle.std.proofs.Common.{◌≡◌, ℕ, ◌%◌, ◌==◌, not, Bool, true, false, Option, Some, None, inl, inr, cond, List, []}
 use Rattle.std.proofs.Common.{◌∷◌, ◌++◌, length, reverse, refl, sym, ap, subst, ◌∙◌, arith}
 use Rattle.std.specs.List.{find}

@@ -1,4 +1,5 @@
--- A byte after bytes that had room.
+-- A byte after bytes that had room: with fewer than 258 it is kept, with 258 it is left out. For
+-- `keep` of `src/legs.rt`. Either way the bytes kept are the first 258 of all.
 use Rattle.std.proofs.Common.{◌≡◌, ◌≢◌, ℕ, ◌≤◌, ◌==◌, true, false, List, [], ◌∷◌, ◌++◌, length, take, sym, ◌∙◌, arith}
 use Rattle.std.proofs.lemmas.List.{length-append, take-append-le, take_all}
 use Rattle.std.proofs.lemmas.Bool.{eqb-true, eqb-false}

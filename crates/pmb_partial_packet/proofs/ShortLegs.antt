@@ -1,4 +1,7 @@
--- How long the legs of packets are.
+-- The legs of a packet under way have at most 258 bytes after their address byte. For the law
+-- `legs_are_short`, by which a `PartialPacket` keeps all of them. By the law `bodies_are_short` of
+-- `pmb_transaction`: data have 256 bytes at most, a body 258, a front of one 257; each sort of
+-- packet has such legs.
 use Rattle.std.proofs.Common.{◌≡◌, ℕ, ◌+◌, ◌≤◌, Bool, true, false, inl, inr, List, [], ◌∷◌, ◌++◌, length, refl, sym, ap}
 use Rattle.std.proofs.Common.{subst, ◌∙◌, arith, append-nil, length-append}
 use Rattle.std.specs.List.{AllByRecursion}
@@ -40,6 +43,7 @@ legs_behind_nacked (b ∷ c ∷ bytes) rest = legs_behind_nacked (c ∷ bytes) r
 
 -- Events begin no leg with bytes of the one before, and their legs are short.
 record AreShort (events : List Event) : Type 0 where
+  -- they begin with START or STOP, so no byte belongs to the leg before
   apart : bytes_of_leg events ≡ []
   short : LegsAreShort events
 
@@ -112,6 +116,7 @@ legs_of_front (Stop ∷ events) more short = legs_of_front events more short
 
 -- ---- packets
 
+-- 256, 258 and 257: what the law bodies_are_short says of data, bodies and their fronts
 module _ (data_short : (form : Form) (bytes : List ℕ) → Fits form bytes → length (wire form bytes) ≤ 256)
     (checked_short : (with_pec : Bool) (before bytes : List ℕ)
     → length (checked with_pec before bytes) ≤ length bytes + 1)

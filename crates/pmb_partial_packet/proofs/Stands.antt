@@ -1,4 +1,7 @@
--- What a `PartialPacket` stands at after one event more.
+-- What a `PartialPacket` stands at after one event more: the legs it keeps, and the packet error
+-- codes over all bytes, over the leg, and over the leg but for its last byte. For `new`, `start`,
+-- `begin`, `take` and `take_byte`. A byte carries each code on, START begins a leg without bytes,
+-- and other events change nothing.
 use Rattle.std.proofs.Common.{◌≡◌, ◌≢◌, ℕ, ◌%◌, ◌==◌, Bool, true, false, cond, List, [], ◌∷◌, ◌++◌, reverse, refl, sym}
 use Rattle.std.proofs.Common.{ap, subst, ◌∙◌}
 use Rattle.std.specs.List.{find}

@@ -1,4 +1,6 @@
 //! Laws over the definitions. Each function is its contract, and does nothing.
+//!
+//! Its rows: `tests_packets`, `src/said/example.rt`, where the law is called.
 
 ghost use Rattle.std.specs.Prelude.{List};
 ghost use Rattle.pmb_bus.specs.declared.event.Event.{Event};

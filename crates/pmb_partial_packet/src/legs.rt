@@ -2,6 +2,8 @@
 //!
 //! Two legs are kept: the last one that is written, and the last one of all where it is read. A leg
 //! of a packet has at most 258 bytes after its address, and there is room for no more.
+//!
+//! Its rows: `tests_packets`, `src/said/rows.rt`.
 
 ghost use Rattle.std.specs.Prelude.{◌≡◌, ◌≤◌, ◌++◌, ◌∷◌, [], None, length, take};
 ghost use Rattle.pmb_partial_packet.specs.machine.KeptLegs.{after_address, after_byte, after_start};

@@ -1,4 +1,6 @@
 //! Device, bytes and error code of an unfinished packet.
+//!
+//! Its rows: `tests_packets`, `src/said/rows.rt`; `tests_json`, `src/object_lines/refusals.rt`.
 
 ghost use Rattle.std.specs.Prelude.{◌≡◌, ◌≤◌, ◌++◌, ◌∷◌, [], List, IfSome, length, option_map};
 ghost use Rattle.pmb_bus.specs.declared.event.Event.{Event as BusEvent};

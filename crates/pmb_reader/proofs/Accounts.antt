@@ -1,4 +1,8 @@
--- What a reader has read, event by event and piece by piece.
+-- What a reader has read so far (`HasRead`), carried from event to event, from piece to piece and
+-- to the end. For the laws of `src/laws.rt`: `reading_goes_on`, `reading_accepts`,
+-- `reading_refuses`, `pieces_go_on`, `pieces_are_accepted`, `captures_are_read_back` and others. An
+-- account says: whatever follows and reads on from here, all of it together reads as the outcomes
+-- so far and those.
 use Rattle.std.proofs.Common.{◌≡◌, ◌≢◌, ℕ, ◌+◌, ◌⊎◌, inl, inr, List, [], ◌∷◌, ◌++◌, length, map, take, Result, Ok, Err}
 use Rattle.std.proofs.Common.{refl, sym, ap, ◌∙◌, subst, append_assoc, arith, length-append}
 use Rattle.std.proofs.lemmas.List.{append-nil, take_at}
@@ -66,7 +70,9 @@ module _ (profile : List DeviceParts) (outcomes : List Outcome) where
 module _ (profile : List DeviceParts) where
   -- what a reader has read that stands at a place
   pub record Account (events : List Event) (due : Due) (outcomes : List Outcome) (standing : Standing) : Type 0 where
+    -- what is due fits the place: no event, the one that is held, or the one after it
     pub at : IsDueAt due standing
+    -- what follows reads on, so all of it reads as both
     pub reads : (more : List Event) (later : List Outcome) → IsDue due more → Remains profile standing more later
         → ReadsFrom profile 0 (events ++ more) (outcomes ++ later)
 
@@ -182,9 +188,11 @@ module _ (profile : List DeviceParts) where
       → Packet profile t (front ++ event ∷ []) → Account events due outcomes (Open n front)
       → Account (events ++ event ∷ []) AnyEvent (outcomes ++ Accepted t ∷ []) (Open (n + length front + 1) [])
   accepts events AnyEvent outcomes n front event t packet account =
+      -- the packet is counted, and the reader is between packets after it
       let count : n + length front + 1 ≡ n + length (front ++ event ∷ []) =
       omega (arith, length-append front (event ∷ [])) in record {
         at = tt;
+        -- in front of what follows it is read as accepted
         reads =
             λ more later any remains.
             with_one ((events ++ event ∷ []) ++ more) outcomes (Accepted t) later
@@ -201,6 +209,7 @@ module _ (profile : List DeviceParts) where
             )
             );
       }
+  -- nothing else can be due there
   accepts events (HeldEvent first) outcomes n front event t packet account = absurd account.at
   accepts events (PassedEvent first) outcomes n front event t packet account = absurd account.at
 
@@ -230,13 +239,16 @@ module _ (profile : List DeviceParts) where
       → RefusedAt profile n front event refusal → Account events due outcomes (Open n front)
       → Account events (HeldEvent event) (outcomes ++ Refusal refusal ∷ []) (Held (n + length front) refusal)
   refuses events AnyEvent outcomes n front event refusal refused account = record {
+    -- the refusal is held, and its event is due
     at = tt;
     reads =
         λ more later is remains.
+        -- what is passed over begins with that event
         let again : ReadsAfterStop profile (n + length front) (event ∷ is.0) later =
         subst (λ (es : List Event). ReadsAfterStop profile (n + length front) es later) is.1 remains in
         with_one (events ++ more) outcomes (Refusal refusal) later
         (
+        -- so the refusal is read, and then what is left
         account.reads more (Refusal refusal ∷ later) tt
         (inl (
           front,
@@ -251,6 +263,7 @@ module _ (profile : List DeviceParts) where
         ))
         );
   }
+  -- nothing else can be due there
   refuses events (HeldEvent first) outcomes n front event refusal refused account = absurd account.at
   refuses events (PassedEvent first) outcomes n front event refusal refused account = absurd account.at
 
@@ -438,13 +451,16 @@ module _ (profile : List DeviceParts) where
       ⊎ AnswersAgain profile read.standing used after refusal
       → Stopped after events outcomes piece used refusal
   refused_in others_pass before after events due outcomes piece used refusal read free is (inl w) =
+      -- up to the refused event the piece goes on
       let due_front =
       due_first due read.standing w.front w.event w.rest w.n w.events read.at (subst (IsDue due) w.split is) w.leads in
       let to_event =
       led others_pass events due outcomes read.standing w.front (Open w.n w.events)
       (no_leads read.standing w.front w.n w.events w.leads) due_front w.leads
       (account_of before events due outcomes read) in
+      -- there it is refused,
       let account = refuses (events ++ w.front) AnyEvent outcomes w.n w.events w.event refusal w.refused to_event in
+      -- and the events before it are those that were used
       let front : w.front ≡ take used piece = sym
       (ap (take used) w.split ∙ take_at w.front (w.event ∷ w.rest) used (sym w.up_to)) in
       let read_so = has_read after (events ++ w.front) (HeldEvent w.event) (outcomes ++ Refusal refusal ∷ [])
@@ -455,6 +471,7 @@ module _ (profile : List DeviceParts) where
         subst (λ (es : List Event). HasRead profile after (events ++ es) (HeldEvent w.event)
             (outcomes ++ Refusal refusal ∷ [])) front read_so,
       )
+  -- a refusal that is held has its event due
   refused_in others_pass before after events due outcomes piece used refusal read free is (inr w) =
       absurd (held_nowhere due w.n refusal free (subst (IsDueAt due) w.held read.at))
 

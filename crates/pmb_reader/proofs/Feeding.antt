@@ -1,4 +1,6 @@
--- What a piece of a capture comes to, one event after the other.
+-- What a piece of a capture comes to, one event after the other. For `Reader::feed` and its loop.
+-- The place after the first i events is led to from the place before the piece (`LedTo`); an event
+-- that ends a packet or is refused ends the loop.
 use Rattle.std.proofs.Common.{◌≡◌, ℕ, ◌+◌, ◌<◌, ◌⊎◌, inl, inr, List, [], ◌∷◌, ◌++◌, length, take, drop, get_or, Some}
 use Rattle.std.proofs.Common.{None, refl, sym, ap, subst, ◌∙◌, arith, append_assoc, length-append}
 use Rattle.std.proofs.lemmas.List.{append-nil, length-take-le, take_more, take_all, drop_more, take-append-drop}
@@ -24,6 +26,7 @@ use Rattle.pmb_reader.proofs.Stopless.{no_stop_in_none, no_stop_in_more}
 
 -- a place that a piece led to, and that a reader stands at
 pub record LedTo (profile : List DeviceParts) (standing : Standing) (piece : List Event) (now : Reader) : Type 0 where
+  -- where the piece leads, and that the reader stands there
   pub behind : Standing
   pub leads : Leads standing piece behind
   pub stands : ReaderStandsAt profile now behind
@@ -83,6 +86,7 @@ module _ (profile : List DeviceParts) where
   led_on : (standing behind : Standing) (piece : List Event) (event : Event) (after : Reader)
       → Leads standing piece behind
       → ReaderTakes profile behind event answers.Continues after → LedTo profile standing (piece ++ event ∷ []) after
+  -- in a packet: the event goes to those under way
   led_on (Open n events) behind piece event after leads takes =
       let took : ReaderTakes profile (Open n (events ++ piece)) event answers.Continues after =
       subst (λ (s : Standing). ReaderTakes profile s event answers.Continues after) leads takes in record {
@@ -90,8 +94,10 @@ module _ (profile : List DeviceParts) where
         leads = ap (λ (es : List Event). Open n es) (append_assoc events piece (event ∷ []));
         stands = took.1;
       }
+  -- while a refusal is held no event is taken
   led_on (Held n refusal) behind piece event after leads takes =
       absurd (subst (λ (s : Standing). ReaderTakes profile s event answers.Continues after) leads.1 takes)
+  -- while events are passed over, before STOP and after it
   led_on (Passing n) behind piece event after (inl leads) takes =
       passed_on n piece event after leads.0
       (subst (λ (s : Standing). ReaderTakes profile s event answers.Continues after) leads.1 takes)
@@ -113,6 +119,7 @@ module _ (profile : List DeviceParts) where
 
 -- what a reader that was given the first i events of a piece has come to
 pub record FedTo (before : Reader) (piece : List Event) (i : ℕ) (now : Reader) : Type 0 where
+  -- from each place of the reader the first i events lead to where it is now
   pub led : (profile : List DeviceParts) (standing : Standing) → ReaderStandsAt profile before standing
       → LedTo profile standing (take i piece) now
   pub not_held : (profile : List DeviceParts) (standing : Standing) → ReaderStandsAt profile before standing

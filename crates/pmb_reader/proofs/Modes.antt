@@ -1,4 +1,6 @@
--- What the mode of a reader says of where it stands.
+-- What the mode of a reader (open, held, passing) says of where it stands. For `Reader::take`,
+-- `pass`, `finish`, `resync`, `expected`, `held`, `read` and `take_canonical`. In each mode the
+-- other two kinds of place are ruled out; and the count of events stays at the greatest u64.
 use Rattle.std.proofs.Common.{◌≡◌, true, false, ℕ, ◌+◌, List, [], ◌∷◌, ◌++◌, length, refl, sym, ap, subst, ◌∙◌, arith}
 use Rattle.std.proofs.Common.{length-append}
 use Rattle.pmb_bus.specs.Count.{capped}
@@ -100,6 +102,7 @@ no_kinds kinds none lacks = record {
 }
 
 -- all kinds
+-- 31: the bits of all five kinds
 pub all_kinds : (kinds : Kinds) → bits kinds ≡ 31 → ((event : Event) → holds kinds event ≡ true)
     → AreKindsOf (λ event. Unit {0}) kinds
 all_kinds kinds all has = record {

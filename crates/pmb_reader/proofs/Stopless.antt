@@ -1,4 +1,5 @@
--- Lists of events without a STOP, and up to the first one.
+-- Lists of events without a STOP, and up to the first one. For `Reader::feed` and the laws of
+-- reading, by Feeding and Accounts: while a reader passes over events, none of them was a STOP.
 use Rattle.std.proofs.Common.{◌≡◌, List, [], ◌∷◌, ◌++◌, ap, ◌∙◌, append_assoc}
 use Rattle.pmb_bus.specs.declared.event.Event.{Event}
 use Rattle.pmb_bus.specs.declared.event.Event.TheVariants.{Stop}

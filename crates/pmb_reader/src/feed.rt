@@ -1,4 +1,6 @@
 //! Pieces of a capture.
+//!
+//! Its rows: `tests_reader`, `src/reader/rows.rt`.
 
 ghost use Rattle.std.specs.Prelude.{List};
 ghost use Rattle.pmb_command.specs.Parts.{DeviceParts};

@@ -2,6 +2,8 @@
 //!
 //! `HasRead` tells what a reader has read so far of a capture; these laws carry it from call to
 //! call, and say what it comes to at the capture's end.
+//!
+//! Its rows: `tests_reader`, `src/reader/example.rt`, where each law is called.
 
 ghost use Rattle.std.specs.Prelude.{◌≡◌, ℕ, Result, Ok, Err, List, [], ◌∷◌, ◌++◌, map, take};
 ghost use Rattle.pmb_bus.specs.declared.event.Event.{Event};

@@ -3,6 +3,9 @@
 //! A [`Reader`] is between packets or inside one, or it holds a refusal, or it passes events over
 //! up to the next STOP. The packet under way is a [`PacketState`], which alone knows what a packet
 //! is; here events are counted and refusals are kept.
+//!
+//! Its rows: `tests_reader`, `src/reader/rows.rt`, `src/plain` and `src/counts/large.rt`;
+//! `tests/rows/captures.txt`.
 
 ghost use Rattle.std.specs.Prelude.{◌≡◌, ◌<◌, ◌≤◌, ◌↔◌, ◌+◌, ℕ, IfSome, IsSome, None, List, [], length, true};
 ghost use Rattle.pmb_bus.specs.declared.event.Event.{Event as BusEvent};

@@ -1,3 +1,5 @@
+//! A refused event. Its rows: `tests_reader`, `src/reader/rows.rt`; `tests/rows/captures.txt`.
+
 use pmb_bus::Kinds;
 use pmb_transaction::Reason;
 

@@ -1,4 +1,6 @@
--- Bytes between two words, one after the other.
+-- Bytes between two words, one after the other: separators, and comments up to their LF. For
+-- `front_blank`, its loop, `pass_blank` and `take_words`. They spell nothing, and outside comments
+-- a text may be cut after them.
 use Rattle.std.proofs.Common.{◌≡◌, ℕ, ◌+◌, ◌<◌, Bool, false, List, [], ◌∷◌, ◌++◌, length, map, take, get_or, refl, sym}
 use Rattle.std.proofs.Common.{ap, ◌∙◌, subst, append-nil}
 use Rattle.std.specs.List.{filter}
@@ -14,6 +16,7 @@ use Rattle.pmb_scan.specs.declared.scan.Scan.{Scan}
 
 -- a text without words, which ends in a comment or not
 pub record IsBlank (text : List ℕ) (inside : Bool) : Type 0 where
+  -- no word has ended and none is under way; whether a comment is open
   pub none : ended_words text ≡ []
   pub opened : open_word text ≡ []
   pub comment : inside ≡ ends_in_comment text

@@ -1,4 +1,6 @@
--- What a scan has read comes to something, whatever follows.
+-- What a scan has read comes to some spans, whatever follows, and also where nothing follows. For
+-- the law `scans_lead_on`. Each list of events has spans; those that follow a place are put after
+-- those so far.
 use Rattle.std.proofs.Common.{◌≡◌, ℕ, ◌+◌, List, [], ◌∷◌, ◌++◌, filter, length, inl, inr, refl, sym, ap, ◌∙◌, subst}
 use Rattle.std.proofs.Common.{append_assoc, append-nil}
 use Rattle.pmb_bus.specs.declared.event.Event.{Event}

@@ -1,4 +1,6 @@
--- Passing over events, up to and including the first STOP.
+-- Events that are passed over up to and with the first STOP, as spans. For `report`, `pass_over`
+-- and the other functions of `src/reported.rt` and `src/scan.rt`. An event more in front that is no
+-- STOP is passed over too.
 use Rattle.std.proofs.Common.{◌≡◌, ◌≢◌, ℕ, ◌+◌, List, [], ◌∷◌, length, refl, subst, arith}
 use Rattle.pmb_bus.specs.declared.event.Event.{Event}
 use Rattle.pmb_bus.specs.declared.event.Event.TheVariants.{Stop}

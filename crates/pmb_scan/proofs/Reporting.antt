@@ -1,4 +1,7 @@
--- What one event more comes to, from what a reader answers to it where it stands.
+-- What one event more comes to, from what the reader returns for it where it stands: it goes on, it
+-- ends a packet, or it is refused and then passed over. For `report`, `pass_over`, `pass_blank` and
+-- `truncation`. The spans so far are followed by one more, and whatever follows reads on from
+-- there.
 use Rattle.std.proofs.Common.{◌≡◌, ℕ, ◌+◌, Result, Ok, Err, List, [], ◌∷◌, ◌++◌, filter, length, refl, sym, ap, ◌∙◌}
 use Rattle.std.proofs.Common.{subst, arith, append_assoc, append-nil}
 use Rattle.std.specs.Result.{result_err}
@@ -112,6 +115,7 @@ reports_more others_pass reached event after on takes =
 reports_packet : (reached : Reached) (standing : Standing) (event : Event) (after : Reader)
     → reached.standing ≡ standing → LeadsOn reached
     → ReaderTakes reached.profile standing event answers.Packet after → EndsPacket reached event (last_read after) after
+-- in a packet: the event ends it, and its span is one more
 reports_packet reached (Open n events) event after same on takes =
     let packet = events ++ event ∷ [] in record {
       n = n;
@@ -122,6 +126,7 @@ reports_packet reached (Open n events) event after same on takes =
         stands = takes.1;
         reads = record {
           reading = tt;
+          -- what follows reads on after it
           leads = λ rest others reads. spans_then reached.profile reached.events rest event reached.spans others
               (ReadSpan n packet (last_read after))
               (on.leads (event ∷ rest) (ReadSpan n packet (last_read after) ∷ others)
@@ -137,6 +142,7 @@ reports_packet reached (Open n events) event after same on takes =
         };
       };
     }
+-- elsewhere no event ends a packet
 reports_packet reached (Held n refusal) event after same on takes = absurd takes
 reports_packet reached (Passing n) event after same on takes = absurd takes
 
@@ -147,6 +153,7 @@ pub reports_refusal : OthersPass → (reached : Reached) (standing : Standing) (
     → ((n : ℕ) (kept : RefusalData) → ReaderStandsAt reached.profile held (Held n kept)
     → ReaderStandsAt reached.profile after (behind_passed n event))
     → IsRefused reached event (refusal_data refusal) after
+-- in a packet: its span is one more, and the reader passes over the event
 reports_refusal others_pass reached (Open n events) event refusal held after same on takes passes =
     let m = n + length events in
     let span = RefusedSpan n events event (refusal_data refusal) in record {
@@ -158,6 +165,7 @@ reports_refusal others_pass reached (Open n events) event refusal held after sam
         stands = passes m (refusal_data refusal) takes.1;
         reads = record {
           reading = passed_reading m event;
+          -- what is passed over begins with this event, then what follows reads on
           leads = λ rest others reads.
               let over = passed_leads others_pass reached.profile m event rest others reads in
               spans_then reached.profile reached.events rest event reached.spans others span
@@ -168,6 +176,7 @@ reports_refusal others_pass reached (Open n events) event refusal held after sam
         };
       };
     }
+-- no refusal is held, and none comes while events are passed over
 reports_refusal others_pass reached (Held n kept) event refusal held after same on takes passes =
     absurd (subst IsReading same on.reading)
 reports_refusal others_pass reached (Passing n) event refusal held after same on takes passes = absurd takes

@@ -1,4 +1,7 @@
--- A piece of a text that is taken word by word.
+-- A piece of a text that is taken word by word: what was used of it, what is left, what the visitor
+-- was told and what went out (`UpTo`). For `take_words` and its loop. One word more, a byte with
+-- its ACK, a whole packet, a blank: each moves the place on; the piece ends all used, or at a word
+-- that is no token.
 use Rattle.std.proofs.Common.{◌≡◌, ℕ, ◌+◌, ◌-◌, ◌≤◌, None, Some, map, inl, inr, Option, List, [], ◌∷◌, ◌++◌, length}
 use Rattle.std.proofs.Common.{get_or, take, drop, sym, ◌∙◌, ap, subst, refl, append_assoc, append-nil, length-append}
 use Rattle.std.proofs.Common.{length-take-le, take-append-drop, drop-drop, arith}
@@ -105,6 +108,7 @@ module _ {V : Type 0} (Stands : V → V → Reached → List ℕ → Type 0) whe
   -- a front of the piece was taken, all but the rest
   pub record UpTo (start now : V) (reached : Reached) (piece rest : List ℕ) (h0 : Option (List ℕ)) (w0 : List ℕ)
       (h1 : Option (List ℕ)) (w1 text : List ℕ) (scan : Scan) : Type 0 where
+    -- what was used of the piece, what was reached then, and what went out meanwhile
     pub used : List ℕ
     pub there : Reached
     pub more : List ℕ
@@ -188,14 +192,17 @@ module _ {V : Type 0} (Stands : V → V → Reached → List ℕ → Type 0) whe
       × (so_far.there.events ++ event ∷ [] ≡ then.there.events)
   word_more start v0 v1 v2 reached piece rest left bytes used event h0 h1 h2 w0 w1 w2 text scan after lexer so_far word
       told took same_lexer bytes_are left_is =
+      -- the bytes of the word were told, then its event was taken
       let there = so_far.there in
       let told_there = told start there (text ++ so_far.more) so_far.visited in
       let taken = took start (behind_bytes there bytes) (text ++ so_far.more)
       (reads_on scan.reader there bytes so_far.stands.reader) told_there
       (subst (λ (l : List ℕ). Spells (there.text ++ l) (there.events ++ event ∷ [])) (sym bytes_are)
       (word_spells _ there.text there.events rest used lexer event word)) in
+      -- what was reached is the text with that word
       let text_is : there.text ++ take used rest ≡ taken.holds.there.text =
       sym (taken.holds.same_text ∙ ap (λ (l : List ℕ). there.text ++ l) bytes_are) in (
+        -- it is used, and its text comes after what went out before
         record {
           used = so_far.used ++ take used rest;
           there = taken.holds.there;
@@ -283,12 +290,14 @@ module _ {V : Type 0} (Stands : V → V → Reached → List ℕ → Type 0) whe
       → UpTo start v1 reached piece left h0 w0 h2 w2 text after
   up_to_whole start v0 v1 reached piece rest left bytes used count h0 h1 h2 w0 w1 w2 text scan after so_far taken told
       bytes_are left_is =
+      -- the packet is told at once
       let there = so_far.there in
       let t = last_read after.reader in
       let behind = behind_whole there taken.n bytes taken.events t in
       let puts = told start there (text ++ so_far.more) taken.n taken.events so_far.visited taken.between taken.spells
       taken.standing
       (subst (λ (l : List ℕ). IsWhole there.profile t taken.events l) (sym bytes_are) taken.whole) taken.counted in
+      -- its bytes are used, and its text comes after what went out before
       record {
         used = so_far.used ++ take used rest;
         there = behind;
@@ -334,12 +343,14 @@ module _ {V : Type 0} (Stands : V → V → Reached → List ℕ → Type 0) whe
       → PutsOut (λ more. TakesAll (Stands start v1) reached piece after (text ++ more)) h0 w0 h1 w1
   takes_all start v0 v1 reached piece rest bytes used h0 h1 w0 w1 text scan after so_far needs told same_reader
       bytes_are =
+      -- all that is left was used, and no word ends in it
       let there = so_far.there in
       let whole : bytes ≡ rest = bytes_are ∙ (ap (λ k. take k rest) needs.all
       ∙ take_all (length rest) rest (omega arith)) in
       let text_is : there.text ++ rest ≡ there.text ++ bytes = ap (λ l. there.text ++ l) (sym whole) in record {
         text = so_far.more;
         writes = so_far.puts;
+        -- what was told reaches to the end of the piece
         holds = record {
           there = behind_bytes there bytes;
           profile = so_far.profile;
@@ -365,10 +376,12 @@ module _ {V : Type 0} (Stands : V → V → Reached → List ℕ → Type 0) whe
       → PutsOut (λ more. StopsAtBadWord (Stands start v1) reached piece all_used fault after (text ++ more)) h0 w0 h1 w1
   stops_at_bad_word start v0 v1 reached piece rest bytes used all_used fault h0 h1 w0 w1 text scan after lexer so_far
       refuses told same_reader bytes_are counted =
+      -- what was used up to the bad word, in this piece and in all
       let there = so_far.there in
       let text_is : there.text ++ take used rest ≡ there.text ++ bytes = ap (λ l. there.text ++ l) (sym bytes_are) in
       let piece_length = ap length so_far.split ∙ length-append so_far.used rest in
       let used_is : all_used ≡ length so_far.used + used = omega (arith, counted, piece_length) in
+      -- a front of the rest is a front of the piece, counted from its first byte
       let taken : (k m : ℕ) → k ≡ length so_far.used + m → there.text ++ take m rest ≡ reached.text ++ take k piece =
       λ k m is. ap (λ l. l ++ take m rest) so_far.is_text ∙ (append_assoc reached.text so_far.used (take m rest)
       ∙ ap (λ l. reached.text ++ l) (sym (ap (λ i. take i piece) is
@@ -378,6 +391,7 @@ module _ {V : Type 0} (Stands : V → V → Reached → List ℕ → Type 0) whe
       ∙ ap (λ l. reached.text ++ l) (sym so_far.split)) in record {
         text = so_far.more;
         writes = so_far.puts;
+        -- so the fault has the place in the whole text
         holds = record {
           there = behind_bytes there bytes;
           profile = so_far.profile;

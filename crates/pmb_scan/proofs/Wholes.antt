@@ -1,4 +1,6 @@
--- A whole canonical packet that is taken at once, between two packets.
+-- A whole canonical packet that is taken at once, between two packets. For `take_whole`. Between
+-- packets the reader has no event under way, so the packet is the next span, and the lexer passes
+-- over its text.
 use Rattle.std.proofs.Common.{◌≡◌, ℕ, ◌+◌, List, [], ◌++◌, length, take, sym, ap, subst, length-append}
 use Rattle.pmb_bus.specs.declared.event.Event.{Event}
 use Rattle.pmb_bus.specs.Event.{canonical_text}

@@ -1,4 +1,6 @@
 //! What stands between two words of a text: separators and comments.
+//!
+//! Its rows: `tests_reader`, `src/scan/scans.rt`.
 
 ghost use Rattle.std.specs.Prelude.{◌≤◌, [], IfSome, length, take};
 ghost use Rattle.pmb_bus.specs.Text.{EndsBetween, Spells};

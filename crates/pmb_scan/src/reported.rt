@@ -3,6 +3,8 @@
 //! After a refusal the reader is made to pass over events at once, the refused event first, so no
 //! refusal is ever held between two calls, and what came of the events so far leads on to the spans
 //! of the whole, whatever follows.
+//!
+//! Its rows: `tests_reader`, `src/scan/scans.rt`.
 
 ghost use Rattle.std.specs.Prelude.{ℕ, List};
 ghost use Rattle.pmb_command.specs.Parts.{DeviceParts};

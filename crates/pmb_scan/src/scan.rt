@@ -4,6 +4,8 @@
 //! that are not inlined, so that no other event pays for it. In each turn `take_words` takes a
 //! whole canonical packet, where one lies in front, or the separators and comments there, or a byte and
 //! its ACK, or one word.
+//!
+//! Its rows: `tests_reader`, `src/scan/scans.rt`; `tests/rows/captures.txt`.
 
 ghost use Rattle.std.specs.Prelude.{◌≡◌, ◌++◌, ◌∷◌, [], ◌≤◌, ◌<◌, ℕ, List, None, OnOk, IfOk, IfSome, length, drop, take};
 ghost use Rattle.pmb_bus.specs.declared.event.Event.{Event as BusEvent};

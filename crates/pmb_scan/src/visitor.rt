@@ -1,4 +1,6 @@
 //! What is done with what a scan comes upon.
+//!
+//! Its rows: `tests_reader`, `src/scan/scans.rt`.
 
 ghost use Rattle.std.specs.Prelude.{◌≡◌, ◌++◌, ◌∷◌, [], ℕ, List, OnOk, length};
 ghost use Rattle.pmb_bus.specs.declared.event.Event.{Event as BusEvent};

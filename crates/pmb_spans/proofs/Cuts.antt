@@ -1,4 +1,7 @@
--- The spans of a capture that is cut after a STOP are those of its pieces.
+-- The spans of a capture that is cut after a STOP are those of its pieces, the second's moved. For
+-- the laws `spans_move` and `spans_may_be_cut`. Events that end with STOP leave no packet under
+-- way, so none of their spans is an end inside a packet; the spans are joined one by one, and
+-- events have one list of spans (OneSplit).
 use Rattle.std.proofs.Common.{◌≡◌, ℕ, ◌+◌, ◌⊎◌, ◌↔◌, inl, inr, true, List, [], ◌∷◌, ◌++◌, length, refl, sym, ap, ◌∙◌}
 use Rattle.std.proofs.Common.{subst, append_assoc, arith}
 use Rattle.std.specs.List.{All}
@@ -59,6 +62,7 @@ module _ (profile : List DeviceParts) where
     pub spans_move : (n : ℕ) (spans : List Span) (m : ℕ) (events : List Event) → SpansFrom profile m events spans
         → SpansFrom profile (n + m) events (moved_spans n spans)
     spans_move n [] m events w = w
+    -- a packet: its events are the same, further on
     spans_move n (ReadSpan i front t ∷ more) m events w =
         let counted : n + (m + length front) ≡ (n + m) + length front = omega arith in
         let later = spans_move n more (m + length front) w.1 w.4 in (
@@ -68,6 +72,7 @@ module _ (profile : List DeviceParts) where
           w.3,
           subst (λ (k : ℕ). SpansFrom profile k w.1 (moved_spans n more)) counted later,
         )
+    -- a refusal: likewise, with what is passed over
     spans_move n (RefusedSpan i front event refusal ∷ more) m events w =
         let counted : n + (m + length front + length w.4) ≡ (n + m) + length front + length w.4 = omega arith in
         let later = spans_move n more (m + length front + length w.4) w.5 w.7 in (
@@ -80,6 +85,7 @@ module _ (profile : List DeviceParts) where
           w.6,
           subst (λ (k : ℕ). SpansFrom profile k w.5 (moved_spans n more)) counted later,
         )
+    -- an end inside a packet
     spans_move n (TruncatedSpan i front refusal ∷ more) m events w =
         (ap (λ (k : ℕ). n + k) w.0, w.1, truncated_moves n m front refusal w.2, ap (moved_spans n) w.3)
 
@@ -119,14 +125,18 @@ module _ (profile : List DeviceParts) where
     -- where some STOP is among events, more of them are left where more follow
     module _ (more_left : (events more passed left : List Event) → (HasNoStop events → ⊥)
         → PassedOver events passed left → PassedOver (events ++ more) passed (left ++ more)) where
+      -- In w are the parts of SpansFrom in order: the place, what is left, the split, the packet or
+      -- the refusal, then for a refusal what is passed over and left
       joined_from : (spans others : List Span) (n : ℕ) (first second : List Event) → EndsOn first
           → SpansFrom profile n first spans
           → SpansFrom profile (n + length first) second others → SpansFrom profile n (first ++ second) (spans ++ others)
+      -- no span: the first piece is empty
       joined_from [] others n first second ends none behind =
           let nothing : n + length {A = Event} [] ≡ n = omega arith in
           let counted : n + length first ≡ n = ap (λ (es : List Event). n + length es) none ∙ nothing in
           subst (λ (es : List Event). SpansFrom profile n (es ++ second) others) (sym none)
           (subst (λ (k : ℕ). SpansFrom profile k second others) counted behind)
+      -- a packet: the rest of the first piece is joined
       joined_from (ReadSpan m front t ∷ more) others n first second ends w behind =
           let split : first ≡ front ++ w.1 = w.2 in
           let lengths : length first ≡ length front + length w.1 = ap length split ∙ length-append front w.1 in
@@ -138,6 +148,8 @@ module _ (profile : List DeviceParts) where
             joined_from more others (n + length front) w.1 second (rest_ends_on front w.1 first ends split) w.4
                 (subst (λ (k : ℕ). SpansFrom profile k second others) counted behind),
           )
+      -- a refusal: what is passed over ends with a STOP of the first piece, so the second follows
+      -- what is left
       joined_from (RefusedSpan m front event refusal ∷ more) others n first second ends w behind =
           let onwards = event ∷ w.1 in
           let split : first ≡ front ++ onwards = w.2 in
@@ -158,6 +170,7 @@ module _ (profile : List DeviceParts) where
                 (rest_ends_on w.4 w.5 onwards onwards_end over) w.7
                 (subst (λ (k : ℕ). SpansFrom profile k second others) counted behind),
           )
+      -- no packet is under way at the end of the first piece
       joined_from (TruncatedSpan m front refusal ∷ more) others n first second ends w behind =
           absurd (not_truncated n first front refusal ends w.1 w.2)
 

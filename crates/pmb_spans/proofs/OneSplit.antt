@@ -1,4 +1,7 @@
--- Events have one list of spans.
+-- Events have one list of spans. For the laws `one_list_of_spans` and `spans_may_be_cut`. Spans
+-- have the outcomes of a reading (Outcomes), of which there is one; and two lists with the same
+-- outcomes have the same events in each, since a packet ends at its STOP and a refusal comes at one
+-- place.
 use Rattle.std.proofs.Common.{◌≡◌, ℕ, ◌+◌, ◌<◌, ◌⊎◌, inl, inr, List, [], ◌∷◌, ◌++◌, length, map, refl, sym, ap, ◌∙◌}
 use Rattle.std.proofs.Common.{subst, append_assoc}
 use Rattle.std.proofs.lemmas.List.{append-nil, append_cancel_left}
@@ -68,6 +71,7 @@ module _ (profile : List DeviceParts) (fronts : (a b : List Event) → Viable pr
   one_split [] [] n events same first second = refl
   one_split [] (span ∷ others) n events same first second = absurd (cc same)
   one_split (span ∷ more) [] n events same first second = absurd (cc same)
+  -- two packets at the front of the same events are the same, and so is what follows
   one_split (ReadSpan i f t ∷ more) (ReadSpan j g u ∷ others) n events same first second =
       let fronts = same_first_packet profile t u f g first.1 second.1 first.3 second.3 (sym first.2 ∙ second.2) in
       let front : f ≡ g = fronts.0 in
@@ -80,9 +84,11 @@ module _ (profile : List DeviceParts) (fronts : (a b : List Event) → Viable pr
       let place : i ≡ j = first.0 ∙ sym second.0 in
       let transaction : t ≡ u = cc same in
       cc (place, front, transaction, later)
+  -- a packet and a refusal are two outcomes
   one_split (ReadSpan i f t ∷ more) (RefusedSpan j g e s ∷ others) n events same first second = absurd (cc same)
   one_split (ReadSpan i f t ∷ more) (TruncatedSpan j g s ∷ others) n events same first second = absurd (cc same)
   one_split (RefusedSpan i f d r ∷ more) (ReadSpan j g u ∷ others) n events same first second = absurd (cc same)
+  -- two refusals: at one place, of one event, and then the same events are passed over
   one_split (RefusedSpan i f d r ∷ more) (RefusedSpan j g e s ∷ others) n events same first second =
       let onwards : f ++ d ∷ first.1 ≡ g ++ e ∷ second.1 = sym first.2 ∙ second.2 in
       let front : f ≡ g = same_place n f g d e first.1 second.1 r s first.3 second.3 onwards in
@@ -93,6 +99,7 @@ module _ (profile : List DeviceParts) (fronts : (a b : List Event) → Viable pr
       one_way (e ∷ second.1) first.4 first.5 second.4 second.5
       (subst (λ (es : List Event). PassedOver es first.4 first.5) tails first.6)
       second.6 in
+      -- so the same events are left, with the same outcomes
       let counted : SpansFrom profile (n + length g + length second.4) first.5 more =
       subst (λ (passed : List Event). SpansFrom profile (n + length g + length passed) first.5 more) over.0
       (subst (λ (es : List Event). SpansFrom profile (n + length es + length first.4) first.5 more) front first.7) in
@@ -105,11 +112,13 @@ module _ (profile : List DeviceParts) (fronts : (a b : List Event) → Viable pr
       let event : d ≡ e = cc tails in
       let refusal : r ≡ s = cc same in
       cc (place, front, event, refusal, later)
+  -- events that end inside a packet hold no refused one
   one_split (RefusedSpan i f d r ∷ more) (TruncatedSpan j g s ∷ others) n events same first second =
       absurd (not_truncated n f d first.1 events g r s first.3 first.2 second.2 second.1)
   one_split (TruncatedSpan i f r ∷ more) (ReadSpan j g u ∷ others) n events same first second = absurd (cc same)
   one_split (TruncatedSpan i f r ∷ more) (RefusedSpan j g e s ∷ others) n events same first second =
       absurd (not_truncated n g e second.1 events f s r second.3 second.2 first.2 first.1)
+  -- two ends inside a packet, which are all of the events
   one_split (TruncatedSpan i f r ∷ more) (TruncatedSpan j g s ∷ others) n events same first second =
       let place : i ≡ j = first.0 ∙ sym second.0 in
       let front : f ≡ g = sym first.1 ∙ second.1 in

@@ -1,4 +1,6 @@
--- Spans have the outcomes of a reading, and each reading has spans.
+-- The outcomes of spans are a reading of their events, and each reading has spans. For the laws
+-- `spans_read`, `readings_have_spans`, `each_list_has_spans` and `spans_may_be_cut`, and for
+-- `pmb_capture`. A span is an outcome with its place and its events, so both go one by one.
 use Rattle.std.proofs.Common.{◌≡◌, ℕ, ◌+◌, inl, inr, List, [], ◌∷◌, length, map, refl, sym, ap, subst}
 use Rattle.pmb_bus.specs.declared.event.Event.{Event}
 use Rattle.pmb_command.specs.Bus.{IsBus}

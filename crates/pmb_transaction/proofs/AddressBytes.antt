@@ -1,4 +1,7 @@
--- The first address byte of a packet, and what follows the address byte of a written leg.
+-- The address byte that may come first in a packet, and the answers to an address byte for writing.
+-- For the laws `first_addresses`, `addresses_may_be_refused` and `addresses_taken_are_known`.
+-- Events that may follow are one of the stated beginnings: each form of a beginning is tried, and
+-- where one fits, it is built.
 use Rattle.std.proofs.Common.{◌≡◌, ℕ, ◌<◌, ◌≤◌, ◌⊎◌, inl, inr, false, Some, List, [], ◌∷◌, ◌++◌, length, nat_eq, refl}
 use Rattle.std.proofs.Common.{sym, ap, subst, append_assoc, arith}
 use Rattle.std.specs.List.{IsDistinct}
@@ -29,6 +32,7 @@ use Rattle.pmb_transaction.proofs.Starts.{none_refused, not_both, same_half}
 module _ (pec_is_byte : (bytes : List ℕ) → pec bytes < 256) (profile : List DeviceParts) (bus : IsBus profile) where
   -- ---- the first address byte
 
+  -- a beginning that is START and one byte, by its form
   first_in_leg : (byte : ℕ) (parts : List PartData) → LegBegins profile parts (Start ∷ Byte byte ∷ [])
       → IsFirstAddress byte
   first_in_leg byte parts (leg_start is) = absurd (cc is)
@@ -107,6 +111,7 @@ module _ (pec_is_byte : (bytes : List ℕ) → pec bytes < 256) (profile : List 
     known_as other device same found =
         (device, subst (λ (a : ℕ). device_with a profile ≡ Some device) (sym (same_half addr other same)) found)
 
+    -- where ACK follows the address byte, a device has the address, by the form of the beginning
     known_in_leg : (done : List PartData) → LegBegins profile done (Start ∷ Byte (write_address addr) ∷ Ack ∷ [])
         → IsKnown
     known_in_leg done (leg_start is) = absurd (cc is)
@@ -150,12 +155,14 @@ module _ (pec_is_byte : (bytes : List ℕ) → pec bytes < 256) (profile : List 
         let events = addressed ++ Ack ∷ [] in
         let spelled : events ≡ legs ++ Start ∷ Byte (write_address addr) ∷ Ack ∷ [] =
         append_assoc legs (Start ∷ Byte (write_address addr) ∷ []) (Ack ∷ []) in (
+          -- an event that may follow makes a packet or a beginning, and each tells a device
           λ follows.
               known_by events spelled (ends_with profile addressed Ack refl)
               (
               by_last_leg profile legs (Byte (write_address addr) ∷ Ack ∷ []) events refl spelled
               (viable_is_beginning pec_is_byte profile bus events (λ none. no_end addressed Ack [] none) follows)
               ),
+          -- a device that is known makes a beginning with no byte of a body
           λ known.
               beginning_is_viable pec_is_byte profile bus events
               (

@@ -1,4 +1,7 @@
--- Addresses of parts: one more that is new, and an address that none of a few has.
+-- Distinct addresses: those of a group's parts, one more part whose address is new, and an address
+-- up to 15 that none of 15 parts has. For `viable_lists` and the laws on packets: a leg that has
+-- its START alone is completed with such an address, which is refused. It is found from the bound
+-- down: an address that is taken is left out of the list, which gets shorter.
 use Rattle.std.proofs.Common.{◌≡◌, ℕ, ◌+◌, ◌<◌, ◌≤◌, zero, suc, Bool, true, false, ◌||◌, List, [], ◌∷◌, ◌++◌, length}
 use Rattle.std.proofs.Common.{nat_eq, refl, sym, subst, arith}
 use Rattle.std.specs.List.{AllByRecursion, IsDistinct, list_any}
@@ -137,6 +140,7 @@ still_new n m (x ∷ xs) other new = still_new_at (nat_eq m x) n m x xs refl oth
 
 -- a number up to a bound that none of the others is
 pub record IsFree (bound : ℕ) (xs : List ℕ) : Type 0 where
+  -- the number that is free
   pub number : ℕ
   pub small : number ≤ bound
   pub new : IsNew number xs

@@ -1,4 +1,7 @@
--- The leg at the Alert Response Address, which is read.
+-- The leg at the Alert Response Address: ACK or NACK may follow its address byte, then a byte is
+-- read, with or without a packet error code. For the laws `alerts_may_be_taken`,
+-- `alerts_may_be_refused`, `bytes_follow_in_an_alert`, `alerts_go_on` and `alerts_end`. What
+-- follows in a leg that is read is proved once, in ReadLegs; its four premises are proved here.
 use Rattle.std.proofs.Common.{ℕ, ◌<◌, inr, false, List, [], ◌∷◌, ◌++◌, refl, sym, subst, arith}
 use Rattle.pmb_bus.specs.Pec.{pec}
 use Rattle.pmb_bus.specs.declared.event.Event.{Event}

@@ -1,5 +1,7 @@
--- The bytes of answers: there is one to each body that asks, and each has a byte; how far a leg
--- that is read has come in them.
+-- The bytes of answers: a device has some answer to each body that asks, an answer has a byte, and
+-- how far a leg that is read has come in one. For Replies, Alerts and ReadLegs, and so for laws
+-- such as `replies_go_on` and `reads_are_packets`. A leg's events tell its bytes, and each answer
+-- begins with those that were read so far.
 use Rattle.std.proofs.Common.{◌≡◌, ℕ, ◌<◌, inl, inr, Bool, true, false, Some, List, [], ◌∷◌, ◌++◌, refl, sym, ap, ◌∙◌}
 use Rattle.std.proofs.Common.{subst, append_assoc, arith}
 use Rattle.std.proofs.lemmas.List.{same_from_push}

@@ -1,4 +1,8 @@
--- What begins a packet is one of the stated beginnings.
+-- Each list of events with which a packet begins, and that is not empty, is one of the stated
+-- beginnings (`IsBeginning`): one half of the law `viable_lists`, whose other half is in
+-- Completions. A packet is cut where the events end: after it, before its STOP, in one of the
+-- parts, in the refused leg or in the leg that is read. `cut` of Fronts tells which,
+-- `front_of_acked` and `front_of_nacked` tell how far.
 use Rattle.std.proofs.Common.{◌≡◌, ◌≢◌, ℕ, ◌+◌, ◌<◌, ◌≤◌, ◌⊎◌, inl, inr, Bool, true, false, Some, List, [], ◌∷◌, ◌++◌}
 use Rattle.std.proofs.Common.{length, nat_eq, refl, sym, ap, ◌∙◌, subst, append_assoc, arith}
 use Rattle.std.specs.List.{IsDistinct}
@@ -240,6 +244,7 @@ module _ (pec_is_byte : (bytes : List ℕ) → pec bytes < 256) (profile : List 
       → PartsAndLeg profile ((before ++ first) ++ f ∷ others))
       → Within (e ∷ events) more first rest ⊎ Beyond (e ∷ events) more first rest
       → PartsAndLeg profile (before ++ e ∷ events)
+  -- they end inside the first of the parts that are left
   part_begins_at done part before first rest each here few own new e events more later (inl w) =
       let body = here.body in
       let allowed : IsWriteBody here.device body = (part.code, part.bytes, part.pec, here.allowed) in
@@ -258,6 +263,7 @@ module _ (pec_is_byte : (bytes : List ℕ) → pec bytes < 256) (profile : List 
             (sym w.first ∙ here.spelled);
         spelled = refl;
       }
+  -- or after it: the parts after it are next
   part_begins_at done part before first rest each here few own new e events more later (inr w) =
       let same : (before ++ first) ++ w.event ∷ w.rest ≡ before ++ e ∷ events =
       append_assoc before first (w.event ∷ w.rest) ∙ ap (λ (es : List Event). before ++ es) (sym w.first) in
@@ -438,6 +444,7 @@ module _ (pec_is_byte : (bytes : List ℕ) → pec bytes < 256) (profile : List 
       → RefusedLeg profile parts addr sent at_read last
       → (e : Event) (events : List Event) (next : Event) (more : List Event)
       → e ∷ events ++ next ∷ more ≡ last → IsBeginning profile (legs ++ e ∷ events)
+  -- the address byte is refused
   refused_begins parts addr [] false legs last few own new each refused e events next more same =
       written
       (record {
@@ -452,6 +459,7 @@ module _ (pec_is_byte : (bytes : List ℕ) → pec bytes < 256) (profile : List 
             (λ f others then. absurd (one_event f Nack others next more then)) (same ∙ refused.spelled);
         spelled = refl;
       })
+  -- a byte after it is refused
   refused_begins parts addr (b ∷ bytes) false legs last few own new each refused e events next more same =
       let seven = seven_bits pec_is_byte profile bus addr refused.device refused.known in
       written
@@ -473,10 +481,12 @@ module _ (pec_is_byte : (bytes : List ℕ) → pec bytes < 256) (profile : List 
             (same ∙ refused.spelled);
         spelled = refl;
       })
+  -- reading is refused in a packet without parts alone
   refused_begins (part ∷ parts) addr [] true legs last few own new each refused e events next more same =
       absurd (cc refused.alone)
   refused_begins (part ∷ parts) addr (b ∷ bytes) true legs last few own new each refused e events next more same =
       absurd (cc refused.alone)
+  -- there the written leg comes first, then the refused address byte
   refused_begins [] addr [] true legs last few own new each refused e events next more same =
       at_read_begins addr [] legs last each refused e events next more same
   refused_begins [] addr (b ∷ bytes) true legs last few own new each refused e events next more same =
@@ -507,10 +517,12 @@ module _ (pec_is_byte : (bytes : List ℕ) → pec bytes < 256) (profile : List 
   inside : (t : TransactionData) (all : List Event) → Packet profile t (all ++ Stop ∷ [])
       → (e : Event) (events : List Event)
       → Fewer (e ∷ events) all → IsBeginning profile (e ∷ events)
+  -- a write: inside one of its parts
   inside (Write parts) all packet e events w =
       let same : all ≡ packet.legs = same_before_stop all packet.legs packet.spelled in
       written (parts_begin [] parts [] packet.legs refl packet.each packet.few packet.distinct e events
       (w.event ∷ w.rest) (w.split ∙ same))
+  -- a read: in the leg of its code, or after it
   inside (Read t) all packet e events w =
       let addr = t.addr in
       let body = t.code ∷ [] in
@@ -520,6 +532,7 @@ module _ (pec_is_byte : (bytes : List ℕ) → pec bytes < 256) (profile : List 
       answer_of addr packet.device body answer packet.known
       (inl (t.code, packet.form, record { read = packet.read; spelled = refl }))
       (read_answers profile t (all ++ Stop ∷ []) packet) e events w.event w.rest (w.split ∙ same)
+  -- a call: in the leg of its body, or after it
   inside (Call t) all packet e events w =
       let addr = t.addr in
       let body = t.code ∷ wire packet.form t.bytes in
@@ -529,12 +542,14 @@ module _ (pec_is_byte : (bytes : List ℕ) → pec bytes < 256) (profile : List 
       answer_of addr packet.device body answer packet.known
       (inr (t.code, packet.form, t.bytes, record { called = packet.called; fits = packet.sent; spelled = refl }))
       (call_answers profile t (all ++ Stop ∷ []) packet) e events w.event w.rest (w.split ∙ same)
+  -- a refused packet: in its parts, or in the refused leg
   inside (Refused t) all packet e events w =
       let same : all ≡ packet.legs ++ packet.last = same_before_stop all (packet.legs ++ packet.last) packet.spelled in
       refused_begins_at t.parts t.addr t.sent t.at_read packet.legs packet.last packet.few packet.distinct
       packet.another packet.each
       packet.refused e events w.event w.rest (cut (e ∷ events) (w.event ∷ w.rest) packet.legs packet.last
       (w.split ∙ same))
+  -- the Alert Response Address: in its only leg
   inside (Alert t) all packet e events w =
       let answer = checked t.pec (read_address alert_address ∷ []) (t.byte ∷ []) in
       let same = same_before_stop all (leg (read_address alert_address ∷ []) ++ nacked answer) packet.spelled in

@@ -1,4 +1,7 @@
--- What is kept of each device, and how what is told of a device changes it.
+-- A value for each device of a profile, kept in a list by address (`KeptByAddress`): what is told
+-- of one device changes its value and no other. For `Context` of `pmb_note` (`observe`,
+-- `take_bytes`, `take_parts`) and `Late` of `pmb_unknown_start`. A device that is found has the
+-- address, and that is below 128, so it has a place of its own.
 use Rattle.std.proofs.Common.{◌≡◌, ◌≢◌, ℕ, ◌+◌, ◌<◌, ◌≤◌, cond, get_or, drop, slice_set, Bool, true, false, Some, None}
 use Rattle.std.proofs.Common.{List, [], ◌∷◌, ◌++◌, fold, length, map, take, nat_eq, refl, sym, ap, ◌∙◌, subst, arith}
 use Rattle.std.specs.List.{refill}

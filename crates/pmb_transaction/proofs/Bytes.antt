@@ -1,4 +1,6 @@
--- The bytes of packets are below 256.
+-- The bytes of a packet are below 256: address bytes, codes, data and packet error codes. For the
+-- law `packets_are_bytes`. It holds of each list of bytes that a packet is made of, and so of their
+-- events end to end.
 use Rattle.std.proofs.Common.{◌≡◌, ℕ, ◌<◌, Bool, true, false, Some, List, [], ◌∷◌, ◌++◌, ◌+◌, ◌*◌, inl, inr, refl, sym}
 use Rattle.std.proofs.Common.{subst, arith}
 use Rattle.pmb_bus.specs.Event as of_events
@@ -150,8 +152,10 @@ module _ (pec_is_byte : (bytes : List ℕ) → pec bytes < 256) where
 
     pub packets_are_bytes : (t : TransactionData) (events : List Event) → Packet profile t events
         → of_events.AreBytes events
+    -- its parts' bodies
     packets_are_bytes (Write parts) events packet =
         with_stop events packet.legs (bytes_of_parts parts packet.legs packet.each) packet.spelled
+    -- the code, and the reply in its form
     packets_are_bytes (Read t) events packet =
         let is = device_is profile t.addr packet.device bus packet.known in
         let code_small = code_is_byte (λ (s : Shape). s.read) packet.device t.code packet.form refl is.0 packet.read in
@@ -165,6 +169,7 @@ module _ (pec_is_byte : (bytes : List ℕ) → pec bytes < 256) where
         bytes_of_answered events t.addr (t.code ∷ wire packet.form t.bytes) (wire packet.form t.reply) t.pec
         (seven_bits t.addr packet.device packet.known) (code_small, small_wire packet.form t.bytes packet.sent)
         (small_wire packet.form t.reply packet.replied) packet.spelled
+    -- the parts, then the refused leg
     packets_are_bytes (Refused t) events packet =
         with_stop events (packet.legs ++ packet.last)
         (
@@ -174,9 +179,11 @@ module _ (pec_is_byte : (bytes : List ℕ) → pec bytes < 256) where
     packets_are_bytes (Alert t) events packet =
         let bytes = checked t.pec (read_address alert_address ∷ []) (t.byte ∷ []) in
         let small = small_checked t.pec (read_address alert_address ∷ []) (t.byte ∷ []) (packet.byte, tt) in
+        -- 25 is 0x19, the address byte of the Alert Response Address
         let address : 25 < 256 = omega arith in
         with_stop events (leg (read_address alert_address ∷ []) ++ nacked bytes) (address, bytes_of_nacked bytes small)
         packet.spelled
     packets_are_bytes NoAlert events packet =
+        -- 25 is 0x19, the address byte of the Alert Response Address
         let address : 25 < 256 = omega arith in
         subst of_events.AreBytes (sym packet) (address, tt)

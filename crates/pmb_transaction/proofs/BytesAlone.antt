@@ -1,4 +1,6 @@
--- In a leg that is read nothing but a byte follows an ACK.
+-- In a leg in which a device is read, nothing but a byte follows a byte that was taken. For the law
+-- `bytes_alone_follow_in_an_answer`. By the turns of events START, STOP or a byte follows ACK; the
+-- leg before START or STOP would be a written one, and this leg has an address byte for reading.
 use Rattle.std.proofs.Common.{◌≡◌, ℕ, ◌<◌, true, List, [], ◌∷◌, ◌++◌, refl, sym, ap, ◌∙◌, subst, append_assoc}
 use Rattle.pmb_bus.specs.Pec.{pec}
 use Rattle.pmb_bus.specs.declared.event.Event.{Event}

@@ -1,4 +1,7 @@
--- Captures: a list of transactions and a list of events tell each other.
+-- A list of transactions has one capture, and events are the capture of one list. For the laws
+-- `one_list_of_events` and `one_capture`, and for readings, here and in `pmb_spans`. Two packets at
+-- the front of the same events both end at the first STOP, so they are one, and what follows them
+-- is the same.
 use Rattle.std.proofs.Common.{◌≡◌, List, [], ◌∷◌, ◌++◌, refl, sym, ap, ◌∙◌, subst, append_assoc}
 use Rattle.pmb_bus.specs.declared.event.Event.{Event}
 use Rattle.pmb_bus.specs.declared.event.Event.TheVariants.{Stop}

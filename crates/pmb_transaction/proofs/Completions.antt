@@ -1,4 +1,7 @@
--- Each of the stated beginnings can be completed to a packet.
+-- Each of the stated beginnings (`IsBeginning`) can be completed to a packet: the other half of the
+-- law `viable_lists`, whose first half is in Beginnings. A device may refuse any byte, so a leg
+-- under way is completed by one that is refused and STOP, a write body by STOP, a body that asks by
+-- a refused read, and an answer by the rest of it.
 use Rattle.std.proofs.Common.{◌≡◌, ℕ, ◌+◌, ◌<◌, ◌≤◌, inl, inr, Bool, true, false, Some, List, [], ◌∷◌, ◌++◌, length}
 use Rattle.std.proofs.Common.{nat_eq, refl, sym, ap, ◌∙◌, subst, append_assoc, arith}
 use Rattle.std.specs.List.{IsDistinct}
@@ -57,6 +60,7 @@ small_front (x ∷ a) b small = (small.0, small_front a b small.1)
 
 -- ---- the rest of a leg that is read
 
+-- the events that complete a leg that is read
 pub record AnswerGoesOn (address : ℕ) (answer : List ℕ) (events : List Event) : Type 0 where
   pub more : List Event
   pub all : events ++ more ≡ leg (address ∷ []) ++ nacked answer
@@ -276,6 +280,7 @@ module _ (pec_is_byte : (bytes : List ℕ) → pec bytes < 256) (profile : List 
   leg_follows : (parts : List PartData) → length parts ≤ 15 → IsDistinct nat_eq (addresses parts) → (legs : List Event)
       → PartsEvents profile parts legs → (events last : List Event) → events ≡ legs ++ last
       → LegBegins profile parts last → Viable profile events
+  -- after START alone: an address that no part has, which is refused
   leg_follows parts few own legs each events last spelled (leg_start is) =
       let long : length (addresses parts) ≡ length parts = length-map parts (λ (p : PartData). p.addr) in
       let one = free 15 (addresses parts) (omega (arith, long, few)) in
@@ -285,16 +290,20 @@ module _ (pec_is_byte : (bytes : List ℕ) → pec bytes < 256) (profile : List 
       (record { seven = omega (arith, below); spelled = refl }) events last
       (Byte (write_address addr) ∷ Nack ∷ Stop ∷ []) spelled
       (ap (λ (es : List Event). es ++ Byte (write_address addr) ∷ Nack ∷ Stop ∷ []) is)
+  -- after the address byte: that is refused
   leg_follows parts few own legs each events last spelled (leg_address addr seven new is) =
       refused_follows parts few own legs each addr [] false new (Start ∷ Byte (write_address addr) ∷ Nack ∷ [])
       (record { seven = seven; spelled = refl }) events last (Nack ∷ Stop ∷ []) spelled
       (ap (λ (es : List Event). es ++ Nack ∷ Stop ∷ []) is)
+  -- after its ACK: a byte 0 that is refused
   leg_follows parts few own legs each events last spelled (leg_taken addr device bytes new known (inl none) is) =
       inside_follows parts few own legs each addr device bytes 0 new known (inl none) (omega arith) events last
       (Byte 0 ∷ Nack ∷ Stop ∷ []) spelled
       (ap (λ (es : List Event). es ++ Byte 0 ∷ Nack ∷ Stop ∷ []) is)
+  -- after the beginning of a body: the rest of it
   leg_follows parts few own legs each events last spelled (leg_taken addr device bytes new known (inr w) is) =
       taken_follows parts few own legs each addr device bytes w.0 w.1 new known w.2 w.3 events last spelled is
+  -- after a byte without an answer: that is refused
   leg_follows parts few own legs each events last spelled (leg_sent addr device bytes byte new known inside small is) =
       let ends : last ++ Nack ∷ Stop ∷ [] ≡ Start ∷ Byte (write_address addr) ∷ Ack ∷ acked bytes ++ Byte byte ∷ Nack
       ∷ Stop ∷ [] =
@@ -311,6 +320,7 @@ module _ (pec_is_byte : (bytes : List ℕ) → pec bytes < 256) (profile : List 
       → (answer : List ℕ) → (says : SaysAnswer device addr body reply with_pec answer)
       → IsFormOfRequest device says.form body
       → IsPacket profile (answered addr body (wire says.form reply) with_pec)
+  -- to a read body it is a read
   answered_packet addr device body reply with_pec known answer says (inl w) =
       let bytes = wire says.form reply in
       let t : ReadData = record { addr = addr; code = w.0; reply = reply; pec = with_pec } in
@@ -324,6 +334,7 @@ module _ (pec_is_byte : (bytes : List ℕ) → pec bytes < 256) (profile : List 
         spelled = refl;
       } in
       subst (λ (sent : List ℕ). IsPacket profile (answered addr sent bytes with_pec)) (sym w.1.spelled) (Read t, packet)
+  -- to a call body it is a call
   answered_packet addr device body reply with_pec known answer says (inr w) =
       let bytes = wire says.form reply in
       let t : CallData = record { addr = addr; code = w.0; bytes = w.1; reply = reply; pec = with_pec } in

@@ -1,4 +1,7 @@
--- A capture that is cut after a STOP reads as its pieces do.
+-- A capture that is cut after a STOP reads as its two pieces do, the places of the second moved by
+-- the length of the first. For the laws `captures_may_be_cut_behind_stop` and `refusals_move`.
+-- Events that end with STOP leave no packet under way, so none of their outcomes is a truncation;
+-- the readings are joined outcome by outcome, and there is no other reading.
 use Rattle.std.proofs.Common.{◌≡◌, ℕ, ◌+◌, ◌<◌, ◌⊎◌, inl, inr, List, [], ◌∷◌, ◌++◌, length, sym, ap, ◌∙◌, subst}
 use Rattle.std.proofs.Common.{append_assoc, arith}
 use Rattle.std.specs.List.{All}
@@ -123,14 +126,20 @@ module _ (profile : List DeviceParts) where
       going.no_packet all [] (ends.split ∙ sym (append-nil all))
       (packet_with_stop profile ends.front (subst (Viable profile) ends.split going.viable))
 
+  -- The readings of two pieces, joined. A reading's parts are numbered as in ReadsFrom: for a
+  -- packet its events, the others, the split, the packet and the rest; for a refusal the events
+  -- before it, the event, the others, the split, the refusal, then what is passed over and what is
+  -- left.
   joined_from : (outcomes others : List Outcome) (n : ℕ) (first second : List Event) → EndsOn first
       → ReadsFrom profile n first outcomes
       → ReadsFrom profile (n + length first) second others → ReadsFrom profile n (first ++ second) (outcomes ++ others)
+  -- no outcome: the first piece is empty
   joined_from [] others n first second ends none reads =
       let nothing : n + length {A = Event} [] ≡ n = omega arith in
       let counted : n + length first ≡ n = ap (λ (es : List Event). n + length es) none ∙ nothing in
       subst (λ (es : List Event). ReadsFrom profile n (es ++ second) others) (sym none)
       (subst (λ (k : ℕ). ReadsFrom profile k second others) counted reads)
+  -- a packet at the front: the rest of the first piece is joined
   joined_from (Accepted t ∷ more) others n first second ends w reads =
       let split : first ≡ w.0 ++ w.1 = w.2 in
       let all : length first ≡ length w.0 + length w.1 = ap length split ∙ length-append w.0 w.1 in
@@ -142,6 +151,7 @@ module _ (profile : List DeviceParts) where
         joined_from more others (n + length w.0) w.1 second (rest_ends w.0 w.1 first ends split) w.4
             (subst (λ (k : ℕ). ReadsFrom profile k second others) counted reads),
       )
+  -- a refusal: what is passed over ends with a STOP of the first piece
   joined_from (Refusal refusal ∷ more) others n first second ends (inl w) reads =
       let refused = w.1 ∷ w.2 in
       let split : first ≡ w.0 ++ refused = w.3 in
@@ -150,6 +160,7 @@ module _ (profile : List DeviceParts) where
       let all : length first ≡ length w.0 + length refused = ap length split ∙ length-append w.0 refused in
       let refused_all : length refused ≡ length w.5 + length w.6 = ap length over ∙ length-append w.5 w.6 in
       let counted : n + length first ≡ (n + length w.0 + length w.5) + length w.6 = omega (arith, all, refused_all) in
+      -- the second piece goes after what is left
       inl (
         w.0,
         w.1,
@@ -163,6 +174,7 @@ module _ (profile : List DeviceParts) where
             w.8
             (subst (λ (k : ℕ). ReadsFrom profile k second others) counted reads),
       )
+  -- no packet is under way at the end of the first piece
   joined_from (Refusal refusal ∷ more) others n first second ends (inr w) reads =
       absurd (not_truncated n first refusal ends w.0)
 

@@ -1,4 +1,7 @@
--- The data of a form, read back from their bytes on the bus.
+-- The data of a form, read back from the bytes after a code, with whether a packet error code
+-- follows them. For the law `one_transaction`, by Telling, and for simulated devices
+-- (`pmb_devices`) and exchanges (`pmb_exchange`). The form, or the count of a block, says how many
+-- bytes there are; one more is the code.
 use Rattle.std.proofs.Common.{◌≡◌, ℕ, Bool, true, false, Option, Some, None, List, [], ◌∷◌, ◌++◌, length, take, drop}
 use Rattle.std.proofs.Common.{refl, sym, ap, ◌∙◌, arith}
 use Rattle.std.proofs.lemmas.List.{append-nil, take_at, drop_at}

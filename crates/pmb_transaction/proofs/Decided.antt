@@ -1,4 +1,7 @@
--- What is decided: that something holds, or that it does not.
+-- Statements of which it is decided whether they hold (`Decided`), and how two of them together,
+-- one of two, what is found by a search, and each element of a list are decided from these. For the
+-- laws `viability_is_decided` and `each_list_has_a_reading`: a reading needs to know of each event
+-- whether it may follow.
 use Rattle.std.proofs.Common.{◌≡◌, ℕ, zero, suc, ◌<◌, ◌≤◌, ◌⊎◌, inl, inr, Bool, true, false, Option, Some, None, List}
 use Rattle.std.proofs.Common.{[], ◌∷◌, ◌++◌, refl, sym, ap, subst, arith}
 use Rattle.std.specs.List.{AllByRecursion}

@@ -1,4 +1,6 @@
--- Which data, bodies and answers a form and a device take is decided.
+-- Whether bytes are the data of a form, the front of a body that a device takes, or a body that
+-- asks it, is decided. For the law `viability_is_decided`, by DecidedPackets. Data of a form are at
+-- most 255 bytes below 256, so all that can be in a body with a given front are tried.
 use Rattle.std.proofs.Common.{◌≡◌, ℕ, ◌<◌, ◌≤◌, ◌⊎◌, inl, inr, Bool, true, false, Some, List, [], ◌∷◌, ◌++◌, length}
 use Rattle.std.proofs.Common.{refl, sym, ap, ◌∙◌, subst, arith}
 use Rattle.pmb_bus.specs.Address.{write_address}
@@ -123,6 +125,7 @@ module _ (device : DeviceParts) where
       (checked with_pec (write_address device.address ∷ []) (code ∷ wire form bytes))))))
 
   writes_on : (front : List ℕ) (code : ℕ) → Decided (WritesOn front code)
+  -- a form in which the code is written,
   writes_on front code =
       of_some Form (forms device code).write
       (λ form.
@@ -130,6 +133,7 @@ module _ (device : DeviceParts) where
       × (AllowsPec device.pec with_pec × IsProperPrefix front
       (checked with_pec (write_address device.address ∷ []) (code ∷ wire form bytes))))))
       (λ form.
+      -- then data of that form, among all lists of up to 255 bytes,
       some_of (List ℕ) (Few (λ b. b < 256) 255)
       (λ bytes.
       (with_pec : Bool) × (Fits form bytes
@@ -137,6 +141,7 @@ module _ (device : DeviceParts) where
       (checked with_pec (write_address device.address ∷ []) (code ∷ wire form bytes)))))
       (data_bytes 255) (λ bytes w. few_that_fit form bytes w.1.0)
       (λ bytes.
+      -- then with or without a packet error code,
       some_of Bool (λ b. Unit {0})
       (λ with_pec.
       Fits form bytes
@@ -144,6 +149,7 @@ module _ (device : DeviceParts) where
       (checked with_pec (write_address device.address ∷ []) (code ∷ wire form bytes))))
       bools (λ with_pec w. tt)
       (λ with_pec.
+      -- and the three premises of that body
       let all = checked with_pec (write_address device.address ∷ []) (code ∷ wire form bytes) in
       both (Fits form bytes) (AllowsPec device.pec with_pec × IsProperPrefix front all) (fits form bytes)
       (both (AllowsPec device.pec with_pec) (IsProperPrefix front all) (allows device.pec with_pec)

@@ -1,4 +1,7 @@
--- Whether a transaction has a packet is decided, and with which events that begins.
+-- Whether a transaction has a packet, and whether that begins with given events, is decided. For
+-- the law `viability_is_decided`, by FinitePackets. The definition of each packet is some premises,
+-- each of them decided, and events that these fix: so it is taken apart into its premises and put
+-- together again (`either_way`).
 use Rattle.std.proofs.Common.{◌≡◌, ℕ, ◌<◌, ◌≤◌, inl, inr, Bool, true, false, Some, List, [], ◌∷◌, ◌++◌, length, nat_eq}
 use Rattle.std.proofs.Common.{refl, sym, ap, ◌∙◌, subst}
 use Rattle.std.specs.List.{AllByRecursion, IsDistinct, list_any}
@@ -104,8 +107,10 @@ module _ (profile : List DeviceParts) where
   write_packet parts =
       let Legs : Type 0 = (events : List Event) × PartsEvents profile parts events in
       let Distinct : Type 0 = IsDistinct nat_eq (addresses parts) in
+      -- its premises,
       either_way ((1 ≤ length parts) × ((length parts ≤ 16) × (Distinct × Legs)))
       ((events : List Event) × WritePacket profile parts events)
+      -- from them the packet,
       (λ w. (
         w.1.1.1.0 ++ Stop ∷ [],
         record {
@@ -118,8 +123,10 @@ module _ (profile : List DeviceParts) where
           spelled = refl;
         },
       ))
+      -- from the packet them again,
       (λ w. (w.1.some, (w.1.few, (w.1.distinct, (w.1.legs, w.1.each)))))
       (
+      -- and each one is decided
       both (1 ≤ length parts) ((length parts ≤ 16) × (Distinct × Legs)) (at_most 1 (length parts))
       (
       both (length parts ≤ 16) (Distinct × Legs) (at_most (length parts) 16)
@@ -130,9 +137,11 @@ module _ (profile : List DeviceParts) where
   read_packet : (t : ReadData) → Decided ((events : List Event) × ReadPacket profile t events)
   read_packet t =
       either_way
+      -- a device, a form in which the code is read, a reply in it, and the mode,
       ((device : DeviceParts) × (device_with t.addr profile ≡ Some device)
       × ((form : Form) × ((forms device t.code).read ≡ Some form) × (Fits form t.reply × AllowsPec device.pec t.pec)))
       ((events : List Event) × ReadPacket profile t events)
+      -- from them the packet,
       (λ w. (
         answered t.addr (t.code ∷ []) (wire w.2.0 t.reply) t.pec,
         record {
@@ -146,8 +155,10 @@ module _ (profile : List DeviceParts) where
               refl;
         },
       ))
+      -- from the packet them again,
       (λ w. (w.1.device, w.1.known, (w.1.form, w.1.read, (w.1.fits, w.1.mode))))
       (
+      -- and each one is decided
       of_some DeviceParts (device_with t.addr profile)
       (λ device. (form : Form) × ((forms device t.code).read ≡ Some form)
       × (Fits form t.reply × AllowsPec device.pec t.pec))
@@ -159,10 +170,12 @@ module _ (profile : List DeviceParts) where
   call_packet : (t : CallData) → Decided ((events : List Event) × CallPacket profile t events)
   call_packet t =
       either_way
+      -- a device, a form in which the code is called, data and a reply in it, and the mode,
       ((device : DeviceParts) × (device_with t.addr profile ≡ Some device)
       × ((form : Form) × ((forms device t.code).call ≡ Some form)
       × (Fits form t.bytes × (Fits form t.reply × AllowsPec device.pec t.pec))))
       ((events : List Event) × CallPacket profile t events)
+      -- from them the packet,
       (λ w. (
         answered t.addr (t.code ∷ wire w.2.0 t.bytes) (wire w.2.0 t.reply) t.pec,
         record {
@@ -177,8 +190,10 @@ module _ (profile : List DeviceParts) where
           spelled = refl;
         },
       ))
+      -- from the packet them again,
       (λ w. (w.1.device, w.1.known, (w.1.form, w.1.called, (w.1.sent, (w.1.replied, w.1.mode)))))
       (
+      -- and each one is decided
       of_some DeviceParts (device_with t.addr profile)
       (λ device.
       (form : Form) × ((forms device t.code).call ≡ Some form)
@@ -196,6 +211,7 @@ module _ (profile : List DeviceParts) where
   byte_refused : (parts : List PartData) (addr : ℕ) (sent front : List ℕ) (last : ℕ) → sent ≡ front ++ last ∷ []
       → Decided ((events : List Event) × ByteRefused profile parts addr sent events)
   byte_refused parts addr sent front last split =
+      -- a device, bytes, and a body that goes on after all but the last of them
       either_way ((device : DeviceParts) × (device_with addr profile ≡ Some device)
       × (AreByteValues sent × Goes device parts front))
       ((events : List Event) × ByteRefused profile parts addr sent events) (λ w. spelled w.0 w.1 w.2)
@@ -205,6 +221,7 @@ module _ (profile : List DeviceParts) where
       (λ device. both (AreByteValues sent) (Goes device parts front) (are_bytes sent) (goes device parts front))
       )
     where
+      -- from these the refused leg
       spelled : (device : DeviceParts) → device_with addr profile ≡ Some device
           → AreByteValues sent × Goes device parts front
           → (events : List Event) × ByteRefused profile parts addr sent events
@@ -268,8 +285,10 @@ module _ (profile : List DeviceParts) where
       let Last : Type 0 = (events : List Event) × RefusedLeg profile t.parts t.addr t.sent t.at_read events in
       let Distinct : Type 0 = IsDistinct nat_eq (addresses t.parts) in
       let New : Type 0 = IsNew t.addr (addresses t.parts) in
+      -- its premises, with the parts' events and the refused leg's,
       either_way ((length t.parts ≤ 15) × (Distinct × (New × (Legs × Last))))
       ((events : List Event) × RefusedPacket profile t events)
+      -- from them the packet,
       (λ w. (
         w.1.1.1.0.0 ++ w.1.1.1.1.0 ++ Stop ∷ [],
         record {
@@ -283,8 +302,10 @@ module _ (profile : List DeviceParts) where
           spelled = refl;
         },
       ))
+      -- from the packet them again,
       (λ w. (w.1.few, (w.1.distinct, (w.1.another, ((w.1.legs, w.1.each), (w.1.last, w.1.refused))))))
       (
+      -- and each one is decided
       both (length t.parts ≤ 15) (Distinct × (New × (Legs × Last))) (at_most (length t.parts) 15)
       (
       both Distinct (New × (Legs × Last)) (are_distinct (addresses t.parts))

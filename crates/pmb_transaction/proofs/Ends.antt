@@ -1,4 +1,7 @@
--- The ends of packets: STOP makes a packet, or does not follow.
+-- How packets end: STOP makes a packet or doesn't follow, STOP alone follows NACK, events without
+-- STOP are inside a packet, and something follows them. For the laws `stop_makes_a_packet`,
+-- `stop_follows_nack`, `packets_under_way`, `packets_go_on` and `something_follows`. A packet's
+-- only STOP is its last event (Stops), so no event comes after one.
 use Rattle.std.proofs.Common.{◌≡◌, ◌≢◌, inl, inr, true, false, List, [], ◌∷◌, ◌++◌, refl, sym, ap, ◌∙◌, subst}
 use Rattle.std.proofs.Common.{append_assoc}
 use Rattle.std.proofs.lemmas.List.{append-nil, same_from_push}

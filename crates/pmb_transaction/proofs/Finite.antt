@@ -1,4 +1,7 @@
--- What is looked for among finitely many: numbers below a bound, lists of few of them.
+-- Searches among finitely many values (`Finite`): whether one of them has a decided property is
+-- decided. For numbers below a bound, pairs, and lists of up to n values; so for the law
+-- `viability_is_decided`, by FinitePackets, which searches all transactions that may have a packet.
+-- A list is searched by its first element, then the others.
 use Rattle.std.proofs.Common.{◌≡◌, ℕ, zero, suc, ◌<◌, ◌≤◌, ◌⊎◌, inl, inr, Bool, true, false, List, [], ◌∷◌, length}
 use Rattle.std.proofs.Common.{refl, sym, ap, subst, arith}
 use Rattle.std.specs.List.{AllByRecursion}

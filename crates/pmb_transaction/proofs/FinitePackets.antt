@@ -1,5 +1,7 @@
--- Transactions that have packets are finitely many, so whether some packet begins with events is
--- decided.
+-- Transactions that have packets are within bounds (`InBounds`), so they are finitely many, and
+-- whether some packet begins with events is decided. For the laws `viability_is_decided` and
+-- `each_list_has_a_reading`. Addresses are below 128, bytes below 256, data at most 255 bytes,
+-- parts at most 16; all transactions within these are tried.
 use Rattle.std.proofs.Common.{◌≡◌, ℕ, ◌+◌, ◌<◌, ◌≤◌, ◌⊎◌, inl, inr, Bool, true, false, List, [], ◌∷◌, ◌++◌, length}
 use Rattle.std.proofs.Common.{refl, ap, arith}
 use Rattle.std.specs.List.{AllByRecursion}
@@ -85,6 +87,7 @@ abbrev RefusedFields : Type 0
 RefusedFields = List PartData × (ℕ × (List ℕ × Bool))
 
 abbrev InRefusedFields : RefusedFields → Type 0
+-- 259 is more than any body has, which is 258 bytes at most
 InRefusedFields f = Few InPart 15 f.0 × ((f.1.0 < 128) × (Few (λ b. b < 256) 259 f.1.1.0 × Unit {0}))
 
 abbrev InRefused : RefusedData → Type 0
@@ -228,6 +231,7 @@ module _ (pec_is_byte : (bytes : List ℕ) → pec bytes < 256) (profile : List 
 
   in_bounds : (t : TransactionData) (events : List Event) → Packet profile t events → InBounds t
   in_bounds (Write group) events w = (w.few, parts_in group w.legs w.each)
+  -- a read: its address, its code, the data of its reply
   in_bounds (Read t) events w =
       let is = device_is profile t.addr w.device bus w.known in (
         seven_bits pec_is_byte profile bus t.addr w.device w.known,
@@ -236,6 +240,7 @@ module _ (pec_is_byte : (bytes : List ℕ) → pec bytes < 256) (profile : List 
           (data_in w.form t.reply w.fits, tt),
         ),
       )
+  -- a call: its data too
   in_bounds (Call t) events w =
       let is = device_is profile t.addr w.device bus w.known in (
         (
@@ -247,6 +252,7 @@ module _ (pec_is_byte : (bytes : List ℕ) → pec bytes < 256) (profile : List 
         ),
         data_in w.form t.reply w.replied,
       )
+  -- a refused packet: its parts, its last leg
   in_bounds (Refused t) events w =
       let last = refused_in t.parts t.addr t.sent t.at_read w.last w.refused in
       ((w.few, parts_in t.parts w.legs w.each), (last.0, (last.1, tt)))

@@ -1,4 +1,6 @@
--- Packets begin with START.
+-- A packet begins with START, and nothing else may come first. For the law
+-- `packets_begin_with_start`. Each sort of packet begins with a leg, which begins with START; and
+-- START alone is the beginning of a written leg.
 use Rattle.std.proofs.Common.{◌≡◌, ℕ, ◌<◌, inl, inr, Bool, true, false, List, [], ◌∷◌, ◌++◌, refl, sym, ap, ◌∙◌, subst}
 use Rattle.std.proofs.Common.{arith}
 use Rattle.pmb_bus.specs.Pec.{pec}
@@ -69,20 +71,24 @@ module _ (profile : List DeviceParts) where
       (start_of_parts part parts legs each) refl
 
   start_of_packet : (t : TransactionData) (events : List Event) → Packet profile t events → BeginsAtStart events
+  -- a write begins with its first part
   start_of_packet (Write []) events packet = absurd (omega (arith, packet.some))
   start_of_packet (Write (part ∷ parts)) events packet =
       in_front_of events packet.legs (Stop ∷ []) (start_of_parts part parts packet.legs packet.each) packet.spelled
+  -- a read and a call with the leg that is written
   start_of_packet (Read t) events packet = start_of_answered events t.addr (t.code ∷ [])
       (wire packet.form t.reply) t.pec packet.spelled
   start_of_packet (Call t) events packet =
       start_of_answered events t.addr (t.code ∷ wire packet.form t.bytes)
       (wire packet.form t.reply) t.pec packet.spelled
+  -- a refused packet with its parts, or with the refused leg
   start_of_packet (Refused t) events packet =
       in_front_of events (packet.legs ++ packet.last) (Stop ∷ [])
       (
       start_of_legs t.parts packet.legs packet.last packet.each
       (start_of_refused t.parts t.addr t.sent t.at_read packet.last packet.refused)
       ) packet.spelled
+  -- an answer at the Alert Response Address with its only leg
   start_of_packet (Alert t) events packet =
       let bytes = checked t.pec (read_address alert_address ∷ []) (t.byte ∷ []) in
       in_front_of events (leg (read_address alert_address ∷ []) ++ nacked bytes) (Stop ∷ [])

@@ -1,4 +1,7 @@
--- Where lists of events begin alike, and what begins the events of bytes.
+-- Two lists of events end to end that are two others: where they are cut (`Within`, `Beyond`). And
+-- the fronts of the events of bytes that were taken or refused. For Beginnings, and so for the law
+-- `viable_lists`; for readings of captures, here and in `pmb_spans`. Both go through the events
+-- from the front.
 use Rattle.std.proofs.Common.{◌≡◌, ℕ, ◌⊎◌, inl, inr, List, [], ◌∷◌, ◌++◌, refl, sym, ap, ◌∙◌}
 use Rattle.std.proofs.lemmas.List.{append-nil}
 use Rattle.pmb_bus.specs.declared.event.Event.{Event}
@@ -10,12 +13,14 @@ use Rattle.pmb_transaction.specs.Packet.{acked, nacked}
 
 -- The first of two lists ends within the first of two others.
 pub record Within (a b c d : List Event) : Type 0 where
+  -- what the first of the others has more, with which the second begins
   pub rest : List Event
   pub first : c ≡ a ++ rest
   pub second : b ≡ rest ++ d
 
 -- The first of two lists goes on beyond the first of two others.
 pub record Beyond (a b c d : List Event) : Type 0 where
+  -- the first event beyond, and those after it
   pub event : Event
   pub rest : List Event
   pub first : a ≡ c ++ event ∷ rest
@@ -84,6 +89,7 @@ pub record SomeTaken (bytes : List ℕ) (events : List Event) : Type 0 where
 -- some bytes but not all, each with its ACK
 pub record NotAllTaken (bytes : List ℕ) (events : List Event) : Type 0 where
   pub front : List ℕ
+  -- the bytes taken are not all
   pub fewer : IsProperPrefix front bytes
   pub spelled : events ≡ acked front
 

@@ -1,4 +1,7 @@
--- The set of the kinds of some events, where of each kind it is decided whether one is among them.
+-- The set of kinds (`Kinds`) of any events of which it is decided, for each kind, whether one of
+-- that kind is among them. For the law `each_list_has_a_reading`: a refusal holds the kinds that
+-- were expected. A set is five bits, so that it holds its kinds and no others is computed for all
+-- 32 of them.
 use Rattle.std.proofs.Common.{◌≡◌, ℕ, ◌+◌, ◌<◌, ◌≤◌, Bool, true, false, ◌&&◌, refl, sym, ◌∙◌, arith}
 use Rattle.std.proofs.lemmas.Bool.{and_parts}
 use Rattle.pmb_bus.specs.declared.event.Event.{Event}
@@ -65,6 +68,7 @@ is_told s b a n p =
     of_every (λ p. told s b a n p) of_n p
 
 record Tells (kinds : Kinds) (s b a n p : Bool) : Type 0 where
+  -- only the five bits of the kinds are used
   known : bits kinds < 32
   start_is : holds kinds Start ≡ s
   byte_is : holds kinds (Byte 0) ≡ b
@@ -75,11 +79,13 @@ record Tells (kinds : Kinds) (s b a n p : Bool) : Type 0 where
 tells : (s b a n p : Bool) → Tells (set_of s b a n p) s b a n p
 tells s b a n p =
     let kinds = set_of s b a n p in
+    -- whether each kind is in the set as it should be
     let x1 = alike (holds kinds Start) s in
     let x2 = alike (holds kinds (Byte 0)) b in
     let x3 = alike (holds kinds Ack) a in
     let x4 = alike (holds kinds Nack) n in
     let x5 = alike (holds kinds Stop) p in
+    -- all five together were computed: the test is taken apart
     let first = and_parts x1 (x2 && (x3 && (x4 && x5))) (is_told s b a n p) in
     let second = and_parts x2 (x3 && (x4 && x5)) first.1 in
     let third = and_parts x3 (x4 && x5) second.1 in

@@ -1,4 +1,7 @@
--- What an accepted profile says of the devices and commands that are found in it.
+-- What an accepted profile says of a device or a command that is found in it: a bus may have it, it
+-- has the address or the code, its code is a byte, and what is read or called has data. For
+-- `Context::new` of `pmb_note`, `append_check` of `pmb_json_objects`, and each proof that goes from
+-- a packet to its device. What holds of each element of a list holds of the one that is found.
 use Rattle.std.proofs.Common.{◌≡◌, ℕ, ◌<◌, Bool, true, false, not, cond, Option, Some, None, List, [], ◌∷◌, nat_eq}
 use Rattle.std.proofs.Common.{refl, subst}
 use Rattle.std.specs.List.{AllByRecursion, find}

@@ -1,4 +1,7 @@
--- What stands before the last START of events that a packet begins with, and after it.
+-- Events with which a packet begins, cut at their last START: what comes before it, and how the
+-- last leg ends, in a packet under way (`InLastLeg`) or before STOP (`EndsInLeg`). For the laws on
+-- what may follow at each place of a leg, such as `later_addresses` and `replies_go_on`. A leg has
+-- one START, at its front, so the last START begins the last leg.
 use Rattle.std.proofs.Common.{◌≡◌, ℕ, ◌≤◌, ◌⊎◌, inl, inr, Bool, true, false, Some, List, [], ◌∷◌, ◌++◌, length, map}
 use Rattle.std.proofs.Common.{nat_eq, refl, sym, ap, ◌∙◌, subst, append_assoc}
 use Rattle.std.specs.List.{IsDistinct}
@@ -29,6 +32,7 @@ use Rattle.pmb_transaction.proofs.Telling.{part_told}
 
 -- events that begin with their only START
 pub record IsLeg (events : List Event) : Type 0 where
+  -- the events after START, among which there is no other one
   pub tail : List Event
   pub split : events ≡ Start ∷ tail
   pub no_start : has_start tail ≡ false
@@ -88,9 +92,11 @@ module _ (profile : List DeviceParts) where
 
   -- the last of some parts
   record LastPart (all : List PartData) (events : List Event) : Type 0 where
+    -- the parts before it, then the part
     pub done : List PartData
     pub part : PartData
     pub split : all ≡ done ++ part ∷ []
+    -- the events of those, then its own
     pub before : List Event
     pub last : List Event
     pub each : PartsEvents profile done before
@@ -100,6 +106,7 @@ module _ (profile : List DeviceParts) where
   last_part : (part : PartData) (parts : List PartData) (events : List Event)
       → PartsEvents profile (part ∷ parts) events
       → LastPart (part ∷ parts) events
+  -- one part alone is the last
   last_part part [] events each = record {
     done = [];
     part = part;
@@ -110,6 +117,7 @@ module _ (profile : List DeviceParts) where
     here = each.3;
     spelled = each.2 ∙ ap (λ (es : List Event). each.0 ++ es) each.4 ∙ append-nil each.0;
   }
+  -- else it is the last of the others
   last_part part (next ∷ parts) events each =
       let later = last_part next parts each.1 each.4 in
       record {
@@ -140,6 +148,7 @@ module _ (profile : List DeviceParts) where
     pub done : List PartData
     pub part : PartData
     pub split : all ≡ done ++ part ∷ []
+    -- the events before the last START are those of the parts before it, the others its own
     pub each : PartsEvents profile done front
     pub here : PartEvents profile part (Start ∷ own)
 
@@ -162,19 +171,24 @@ module _ (profile : List DeviceParts) where
 
   -- What ends inside a leg, by the events before its START and those after it.
   pub data InLastLeg (front own : List Event) : Type 0 where
+    -- in a written leg after some parts: parts .. S ..
     in_written : (parts : List PartData) → length parts ≤ 15 → IsDistinct nat_eq (addresses parts)
         → PartsEvents profile parts front
         → LegBegins profile parts (Start ∷ own) → InLastLeg front own
+    -- after a body that asks, at START: S addr+W A body A .. S
     at_reply : (addr : ℕ) → (device : DeviceParts) → (body : List ℕ) → device_with addr profile ≡ Some device
         → IsRequest device body → front ≡ leg (write_address addr ∷ body) → own ≡ [] → InLastLeg front own
+    -- at the address byte of the reply: S addr+W A body A .. S addr+R
     at_read_address : (addr : ℕ) → (device : DeviceParts) → (body : List ℕ) → device_with addr profile ≡ Some device
         → IsRequest device body → front ≡ leg (write_address addr ∷ body) → own ≡ Byte (read_address addr) ∷ []
         → InLastLeg front own
+    -- in the reply: S addr+W A body A .. S addr+R A ..
     in_reply : (addr : ℕ) → (device : DeviceParts) → (body : List ℕ) → (answer : List ℕ)
         → device_with addr profile ≡ Some device
         → IsAnswer device addr body answer → front ≡ leg (write_address addr ∷ body)
         → AnswerBegins (read_address addr) answer (Start ∷ own)
         → InLastLeg front own
+    -- in the leg at the Alert Response Address: S 19 ..
     in_alert : front ≡ [] → AlertBegins (Start ∷ own) → InLastLeg front own
 
   is_written_leg : (parts : List PartData) (events : List Event) → LegBegins profile parts events → IsLeg events
@@ -264,19 +278,25 @@ module _ (profile : List DeviceParts) where
 
   -- A packet without its STOP, by the events before its last START and those after it.
   pub data EndsInLeg (front own : List Event) : Type 0 where
+    -- a write, with its last part: parts .. S addr+W A body A ..
     ends_write : (parts : List PartData) → (part : PartData) → PartsEvents profile parts front
         → PartEvents profile part (Start ∷ own)
         → EndsInLeg front own
+    -- a refused address byte: S addr+W N
     ends_at_address : (addr : ℕ) → own ≡ Byte (write_address addr) ∷ Nack ∷ [] → EndsInLeg front own
+    -- a refused byte: S addr+W A bytes A .. byte N
     ends_at_byte : (addr : ℕ) → (byte : ℕ) → (bytes : List ℕ) → own ≡ Byte (write_address addr) ∷ Ack
         ∷ nacked (byte ∷ bytes)
         → EndsInLeg front own
+    -- a device that refuses to be read, or no answer to an alert: S addr+R N
     ends_at_read : (addr : ℕ) → own ≡ Byte (read_address addr) ∷ Nack ∷ [] → EndsInLeg front own
+    -- a whole reply: S addr+W A body A .. S addr+R A answer A .. answer N
     ends_reply : (addr : ℕ) → (device : DeviceParts) → (body : List ℕ) → (answer : List ℕ)
         → device_with addr profile ≡ Some device
         → IsAnswer device addr body answer → front ≡ leg (write_address addr ∷ body)
         → own ≡ Byte (read_address addr) ∷ Ack ∷ nacked answer
         → EndsInLeg front own
+    -- a whole answer at the Alert Response Address: S 19 A answer A .. answer N
     ends_alert : (answer : List ℕ) → IsAlertAnswer answer → front ≡ [] → own ≡ Byte (read_address alert_address) ∷ Ack
         ∷ nacked answer
         → EndsInLeg front own
@@ -331,10 +351,12 @@ module _ (profile : List DeviceParts) where
   ends_in_leg : (front own events : List Event) → has_start own ≡ false → events ≡ front ++ Start ∷ own
       → (t : TransactionData)
       → Packet profile t (events ++ Stop ∷ []) → EndsInLeg front own
+  -- a write: its last part
   ends_in_leg front own events none spelled (Write parts) packet =
       let w = part_behind parts packet.legs front own none packet.each
       (sym spelled ∙ same_before_stop events packet.legs packet.spelled) in
       ends_write w.done w.part w.each w.here
+  -- a read: its reply
   ends_in_leg front own events none spelled (Read t) packet =
       let body = t.code ∷ [] in
       let answer = checked t.pec (write_address t.addr ∷ body ++ read_address t.addr ∷ []) (wire packet.form t.reply) in
@@ -342,6 +364,7 @@ module _ (profile : List DeviceParts) where
       ends_in_reply front own none t.addr packet.device body answer packet.known
       (read_answers profile t (events ++ Stop ∷ []) packet)
       (sym spelled ∙ same_before_stop events all packet.spelled)
+  -- a call: its reply
   ends_in_leg front own events none spelled (Call t) packet =
       let body = t.code ∷ wire packet.form t.bytes in
       let answer = checked t.pec (write_address t.addr ∷ body ++ read_address t.addr ∷ []) (wire packet.form t.reply) in
@@ -349,9 +372,11 @@ module _ (profile : List DeviceParts) where
       ends_in_reply front own none t.addr packet.device body answer packet.known
       (call_answers profile t (events ++ Stop ∷ []) packet)
       (sym spelled ∙ same_before_stop events all packet.spelled)
+  -- a refused packet: its refused leg
   ends_in_leg front own events none spelled (Refused t) packet =
       ends_in_refused front own none t.parts t.addr t.sent t.at_read packet.legs packet.last packet.refused
       (sym spelled ∙ same_before_stop events (packet.legs ++ packet.last) packet.spelled)
+  -- an alert: its only leg
   ends_in_leg front own events none spelled (Alert t) packet =
       let answer = checked t.pec (read_address alert_address ∷ []) (t.byte ∷ []) in
       let all = leg (read_address alert_address ∷ []) ++ nacked answer in

@@ -1,5 +1,7 @@
--- The legs of events, from START to START or STOP: how they go over the bus, and how they are read
--- back from it.
+-- The legs of events, from START to START or STOP, each as its bytes and whether the last one was
+-- taken; and how they are read back from the events. For the law `one_transaction`, by Telling and
+-- OneTransaction. Reading back goes from the last event to the first: START begins a leg, a byte
+-- goes to its front, NACK marks it as refused.
 use Rattle.std.proofs.Common.{◌≡◌, ℕ, Bool, true, false, List, [], ◌∷◌, ◌++◌, refl, sym, ap, ◌∙◌}
 use Rattle.pmb_bus.specs.declared.event.Event.{Event}
 use Rattle.pmb_bus.specs.declared.event.Event.TheVariants.{Start, Byte, Ack, Nack, Stop}

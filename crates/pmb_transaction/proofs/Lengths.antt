@@ -1,4 +1,6 @@
--- How long bodies are, and what begins them.
+-- How long bodies are: data at most 256 bytes on the bus (a count and 255), a body at most 258 with
+-- its code and packet error code, its front at most 257. For the law `bodies_are_short`, by which
+-- readers know that their buffers suffice. Each form says how many bytes its data have.
 use Rattle.std.proofs.Common.{ℕ, ◌+◌, ◌≤◌, Bool, true, false, inl, inr, List, [], ◌∷◌, ◌++◌, length, ap, arith}
 use Rattle.std.proofs.lemmas.List.{length-append}
 use Rattle.pmb_bus.specs.Pec.{pec}

@@ -1,4 +1,8 @@
--- What follows a written leg of a device: STOP, or START, and then an address byte.
+-- What follows a written leg of a device: STOP after a write body, START where one more part or a
+-- reply may come, and which address byte after that START. For the laws `writes_end_with_stop`,
+-- `legs_follow_whole_bodies` and `later_addresses`. Where the next event may come, the leg before
+-- it is cut out at the last START (LastStarts), and it is this one: its parts, its device and its
+-- bytes are those given.
 use Rattle.std.proofs.Common.{◌≡◌, ℕ, ◌+◌, ◌<◌, ◌≤◌, Some, List, [], ◌∷◌, ◌++◌, length, nat_eq, refl, sym, ap, ◌∙◌}
 use Rattle.std.proofs.Common.{subst, append_assoc, arith}
 use Rattle.std.specs.List.{IsDistinct}
@@ -52,6 +56,7 @@ module _ (pec_is_byte : (bytes : List ℕ) → pec bytes < 256) (profile : List 
 
     -- the leg is that of one more part, and its bytes are a write body
     record IsPart (done : List PartData) (part : PartData) : Type 0 where
+      -- the parts before it are those given
       pub same : done ≡ parts
       pub addressed : part.addr ≡ addr
       pub body : IsWriteBody device bytes
@@ -104,6 +109,7 @@ module _ (pec_is_byte : (bytes : List ℕ) → pec bytes < 256) (profile : List 
 
     -- the leg is the packet's only one, with the body
     record IsFirstLeg (other : ℕ) (d : DeviceParts) (body : List ℕ) : Type 0 where
+      -- no parts before it, and the body is that of this leg
       pub alone : parts ≡ []
       pub same : other ≡ addr
       pub asked : IsRequest device bytes
@@ -135,6 +141,7 @@ module _ (pec_is_byte : (bytes : List ℕ) → pec bytes < 256) (profile : List 
       pub split : all ≡ parts ++ part ∷ []
       pub addressed : part.addr ≡ addr
       pub body : IsWriteBody device bytes
+      -- so they are one more
       pub longer : length all ≡ length parts + 1
 
     is_group : (all : List PartData) → PartsEvents profile all all_legs → IsGroup all

@@ -1,4 +1,6 @@
--- A transaction has one packet.
+-- A transaction has one packet at most under a profile. For the law `one_packet`, and for readings
+-- of captures. The profile gives one device for an address and one form for a code, and these fix
+-- the events of each part, leg and answer.
 use Rattle.std.proofs.Common.{◌≡◌, ℕ, Bool, true, false, Option, Some, List, [], ◌∷◌, ◌++◌, sym, ap, ◌∙◌, subst}
 use Rattle.std.proofs.lemmas.Option.{same_Some}
 use Rattle.pmb_bus.specs.declared.event.Event.{Event}

@@ -1,4 +1,6 @@
--- An event that is refused has one reason at most, and that is no truncation.
+-- An event that is refused has one reason at most, and never `Truncated`. For the laws
+-- `refused_events_have_a_reason` and `one_reading`. Where ACK is refused, the events after the last
+-- START tell the reason (`told`), so two reasons for the same events are the same.
 use Rattle.std.proofs.Common.{◌≡◌, ◌≢◌, ◌%◌, ◌==◌, inl, inr, Bool, false, if◌then◌else◌, List, [], ◌∷◌, ◌++◌, refl, sym}
 use Rattle.std.proofs.Common.{ap, ◌∙◌, append_assoc}
 use Rattle.std.proofs.lemmas.List.{same_from_push}
@@ -55,11 +57,14 @@ told (Ack ∷ events) = WrongEvent
 told (Nack ∷ events) = WrongEvent
 told (Stop ∷ events) = WrongEvent
 
+-- the events up to the last START, those after it, and the reason that these tell
 record Told (events : List Event) (reason : Reason) : Type 0 where
+  -- up to the last START, and after it
   pub front : List Event
   pub own : List Event
   pub none : has_start own ≡ false
   pub split : events ≡ front ++ Start ∷ own
+  -- the reason that the latter tell
   pub is : told own ≡ reason
 
 ack_told : (events : List Event) (reason : Reason) → AckReason events reason → Told events reason

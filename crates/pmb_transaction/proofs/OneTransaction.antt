@@ -1,4 +1,6 @@
--- Events are the packet of one transaction: what their legs tell.
+-- Events are the packet of one transaction at most under an accepted profile. For the law
+-- `one_transaction`. The events of each packet are those of some legs, and what these tell (`told`,
+-- in Telling) is its transaction; the events tell the legs (Legs), so there is one transaction.
 use Rattle.std.proofs.Common.{◌≡◌, ℕ, Bool, true, false, Option, Some, map, List, [], ◌∷◌, ◌++◌, refl, sym, ap, ◌∙◌}
 use Rattle.std.proofs.Common.{append_assoc}
 use Rattle.pmb_bus.specs.declared.event.Event.{Event}
@@ -22,12 +24,15 @@ use Rattle.pmb_transaction.proofs.Telling.{part_with, read_with, told, told_last
 module _ (profile : List DeviceParts) where
   -- The events are those of some legs, which tell the transaction.
   pub record Tells (t : TransactionData) (events : List Event) : Type 0 where
+    -- the legs of the events
     pub legs : List Leg
     pub spelled : events ≡ events_of_legs legs
+    -- what the legs tell
     pub told_is : told profile legs ≡ t
 
   -- ---- parts
 
+  -- The events of parts are legs of which each byte was taken, and which tell these parts.
   pub record TellParts (parts : List PartData) (events : List Event) : Type 0 where
     pub legs : List Leg
     pub spelled : (rest : List Event) → events ++ rest ≡ legs_then legs rest
@@ -133,6 +138,7 @@ module _ (profile : List DeviceParts) where
 
   tell_call : IsBus profile → (t : CallData) (events : List Event) → CallPacket profile t events → Tells (Call t) events
   tell_call bus t events packet =
+      -- what is called has data, so both the data sent and the reply have a first byte
       let device = packet.device in
       let form = packet.form in
       let is = device_is profile t.addr device bus packet.known in
@@ -143,10 +149,12 @@ module _ (profile : List DeviceParts) where
       let sent = first_byte form t.bytes packet.sent with_data in
       let some = first_byte form t.reply packet.replied with_data in
       let bytes : wire form t.reply ++ tail ≡ some.0 ∷ some.1 ++ tail = ap (λ (front : List ℕ). front ++ tail) some.2 in
+      -- the call that a form of the code makes of these bytes
       let call_is = λ (o : Option Form). call_with profile t.addr t.code (data_of o (sent.0 ∷ sent.1))
       (data_of o (some.0 ∷ some.1 ++ tail)) in
       tell_answered (Call t) events t.addr body (wire form t.reply) t.pec some.0 (some.1 ++ tail) packet.spelled
       (checked_is t.pec before (wire form t.reply) ∙ bytes)
+      -- the device is found, then its form; then the data sent and the reply are read back by it
       (
       ap (λ (data_bytes : List ℕ). answer_told profile t.addr (t.code ∷ data_bytes) (some.0 ∷ some.1 ++ tail)) sent.2
       ∙ ap (λ (o : Option DeviceParts). call_is (forms_at profile o t.code).call) packet.known

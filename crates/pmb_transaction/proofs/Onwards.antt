@@ -1,4 +1,7 @@
--- Inside the capture of transactions nothing is refused.
+-- Inside the capture of transactions no event is refused: after some of its packets, and the events
+-- of one under way, its next event may follow. For the law `captures_go_on`. A packet at the front
+-- of the capture is the capture's first, so it is taken away from both, until the events under way
+-- are inside the first packet.
 use Rattle.std.proofs.Common.{◌≡◌, ◌⊎◌, inl, inr, List, [], ◌∷◌, ◌++◌, sym, ap, ◌∙◌, subst, append_assoc}
 use Rattle.std.proofs.lemmas.List.{append-nil}
 use Rattle.pmb_bus.specs.declared.event.Event.{Event}

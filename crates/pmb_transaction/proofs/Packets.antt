@@ -1,4 +1,7 @@
--- Packets that events make with their last one.
+-- Which packet events make with their last one: a write or one part more, a byte or a read that is
+-- refused, a whole reply, a whole answer at the Alert Response Address. For the laws of
+-- `src/endings.rt` from `one_part_more` to `alerts_are_packets`. A body asks in one form, so the
+-- reply has the form of the packet's code.
 use Rattle.std.proofs.Common.{◌≡◌, ℕ, ◌+◌, ◌<◌, ◌≤◌, inl, inr, Bool, true, false, Option, Some, List, [], ◌∷◌, ◌++◌}
 use Rattle.std.proofs.Common.{length, nat_eq, refl, sym, ap, ◌∙◌, subst, append_assoc, arith}
 use Rattle.std.specs.List.{IsDistinct}

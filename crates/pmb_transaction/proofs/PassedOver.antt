@@ -1,4 +1,7 @@
--- Events that are passed over, and those that are left.
+-- The events that a reader passes over after a refusal, up to and with the first STOP, and those
+-- that are left. For the laws `events_are_passed_over` and `passing_goes_on`, and for readings.
+-- They are found event by event; events are cut at their first STOP in one way, so there is one
+-- answer.
 use Rattle.std.proofs.Common.{◌≡◌, ◌≢◌, List, [], ◌∷◌, ◌++◌, inl, inr, refl, sym, ap, ◌∙◌, append_assoc}
 use Rattle.std.proofs.lemmas.List.{append-nil}
 use Rattle.pmb_bus.specs.declared.event.Event.{Event}

@@ -1,4 +1,6 @@
--- What begins the capture of transactions reads as the first of these.
+-- The front of a capture of transactions reads as the first of these, and perhaps a truncation at
+-- its end. For the law `fronts_read_as_fronts`. It goes packet by packet: the events end before, in
+-- or after the next packet. What is found so is a reading, and events have one (Readings).
 use Rattle.std.proofs.Common.{◌≡◌, ◌≢◌, ℕ, ◌+◌, ◌<◌, ◌⊎◌, inl, inr, List, [], ◌∷◌, ◌++◌, length, map, refl, sym, ap}
 use Rattle.std.proofs.Common.{◌∙◌, subst, append_assoc, arith}
 use Rattle.std.proofs.lemmas.List.{append-nil, length-append}

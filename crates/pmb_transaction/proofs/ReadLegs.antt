@@ -1,5 +1,7 @@
--- A leg in which an answer is read, be it a reply or one at the Alert Response Address: which byte
--- follows in it, and what follows that byte.
+-- A leg in which an answer is read, be it a reply or an answer at the Alert Response Address: which
+-- byte follows in it, and whether ACK or NACK follows that byte. For the laws
+-- `bytes_follow_in_a_reply`, `replies_go_on` and `replies_end`, and for those three of alerts. It
+-- is stated once, over what is known of the leg (`IsReadLeg`), which Replies and Alerts prove.
 use Rattle.std.proofs.Common.{◌≡◌, ℕ, ◌<◌, ◌⊎◌, inl, inr, List, [], ◌∷◌, ◌++◌, refl, sym, ap, ◌∙◌, subst, append_assoc}
 use Rattle.pmb_bus.specs.Pec.{pec}
 use Rattle.pmb_bus.specs.declared.event.Event.{Event}
@@ -33,18 +35,23 @@ pub record Answering (addr : ℕ) (Answers : List ℕ → Type 0) (own : List Ev
 pub record Answered (Answers : List ℕ → Type 0) (own : List Event) : Type 0 where
   pub answer : List ℕ
   pub answers : Answers answer
+  -- it has a byte, and the events are all of it
   pub some : HasByte answer
   pub all : own ≡ nacked answer
 
 -- After some events a leg to an address is one in which an answer is read.
 pub record IsReadLeg (profile : List DeviceParts) (front : List Event) (addr : ℕ)
     (Answers : List ℕ → Type 0) : Type 0 where
+  -- events inside this leg are inside one of the answers
   pub inside : (own : List Event) → InLastLeg profile front (Byte (read_address addr) ∷ Ack ∷ own)
       → Answering addr Answers own
+  -- and if they end a packet, they are all of one
   pub at_end : (own : List Event) → EndsInLeg profile front (Byte (read_address addr) ∷ Ack ∷ own)
       → Answered Answers own
+  -- the other way round, what begins an answer begins a packet
   pub begins : (answer : List ℕ) → Answers answer → (last : List Event) → AnswerBegins (read_address addr) answer last
       → IsBeginning profile (front ++ last)
+  -- and a whole answer with STOP is one
   pub ends : (answer : List ℕ) → Answers answer
       → IsPacket profile ((front ++ (leg (read_address addr ∷ []) ++ nacked answer)) ++ Stop ∷ [])
 

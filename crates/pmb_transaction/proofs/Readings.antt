@@ -1,4 +1,8 @@
--- What events read as: that of a capture of transactions is these, and there is one.
+-- A list of events has one reading at most, and a capture reads as its transactions. For the laws
+-- `one_reading`, `captures_read_as_written`, `nothing_is_read_of_no_events` and
+-- `fronts_are_viable`. Two readings are compared outcome by outcome: a packet at the front is the
+-- same in both, and a refusal comes at the first event that may not follow, which is one place with
+-- one reason (OneReason) and one set of kinds.
 use Rattle.std.proofs.Common.{◌≡◌, ℕ, ◌+◌, ◌<◌, ◌⊎◌, inl, inr, Bool, true, false, List, [], ◌∷◌, ◌++◌, length, map}
 use Rattle.std.proofs.Common.{refl, sym, ap, ◌∙◌, subst, append_assoc}
 use Rattle.std.proofs.lemmas.List.{append-nil, append_cancel_left}
@@ -29,6 +33,7 @@ alike_of_kind kinds (Byte a) (Byte b) same is = is
 alike_of_kind kinds Ack Ack same is = is
 alike_of_kind kinds Nack Nack same is = is
 alike_of_kind kinds Stop Stop same is = is
+-- the other pairs are of two kinds
 alike_of_kind kinds Start (Byte b) same is = absurd (cc same)
 alike_of_kind kinds Start Ack same is = absurd (cc same)
 alike_of_kind kinds Start Nack same is = absurd (cc same)
@@ -187,9 +192,13 @@ module _ (profile : List DeviceParts) where
         (one_set told_by_events (MayFollow profile events) r.expected s.expected first.expected second.expected)
 
     -- events read as one list of outcomes
+    -- a and b are the parts of the two readings, numbered as in ReadsFrom: for a packet its events,
+    -- the others, the split, the packet and the rest; for a refusal the events before it, the
+    -- event, the others, the split and the refusal, then what is passed over and left, and the rest
     pub one_reading_from : (first second : List Outcome) (n : ℕ) (events : List Event)
         → ReadsFrom profile n events first
         → ReadsFrom profile n events second → first ≡ second
+    -- no outcomes: there are no events
     one_reading_from [] [] n events a b = refl
     one_reading_from [] (Accepted u ∷ more) n events a b = absurd (not_none profile u b.0 b.1 b.3 (sym a ∙ b.2))
     one_reading_from [] (Refusal s ∷ more) n events a (inl b) = absurd (no_end b.0 b.1 b.2 (sym b.3 ∙ a))
@@ -197,6 +206,7 @@ module _ (profile : List DeviceParts) where
     one_reading_from (Accepted t ∷ more) [] n events a b = absurd (not_none profile t a.0 a.1 a.3 (sym b ∙ a.2))
     one_reading_from (Refusal r ∷ more) [] n events (inl a) b = absurd (no_end a.0 a.1 a.2 (sym a.3 ∙ b))
     one_reading_from (Refusal r ∷ more) [] n events (inr a) b = absurd (a.0.some b)
+    -- two packets at the front are the same, so the rest is too
     one_reading_from (Accepted t ∷ more) (Accepted u ∷ others) n events a b =
         let same = same_first_packet profile t u a.0 b.0 a.1 b.1 a.3 b.3 (sym a.2 ∙ b.2) in
         let first : t ≡ u = one_transaction profile t u b.0 bus (subst (Packet profile t) same.0 a.3) b.3 in
@@ -206,6 +216,7 @@ module _ (profile : List DeviceParts) where
         one_reading_from more others (n + length b.0) b.1
         (subst (λ (rest : List Event). ReadsFrom profile (n + length b.0) rest more) same.1 counted) b.4 in
         cc (first, later)
+    -- a packet's events are not refused, and none is inside of events under way
     one_reading_from (Accepted t ∷ more) (Refusal s ∷ others) n events a (inl b) =
         absurd (not_refused t n a.0 a.1 b.0 b.1 b.2 events s a.3 b.4 a.2 b.3)
     one_reading_from (Accepted t ∷ more) (Refusal s ∷ others) n events a (inr b) =
@@ -214,6 +225,8 @@ module _ (profile : List DeviceParts) where
         absurd (not_refused u n b.0 b.1 a.0 a.1 a.2 events r b.3 a.4 b.2 a.3)
     one_reading_from (Refusal r ∷ more) (Accepted u ∷ others) n events (inr a) b =
         absurd (a.0.under_way.no_packet b.0 b.1 b.2 (u, b.3))
+    -- two refusals: the same place, so the same event, the same refusal, and the same events passed
+    -- over
     one_reading_from (Refusal r ∷ more) (Refusal s ∷ others) n events (inl a) (inl b) =
         let front : a.0 ≡ b.0 = same_place n a.0 b.0 a.1 b.1 a.2 b.2 events r s a.4 b.4 a.3 b.3 in
         let tails : a.1 ∷ a.2 ≡ b.1 ∷ b.2 =
@@ -233,10 +246,12 @@ module _ (profile : List DeviceParts) where
         one_reading_from more others (n + length b.0 + length b.5) b.6
         (subst (λ (left : List Event). ReadsFrom profile (n + length b.0 + length b.5) left more) over.1 counted) b.8 in
         cc (first, later)
+    -- events that end inside a packet hold no refused one
     one_reading_from (Refusal r ∷ more) (Refusal s ∷ others) n events (inl a) (inr b) =
         absurd (not_refused_in n a.0 a.1 r a.2 events a.4 a.3 b.0.under_way.viable)
     one_reading_from (Refusal r ∷ more) (Refusal s ∷ others) n events (inr a) (inl b) =
         absurd (not_refused_in n b.0 b.1 s b.2 events b.4 b.3 a.0.under_way.viable)
+    -- two truncations
     one_reading_from (Refusal r ∷ more) (Refusal s ∷ others) n events (inr a) (inr b) =
         let first : r ≡ s = one_truncated n events r s a.0 b.0 in
         let later : more ≡ others = a.1 ∙ sym b.1 in

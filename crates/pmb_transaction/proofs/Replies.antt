@@ -1,4 +1,8 @@
--- The leg in which a device that was asked is read.
+-- The leg in which a device that was asked is read: ACK or NACK may follow its address byte, and
+-- its answers are those to the body that was written. For the laws `reads_may_be_taken`,
+-- `reads_may_be_refused`, `bytes_follow_in_a_reply`, `replies_go_on` and `replies_end`. The leg
+-- before it tells the address and the body, so each beginning that ends here has this device and
+-- this body; ReadLegs does the rest.
 use Rattle.std.proofs.Common.{◌≡◌, ℕ, ◌<◌, Some, List, [], ◌∷◌, ◌++◌, refl, sym, subst, append_assoc}
 use Rattle.pmb_bus.specs.Pec.{pec}
 use Rattle.pmb_bus.specs.declared.event.Event.{Event}

@@ -1,4 +1,7 @@
--- Each list of events reads as some outcomes.
+-- Each list of events has a reading. For the laws `each_list_has_a_reading` and
+-- `refused_events_have_a_reason`. By induction over the events, with two readings of the rest: one
+-- after any packet under way (`ReadsOn`), one while events are passed over (`PassesOn`). Whether
+-- the next event may follow is decided (FinitePackets).
 use Rattle.std.proofs.Common.{◌≡◌, ◌≢◌, ℕ, ◌+◌, ◌<◌, inl, inr, List, [], ◌∷◌, ◌++◌, length, refl, sym, subst}
 use Rattle.std.proofs.Common.{append_assoc, arith}
 use Rattle.std.proofs.lemmas.List.{append-nil}

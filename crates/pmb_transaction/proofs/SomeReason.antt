@@ -1,4 +1,7 @@
--- Where another event may follow in place of one that is refused, the events end as a reason is drawn.
+-- A refused event in whose place another one may come has a reason: the events before it end as
+-- that reason is drawn in specs/Reason. For the law `refused_events_have_a_reason`. Where ACK or
+-- NACK is refused, the events end with a byte, in one of four ways (`AfterByte`), and each way is
+-- one reason or lets the answer follow.
 use Rattle.std.proofs.Common.{◌≡◌, ◌≢◌, ℕ, ◌<◌, true, List, [], ◌∷◌, ◌++◌, refl, sym, ap, ◌∙◌, subst, append_assoc}
 use Rattle.std.proofs.lemmas.List.{same_from_push}
 use Rattle.pmb_bus.specs.Pec.{pec}
@@ -33,6 +36,7 @@ use Rattle.pmb_transaction.proofs.WrittenLegs.{refusal_follows}
 
 -- ---- the last event
 
+-- Events, by the last one and those before it.
 record HasLast (events : List Event) : Type 0 where
   pub front : List Event
   pub last : Event
@@ -88,13 +92,17 @@ same_turn Stop = refl
 
 -- Where the events of a packet end with a byte, and which answers to it may follow in any case.
 data AfterByte (profile : List DeviceParts) (events : List Event) : Type 0 where
+  -- S addr+W, which any device may refuse
   after_address : (front : List Event) → (addr : ℕ) → events ≡ front ++ Start ∷ Byte (write_address addr) ∷ []
       → MayFollow profile events Nack
       → AfterByte profile events
+  -- S addr+W A bytes A .. byte, which it may refuse too
   after_written : (front : List Event) → (addr : ℕ) → (bytes : List ℕ) → (byte : ℕ)
       → events ≡ front ++ leg (write_address addr ∷ bytes) ++ Byte byte ∷ []
       → MayFollow profile events Nack → AfterByte profile events
+  -- S addr+R, to which both answers may follow
   after_read_address : MayFollow profile events Ack → MayFollow profile events Nack → AfterByte profile events
+  -- S addr+R A bytes A .. byte
   in_reply : (front : List Event) → (addr : ℕ) → (bytes : List ℕ) → (byte : ℕ)
       → events ≡ front ++ leg (read_address addr ∷ bytes) ++ Byte byte ∷ []
       → AfterByte profile events

@@ -1,5 +1,6 @@
--- The last START of events, after which their last leg stands, and bytes that were taken or
--- refused in it.
+-- The last START of events, and the bytes of a leg that were taken or refused: events are cut at
+-- the last START in one way, and the events of bytes tell these bytes. For LastStarts and the laws
+-- on what may follow. Bytes and their answers hold no START, and a byte's event holds its value.
 use Rattle.std.proofs.Common.{◌≡◌, ℕ, ◌+◌, ◌*◌, Bool, true, false, List, [], ◌∷◌, ◌++◌, refl, sym, ap, arith}
 use Rattle.pmb_bus.specs.declared.event.Event.{Event}
 use Rattle.pmb_bus.specs.declared.event.Event.TheVariants.{Start, Byte, Ack, Nack, Stop}

@@ -1,4 +1,7 @@
--- A packet's only STOP is its last event.
+-- A packet has one STOP, its last event; it is not empty, and begins no other packet. For the laws
+-- `packet_ends_with_stop`, `packet_is_not_empty` and `no_packet_begins_another`. The parts of a
+-- packet before its STOP hold none, by a test that is computed (`has_no_stop`), and events are cut
+-- at their first STOP in one way.
 use Rattle.std.proofs.Common.{◌≡◌, ℕ, Bool, true, false, ◌&&◌, List, [], ◌∷◌, ◌++◌, refl, sym, ap, ◌∙◌, append_assoc}
 use Rattle.std.specs.List.{list_all}
 use Rattle.std.proofs.lemmas.List.Folds.{list_all-append}

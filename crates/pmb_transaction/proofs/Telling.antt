@@ -1,4 +1,7 @@
--- The transaction of a packet, read back from its legs.
+-- The transaction that the legs of a packet tell (`told`): by whether all bytes were taken, by the
+-- last leg's address byte, and by the forms of the profile. For the law `one_transaction`:
+-- OneTransaction shows that a packet's legs tell its transaction. An address byte for writing is
+-- even, one for reading odd, and half of it is the address.
 use Rattle.std.proofs.Common.{◌≡◌, ℕ, ◌+◌, ◌*◌, ◌/◌, ◌%◌, Bool, true, false, ◌&&◌, cond, Option, Some, None, map}
 use Rattle.std.proofs.Common.{nat_eq, List, [], ◌∷◌, ◌++◌, refl, ap, ◌∙◌, arith}
 use Rattle.std.specs.List.{list_all}

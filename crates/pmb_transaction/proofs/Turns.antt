@@ -1,4 +1,6 @@
--- Events take turns in a packet.
+-- Events take turns in a packet (`follows_in_turn`), and nothing follows a packet. For the laws
+-- `events_take_turns` and `packets_go_no_further`. Whether they take turns is computed over a list
+-- of events, and is shown of each sort of packet; so it holds of any two that stand side by side.
 use Rattle.std.proofs.Common.{◌≡◌, ℕ, inl, inr, Bool, true, false, ◌&&◌, List, [], ◌∷◌, ◌++◌, refl, sym, ap, ◌∙◌, subst}
 use Rattle.std.proofs.Common.{append_assoc}
 use Rattle.std.proofs.lemmas.Bool.{and_parts}

@@ -1,4 +1,7 @@
--- Reasons worked by hand: what may follow in each row.
+-- Reasons worked by hand: after the events of each row, what may follow, and so which reason a
+-- refused event has there. For the law `reasons_of_rows`. The rows' bus has two devices with three
+-- commands, so all bodies and answers that they take are listed, and an event that goes on with
+-- none of these is refused.
 use Rattle.std.proofs.Common.{◌≡◌, ℕ, ◌<◌, ◌≤◌, ◌⊎◌, inl, inr, Bool, true, false, codes, cond, Some, None, List, []}
 use Rattle.std.proofs.Common.{◌∷◌, ◌++◌, length, nat_eq, refl, sym, ap, ◌∙◌, subst, append_assoc, arith}
 use Rattle.std.specs.List.{IsDistinct}
@@ -43,6 +46,9 @@ use Rattle.pmb_transaction.proofs.Turns.{events_take_turns}
 use Rattle.pmb_transaction.proofs.WrittenLegs.{byte_follows as written_byte_follows, refusal_follows, taken_follows}
 
 -- ---- the bus
+-- The numbers of the rows: 0xb0 and 0xb1 are the address bytes of the device at 58h, 0xb2 and 0xb3
+-- those of 59h. Codes are 0x03 CLEAR_FAULTS, 0x88 READ_VIN and 0x19 CAPABILITY, and 0xc8, which
+-- neither device has. As an address byte 0x19 is the Alert Response Address.
 
 -- a command of the rows may be on a bus, by what its code, its name and its forms have to be
 may_be : (code : ℕ) (name : List ℕ) (shape : Shape) → code < 256 → IsNameOf code name → has_form shape ≡ true

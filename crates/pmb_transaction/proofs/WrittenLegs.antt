@@ -1,5 +1,8 @@
--- A written leg of a device after some parts: which byte follows in it, and what follows that
--- byte.
+-- A written leg of a device after some parts: a byte follows inside a body, any device may refuse
+-- it (NACK), and ACK follows where a body begins with it. For the laws
+-- `bytes_follow_inside_a_body`, `bytes_may_be_refused` and `bytes_taken_begin_a_body`. The leg's
+-- START is the last one, so a beginning that ends here has this device and these parts
+-- (LastStarts).
 use Rattle.std.proofs.Common.{◌≡◌, ℕ, ◌<◌, ◌≤◌, ◌⊎◌, inl, inr, Some, List, [], ◌∷◌, ◌++◌, length, nat_eq, refl, sym, ap}
 use Rattle.std.proofs.Common.{◌∙◌, subst, append_assoc}
 use Rattle.std.specs.List.{IsDistinct}
@@ -90,6 +93,7 @@ module _ (pec_is_byte : (bytes : List ℕ) → pec bytes < 256) (profile : List 
         let events = (legs ++ written_leg bytes) ++ Byte byte ∷ [] in
         let spelled : events ≡ legs ++ Start ∷ bytes_sent bytes byte = append_assoc legs (written_leg bytes)
         (Byte byte ∷ []) in (
+          -- a byte that may follow makes a beginning that ends in this leg
           λ follows.
               sent_in bytes byte
               (
@@ -98,6 +102,7 @@ module _ (pec_is_byte : (bytes : List ℕ) → pec bytes < 256) (profile : List 
               (viable_is_beginning pec_is_byte profile bus events
               (λ none. no_end (legs ++ written_leg bytes) (Byte byte) [] none) follows)
               ),
+          -- and one inside a body makes such a beginning
           λ inside.
               beginning_is_viable pec_is_byte profile bus events
               (

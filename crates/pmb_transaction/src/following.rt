@@ -1,6 +1,7 @@
 //! Laws on which events may follow at each place of a packet: each function is its contract, and
 //! does nothing. With those of [`crate::laws`] on turns and on the bytes of a written leg they
 //! tell, after any events that begin a packet, each event that may come next.
+//! Rows by hand of what may follow: `tests_packets`, `src/transactions/refusal_rows.rt`.
 
 ghost use Rattle.std.specs.Prelude.{◌≡◌, ◌≢◌, ℕ, ◌<◌, ◌≤◌, true, Some, List, [], ◌∷◌, ◌++◌, ◌↔◌, length, nat_eq};
 ghost use Rattle.std.specs.List.{IsDistinct};

@@ -1,4 +1,6 @@
 //! The laws of packets and captures: each function is its contract, and does nothing.
+//!
+//! Its rows: `tests_packets`, `src/transactions/laws.rt`.
 
 ghost use Rattle.std.specs.Prelude.{◌≡◌, ◌≢◌, ℕ, ◌+◌, ◌≤◌, Bool, List, [], ◌++◌, length};
 ghost use Rattle.pmb_bus.specs.declared.event.Event.{Event};

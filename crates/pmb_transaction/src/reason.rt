@@ -1,4 +1,7 @@
 //! Reasons, and their names.
+//!
+//! Its rows: `tests_lines`, `src/names/names.rt`; `tests_reader`, `src/reader/rows.rt`;
+//! `tests/rows/captures.txt`.
 
 ghost use Rattle.std.specs.Prelude.{◌≡◌, ◌≤◌, length};
 ghost use Rattle.pmb_transaction.specs.Names.{reason_name};

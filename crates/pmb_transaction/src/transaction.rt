@@ -1,3 +1,6 @@
+//! What a packet says. Its rows: `tests_packets`, `src/transactions/packet_rows.rt` and
+//! `no_packet_rows.rt`; `tests_lines`, `src/lines/rows.rt`; `tests/rows/captures.txt`.
+
 use crate::part::Part;
 use arrayvec::ArrayVec;
 

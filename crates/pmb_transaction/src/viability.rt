@@ -1,4 +1,5 @@
 //! Laws on which events begin a packet: each function is its contract, and does nothing.
+//! Rows by hand of what may follow: `tests_packets`, `src/transactions/refusal_rows.rt`.
 
 ghost use Rattle.std.specs.Prelude.{◌≡◌, ◌≢◌, ℕ, ◌≤◌, true, Some, List, [], ◌∷◌, ◌++◌, ◌⊎◌, ◌↔◌, length, nat_eq};
 ghost use Rattle.std.specs.List.{IsDistinct};

@@ -1,4 +1,6 @@
--- The parts that are kept.
+-- The parts that are kept: one with an address, at an index below their number, is found by that
+-- address. For `TransactionSlot::has_part_at`, which goes through the parts. By induction over the
+-- list.
 use Rattle.std.proofs.Common.{◌≡◌, ℕ, zero, suc, ◌<◌, ◌||◌, Bool, true, List, [], ◌∷◌, length, map, get_or, nat_eq, sym}
 use Rattle.std.proofs.Common.{ap, subst, ◌∙◌, arith}
 use Rattle.std.proofs.lemmas.Bool.{or_right}

@@ -2,6 +2,8 @@
 //!
 //! The parts of the packet under way are the first ones of the kept write. Of a kept transaction of
 //! another kind nothing counts until its packet ends.
+//!
+//! Its rows: `tests_reader`, `src/canonical/rows.rt` and `src/reader/rows.rt`.
 
 ghost use Rattle.std.specs.Prelude.{◌≡◌, ◌<◌, ◌≤◌, ◌++◌, [], ◌∷◌, length, nat_eq};
 ghost use Rattle.std.specs.List.{list_any};

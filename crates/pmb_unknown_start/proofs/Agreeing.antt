@@ -1,4 +1,7 @@
--- What is known of values agrees with the values that are, and what is read of it too.
+-- VOUT_MODEs of which some are known agree with those that are (`Agree`): where one is set, on a
+-- page, on all pages or on one that isn't known, and what is read of them. For the laws
+-- `what_is_known_is_certain` and `pieces_say_what_the_whole_says`. Page by page: a mode that is
+-- known is the one that is, and what may differ is forgotten.
 use Rattle.std.proofs.Common.{◌≡◌, ℕ, zero, suc, ◌<◌, cond, slice_set, Bool, true, false, not, Option, Some, None, List}
 use Rattle.std.proofs.Common.{[], ◌∷◌, length, map, nat_eq, replicate, slice_get, refl, sym, ap, ◌∙◌, subst, arith}
 use Rattle.std.specs.List.{list_all}

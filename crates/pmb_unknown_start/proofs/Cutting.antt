@@ -1,4 +1,7 @@
--- Where a capture can be cut, PAGE and VOUT_MODE may be what the rest begins with.
+-- Where a capture may be cut: PAGE and VOUT_MODE after the first part are such as the rest may
+-- begin with, so what is known in the rest is what the whole has. For the law
+-- `pieces_say_what_the_whole_says`. What is told before the cut keeps PAGE among the device's
+-- pages, or VOUT_MODE fixed, register by register.
 use Rattle.std.proofs.Common.{◌≡◌, ◌≢◌, ℕ, zero, suc, ◌≤◌, cond, slice_set, Bool, true, false, Option, Some, None, List}
 use Rattle.std.proofs.Common.{[], ◌∷◌, ◌++◌, fold, length, nat_eq, replicate, inl, refl, sym, ap, ◌∙◌, subst, arith}
 use Rattle.std.specs.List.{AllByRecursion, flat_map}

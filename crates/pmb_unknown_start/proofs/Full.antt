@@ -1,4 +1,6 @@
--- Where all is known from the start, all stays known.
+-- Where all is known from the start, all stays known and is what the context keeps. For the law
+-- `all_that_is_known_is_the_context`. Each register that is told changes what is known as it
+-- changes what is (Telling), and of known modes the same mode is read.
 use Rattle.std.proofs.Common.{◌≡◌, ℕ, zero, suc, cond, slice_set, Bool, true, false, not, ◌||◌, ◌&&◌, Option, Some}
 use Rattle.std.proofs.Common.{None, List, [], ◌∷◌, length, map, nat_eq, replicate, slice_get, refl, sym, ap, ◌∙◌}
 use Rattle.std.specs.List.{list_all}

@@ -1,4 +1,7 @@
--- What is told changes what is known as it changes what is.
+-- What a transaction tells changes what is known (`KnownPaging`) as it changes what is
+-- (`PagingData`). For the law `what_is_known_is_certain`, and for Cutting and Full. Stated once for
+-- any relation between the two that stays when PAGE is told and when VOUT_MODE is (`along`); then
+-- for agreement: a known PAGE is that one, an unknown one is a page or all.
 use Rattle.std.proofs.Common.{◌≡◌, ◌⊎◌, ℕ, ◌<◌, ◌≤◌, cond, slice_set, Bool, true, false, not, ◌||◌, Option, Some, None}
 use Rattle.std.proofs.Common.{List, [], ◌∷◌, fold, length, nat_eq, nat_lt, replicate, slice_get, inl, inr, refl, sym}
 use Rattle.std.proofs.Common.{ap, ◌∙◌, subst, arith}
@@ -101,6 +104,7 @@ PageAgrees None p = (p.page < length p.modes) ⊎ (p.page ≡ all_pages)
 PageAgrees (Some page) p = page ≡ p.page
 
 pub record Agrees (k : KnownPaging) (p : PagingData) : Type 0 where
+  -- PAGE agrees, and so does VOUT_MODE on each page
   pub page : PageAgrees k.page p
   pub modes : Agree k.modes p.modes
 

@@ -1,4 +1,6 @@
 //! What is known of PAGE and VOUT_MODE of one device.
+//!
+//! Its rows: `tests_lines`, `src/late/starts.rt`; `tests_json`, `src/fields/contexts.rt`.
 
 ghost use Rattle.std.specs.Prelude.{◌≡◌, ◌||◌, None, Some, map, nat_eq, slice_get, slice_set};
 ghost use Rattle.std.specs.List.{list_all};

@@ -1,4 +1,6 @@
 //! What is known of PAGE and VOUT_MODE of the devices of a bus.
+//!
+//! Its rows: `tests_lines`, `src/late/starts.rt`; `tests_json`, `src/fields/contexts.rt`.
 
 ghost use Rattle.std.specs.Prelude.{◌≡◌, ◌++◌, ◌∷◌, [], List, fold, map, option_map, Some};
 ghost use Rattle.pmb_command.specs.Parts.{DeviceParts, device_with};

@@ -1,4 +1,6 @@
 //! What is known of the VOUT_MODE that an output voltage is to be read by.
+//!
+//! Its rows: `tests_lines`, `src/late/starts.rt`; `tests_json`, `src/fields/voltages.rt`.
 
 /// The VOUT_MODE that an output voltage is to be read by, as far as it is known.
 #[derive(Debug, Clone, Copy, PartialEq, Eq, Drop)]

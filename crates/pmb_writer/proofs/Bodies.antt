@@ -1,4 +1,7 @@
--- Bodies by their lengths: which bytes begin a body, and which are one.
+-- Bodies by their lengths: which bytes begin a body of a device, which go on, and which are a whole
+-- body that asks. For `check_refused_byte` and `check_refused_reply` of `src/refused.rt`, and for
+-- the law `packet_or_fault`. Bytes that are fewer than the form says are completed with zeros
+-- (`Completion`), so only their number is tested.
 use Rattle.std.proofs.Common.{◌≡◌, ℕ, ◌+◌, ◌-◌, ◌<◌, ◌≤◌, ◌⊎◌, zero, suc, Bool, true, false, ◌&&◌, ◌||◌, Option, Some}
 use Rattle.std.proofs.Common.{None, is_some, List, [], ◌∷◌, ◌++◌, length, map, replicate, nat_eq, refl, sym, ap, subst}
 use Rattle.std.proofs.Common.{◌∙◌, inl, inr, append_assoc, arith, length-append, eq-eqb}
@@ -25,6 +28,7 @@ use Rattle.pmb_writer.specs.machine.Lengths.{pec_length, leaves_room, is_whole_w
 
 -- Data that fit a form, whose wire begins with some bytes and is as long as they tell.
 pub record Completion (form : Form) (bytes : List ℕ) : Type 0 where
+  -- data whose wire begins with the bytes, the rest of that wire, and how long both are
   pub whole : List ℕ
   pub fits : Fits form whole
   pub rest : List ℕ
@@ -57,6 +61,7 @@ length_left n m short = omega (arith, length-replicate {A = ℕ} (n - m) 0)
 
 pub complete : (form : Form) (bytes : List ℕ) → AreByteValues bytes → length bytes ≤ wire_length form bytes
     → Completion form bytes
+-- as many zeros as the form has bytes left; so in each form without a count
 complete Zero bytes small short =
     record {
       whole = bytes ++ zeros (0 - length bytes);
@@ -107,6 +112,7 @@ complete Eight bytes small short =
       spelled = refl;
       long = length_left 8 (length bytes) short;
     }
+-- a block without its count is an empty one, another one has its count
 complete Block [] small short =
     record { whole = []; fits = record { small = tt; taken = omega arith }; rest = 0 ∷ []; spelled = refl; long = refl }
 complete Block (count ∷ bytes) small short =
@@ -196,6 +202,7 @@ module _ (device : DeviceParts) where
       → length bytes < wire_length form bytes + 1 → (body : List ℕ) × IsWriteBody device body
       × IsProperPrefix (code ∷ bytes) body
   checked_write code form bytes written mode small short =
+      -- the data are completed, and their packet error code follows
       let done : Completion form bytes = complete form bytes small (omega arith) in
       let body : List ℕ = checked true (write_address device.address ∷ []) (code ∷ wire form done.whole) in
       let last : ℕ = pec ((write_address device.address ∷ []) ++ code ∷ wire form done.whole) in (
@@ -213,6 +220,7 @@ module _ (device : DeviceParts) where
                 refl;
           },
         ),
+        -- so the body has more than these bytes, by the code at least
         proper (code ∷ bytes) (done.rest ++ last ∷ []) body
             (ap (λ w. code ∷ w ++ last ∷ []) done.spelled
             ∙ ap (λ w. code ∷ w) (append_assoc bytes done.rest (last ∷ [])))
@@ -344,6 +352,7 @@ write_is_allowed (part ∷ parts) device body write = write
 module _ (device : DeviceParts) (code : ℕ) where
   write_begins : (mode : PecMode) → device.pec ≡ mode → (form : Form) → (forms device code).write ≡ Some form
       → (rest : List ℕ) × IsWriteBody device (code ∷ rest)
+  -- without a packet error code
   write_begins Off is form written =
       let done : Completion form [] = complete form [] tt (omega arith) in (
         wire form done.whole,
@@ -361,6 +370,7 @@ module _ (device : DeviceParts) (code : ℕ) where
           },
         ),
       )
+  -- with one
   write_begins On is form written =
       let done : Completion form [] = complete form [] tt (omega arith) in
       let last : ℕ = pec ((write_address device.address ∷ []) ++ code ∷ wire form done.whole) in (
@@ -379,6 +389,7 @@ module _ (device : DeviceParts) (code : ℕ) where
           },
         ),
       )
+  -- either is allowed: without one
   write_begins Optional is form written =
       let done : Completion form [] = complete form [] tt (omega arith) in (
         wire form done.whole,
@@ -486,6 +497,7 @@ module _ (device : DeviceParts) (code : ℕ) where
       → may_go_on (is_first parts) device.pec (forms device code) bytes ≡ true → (last : ℕ)
       → MayGoOn parts (code ∷ bytes ++ last ∷ []) device
   goes_on [] bytes small passes last =
+      -- in a first leg a write or a call may go on
       elim (either (leaves_room (forms device code).write (pec_length device.pec) bytes)
       (leaves_room (forms device code).call 0 bytes) passes) [
         | inl w ↦ let room : (f : Form) × ((forms device code).write ≡ Some f)
@@ -500,6 +512,7 @@ module _ (device : DeviceParts) (code : ℕ) where
             call_goes_on device code room.0 bytes room.1 small (omega (arith, room.2)) in
             going [] bytes last (found.0, inr (inr found.1), found.2)
       ]
+  -- in a later leg a write alone
   goes_on (part ∷ parts) bytes small passes last =
       elim (either (leaves_room (forms device code).write (pec_length device.pec) bytes) false passes) [
         | inl w ↦ let room : (f : Form) × ((forms device code).write ≡ Some f)
@@ -540,6 +553,7 @@ module _ (device : DeviceParts) (code : ℕ) where
   pub requests : (bytes : List ℕ) → AreByteValues bytes → is_request (forms device code) bytes ≡ true
       → IsRequest device (code ∷ bytes)
   requests bytes small passes =
+      -- a read body is the code alone, of a command that is read
       elim (either (is_some (forms device code).read && nat_eq (length bytes) 0)
       (is_whole_wire (forms device code).call bytes) passes) [
         | inl r ↦ let parts : (is_some (forms device code).read ≡ true) × (nat_eq (length bytes) 0 ≡ true) =
@@ -554,6 +568,7 @@ module _ (device : DeviceParts) (code : ℕ) where
                     ap (λ bs. code ∷ bs) (no_bytes bytes (eqb-true (length bytes) 0 parts.1));
               },
             )
+        -- a call body has as many bytes as the form says
         | inr c ↦ let exact : (f : Form) × ((forms device code).call ≡ Some f) × (length bytes ≡ wire_length f bytes) =
             whole_of (forms device code).call bytes c in
             let done : Completion exact.0 bytes = complete exact.0 bytes small (omega (arith, exact.2)) in

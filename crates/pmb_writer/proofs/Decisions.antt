@@ -1,5 +1,7 @@
--- Each rule is kept or broken, so that a transaction which has room in its type keeps its rules or
--- breaks a first one.
+-- Each rule of a transaction is kept or broken, so it keeps all of them or breaks a first one. For
+-- the law `packet_or_fault`, and through it for parsing lines (`pmb_line`) and making hosts
+-- (`pmb_host`). Rules are statements on numbers, lists and look-ups, each of them decided; the
+-- rules of bodies are decided by Bodies.
 use Rattle.std.proofs.Common.{◌≡◌, ℕ, ◌<◌, ◌≤◌, ◌⊎◌, Bool, true, false, Option, Some, None, IsSome, IfSome, is_some}
 use Rattle.std.proofs.Common.{List, [], ◌∷◌, ◌++◌, length, nat_eq, refl, sym, ap, subst, inl, inr, arith}
 use Rattle.std.specs.List.{list_any}
@@ -251,8 +253,11 @@ module _ (profile : List DeviceParts) where
 
   leg_decided : (parts : List PartData) (addr : ℕ) (sent : List ℕ) (at_read : Bool) → AreByteValues sent
       → AreDecided (refused_leg_rules profile parts addr sent at_read)
+  -- the address alone: no rule
   leg_decided parts addr [] false small = tt
+  -- a byte after it: the device is known
   leg_decided parts addr (b ∷ []) false small = (is_there (device_with addr profile), tt)
+  -- more bytes: the command is known, a body may begin with them, and it goes on
   leg_decided parts addr (code ∷ b ∷ bytes) false small = (
     is_there (device_with addr profile),
     (
@@ -263,10 +268,12 @@ module _ (profile : List DeviceParts) where
       ),
     ),
   )
+  -- reading is refused, but nothing was sent
   leg_decided parts addr [] true small = (
     is_there (device_with addr profile),
     (is_empty parts, (inr (λ none. none), tt)),
   )
+  -- reading is refused after a body that asks
   leg_decided parts addr (code ∷ bytes) true small = (
     is_there (device_with addr profile),
     (

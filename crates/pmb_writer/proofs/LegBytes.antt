@@ -1,4 +1,6 @@
--- LegsToCome byte by byte.
+-- The legs of a packet byte by byte, with the packet error code that is carried on: one byte, the
+-- code, the end of a leg, the next one, STOP. For `Course::next_event` and `Leg::next_byte`. Each
+-- is the definition of what is left, after one event was taken from it.
 use Rattle.std.proofs.Common.{◌≡◌, ℕ, Bool, true, false, List, [], ◌∷◌, ◌++◌, refl, sym, ap}
 use Rattle.std.specs.Prelude.{bit_xor}
 use Rattle.pmb_bus.specs.Pec.{pec}

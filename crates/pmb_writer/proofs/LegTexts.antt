@@ -1,4 +1,7 @@
--- LegsToCome as canonical text, piece by piece.
+-- The legs of a packet as canonical text, piece by piece: START, the address, the code, the count,
+-- the data, the packet error code. For `Leg::append`, `append_leg`, `append_next`, `append_each`
+-- and `append_some`. Text of events end to end is their texts end to end, and a code over bytes is
+-- carried on from one to the next.
 use Rattle.std.proofs.Common.{◌≡◌, ℕ, Bool, true, false, List, [], ◌∷◌, ◌++◌, refl, sym, ap, ◌∙◌, append_assoc}
 use Rattle.std.proofs.Common.{append-nil}
 use Rattle.std.specs.Prelude.{bit_xor}

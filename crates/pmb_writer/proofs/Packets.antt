@@ -1,4 +1,7 @@
--- A transaction that keeps its rules has a packet, and one that has a packet keeps its rules.
+-- A transaction that keeps its rules has a packet, and one that has a packet keeps its rules. For
+-- `check` of `src/validity.rt` and the law `no_packet_with_a_fault`; `pmb_host`, `pmb_exchange` and
+-- `pmb_run` use it too. The rules are the premises of the packet's definition, in the order in
+-- which faults are reported.
 use Rattle.std.proofs.Common.{◌≡◌, ℕ, ◌<◌, ◌≤◌, ◌⊎◌, Bool, true, false, Option, Some, None, IsSome, IfSome, is_some}
 use Rattle.std.proofs.Common.{if◌then◌else◌, Result, Ok, Err, IsOk, MatchResult, ◌↔◌, List, [], ◌∷◌, ◌++◌, length}
 use Rattle.std.proofs.Common.{nat_eq, refl, sym, ap, subst, ◌∙◌, inl, inr, append_assoc, arith}
@@ -227,11 +230,14 @@ module _ (profile : List DeviceParts) where
   part_keeps : (earlier : List ℕ) (part : PartData) (events : List Event) → IsNew part.addr earlier
       → PartEvents profile part events → AreKept (part_rules profile earlier part)
   part_keeps earlier part events new has =
+      -- the forms that were looked up are those of the device
       let device : DeviceParts = has.device in
       let same : forms_at profile part.addr part.code ≡ forms device part.code =
       forms_are part.addr part.code device has.known in
       let written : (forms_at profile part.addr part.code).write ≡ Some has.allowed.form = ap (λ s. s.write) same
       ∙ has.allowed.written in (
+        -- each rule of a part: its device, its address, its command, that this is written, data,
+        -- mode
         some_one (device_with part.addr profile) device has.known,
         (
           new,
@@ -373,8 +379,10 @@ module _ (profile : List DeviceParts) where
   refused_leg_has_events : (parts : List PartData) (addr : ℕ) (sent : List ℕ) (at_read : Bool) → addr < 128
       → AreByteValues sent → AreKept (refused_leg_rules profile parts addr sent at_read)
       → (events : List Event) × RefusedLeg profile parts addr sent at_read events
+  -- a refused address
   refused_leg_has_events parts addr [] false seven small kept =
       (Start ∷ Byte (write_address addr) ∷ Nack ∷ [], record { seven = seven; spelled = refl })
+  -- a refused byte after the address
   refused_leg_has_events parts addr (b ∷ []) false seven small (known, _) =
       let device : (d : DeviceParts) × (device_with addr profile ≡ Some d) = the_one (device_with addr profile) known in (
         leg (write_address addr ∷ []) ++ nacked (b ∷ []),
@@ -390,6 +398,7 @@ module _ (profile : List DeviceParts) where
           spelled = refl;
         },
       )
+  -- a refused byte further on: the body that goes on is told by the rules
   refused_leg_has_events parts addr (code ∷ b ∷ bytes) false seven small
       (known, (command, (begun, ((device, is, (front, last, body, split, allowed, prefix)), _)))) = (
         leg (write_address addr ∷ []) ++ nacked (code ∷ b ∷ bytes),
@@ -405,7 +414,9 @@ module _ (profile : List DeviceParts) where
           spelled = refl;
         },
       )
+  -- a device that was sent nothing isn't asked
   refused_leg_has_events parts addr [] true seven small (known, (alone, (never, _))) = absurd never
+  -- a device that refuses to be read
   refused_leg_has_events parts addr (code ∷ bytes) true seven small
       (known, (alone, (command, (asked, ((device, is, body), _))))) = (
         leg (write_address addr ∷ code ∷ bytes) ++ Start ∷ Byte (read_address addr) ∷ Nack ∷ [],

@@ -1,4 +1,7 @@
--- The leg that is refused, by the tests of the code.
+-- The leg in which a device refused something, by what the code tests: its device, its command, and
+-- whether the bytes begin a body, go on, or ask. For `check_refused_byte` and
+-- `check_refused_reply`. Each test that passes is a rule that is kept, and the first that fails is
+-- the fault.
 use Rattle.std.proofs.Common.{◌≡◌, ℕ, suc, ◌<◌, get_or, Bool, true, false, Some, IsSome, is_some, List, [], ◌∷◌, ◌++◌}
 use Rattle.std.proofs.Common.{refl, sym, ap, subst, ◌∙◌, inl, inr}
 use Rattle.pmb_command.specs.declared.form.Shape.{Shape}
@@ -26,6 +29,7 @@ small_front (b ∷ bytes) last small = (small.0, small_front bytes last small.1)
 -- What a leg's code finds in a profile.
 pub record Found (profile : List DeviceParts) (addr : ℕ) (code : ℕ) (device : DeviceParts)
     (shape : Shape) : Type 0 where
+  -- the device and the command are in the profile, and the forms are the device's
   pub known : Some device ≡ device_with addr profile
   pub command : IsSome (command_with code device.commands)
   pub shape_is : shape ≡ forms device code

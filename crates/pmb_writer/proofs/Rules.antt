@@ -1,4 +1,7 @@
--- Rules one after the other, and those of parts.
+-- Rules one after the other: all are kept, or one is the first that is broken, and never both. For
+-- `check_refused`, `check_parts`, `check` and the laws `one_first_fault` and
+-- `no_packet_with_a_fault`. By induction over the rules; what is found of those that are left is
+-- found of all, since those before them are kept.
 use Rattle.std.proofs.Common.{◌≡◌, ℕ, List, [], ◌∷◌, ◌++◌, map, take, drop, sym, ◌∙◌, inl, inr}
 use Rattle.pmb_command.specs.Parts.{DeviceParts}
 use Rattle.pmb_transaction.specs.declared.part.Part.{Part}

@@ -1,4 +1,6 @@
--- The events that the code writes are the packet.
+-- The events that the code writes are the packet. For `events_of` and `append_packet`. The code
+-- takes legs with data, and carries the packet error code on from byte to byte; by the laws of that
+-- code (`CodeLaws`) it is the code over all bytes that the definition has.
 use Rattle.std.proofs.Common.{◌≡◌, ℕ, ◌<◌, Bool, true, false, if◌then◌else◌, Option, Some, None, List, [], ◌∷◌, ◌++◌}
 use Rattle.std.proofs.Common.{length, map, nat_eq, refl, sym, ap, subst, ◌∙◌, append_assoc, arith}
 use Rattle.std.specs.Prelude.{bit_xor}
@@ -53,6 +55,7 @@ read_byte_is addr seven = omega arith
 
 -- The laws of packet error codes by which a code is carried on.
 pub record CodeLaws : Type 0 where
+  -- the code of no bytes, and that of one byte more, from the code so far
   pub nothing : pec [] ≡ 0
   pub goes_on : (bytes : List ℕ) (byte : ℕ) → pec (bytes ++ byte ∷ []) ≡ pec (bit_xor (pec bytes) byte ∷ [])
 
@@ -317,6 +320,7 @@ module _ (laws : CodeLaws) (profile : List DeviceParts) (devices : AllByRecursio
       ∙ sym (append_assoc has.legs has.last (Stop ∷ []))
       ∙ sym has.spelled
 
+  -- 0x19: the address byte of the Alert Response Address
   alert_is : (t : AlertData) (events : List Event) → AlertPacket t events → packet_events profile (Alert t) ≡ events
   unfolding legs_events
   alert_is t events has =
@@ -325,6 +329,7 @@ module _ (laws : CodeLaws) (profile : List DeviceParts) (devices : AllByRecursio
       (some_checked laws t.pec (0x19 ∷ []) (t.byte ∷ []) (omega arith)))
       ∙ sym has.spelled
 
+  -- 0x19: the address byte of the Alert Response Address
   no_alert_is : packet_events profile NoAlert ≡ Start ∷ Byte 0x19 ∷ Nack ∷ Stop ∷ []
   unfolding legs_events
   no_alert_is = refl

@@ -1,4 +1,6 @@
 //! The forms of a command under a profile.
+//!
+//! Its rows: `tests_packets`, `src/writer/faults.rt`.
 
 ghost use Rattle.std.specs.Prelude.{◌≡◌, ◌↔◌, IsSome, IfSome};
 ghost use Rattle.pmb_command.specs.Parts.{command_with};

@@ -2,6 +2,8 @@
 //!
 //! What is left of it is what answers the byte before, the bytes left of the leg, the legs to come
 //! and STOP. Of the bytes that were written the packet error code alone is kept.
+//!
+//! Its rows: `tests_packets`, `src/writer/packets.rt` and `sizes.rt`.
 
 ghost use Rattle.std.specs.Prelude.{◌≡◌, [], ◌∷◌, true, MatchOption};
 ghost use Rattle.pmb_transaction.specs.Transaction.{transaction_data};

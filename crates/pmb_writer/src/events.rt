@@ -1,4 +1,6 @@
 //! The events of a transaction's packet, one after the other.
+//!
+//! Its rows: `tests_packets`, `src/writer/packets.rt` and `sizes.rt`.
 
 ghost use Rattle.std.specs.Prelude.{◌≡◌};
 ghost use Rattle.pmb_transaction.specs.Packet.{Packet};

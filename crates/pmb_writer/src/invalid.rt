@@ -1,3 +1,6 @@
+//! Why a transaction has no packet. Its rows: `tests_packets`, `src/writer/faults.rt`;
+//! `tests/rows/lines.txt`.
+
 use thiserror::Error;
 
 /// Why a transaction has no packet. Where there are several reasons, `check` answers the first one

@@ -1,4 +1,6 @@
 //! A leg of a packet, byte by byte.
+//!
+//! Its rows: `tests_packets`, `src/writer/packets.rt` and `sizes.rt`.
 
 ghost use Rattle.std.specs.Prelude.{◌≡◌, ℕ, ◌+◌, ◌≤◌, [], ◌∷◌, ◌++◌, false, length, MatchOption};
 ghost use Rattle.pmb_bus.specs.declared.event.Event.TheVariants.{Byte, Start};

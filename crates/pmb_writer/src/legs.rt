@@ -1,4 +1,6 @@
 //! The legs of a transaction's packet, in order.
+//!
+//! Its rows: `tests_packets`, `src/writer/packets.rt` and `sizes.rt`.
 
 ghost use Rattle.std.specs.Prelude.{◌≡◌, ◌+◌, ◌*◌, ◌≤◌, [], ◌∷◌, ◌++◌, false, true, length, map, option_map, IfSome, List, MatchOption};
 ghost use Rattle.std.specs.Option.{option_to_list};

@@ -1,4 +1,6 @@
 //! The leg that a device refused: whether its bytes are the beginning of a body.
+//!
+//! Its rows: `tests_packets`, `src/writer/faults.rt` and `packets.rt`; `tests/rows/lines.txt`.
 
 ghost use Rattle.std.specs.Prelude.{◌≡◌, ◌↔◌, ◌≤◌, ◌∷◌, map, length, nat_eq, IsTrue, false, true};
 ghost use Rattle.pmb_command.specs.Parts.{device_with};

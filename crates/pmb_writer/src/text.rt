@@ -1,4 +1,6 @@
 //! Events and packets as canonical text.
+//!
+//! Its rows: `tests_packets`, `src/writer/packets.rt` and `sizes.rt`; `tests/rows/lines.txt`.
 
 ghost use Rattle.std.specs.Prelude.{◌≡◌, ◌+◌, ◌*◌, ◌≤◌, ◌<◌, ◌++◌, ◌∷◌, [], codes, length, slice_index};
 ghost use Rattle.std.specs.Option.{option_to_list};

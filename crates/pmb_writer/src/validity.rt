@@ -1,4 +1,6 @@
 //! Whether a transaction has a packet.
+//!
+//! Its rows: `tests_packets`, `src/writer/faults.rt`; `tests/rows/lines.txt`.
 
 ghost use Rattle.std.specs.Prelude.{◌≡◌, ◌↔◌, [], map, nat_eq, not, IsOk, IfErr};
 ghost use Rattle.std.specs.List.{list_any};

@@ -1,4 +1,6 @@
 //! What is wrong in a capture.
+//!
+//! Its rows: `tests/rows/captures.txt`; `tests_tasks`, `src/captures.rt`.
 
 ghost use Rattle.pmb_io.specs.Runs.{AsTool, Ran};
 ghost use Rattle.pmb_capture.specs.Check.{checking};

@@ -1,4 +1,6 @@
 //! One run over a capture, whatever is written of it.
+//!
+//! Its rows: `tests/rows/captures.txt` and `failures.txt`.
 
 ghost use Rattle.std.specs.Prelude.{[]};
 ghost use Rattle.pmb_io.specs.Runs.{AsTool, Ran};
