@@ -1,4 +1,4 @@
-//! The sample profile. bench/sample.py prints this file from docs/profiles.md.
+//! The sample profile, as docs/profiles.md has it.
 
 use super::{Command, Device, Kind, Kind::*, Mode::*, BLOCK, NO};
 
@@ -8,6 +8,8 @@ const fn command(
     Command { code, name, write, read, call, paged, kind }
 }
 
+// The standard's commands.
+// begin: written by tools/commands from docs/profiles.md
 pub static STANDARD: [Command; 156] = [
     command(0x00, "PAGE", 1, 1, NO, false, Raw),
     command(0x01, "OPERATION", 1, 1, NO, true, Raw),
@@ -182,6 +184,9 @@ pub static STANDARD: [Command; 156] = [
     command(0xc1, "MFR_MAX_TEMP_2", 2, 2, NO, true, Linear11),
     command(0xc2, "MFR_MAX_TEMP_3", 2, 2, NO, true, Linear11),
 ];
+// end
+
+// The devices, each with the commands that differ from the standard's.
 pub static DEVICES: [Device; 3] = [
     Device { address: 0x58, mode: Optional, pages: 2, vout_mode: 0x17, own: &[
         command(0xd0, "RATIO", 2, 2, NO, false, Direct(3, 2, 1)),

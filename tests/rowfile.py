@@ -18,13 +18,14 @@
 
 `$`, `%` and `~` of a section hold for its rows, unless a row has its own. In a text \\r, \\t, \\n,
 \\\\ and \\xHH are bytes, \\{N*TEXT} is a text so many times, and a \\ at a line's end says that no LF
-ends the line. In `$` a word without characters is ''.
+ends the line. \\(KEY+N) is the number of \\(KEY) and N more, and \\(standard_commands) is how many
+rows the table of standard commands in docs/profiles.md has. In `$` a word without characters is ''.
 """
 
 import re
 
 ESCAPE = re.compile(
-    r"\\(?:([rtn\\])|x([0-9a-f]{2})|\{(\d+)\*((?:[^}\\]|\\.)*)\}|\((\w+)\))", re.S)
+    r"\\(?:([rtn\\])|x([0-9a-f]{2})|\{(\d+)\*((?:[^}\\]|\\.)*)\}|\((\w+)(?:\+(\d+))?\))", re.S)
 BYTES = {"r": b"\r", "t": b"\t", "n": b"\n", "\\": b"\\"}
 CALLS = re.compile(r"(\d+)(?: to (\d+))? (reads|writes|tells)|one by one from (\d+)")
 
@@ -80,7 +81,7 @@ def unescaped(text, values):
     for match in ESCAPE.finditer(text):
         found.append(plain(text[at:match.start()]))
         at = match.end()
-        byte, code, times, piece, key = match.groups()
+        byte, code, times, piece, key, more = match.groups()
         if byte:
             found.append(BYTES[byte])
         elif code:
@@ -88,7 +89,7 @@ def unescaped(text, values):
         elif times:
             found.append(unescaped(piece, values) * int(times))
         else:
-            found.append(values[key])
+            found.append(b"%d" % (int(values[key]) + int(more)) if more else values[key])
     return b"".join(found + [plain(text[at:])])
 
 
@@ -121,8 +122,8 @@ def stages_of(text):
 class Reading:
     """A file while it is read."""
 
-    def __init__(self, name):
-        self.name, self.rows, self.frames, self.number = name, [], {}, 0
+    def __init__(self, name, values):
+        self.name, self.values, self.rows, self.frames, self.number = name, values, [], {}, 0
         self.section, self.frame, self.row = {}, None, None
 
     def take(self, line):
@@ -164,7 +165,7 @@ class Reading:
         names = row["%"].split(", ") if "%" in row else [None]
         for name in names:
             lines, values = self.frames[name] if name else ([], {})
-            values = dict(values, name=unescaped(row["name"], {}))
+            values = {**self.values, **values, "name": unescaped(row["name"], {})}
             values["input"] = b"".join(text_of(row["given"], values))
             given = b"".join(text_of(lines, values)) if name else values["input"]
             stages = stages_of(row["$"])
@@ -177,9 +178,9 @@ class Reading:
             self.rows.append(found)
 
 
-def rows_of(path):
-    """The rows of a file, in its order."""
-    reading = Reading(path.name)
+def rows_of(path, values):
+    """The rows of a file, in its order, with values that all rows know."""
+    reading = Reading(path.name, values)
     with open(path, encoding="utf-8", newline="\n") as file:
         for line in file:
             try:

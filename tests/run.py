@@ -293,6 +293,12 @@ class Worker:
         return runs
 
 
+def standard_commands():
+    """How many rows the table of standard commands in docs/profiles.md has."""
+    page = (ROOT / "docs/profiles.md").read_text(encoding="utf-8")
+    return len(re.findall(r"^\| [0-9a-f]{2} \|.*\| (?:yes|no) \|$", page, re.M))
+
+
 def sample():
     """The sample profile, as docs/profiles.md has it."""
     page = (ROOT / "docs/profiles.md").read_text(encoding="utf-8")
@@ -336,7 +342,8 @@ def main():
     chosen = parser.parse_args()
     path = str(Path(chosen.program).resolve())
     files = chosen.files or sorted((ROOT / "tests/rows").glob("*.txt"))
-    rows = [row for file in files for row in rows_of(file)]
+    values = {"standard_commands": b"%d" % standard_commands()}
+    rows = [row for file in files for row in rows_of(file, values)]
     rows += [row for row in map(as_check, rows) if row]
     rows.sort(key=lambda row: row.stages)
     began = time.monotonic()

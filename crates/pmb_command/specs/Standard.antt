@@ -39,9 +39,13 @@ pub record IsNamed (name : List ℕ) (code : ℕ) : Type 0 where
 
 -- ---- status commands
 
--- STATUS_OTHER, STATUS_MFR_SPECIFIC and STATUS_FANS_3_4, whose bits have no names here
+-- begin: written by tools/commands from docs/profiles.md
+
+-- the status commands whose bits have no names here: STATUS_OTHER, STATUS_MFR_SPECIFIC, STATUS_FANS_3_4
 abbrev pub without_bit_names : List ℕ
 without_bit_names = 0x7f ∷ 0x80 ∷ 0x82 ∷ []
+
+-- end
 
 -- there is a name, or a gap, for each bit of data in a form: eight for each byte
 abbrev pub are_bits_of : Option Form → BitNames → Bool

@@ -7,6 +7,8 @@ use Rattle.std.specs.Option.{option_flatten}
 abbrev pub BitNames : Type 0
 BitNames = List (Option (List ℕ))
 
+-- begin: written by tools/commands from docs/profiles.md
+
 -- STATUS_BYTE, which is the low byte of STATUS_WORD too
 abbrev pub byte_bits : BitNames
 byte_bits = Some (codes "BUSY") ∷ Some (codes "OFF") ∷ Some (codes "VOUT_OV_FAULT") ∷ Some (codes "IOUT_OC_FAULT")
@@ -48,8 +50,8 @@ cml_bits = Some (codes "BAD_COMMAND") ∷ Some (codes "BAD_VALUE") ∷ Some (cod
     ∷ Some (codes "OTHER_LOGIC") ∷ []
 
 -- STATUS_FANS_1_2
-abbrev pub fan_bits : BitNames
-fan_bits = Some (codes "FAN_1_FAULT") ∷ Some (codes "FAN_2_FAULT") ∷ Some (codes "FAN_1_WARN")
+abbrev pub fans_1_2_bits : BitNames
+fans_1_2_bits = Some (codes "FAN_1_FAULT") ∷ Some (codes "FAN_2_FAULT") ∷ Some (codes "FAN_1_WARN")
     ∷ Some (codes "FAN_2_WARN") ∷ Some (codes "FAN_1_OVERRIDE") ∷ Some (codes "FAN_2_OVERRIDE")
     ∷ Some (codes "AIRFLOW_FAULT") ∷ Some (codes "AIRFLOW_WARN") ∷ []
 
@@ -63,8 +65,10 @@ status_bits code =
     else if code == 0x7c then input_bits
     else if code == 0x7d then temperature_bits
     else if code == 0x7e then cml_bits
-    else if code == 0x81 then fan_bits
+    else if code == 0x81 then fans_1_2_bits
     else []
+
+-- end
 
 -- the name of a bit, counted from 0 at the lowest
 unfoldable pub bit_text : ℕ → ℕ → Option (List ℕ)

@@ -106,6 +106,7 @@ const PAGED: bool = true;
 const COMMON: bool = false;
 
 // The columns: code, name, forms, what the data stand for, and whether each page has a value.
+// begin: written by tools/commands from docs/profiles.md
 static ROWS: [Row; 156] = [
     Row(0x00, "PAGE", BYTE, Raw, COMMON),
     Row(0x01, "OPERATION", BYTE, Raw, PAGED),
@@ -264,6 +265,7 @@ static ROWS: [Row; 156] = [
     Row(0xc1, "MFR_MAX_TEMP_2", WORD, Linear11, PAGED),
     Row(0xc2, "MFR_MAX_TEMP_3", WORD, Linear11, PAGED),
 ];
+// end
 
 /// The table, in the order of the codes.
 fn rows() -> &'static [Row]

@@ -25,7 +25,7 @@ pub fn forms_are_told_apart()
     ensures { (form : Form) (other : Form) → Decides (same_form form other) (form ≡ other) }
 {}
 
-/// Each standard status command has a name, or a gap, for each of its 8 or 16 bits, but for the three
+/// Each standard status command has a name, or a gap, for each of its 8 or 16 bits, but for those
 /// whose bits have no names here; and no other code has names of bits.
 pub fn status_commands_have_names()
     ensures each { (code : ℕ) (status : HasNamedBits code) → are_bits_of (value_form status.entry.shape) (status_bits code) ≡ true }

@@ -6,6 +6,8 @@
 ghost use Rattle.std.specs.Prelude.{◌≡◌, map, option_map};
 ghost use Rattle.pmb_command.specs.StatusBits.{bit_text, status_bits};
 
+// begin: written by tools/commands from docs/profiles.md
+
 // The high byte, and the low byte, which is STATUS_BYTE.
 static STATUS_WORD: [Option<&str>; 16] = [
     Some("VOUT"),
@@ -92,12 +94,15 @@ static STATUS_FANS_1_2: [Option<&str>; 8] = [
     Some("AIRFLOW_WARN"),
 ];
 
+// end
+
 /// The names of the bits of a status command, from the highest down; none for another command.
 #[tactic(auto, unfolding(crate::specs::StatusBits::status_bits))]
 fn names_of(code: u8) -> &'static [Option<&'static str>]
     ensures { map (option_map (λ s. s.now)) result.now ≡ status_bits code }
 {
     match code {
+        // begin: written by tools/commands from docs/profiles.md
         0x78 => &STATUS_WORD[8..],
         0x79 => &STATUS_WORD,
         0x7a => &STATUS_VOUT,
@@ -106,6 +111,7 @@ fn names_of(code: u8) -> &'static [Option<&'static str>]
         0x7d => &STATUS_TEMPERATURE,
         0x7e => &STATUS_CML,
         0x81 => &STATUS_FANS_1_2,
+        // end
         _ => &[],
     }
 }

@@ -4,10 +4,29 @@ use crate::compare::same;
 use crate::meanings::Meaning::Direct;
 use crate::parts::{PAGE, Parts, READ_VIN, check_entry, code_of, profile_of};
 use crate::shapes::WORD;
+use crate::standard_commands::rows;
+use Place::{After, At, Standard};
 use pmb_table::{DeviceProfile, PecMode, SAMPLE, laws};
 
-/// The number of commands that the standard has.
-const STANDARD: usize = 156;
+/// The place of a command in a device.
+#[derive(Clone, Copy)]
+enum Place {
+    /// Counted from the first command.
+    At(usize),
+    /// That of the standard command with this code, in a device that has all of them.
+    Standard(u8),
+    /// Counted from the end of the standard commands.
+    After(u8),
+}
+
+/// A place as a number, by the table of the standard's commands.
+fn index_of(place: Place) -> usize {
+    match place {
+        At(index) => index,
+        Standard(code) => rows().iter().filter(|row| row.0 < code).count(),
+        After(index) => rows().len() + usize::from(index),
+    }
+}
 
 /// The address of a device.
 fn address_of(device: Option<&DeviceProfile>) -> Option<u8> {
@@ -26,7 +45,7 @@ const TWO_DEVICES: &str = "device = [{ address = 0x08, pec = 'on', pages = 32, v
      vout_direct = { m = -5, b = 7, r = -9 } }, { address = 0x77, pec = 'optional', standard = false }]";
 
 /// The name of a row, a text, the place of a device in it, its address, pec, pages, vout_mode, m, b
-/// and r, and how many commands it has.
+/// and r, and the place after its last command.
 struct Device(
     &'static str,
     &'static str,
@@ -36,7 +55,7 @@ struct Device(
     u8,
     u8,
     Option<(i16, i16, i8)>,
-    usize,
+    Place,
 );
 
 static DEVICES: [Device; 5] = [
@@ -49,7 +68,7 @@ static DEVICES: [Device; 5] = [
         2,
         0x17,
         None,
-        STANDARD + 1,
+        After(1),
     ),
     Device(
         "the sample's second",
@@ -60,7 +79,7 @@ static DEVICES: [Device; 5] = [
         1,
         0x17,
         None,
-        STANDARD,
+        After(0),
     ),
     Device(
         "the sample's last",
@@ -71,7 +90,7 @@ static DEVICES: [Device; 5] = [
         1,
         0x17,
         None,
-        STANDARD,
+        After(0),
     ),
     Device(
         "each key",
@@ -82,7 +101,7 @@ static DEVICES: [Device; 5] = [
         32,
         0xff,
         Some((-5, 7, -9)),
-        STANDARD,
+        After(0),
     ),
     Device(
         "few keys",
@@ -93,13 +112,13 @@ static DEVICES: [Device; 5] = [
         1,
         0x17,
         None,
-        0,
+        At(0),
     ),
 ];
 
 #[test]
 fn devices(rt: HostRuntime) {
-    for Device(name, text, index, address, pec, pages, vout_mode, direct, len) in &DEVICES {
+    for Device(name, text, index, address, pec, pages, vout_mode, direct, end) in &DEVICES {
         let profile = profile_of(&rt, rt.alloc(), text);
         same(
             &rt,
@@ -118,9 +137,10 @@ fn devices(rt: HostRuntime) {
         same(&rt, name, found, (*address, *pec, *pages));
         let found = (device.vout_mode(), device.vout_direct());
         same(&rt, name, found, (*vout_mode, coefficients));
-        let behind = code_of(device.entry_at(*len));
+        let end = index_of(*end);
+        let behind = code_of(device.entry_at(end));
         let found = (device.len(), behind, code_of(device.entry(0xc8)));
-        same(&rt, name, found, (*len, None, None));
+        same(&rt, name, found, (end, None, None));
     }
 }
 
@@ -144,47 +164,56 @@ fn no_device(rt: HostRuntime) {
 
 /// The name of a row, a device of the sample, the place of a command in it, and its parts and first
 /// bytes.
-struct SampleRow(&'static str, u8, usize, Parts, Option<&'static [u8]>);
+struct SampleRow(&'static str, u8, Place, Parts, Option<&'static [u8]>);
 
 static SAMPLE_COMMANDS: [SampleRow; 7] = [
-    SampleRow("PAGE of the first", 0x58, 0, PAGE, None),
-    SampleRow("PAGE of the second", 0x59, 0, PAGE, None),
-    SampleRow("PAGE of the last", 0x5a, 0, PAGE, None),
+    SampleRow("PAGE of the first", 0x58, At(0), PAGE, None),
+    SampleRow("PAGE of the second", 0x59, At(0), PAGE, None),
+    SampleRow("PAGE of the last", 0x5a, At(0), PAGE, None),
     SampleRow(
         "READ_VIN of the first",
         0x58,
-        100,
+        Standard(0x88),
         READ_VIN,
         Some(b"\x00\xd3"),
     ),
-    SampleRow("READ_VIN of the second", 0x59, 100, READ_VIN, None),
-    SampleRow("READ_VIN of the last", 0x5a, 100, READ_VIN, None),
-    SampleRow("RATIO of the first", 0x58, STANDARD, RATIO, None),
+    SampleRow(
+        "READ_VIN of the second",
+        0x59,
+        Standard(0x88),
+        READ_VIN,
+        None,
+    ),
+    SampleRow("READ_VIN of the last", 0x5a, Standard(0x88), READ_VIN, None),
+    SampleRow("RATIO of the first", 0x58, After(0), RATIO, None),
 ];
 
 #[test]
 fn sample_commands(rt: HostRuntime) {
     let profile = profile_of(&rt, rt.alloc(), SAMPLE);
-    for SampleRow(name, address, index, parts, initial) in &SAMPLE_COMMANDS {
+    for SampleRow(name, address, place, parts, initial) in &SAMPLE_COMMANDS {
         let device = profile.device(*address).expect(&rt, name);
-        check_entry(&rt, name, device.entry_at(*index), parts);
+        check_entry(&rt, name, device.entry_at(index_of(*place)), parts);
         check_entry(&rt, name, device.entry(parts.0), parts);
         same(&rt, name, device.initial(parts.0), *initial);
-        let last = code_of(device.entry_at(STANDARD - 1));
-        let found = (last, device.initial(0x21), device.initial(0xc8));
-        same(&rt, name, found, (Some(0xc2), None, None));
+        let found = (device.initial(0x21), device.initial(0xc8));
+        same(&rt, name, found, (None, None));
     }
 }
 
-// READ_VIN keeps its place among the standard commands, and RATIO goes last.
+// The standard commands come first, in the order of their codes. READ_VIN, which the sample's first
+// device changes, keeps its place.
 #[test]
 fn order_of_the_sample(rt: HostRuntime) {
     let profile = profile_of(&rt, rt.alloc(), SAMPLE);
     let first = profile.device(0x58).expect(&rt, "a device");
     let last = profile.device(0x5a).expect(&rt, "a device");
-    for index in 0..STANDARD {
-        let code = code_of(first.entry_at(index));
-        same(&rt, ("at", index), code, code_of(last.entry_at(index)));
+    for (index, row) in rows().iter().enumerate() {
+        let found = (
+            code_of(first.entry_at(index)),
+            code_of(last.entry_at(index)),
+        );
+        same(&rt, ("at", index), found, (Some(row.0), Some(row.0)));
     }
     same(&rt, "RATIO", code_of(last.entry(0xd0)), None);
 }
@@ -197,39 +226,40 @@ const ORDER: &str = "device = [{ address = 0x10, pec = 'off', command = [ \
 
 /// The name of a row, a device, the place of a command in it, and the command's code if there is
 /// one.
-static PLACES: [(&str, u8, usize, Option<u8>); 9] = [
-    ("READ_VIN keeps its place", 0x10, 100, Some(0x88)),
-    ("the last standard command", 0x10, STANDARD - 1, Some(0xc2)),
-    ("the first new one", 0x10, STANDARD, Some(0xd1)),
-    ("the second new one", 0x10, STANDARD + 1, Some(0xd0)),
-    ("behind the last", 0x10, STANDARD + 2, None),
-    ("without the standard, the first", 0x11, 0, Some(0xd1)),
-    ("without the standard, the second", 0x11, 1, Some(0x88)),
-    ("without the standard, the last", 0x11, 2, Some(0xd0)),
-    ("without the standard, behind the last", 0x11, 3, None),
+static PLACES: [(&str, u8, Place, Option<u8>); 9] = [
+    ("READ_VIN keeps its place", 0x10, Standard(0x88), Some(0x88)),
+    ("and so do those above it", 0x10, Standard(0xc2), Some(0xc2)),
+    ("the first new one", 0x10, After(0), Some(0xd1)),
+    ("the second new one", 0x10, After(1), Some(0xd0)),
+    ("behind the last", 0x10, After(2), None),
+    ("without the standard, the first", 0x11, At(0), Some(0xd1)),
+    ("without the standard, the second", 0x11, At(1), Some(0x88)),
+    ("without the standard, the last", 0x11, At(2), Some(0xd0)),
+    ("without the standard, behind the last", 0x11, At(3), None),
 ];
 
 #[test]
 fn order_of_commands(rt: HostRuntime) {
     let profile = profile_of(&rt, rt.alloc(), ORDER);
-    for (name, address, index, code) in &PLACES {
+    for (name, address, place, code) in &PLACES {
         let device = profile.device(*address).expect(&rt, name);
-        same(&rt, name, code_of(device.entry_at(*index)), *code);
+        let found = code_of(device.entry_at(index_of(*place)));
+        same(&rt, name, found, *code);
     }
 }
 
-/// The name of a row, a device, how many commands it has, and what READ_VIN begins with.
-static ORDERED: [(&str, u8, usize, &[u8]); 2] = [
-    ("with the standard", 0x10, STANDARD + 2, b"\x01\x02"),
-    ("without the standard", 0x11, 3, b"\x03\x04"),
+/// The name of a row, a device, the place after its last command, and what READ_VIN begins with.
+static ORDERED: [(&str, u8, Place, &[u8]); 2] = [
+    ("with the standard", 0x10, After(2), b"\x01\x02"),
+    ("without the standard", 0x11, At(3), b"\x03\x04"),
 ];
 
 #[test]
 fn ordered_devices(rt: HostRuntime) {
     let profile = profile_of(&rt, rt.alloc(), ORDER);
-    for (name, address, len, initial) in &ORDERED {
+    for (name, address, end, initial) in &ORDERED {
         let device = profile.device(*address).expect(&rt, name);
-        same(&rt, name, device.len(), *len);
+        same(&rt, name, device.len(), index_of(*end));
         same(&rt, name, device.initial(0x88), Some(*initial));
     }
 }

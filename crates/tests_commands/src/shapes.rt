@@ -15,6 +15,12 @@ pub(crate) const SEND_BYTE: Shape = Shape {
     call: None,
 };
 
+pub(crate) const WRITE_BYTE: Shape = Shape {
+    write: ONE,
+    read: None,
+    call: None,
+};
+
 pub(crate) const WRITE_WORD: Shape = Shape {
     write: TWO,
     read: None,
