@@ -1,6 +1,6 @@
 //! Which way numbers are converted.
 //!
-//! Its rows: `tests/rows/words.txt`, `tests/rows/numbers.txt`.
+//! Its rows: `tests/rows/arguments.txt`, `tests/rows/numbers.txt`.
 
 /// Which way the numbers of lines are converted.
 #[derive(Clone, Copy, Debug, PartialEq, Eq)]

@@ -1,6 +1,6 @@
 //! The exit statuses, and what is written of them on standard error.
 //!
-//! Its rows: `tests/rows/words.txt`.
+//! Its rows: `tests/rows/arguments.txt`.
 
 ghost use Rattle.std.specs.Prelude.{◌≡◌};
 ghost use Rattle.pmb_args.specs.ExitStatus.{EndedWell, Failed, IsTold, code_of, run_status, status_of};

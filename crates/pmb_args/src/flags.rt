@@ -1,6 +1,6 @@
 //! The flags of the subcommands.
 //!
-//! Its rows: `tests/rows/words.txt`.
+//! Its rows: `tests/rows/arguments.txt`.
 
 ghost use Rattle.std.specs.Prelude.{◌≡◌};
 ghost use Rattle.clap.specs.Words.{found_of, rows_of};

@@ -1,6 +1,6 @@
 //! Why the words of `json` ask for nothing.
 //!
-//! Its rows: `tests/rows/words.txt`.
+//! Its rows: `tests/rows/arguments.txt`.
 
 ghost use Rattle.std.specs.Prelude.{◌≡◌};
 ghost use Rattle.pmb_args.specs.ExitStatus.{IsTold};

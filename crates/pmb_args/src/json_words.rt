@@ -1,6 +1,6 @@
 //! The flags of `json`, and what they choose.
 //!
-//! Its rows: `tests/rows/words.txt`, `tests/rows/objects.txt`.
+//! Its rows: `tests/rows/arguments.txt`, `tests/rows/json_objects.txt`.
 
 ghost use Rattle.std.specs.Prelude.{◌≡◌, ◌<◌, ℕ, List, MatchOption, MatchResult, map, unwrap_or};
 ghost use Rattle.clap.specs.Words.{Text, found_of, rows_of};

@@ -1,6 +1,6 @@
 //! What the words of the command ask for.
 //!
-//! Its rows: `tests/rows/words.txt`.
+//! Its rows: `tests/rows/arguments.txt`.
 
 ghost use Rattle.std.specs.Prelude.{◌≡◌, ◌⊎◌, IfErr, IfOk, MatchOption, MatchResult, map};
 ghost use Rattle.clap.specs.Words.{found_of, rows_of, subcommand_rows_of};

@@ -1,6 +1,6 @@
 //! The words of the command, as `clap` reads them: no other module knows it.
 //!
-//! Its rows: `tests/rows/words.txt`.
+//! Its rows: `tests/rows/arguments.txt`.
 
 ghost use Rattle.std.specs.Prelude.{◌≡◌, ◌≢◌, ◌⊎◌, [], codes, false, map, IfOk};
 ghost use Rattle.std.specs.Io.KnownBytes.{Appends};

@@ -1,6 +1,6 @@
 //! What C chooses of JSON.
 //!
-//! Its rows: `tests/rows/objects.txt`.
+//! Its rows: `tests/rows/json_objects.txt`.
 
 ghost use Rattle.std.specs.List.{list_all};
 ghost use Rattle.std.specs.Prelude.{◌≡◌, option_map};

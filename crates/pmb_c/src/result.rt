@@ -1,6 +1,6 @@
 //! What is told of a whole input.
 //!
-//! Its rows: `tests/rows/captures.txt`, `lines.txt`, `requests.txt`, `objects.txt`.
+//! Its rows: `tests/rows/captures.txt`, `lines.txt`, `requests.txt`, `json_objects.txt`.
 
 ghost use Rattle.std.specs.Prelude.{◌≡◌, ℤ, negsuc, pos};
 ghost use Rattle.pmb_c.specs.Result.{fault_number, place_of, result_of, result_of_fault, result_of_put, result_of_status};

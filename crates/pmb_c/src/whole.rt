@@ -6,7 +6,7 @@
 //! do stand in the room. What stands in the room after the text stays, and all does where the
 //! status is neither that all went well nor that there was no room.
 //!
-//! Its rows: `tests/rows/captures.txt`, `lines.txt`, `requests.txt`, `objects.txt`.
+//! Its rows: `tests/rows/captures.txt`, `lines.txt`, `requests.txt`, `json_objects.txt`.
 
 ghost use Rattle.std.specs.Prelude.{◌≡◌};
 ghost use Rattle.pmb_c.specs.Choice.{chosen};

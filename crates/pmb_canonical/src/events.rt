@@ -1,6 +1,6 @@
 //! The events of a canonical text, one by one.
 //!
-//! Its rows: `tests/rows/objects.txt`, where a group comes at once.
+//! Its rows: `tests/rows/json_objects.txt`, where a group comes at once.
 
 ghost use Rattle.std.specs.Prelude.{◌≡◌, ◌≤◌, ◌++◌, List, ℕ, IfSome, None, Some, length};
 ghost use Rattle.pmb_bus.specs.declared.event.Event.{Event as BusEvent};

@@ -1,6 +1,6 @@
 //! `pmb profile`: the bus that a profile makes.
 //!
-//! Its rows: `tests/rows/buses.txt`.
+//! Its rows: `tests/rows/profile_text.txt`.
 
 ghost use Rattle.std.specs.Prelude.{◌≡◌, ℕ, List};
 ghost use Rattle.pmb_cli.specs.Works.{describing};

@@ -1,6 +1,6 @@
 //! `pmb json`: what a capture says, in JSON, as the arguments choose it.
 //!
-//! Its rows: `tests_tasks`, `src/captures.rt`; `tests/rows/objects.txt`.
+//! Its rows: `tests_tasks`, `src/captures.rt`; `tests/rows/json_objects.txt`.
 
 ghost use Rattle.std.specs.Prelude.{◌≡◌};
 ghost use Rattle.pmb_cli.specs.Json.{telling};

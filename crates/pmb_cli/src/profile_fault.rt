@@ -1,6 +1,6 @@
 //! What is written of a fault of a profile on standard error.
 //!
-//! Its rows: `tests/rows/hints.txt`, `tests/rows/fronts.txt`.
+//! Its rows: `tests/rows/hints.txt`, `tests/rows/preambles.txt`.
 
 ghost use Rattle.pmb_cli.specs.ProfileFault.{IsReported};
 

@@ -1,6 +1,6 @@
 //! The whole program over a reader and two writers.
 //!
-//! Its rows: `tests_tasks`, `src/program.rt`; `tests/rows/words.txt`, `tests/rows/failures.txt`.
+//! Its rows: `tests_tasks`, `src/program.rt`; `tests/rows/arguments.txt`, `tests/rows/failures.txt`.
 
 ghost use Rattle.std.specs.Prelude.{◌≡◌, ◌≢◌, ◌≤◌, map};
 ghost use Rattle.pmb_cli.specs.Program.{RanProgram};

@@ -1,6 +1,6 @@
 //! The task that the words ask for.
 //!
-//! Its rows: `tests/rows/words.txt`, `tests/rows/numbers.txt`.
+//! Its rows: `tests/rows/arguments.txt`, `tests/rows/numbers.txt`.
 
 ghost use Rattle.std.specs.Prelude.{◌≡◌};
 ghost use Rattle.pmb_cli.specs.Tasks.{DidTask, conversion_of};

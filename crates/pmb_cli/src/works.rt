@@ -1,7 +1,7 @@
 //! What is done under a profile: `pmb show`, `pmb check`, `pmb json`, `pmb build`, `pmb run` and
 //! `pmb profile`, under the sample profile or under the one that comes first in the input.
 //!
-//! Its rows: `tests/rows/fronts.txt`, `captures.txt`, `lines.txt`, `requests.txt`.
+//! Its rows: `tests/rows/preambles.txt`, `captures.txt`, `lines.txt`, `requests.txt`.
 
 ghost use Rattle.std.specs.Prelude.{◌≡◌};
 ghost use Rattle.pmb_cli.specs.ProfileFault.{IsReported};

@@ -1,7 +1,7 @@
 //! A whole input worked on, and the text put into a room.
 //!
 //! Its rows: `tests_tasks`, `src/whole.rt`; `tests/rows/captures.txt`, `lines.txt`,
-//! `requests.txt`, `objects.txt`.
+//! `requests.txt`, `json_objects.txt`.
 
 ghost use Rattle.std.specs.Prelude.{◌≡◌};
 ghost use Rattle.pmb_json.specs.Json.{json_job};

@@ -4,7 +4,7 @@
 //! until 32 have come or it has ended: then its object goes out. What is left of its line is taken
 //! and dropped, and a new scan begins after it.
 //!
-//! Its rows: `tests_tasks`, `src/captures.rt`; `tests/rows/objects.txt`.
+//! Its rows: `tests_tasks`, `src/captures.rt`; `tests/rows/json_objects.txt`.
 
 ghost use Rattle.std.specs.Prelude.{◌≡◌, ◌⊎◌, ◌≢◌, ◌++◌, ◌≤◌, ◌<◌, ℕ, List, [], OnOk, IfOk, length};
 ghost use Rattle.pmb_bus.specs.Text.{front_word, open_word};

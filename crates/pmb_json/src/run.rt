@@ -1,6 +1,6 @@
 //! One run over a capture.
 //!
-//! Its rows: `tests_tasks`, `src/captures.rt`; `tests/rows/objects.txt` and `sessions.txt`.
+//! Its rows: `tests_tasks`, `src/captures.rt`; `tests/rows/json_objects.txt` and `sessions.txt`.
 
 ghost use Rattle.pmb_io.specs.Runs.{AsTool, Ran};
 ghost use Rattle.pmb_json_stream.specs.Choice.{choice_data};

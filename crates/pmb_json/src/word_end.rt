@@ -1,6 +1,6 @@
 //! How far a word and a line go.
 //!
-//! Its rows: `tests/rows/objects.txt`, words that are no token.
+//! Its rows: `tests/rows/json_objects.txt`, words that are no token.
 
 ghost use Rattle.std.specs.Prelude.{◌≡◌, ◌≢◌, ◌⊎◌, ◌+◌, ◌<◌, ◌≤◌, [], MatchBool, MatchOption, IfSome, drop, length, take};
 ghost use Rattle.pmb_bus.specs.Text.{front_word};

@@ -1,6 +1,6 @@
 //! The object of a word that is no token.
 //!
-//! Its rows: `tests_json`, `src/object_lines/words.rt`; `tests/rows/objects.txt`.
+//! Its rows: `tests_json`, `src/object_lines/words.rt`; `tests/rows/json_objects.txt`.
 
 ghost use Rattle.std.specs.Prelude.{◌≡◌, ◌+◌, ◌≤◌, ◌++◌, length, take};
 ghost use Rattle.pmb_json_text.specs.Member.{object_line};

@@ -1,6 +1,6 @@
 //! How often each device came, and the totals.
 //!
-//! Its rows: `tests_json`, `src/object_lines/counts.rt`; `tests/rows/objects.txt`.
+//! Its rows: `tests_json`, `src/object_lines/counts.rt`; `tests/rows/json_objects.txt`.
 
 ghost use Rattle.std.specs.Prelude.{◌≡◌, ◌<◌, ℕ, Some, map, option_map};
 ghost use Rattle.pmb_transaction.specs.Transaction.{part_data, transaction_data};

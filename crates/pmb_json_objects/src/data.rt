@@ -1,6 +1,6 @@
 //! What is said of a command's data.
 //!
-//! Its rows: `tests_json`, `src/object_lines/packets.rt`; `tests/rows/objects.txt`.
+//! Its rows: `tests_json`, `src/object_lines/packets.rt`; `tests/rows/json_objects.txt`.
 
 ghost use Rattle.std.specs.Prelude.{◌≡◌, ◌+◌, ◌≤◌, ◌++◌, length};
 ghost use Rattle.pmb_json_text.specs.declared.item_order.ItemOrder.TheVariants.{Later};

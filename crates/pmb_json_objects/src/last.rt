@@ -1,6 +1,6 @@
 //! The last objects: how often each device came, and the totals.
 //!
-//! Its rows: `tests_json`, `src/object_lines/counts.rt`; `tests/rows/objects.txt`.
+//! Its rows: `tests_json`, `src/object_lines/counts.rt`; `tests/rows/json_objects.txt`.
 
 ghost use Rattle.std.specs.Prelude.{◌≡◌, ◌+◌, ◌≤◌, ◌++◌, codes, length};
 ghost use Rattle.pmb_json_text.specs.declared.item_order.ItemOrder.TheVariants.{First};

@@ -1,6 +1,6 @@
 //! The members that objects share.
 //!
-//! Its rows: `tests_json`, `src/object_lines/packets.rt`; `tests/rows/objects.txt`.
+//! Its rows: `tests_json`, `src/object_lines/packets.rt`; `tests/rows/json_objects.txt`.
 
 ghost use Rattle.std.specs.Prelude.{◌≡◌, ◌+◌, ◌*◌, ◌≤◌, ◌++◌, ◌∷◌, [], IsTrue, Some, codes, length};
 ghost use Rattle.pmb_command.specs.Entry.{entry_parts};

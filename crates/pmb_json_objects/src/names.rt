@@ -1,6 +1,6 @@
 //! The kinds that were expected, and the refused event, by their names.
 //!
-//! Its rows: `tests_json`, `src/object_lines/refusals.rt`; `tests/rows/objects.txt`.
+//! Its rows: `tests_json`, `src/object_lines/refusals.rt`; `tests/rows/json_objects.txt`.
 
 ghost use Rattle.std.specs.Prelude.{◌≡◌, ◌==◌, ◌+◌, ◌*◌, ◌≤◌, ◌++◌, ◌∷◌, [], List, ℕ, bit_and, codes, length, map};
 ghost use Rattle.pmb_bus.specs.Kinds.{bits};

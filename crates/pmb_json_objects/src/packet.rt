@@ -1,6 +1,6 @@
 //! The objects of packets.
 //!
-//! Its rows: `tests_json`, `src/object_lines/packets.rt`; `tests/rows/objects.txt`.
+//! Its rows: `tests_json`, `src/object_lines/packets.rt`; `tests/rows/json_objects.txt`.
 
 ghost use Rattle.std.specs.Prelude.{◌≡◌, ◌+◌, ◌≤◌, ◌++◌, length};
 ghost use Rattle.pmb_json_text.specs.Member.{object_line};

@@ -1,6 +1,6 @@
 //! The object of a refusal.
 //!
-//! Its rows: `tests_json`, `src/object_lines/refusals.rt`; `tests/rows/objects.txt`.
+//! Its rows: `tests_json`, `src/object_lines/refusals.rt`; `tests/rows/json_objects.txt`.
 
 ghost use Rattle.std.specs.Prelude.{◌≡◌, ◌+◌, ◌*◌, ◌≤◌, ◌++◌, List, length};
 ghost use Rattle.pmb_bus.specs.declared.event.Event.{Event as BusEvent};

@@ -1,6 +1,6 @@
 //! The object of a leg that was refused.
 //!
-//! Its rows: `tests_json`, `src/object_lines/packets.rt`; `tests/rows/objects.txt`.
+//! Its rows: `tests_json`, `src/object_lines/packets.rt`; `tests/rows/json_objects.txt`.
 
 ghost use Rattle.std.specs.Prelude.{◌≡◌, ◌+◌, ◌<◌, ◌≤◌, ◌++◌, ◌∷◌, [], if◌then◌else◌, MatchOption, Some, codes, length};
 ghost use Rattle.pmb_bus.specs.Address.{write_address as write_address_of};

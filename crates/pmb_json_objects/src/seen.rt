@@ -1,6 +1,6 @@
 //! What is known where a packet begins.
 //!
-//! Its rows: `tests_json`, `src/object_lines/seen.rt`; `tests/rows/objects.txt`.
+//! Its rows: `tests_json`, `src/object_lines/seen.rt`; `tests/rows/json_objects.txt`.
 
 ghost use Rattle.std.specs.Prelude.{◌≡◌, option_map};
 ghost use Rattle.pmb_command.specs.Entry.{entry_parts};

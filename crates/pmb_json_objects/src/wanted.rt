@@ -1,6 +1,6 @@
 //! Which objects are wanted.
 //!
-//! Its rows: `tests_json`, `src/object_lines/words.rt`; `tests/rows/objects.txt`.
+//! Its rows: `tests_json`, `src/object_lines/words.rt`; `tests/rows/json_objects.txt`.
 
 ghost use Rattle.std.specs.Prelude.{◌≡◌};
 ghost use Rattle.pmb_json_objects.specs.Object.{is_wanted as is_wanted_of};

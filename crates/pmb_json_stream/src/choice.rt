@@ -1,6 +1,6 @@
 //! What a user may choose.
 //!
-//! Its rows: `tests/rows/objects.txt`, flags.
+//! Its rows: `tests/rows/json_objects.txt`, flags.
 
 use pmb_decimal::Digits;
 use pmb_unknown_start::Start;

@@ -1,7 +1,7 @@
 //! Groups that come at once. Their objects need the place of each START, so they are taken event by
 //! event, but for what only a refusal would need.
 //!
-//! Its rows: `tests/rows/objects.txt`.
+//! Its rows: `tests/rows/json_objects.txt`.
 
 ghost use Rattle.std.specs.Prelude.{◌≡◌, ◌++◌, ◌∷◌, [], ℕ, List, OnOk, false, length};
 ghost use Rattle.pmb_bus.specs.declared.event.Event.{Event as BusEvent};

@@ -1,6 +1,6 @@
 //! The objects of refusals, of words that are no token, and of the end.
 //!
-//! Its rows: `tests/rows/objects.txt`.
+//! Its rows: `tests/rows/json_objects.txt`.
 
 ghost use Rattle.std.specs.Prelude.{◌≡◌, ◌+◌, ◌<◌, ◌∷◌, [], ◌++◌, List, OnOk};
 ghost use Rattle.pmb_bus.specs.declared.event.Event.{Event as BusEvent};

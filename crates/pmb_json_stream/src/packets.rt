@@ -1,6 +1,6 @@
 //! The objects of a packet.
 //!
-//! Its rows: `tests/rows/objects.txt`.
+//! Its rows: `tests/rows/json_objects.txt`.
 
 ghost use Rattle.std.specs.Prelude.{◌≡◌, ◌+◌, ◌<◌, ◌≤◌, ◌∷◌, [], MatchOption, OnOk, drop, length, map, take};
 ghost use Rattle.pmb_io.specs.Calls.{WriterTells};

@@ -3,7 +3,7 @@
 //! A `Stream` outlasts the scans of a capture: where a word is no token and reading begins anew, it
 //! keeps its places, its counts, and what it knows of PAGE and VOUT_MODE.
 //!
-//! Its rows: `tests/rows/objects.txt`.
+//! Its rows: `tests/rows/json_objects.txt`.
 
 ghost use Rattle.std.specs.Prelude.{◌≡◌, ◌+◌, ◌≤◌, length, take};
 ghost use Rattle.pmb_bus.specs.Text.{EndsBetween, open_word};

@@ -1,6 +1,6 @@
 //! What a scan tells.
 //!
-//! Its rows: `tests/rows/objects.txt`.
+//! Its rows: `tests/rows/json_objects.txt`.
 
 ghost use Rattle.std.specs.Prelude.{◌≡◌, ◌+◌, ◌∷◌, [], ◌++◌, ℕ, List, Some, length, take};
 ghost use Rattle.std.specs.List.{Contains};

@@ -1,6 +1,6 @@
 //! What comes before a line `%%`, and what was read after it.
 //!
-//! Its rows: `tests/rows/fronts.txt`.
+//! Its rows: `tests/rows/preambles.txt`.
 
 ghost use Rattle.std.specs.Prelude.{◌≡◌, ◌≤◌, [], true, false, length, take, drop};
 

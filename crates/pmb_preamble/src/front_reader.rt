@@ -3,7 +3,7 @@
 //! Each byte is looked at once, when it comes: a line `%%` is seen at its LF, by the bytes before it.
 //! Past the limit the last bytes alone tell whether a line `%%` that starts in time may still come.
 //!
-//! Its rows: `tests_tasks`, `src/captures.rt`; `tests/rows/fronts.txt`, `tests/rows/failures.txt`.
+//! Its rows: `tests_tasks`, `src/captures.rt`; `tests/rows/preambles.txt`, `tests/rows/failures.txt`.
 
 ghost use Rattle.std.specs.Prelude.{◌≡◌, ◌≢◌, ℕ, ◌≤◌, ◌<◌, ◌++◌, ◌↔◌, [], List, true, false, IfOk, IfErr, IfSome, IfNone, IsTrue, Err, OnErr, codes, length, take, drop};
 ghost use Rattle.pmb_preamble.specs.Front.{EndsInLine, EndsInOpening, FirstMark, HasMark, MadeFrontReads, MayFit, NoMark, ReadFront, ReadSome, ReadTooMuch, ReadUndecided, StartsLine, most_profile};

@@ -1,6 +1,6 @@
 //! The text of a bus.
 //!
-//! Its rows: `tests_tasks`, `src/profiles.rt`; `tests/rows/buses.txt`.
+//! Its rows: `tests_tasks`, `src/profiles.rt`; `tests/rows/profile_text.txt`.
 
 ghost use Rattle.std.specs.Prelude.{◌≡◌, ◌≤◌, ◌<◌, [], OnOk, Some, length, slice_get};
 ghost use Rattle.std.specs.Io.KnownBytes.{Appends};

@@ -1,6 +1,6 @@
 //! The row of a command.
 //!
-//! Its rows: `tests/rows/buses.txt`.
+//! Its rows: `tests/rows/profile_text.txt`.
 
 ghost use Rattle.std.specs.Prelude.{◌≡◌, ◌+◌, ◌≤◌, ◌++◌, ◌∷◌, [], Some, length, option_map, slice_get};
 ghost use Rattle.pmb_command.specs.Bus.{IsEntry};

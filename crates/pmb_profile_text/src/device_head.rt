@@ -1,6 +1,6 @@
 //! The keys of a device.
 //!
-//! Its rows: `tests/rows/buses.txt`.
+//! Its rows: `tests/rows/profile_text.txt`.
 
 ghost use Rattle.std.specs.Prelude.{◌≡◌, ◌+◌, ◌≤◌, ◌<◌, ◌++◌, codes, decimal, length};
 ghost use Rattle.pmb_profile_text.specs.Table.{address_text, device_head, field};

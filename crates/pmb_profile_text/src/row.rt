@@ -1,6 +1,6 @@
 //! A row of a table: texts in columns.
 //!
-//! Its rows: `tests/rows/buses.txt`.
+//! Its rows: `tests/rows/profile_text.txt`.
 
 ghost use Rattle.std.specs.Prelude.{◌≡◌, ◌+◌, ◌-◌, ◌≤◌, ◌++◌, length, replicate};
 ghost use Rattle.pmb_profile_text.specs.Table.{cell, space};

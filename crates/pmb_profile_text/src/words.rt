@@ -1,6 +1,6 @@
 //! The words of a table: modes, forms, kinds, coefficients, the format of output voltages.
 //!
-//! Its rows: `tests/rows/buses.txt`.
+//! Its rows: `tests/rows/profile_text.txt`.
 
 ghost use Rattle.std.specs.Prelude.{◌≡◌, ◌+◌, ◌≤◌, ◌++◌, Ok, Err, length};
 ghost use Rattle.std.specs.Fmt.{signed_decimal};

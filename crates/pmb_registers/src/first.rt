@@ -1,6 +1,6 @@
 //! The registers that a device begins with.
 //!
-//! Its rows: `tests_devices`, `src/registers/written.rt`; `tests/rows/buses.txt`.
+//! Its rows: `tests_devices`, `src/registers/written.rt`; `tests/rows/profile_text.txt`.
 
 ghost use Rattle.std.specs.Prelude.{◌≡◌, ◌+◌, ◌<◌, ◌≤◌, [], ◌++◌, OnOk, None, Some, length, map, take};
 ghost use Rattle.std.specs.List.{flat_map, range_with_len};

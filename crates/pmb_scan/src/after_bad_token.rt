@@ -1,6 +1,6 @@
 //! What is done after a bad token.
 //!
-//! Its rows: `tests/rows/objects.txt`.
+//! Its rows: `tests/rows/json_objects.txt`.
 
 /// What is done after a word that is no token.
 #[derive(Clone, Copy, Debug, PartialEq, Eq)]

@@ -1,6 +1,6 @@
 //! A profile to begin with.
 //!
-//! Its rows: `tests_commands`, `src/sample.rt`; `tests/rows/buses.txt`.
+//! Its rows: `tests_commands`, `src/sample.rt`; `tests/rows/profile_text.txt`.
 
 /// A profile of three devices: at 58h one that takes packets with a packet error code and without,
 /// with two pages, a first value of READ_VIN and a command of its own; at 59h one without packet

@@ -1,6 +1,6 @@
 //! What is known at first.
 //!
-//! Its rows: `tests_lines`, `src/late/starts.rt`; `tests/rows/objects.txt`.
+//! Its rows: `tests_lines`, `src/late/starts.rt`; `tests/rows/json_objects.txt`.
 
 /// What is known of PAGE and VOUT_MODE of each device before the first transaction.
 #[derive(Debug, Clone, Copy, PartialEq, Eq, Drop)]
