@@ -3,8 +3,8 @@
 use crate::compare::same;
 use arrayvec::ArrayVec;
 use pmb_json_text::{
-    Place, begin, begin_array, bool_member, end, end_array, hex_member, null_member, number_member,
-    text_item, text_member,
+    ItemOrder, begin, begin_array, bool_member, end, end_array, hex_member, null_member,
+    number_member, text_item, text_member,
 };
 
 #[test]
@@ -19,12 +19,12 @@ fn no_member(rt: HostRuntime) {
 fn one_member_of_each_kind(rt: HostRuntime) {
     let mut out = ArrayVec::<u8, 256>::new();
     begin(&mut out);
-    number_member(&mut out, Place::First, "at", 12);
-    text_member(&mut out, Place::Later, "kind", b"write");
-    hex_member(&mut out, Place::Later, "bytes", &[0x00, 0x18, 0xaf]);
-    bool_member(&mut out, Place::Later, "pec", true);
-    bool_member(&mut out, Place::Later, "paged", false);
-    null_member(&mut out, Place::Later, "device");
+    number_member(&mut out, ItemOrder::First, "at", 12);
+    text_member(&mut out, ItemOrder::Later, "kind", b"write");
+    hex_member(&mut out, ItemOrder::Later, "bytes", &[0x00, 0x18, 0xaf]);
+    bool_member(&mut out, ItemOrder::Later, "pec", true);
+    bool_member(&mut out, ItemOrder::Later, "paged", false);
+    null_member(&mut out, ItemOrder::Later, "device");
     end(&mut out);
     same(
         &rt,
@@ -38,8 +38,8 @@ fn one_member_of_each_kind(rt: HostRuntime) {
 fn strings_without_a_byte(rt: HostRuntime) {
     let mut out = ArrayVec::<u8, 128>::new();
     begin(&mut out);
-    text_member(&mut out, Place::First, "text", b"");
-    hex_member(&mut out, Place::Later, "bytes", &[]);
+    text_member(&mut out, ItemOrder::First, "text", b"");
+    hex_member(&mut out, ItemOrder::Later, "bytes", &[]);
     end(&mut out);
     same(
         &rt,
@@ -53,15 +53,15 @@ fn strings_without_a_byte(rt: HostRuntime) {
 fn arrays_of_none_one_and_three(rt: HostRuntime) {
     let mut out = ArrayVec::<u8, 256>::new();
     begin(&mut out);
-    begin_array(&mut out, Place::First, "none");
+    begin_array(&mut out, ItemOrder::First, "none");
     end_array(&mut out);
-    begin_array(&mut out, Place::Later, "one");
-    text_item(&mut out, Place::First, b"VOUT");
+    begin_array(&mut out, ItemOrder::Later, "one");
+    text_item(&mut out, ItemOrder::First, b"VOUT");
     end_array(&mut out);
-    begin_array(&mut out, Place::Later, "three");
-    text_item(&mut out, Place::First, b"VOUT");
-    text_item(&mut out, Place::Later, b"");
-    text_item(&mut out, Place::Later, b"a \"b\"");
+    begin_array(&mut out, ItemOrder::Later, "three");
+    text_item(&mut out, ItemOrder::First, b"VOUT");
+    text_item(&mut out, ItemOrder::Later, b"");
+    text_item(&mut out, ItemOrder::Later, b"a \"b\"");
     end_array(&mut out);
     end(&mut out);
     same(
@@ -76,10 +76,10 @@ fn arrays_of_none_one_and_three(rt: HostRuntime) {
 fn lines_follow_what_is_there(rt: HostRuntime) {
     let mut out = ArrayVec::<u8, 128>::new();
     begin(&mut out);
-    number_member(&mut out, Place::First, "a", 1);
+    number_member(&mut out, ItemOrder::First, "a", 1);
     end(&mut out);
     begin(&mut out);
-    number_member(&mut out, Place::First, "b", 2);
+    number_member(&mut out, ItemOrder::First, "b", 2);
     end(&mut out);
     same(
         &rt,
