@@ -8,6 +8,12 @@ use Rattle.pmb_line.proofs.Standing.{bytes_on, misses_of, next_of, no_byte, too_
 use Rattle.pmb_line.proofs.Replies.{call_begun}
 use Rattle.pmb_line.proofs.reply.read_call.Goals as goal
 
+pub returns-in_err-addr : goal.returns-in_err-addr
+returns-in_err-addr c all stands =
+    let p = err_from_is_err_and c.from_residual.result c.from_residual.ensures.1 in
+    rw (p.1, p.2) (misses_of all (end c.args.words.now) _ call_next IsByteToken _ _ refl stands (λ e. cc e) refl
+    (λ word rest same not. no_byte _ word.token not) c.in_err-addr.ensures.takes)
+
 pub returns-in_err-code : goal.returns-in_err-code
 returns-in_err-code c all stands =
     let a = c.in_ok-addr.field-0.byte in

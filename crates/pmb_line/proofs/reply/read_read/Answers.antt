@@ -6,6 +6,12 @@ use Rattle.pmb_line.specs.machine.Reading.{LineStandsAt, read_next, read_code, r
 use Rattle.pmb_line.proofs.Standing.{misses_of, next_of, no_byte}
 use Rattle.pmb_line.proofs.reply.read_read.Goals as goal
 
+pub returns-in_err-addr : goal.returns-in_err-addr
+returns-in_err-addr c all stands =
+    let p = err_from_is_err_and c.from_residual.result c.from_residual.ensures.1 in
+    rw (p.1, p.2) (misses_of all (end c.args.words.now) _ read_next IsByteToken _ _ refl stands (λ e. cc e) refl
+    (λ word rest same not. no_byte _ word.token not) c.in_err-addr.ensures.takes)
+
 pub returns-in_err-code : goal.returns-in_err-code
 returns-in_err-code c all stands =
     let a = c.in_ok-addr.field-0.byte in
