@@ -96,6 +96,8 @@ impl<'a> LineTask for Builder<'a> {
 
     ghost Stands = { BuilderStands };
 
+    ghost Ends = { BuilderStands };
+
     ghost counted = { λ builder. builder.tally };
 
     ghost job = { λ start. building start.profile.now };
@@ -116,6 +118,10 @@ impl<'a> LineTask for Builder<'a> {
             InputLine::Last(text) => self.take_text(text, waiting, writer),
             InputLine::TooLong => self.take_fault(LineFault::TooLong(MOST_BYTES), waiting, writer),
         }
+    }
+
+    fn end<W: Sink>(&mut self, _waiting: &mut Waiting, _writer: &mut W) -> Result<(), RunFault> {
+        Ok(())
     }
 
     fn tally(&self) -> Tally {

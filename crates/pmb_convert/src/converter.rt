@@ -46,6 +46,8 @@ impl LineTask for Converter {
 
     ghost Stands = { ConverterStands };
 
+    ghost Ends = { ConverterStands };
+
     ghost counted = { λ converter. converter.tally };
 
     ghost job = { λ start. converting start.conversion };
@@ -63,6 +65,10 @@ impl LineTask for Converter {
         let answer = self.conversion.answer(line);
         self.count(&answer);
         put_answer(&answer, waiting, writer)
+    }
+
+    fn end<W: Sink>(&mut self, _waiting: &mut Waiting, _writer: &mut W) -> Result<(), RunFault> {
+        Ok(())
     }
 
     fn tally(&self) -> Tally {

@@ -22,14 +22,18 @@ pub trait LineTask {
     /// meanwhile, and this text was put out for them.
     ghost Stands: { Self → Self → List TextLine → List ℕ → Type 0 };
 
+    /// The same of a task whose lines have ended, and the text that was put out for them and for
+    /// their end.
+    ghost Ends: { Self → Self → List TextLine → List ℕ → Type 0 };
+
     /// What a task has counted.
     ghost counted: { Self → Counted };
 
     /// What is to be written for an input by a task that was given nothing.
     ghost job: { Self → Job Counted };
 
-    /// The text for all lines of an input is what is to be written for it.
-    ghost writes_all: { (start now : Self) (bytes text : List ℕ) → Stands start now (lines_of most bytes) text
+    /// The text for all lines of an input and their end is what is to be written for it.
+    ghost writes_all: { (start now : Self) (bytes text : List ℕ) → Ends start now (lines_of most bytes) text
         → (job start).Whole (counted now) bytes text };
 
     /// The text for the lines that have ended is what is to be written for a front of an input.
@@ -45,6 +49,13 @@ pub trait LineTask {
     ) -> Result<(), RunFault>
         ensures takes { (start : Self) (lines : List TextLine) (text : List ℕ) → Stands start self.old lines text
             → OnOk result (PutsOut (λ more. Stands start self.new (lines ++ line_text line.entry ∷ []) (text ++ more))
+            (W.told writer.old).held waiting.old.items (W.told writer.new).held waiting.new.items) }
+        ensures failed { WriterTells (W.told writer.old) (W.told writer.new) result };
+
+    /// Takes the end of the lines, and puts out the text for it.
+    fn end<W: Sink>(&mut self, waiting: &mut Waiting, writer: &mut W) -> Result<(), RunFault>
+        ensures ends { (start : Self) (lines : List TextLine) (text : List ℕ) → Stands start self.old lines text
+            → OnOk result (PutsOut (λ more. Ends start self.new lines (text ++ more))
             (W.told writer.old).held waiting.old.items (W.told writer.new).held waiting.new.items) }
         ensures failed { WriterTells (W.told writer.old) (W.told writer.new) result };
 

@@ -98,6 +98,23 @@ impl<T: LineTask, const MOST: usize> Lines<T, MOST> {
         Ok(())
     }
 
+    /// Takes the end of the input: what follows the last LF is a line where it is not empty.
+    fn take_last<W: Sink>(&mut self, waiting: &mut Waiting, writer: &mut W) -> Result<(), RunFault>
+        ensures takes { (start : T) (bytes text : List ℕ) → StandsInLine (T.Stands start self.old.task) MOST self.old.line.items self.old.is_longer bytes text
+            → OnOk result (PutsOut (λ more. T.Stands start self.new.task (lines_of MOST bytes) (text ++ more))
+            (W.told writer.old).held waiting.old.items (W.told writer.new).held waiting.new.items) }
+        ensures failed { WriterTells (W.told writer.old) (W.told writer.new) result }
+    {
+        if self.is_longer {
+            return self.task.take_line(InputLine::TooLong, waiting, writer);
+        }
+        if self.line.is_empty() {
+            return Ok(());
+        }
+        self.task
+            .take_line(InputLine::Last(self.line.as_slice()), waiting, writer)
+    }
+
     /// Keeps bytes of the line under way, as far as it has room.
     fn keep(&mut self, bytes: &[u8])
         ensures task { self.new.task ≡ self.old.task }
@@ -128,7 +145,7 @@ impl<T: LineTask, const MOST: usize> Engine for Lines<T, MOST> {
 
     ghost Stops = { λ start now bytes text. ⊥ };
 
-    ghost Ends = { λ start now bytes text. T.Stands start.task now.task (lines_of MOST bytes) text };
+    ghost Ends = { λ start now bytes text. T.Ends start.task now.task (lines_of MOST bytes) text };
 
     fn take<W: Sink>(
         &mut self,
@@ -146,14 +163,8 @@ impl<T: LineTask, const MOST: usize> Engine for Lines<T, MOST> {
     }
 
     fn end<W: Sink>(&mut self, waiting: &mut Waiting, writer: &mut W) -> Result<(), RunFault> {
-        if self.is_longer {
-            return self.task.take_line(InputLine::TooLong, waiting, writer);
-        }
-        if self.line.is_empty() {
-            return Ok(());
-        }
-        self.task
-            .take_line(InputLine::Last(self.line.as_slice()), waiting, writer)
+        self.take_last(waiting, writer)?;
+        self.task.end(waiting, writer)
     }
 
     ghost stops_for_good = { λ start now bytes text more never. never };

@@ -159,6 +159,8 @@ impl<'p> LineTask for Runner<'p> {
 
     ghost Stands = { RunnerStands };
 
+    ghost Ends = { RunnerStands };
+
     ghost counted = { λ runner. runner.tally };
 
     ghost job = { λ start. running (bench_profile start.bench) };
@@ -182,6 +184,10 @@ impl<'p> LineTask for Runner<'p> {
                 self.take_fault(fault.as_slice(), waiting, writer)
             }
         }
+    }
+
+    fn end<W: Sink>(&mut self, _waiting: &mut Waiting, _writer: &mut W) -> Result<(), RunFault> {
+        Ok(())
     }
 
     fn tally(&self) -> Tally {

@@ -31,6 +31,6 @@ returns g c =
     ended_as g.R.Source.told g.W.Sink.told _ _ _ _ (g.T.LineTask.job c.args.task) _ c.tally.result
     (λ bytes text ends. subst (λ tally. (g.T.LineTask.job c.args.task).Whole tally bytes text) (sym c.tally.ensures)
     (g.T.LineTask.writes_all c.args.task now bytes text
-    (subst (λ (most : ℕ). g.T.LineTask.Stands c.args.task now (lines_of most bytes) text) c.requires.most
-    (subst (λ start. g.T.LineTask.Stands start now (lines_of g.row.MOST bytes) text) c.new-lines.ensures.task ends))))
+    (subst (λ (most : ℕ). g.T.LineTask.Ends c.args.task now (lines_of most bytes) text) c.requires.most
+    (subst (λ start. g.T.LineTask.Ends start now (lines_of g.row.MOST bytes) text) c.new-lines.ensures.task ends))))
     (λ bytes text never. never) c.in_ok-each_piece.ensures
