@@ -1,0 +1,4 @@
+pub mod ColumnLemmas
+pub mod LineLemmas
+pub mod QuoteLemmas
+pub mod TextLemmas

@@ -1,0 +1,4 @@
+pub mod Columns
+pub mod Fields
+pub mod Left
+pub mod Rows

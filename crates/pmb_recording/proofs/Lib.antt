@@ -1,0 +1,4 @@
+pub mod Legs
+pub mod Puts
+pub mod Runs
+pub mod Texts

@@ -1,0 +1,60 @@
+-- Lines in turn, for the `LineTask` of each source: a machine that stands where some lines brought it
+-- stands where one more brings it, and its text for all lines and their end is what is to be written.
+use Rattle.std.proofs.Common.{◌≡◌, ℕ, List, [], ◌∷◌, ◌++◌, refl, sym, ◌∙◌, ap, append_assoc, append-nil}
+use Rattle.pmb_io.specs.Lines.{TextLine, lines_of}
+use Rattle.pmb_recording.specs.Content.{most_line}
+use Rattle.pmb_recording.specs.Recording.{Step}
+use Rattle.pmb_recording.specs.Runs as runs
+use Rattle.pmb_recording.specs.declared.recording.Recording.{Recording}
+
+module _ {S : Type 0} (take : S → TextLine → Step S) (end : S → Step S) (recording : S → Recording) where
+  -- one line more
+  pub run-push : (start : S) (lines : List TextLine) (line : TextLine)
+      → runs.run take end recording start (lines ++ line ∷ [])
+      ≡ runs.told_before take end recording (runs.run take end recording start lines).text
+      (take (runs.run take end recording start lines).now line)
+  run-push start [] line = ap (λ (text : List ℕ). record { now = (take start line).now; text = text })
+      (append-nil (take start line).text)
+  run-push start (first ∷ lines) line =
+      let step = take start first in
+      ap (runs.told_before take end recording step.text) (run-push step.now lines line)
+      ∙ ap (λ (text : List ℕ). record {
+        now = (take (runs.run take end recording step.now lines).now line).now;
+        text = text;
+      }) (sym (append_assoc step.text (runs.run take end recording step.now lines).text
+      (take (runs.run take end recording step.now lines).now line).text))
+
+  -- nothing came
+  pub stands_fresh : (start : S) → runs.Stands take end recording start start [] []
+  stands_fresh start = record { state = refl; told = refl }
+
+  -- a line is taken
+  pub stands_more : (start old new : S) (lines : List TextLine) (line : TextLine) (text more : List ℕ)
+      → runs.Stands take end recording start old lines text → new ≡ (take old line).now → more ≡ (take old line).text
+      → runs.Stands take end recording start new (lines ++ line ∷ []) (text ++ more)
+  stands_more start old new lines line text more stands now told =
+      let pushed = run-push start lines line in record {
+        state = now ∙ ap (λ (s : S). (take s line).now) stands.state ∙ sym (ap (λ (s : Step S). s.now) pushed);
+        told = ap (λ (t : List ℕ). text ++ t) (told ∙ ap (λ (s : S). (take s line).text) stands.state)
+            ∙ ap (λ (t : List ℕ). t ++ (take (runs.run take end recording start lines).now line).text) stands.told
+            ∙ sym (ap (λ (s : Step S). s.text) pushed);
+      }
+
+  -- the end is taken
+  pub ends_with : (start old new : S) (lines : List TextLine) (text more : List ℕ)
+      → runs.Stands take end recording start old lines text → new ≡ (end old).now → more ≡ (end old).text
+      → runs.Ends take end recording start new lines (text ++ more)
+  ends_with start old new lines text more stands now told = record {
+    state = now ∙ ap (λ (s : S). (end s).now) stands.state;
+    told = ap (λ (t : List ℕ). text ++ t) (told ∙ ap (λ (s : S). (end s).text) stands.state)
+        ∙ ap (λ (t : List ℕ). t ++ (end (runs.run take end recording start lines).now).text) stands.told;
+  }
+
+  -- the text for all lines is what is to be written
+  pub imports_all : (start now : S) (bytes text : List ℕ)
+      → runs.Ends take end recording start now (lines_of most_line bytes) text
+      → runs.Imports take end recording start (runs.tally_of take end recording now) bytes text
+  imports_all start now bytes text ends = record {
+    text_is = ends.told;
+    tally_is = ap (runs.tally_of take end recording) ends.state;
+  }

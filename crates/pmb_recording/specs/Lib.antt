@@ -1,0 +1,6 @@
+pub mod Content
+pub mod Recording
+pub mod Runs
+pub mod Told
+pub mod Wire
+pub mod machine

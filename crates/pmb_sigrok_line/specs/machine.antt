@@ -1,0 +1,2 @@
+-- What the code's own functions return.
+pub mod Shapes

@@ -1,0 +1,4 @@
+pub mod Bytes
+pub mod Colons
+pub mod Events
+pub mod Losses

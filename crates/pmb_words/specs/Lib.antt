@@ -1,0 +1,4 @@
+pub mod Left
+pub mod Numbers
+pub mod Parts
+pub mod Rows
