@@ -1,5 +1,5 @@
 -- What becomes of a recording, and what is told, by what a line gives.
-use Rattle.std.specs.Prelude.{ℕ, not, ◌+◌, true, false, Bool, Option, Some, None, List, [], ◌∷◌, ◌++◌, if◌then◌else◌}
+use Rattle.std.specs.Prelude.{ℕ, not, ◌+◌, ◌==◌, true, false, Bool, Option, Some, None, List, [], ◌∷◌, ◌++◌, if◌then◌else◌}
 use Rattle.std.specs.Prelude.{codes, take}
 use Rattle.std.specs.Str.{bytes_eq}
 use Rattle.pmb_io.specs.Count.{capped}
@@ -80,10 +80,6 @@ without_packet r = record r { packet = None }
 -- the packet under way, where there is one, is cut
 abbrev pub cut : Recording → Step Recording
 cut r = record { now = without_packet (counted_cut r.packet r); text = cut_text r.packet }
-
--- and then more is told
-abbrev pub then_tells : Step Recording → List ℕ → Step Recording
-then_tells step text = record { now = step.now; text = step.text ++ text }
 
 -- ---- what a line gives
 
@@ -201,8 +197,12 @@ end_text r other =
     passed_kind other r.other_kind
     ++ (passed_line r.other_buses (codes "other buses") ++ no_packets_line r.packets)
 
+-- that there are no packets is told too, and counts as something that is missing
+abbrev pub counted_none : Recording → Recording
+counted_none r = if r.packets == 0 then with_trouble r else r
+
 abbrev pub at_end : Recording → Option Kind → Step Recording
-at_end r other = then_tells (cut r) (end_text r other)
+at_end r other = record { now = counted_none (cut r).now; text = (cut r).text ++ end_text r other }
 
 -- packets, and what tells that something is missing
 abbrev pub tally_of : Recording → Tally

@@ -3,7 +3,7 @@
 ghost use Rattle.std.specs.Prelude.{◌≡◌, ◌+◌, ◌≤◌, length, option_copied, take, OnOk};
 ghost use Rattle.pmb_io.specs.Calls.{WriterTells};
 ghost use Rattle.pmb_io.specs.Outgoing.{PutsText};
-ghost use Rattle.pmb_recording.specs.Recording.{at_begin, at_end, at_failure, at_fault, at_heading, at_hidden_bytes, at_hidden_reply, at_loss};
+ghost use Rattle.pmb_recording.specs.Recording.{at_begin, at_end, counted_none, at_failure, at_fault, at_heading, at_hidden_bytes, at_hidden_reply, at_loss};
 ghost use Rattle.pmb_recording.specs.Recording.{at_packet, at_too_long, cut, cut_text, end_text, first_line as first_of, following, fresh, given};
 ghost use Rattle.pmb_recording.specs.Recording.{is_followed as follows_name, next_line as line_after, past_other_bus, past_other_kind, passed_kind};
 ghost use Rattle.pmb_recording.specs.Recording.{skipped, tally_of, with_trouble, with_time, with_unit};
@@ -386,8 +386,18 @@ impl Recording {
     {
         texts_add_up();
         let packet = self.drop_packet();
+        self.count_none();
         put_cut(packet, waiting, writer)?;
         self.put_end(other, waiting, writer)
+    }
+
+    /// Counts that there are no packets, where that is so.
+    fn count_none(&mut self)
+        ensures { self.new ≡ counted_none self.old }
+    {
+        if self.packets == 0 {
+            self.count_trouble();
+        }
     }
 
     /// Puts out what is told at the end, behind a packet that is cut.

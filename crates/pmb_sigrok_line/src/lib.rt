@@ -9,12 +9,14 @@
 //! ```
 #![tactic(auto)]
 
+mod address_form;
 mod annotation;
 mod event;
 mod line;
 mod rate;
 mod time;
 
+pub use address_form::AddressForm;
 pub use event::Event;
 pub use line::{Line, is_remark};
 pub use rate::Rate;
