@@ -1,0 +1,4 @@
+mod Lengths
+mod LineClasses
+mod Tasks
+mod WireLemmas
