@@ -1,7 +1,10 @@
 -- Lines in turn, for the `LineTask` of each source: a machine that stands where some lines brought it
 -- stands where one more brings it, and its text for all lines and their end is what is to be written.
-use Rattle.std.proofs.Common.{◌≡◌, ℕ, List, [], ◌∷◌, ◌++◌, refl, sym, ◌∙◌, ap, append_assoc, append-nil}
+use Rattle.std.proofs.Common.{◌≡◌, ℕ, Option, Result, Ok, Err, OnOk, List, [], ◌∷◌, ◌++◌, refl, sym, ◌∙◌, ap}
+use Rattle.std.proofs.Common.{append_assoc, append-nil}
+use Rattle.pmb_io.specs.Engines.{PutsOut}
 use Rattle.pmb_io.specs.Lines.{TextLine, lines_of}
+use Rattle.pmb_io.specs.Outgoing.{PutsText}
 use Rattle.pmb_recording.specs.Content.{most_line}
 use Rattle.pmb_recording.specs.Recording.{Step}
 use Rattle.pmb_recording.specs.Runs as runs
@@ -58,3 +61,17 @@ module _ {S : Type 0} (take : S → TextLine → Step S) (end : S → Step S) (r
     text_is = ends.told;
     tally_is = ap (runs.tally_of take end recording) ends.state;
   }
+
+  -- a line is taken by a step: the answer to `take_line` of a `LineTask`
+  pub takes : {T F : Type 0} (r : Result T F) (start old new : S) (lines : List TextLine) (line : TextLine)
+      (text : List ℕ) (h0 h1 : Option (List ℕ)) (w0 w1 : List ℕ)
+      → runs.Stands take end recording start old lines text → new ≡ (take old line).now
+      → OnOk r (PutsText h0 w0 h1 w1 (take old line).text)
+      → OnOk r (PutsOut (λ more. runs.Stands take end recording start new (lines ++ line ∷ []) (text ++ more)) h0 w0 h1
+      w1)
+  takes (Ok x) start old new lines line text h0 h1 w0 w1 stands now puts = record {
+    text = (take old line).text;
+    writes = puts;
+    holds = stands_more start old new lines line text (take old line).text stands now refl;
+  }
+  takes (Err e) start old new lines line text h0 h1 w0 w1 stands now puts = tt

@@ -1,8 +1,8 @@
 //! What a line of an input holds.
 
-ghost use Rattle.std.specs.Prelude.{◌≡◌, option_copied};
+ghost use Rattle.std.specs.Prelude.{◌≡◌, ◌≤◌, IfSome, length, option_copied};
 ghost use Rattle.pmb_io.specs.Lines.{line_text};
-ghost use Rattle.pmb_recording.specs.Content.{content as content_of, if_empty as no_line, if_short as short_line, without_mark as mark_dropped};
+ghost use Rattle.pmb_recording.specs.Content.{content as content_of, if_empty as no_line, if_short as short_line, most_content, without_mark as mark_dropped};
 
 use pmb_io::{InputLine, without_return};
 use pmb_words::behind;
@@ -19,7 +19,8 @@ const MARK: &[u8] = &[0xef, 0xbb, 0xbf];
 /// The bytes of a line, without a mark in the first and CR at the end; `None` of one that is too
 /// long or lacks its LF.
 pub fn content(is_first: bool, line: InputLine<'_>) -> Option<&[u8]>
-    ensures { option_copied result ≡ content_of is_first (line_text line.entry) }
+    ensures text { option_copied result ≡ content_of is_first (line_text line.entry) }
+    ensures short { IfSome result (λ text. length text.now ≤ most_content) }
 {
     match line {
         InputLine::Ended(line) => if_short(without_mark(is_first, without_return(line))),
@@ -43,7 +44,8 @@ fn without_mark(is_first: bool, line: &[u8]) -> &[u8]
 
 /// A line that is not too long.
 fn if_short(line: &[u8]) -> Option<&[u8]>
-    ensures { option_copied result ≡ short_line line.now }
+    ensures text { option_copied result ≡ short_line line.now }
+    ensures short { IfSome result (λ text. length text.now ≤ most_content) }
 {
     if line.len() > MOST_CONTENT {
         None
@@ -54,7 +56,8 @@ fn if_short(line: &[u8]) -> Option<&[u8]>
 
 /// What follows the last LF, if nothing does.
 fn if_empty(line: &[u8]) -> Option<&[u8]>
-    ensures { option_copied result ≡ no_line line.now }
+    ensures text { option_copied result ≡ no_line line.now }
+    ensures short { IfSome result (λ text. length text.now ≤ most_content) }
 {
     if line.is_empty() { Some(line) } else { None }
 }

@@ -1,31 +1,8 @@
--- What a line holds, and the name in it, are no longer than the texts that a recording keeps: for `take_next` and
--- `take_content`.
-use Rattle.std.proofs.Common.{◌≡◌, ℕ, ◌≤◌, Bool, Option, Some, None, List, [], ◌∷◌}
+-- The name in a line is no longer than the line: for `take_content`.
+use Rattle.std.proofs.Common.{◌≡◌, ℕ, ◌≤◌, Option, Some, None, List, [], ◌∷◌}
 use Rattle.std.proofs.Common.{length, refl, arith}
-use Rattle.std.proofs.lemmas.Bool.Decides.{nat_tests}
-use Rattle.pmb_io.specs.Lines.{TextLine}
-use Rattle.pmb_io.specs.Lines as lines
-use Rattle.pmb_recording.specs.Content.{content, if_empty, if_short, without_mark}
-use Rattle.pmb_recording.specs.Recording.{most_text}
 use Rattle.pmb_words.specs.Parts.{blank, parted}
 use Rattle.pmb_sigrok_line.specs.Line.{Line, annotation, behind_range, colon, decoder_line, named, with_name}
-
--- ---- the bytes of a line
-
-short_line : (line text : List ℕ) → if_short line ≡ Some text → length text ≤ most_text
-short_line line text is = grind (arith, nat_tests)
-
-empty_line : (line text : List ℕ) → if_empty line ≡ Some text → length text ≤ most_text
-empty_line [] text is = grind arith
-empty_line (byte ∷ line) text is = cc
-
-pub content_short : (is_first : Bool) (given : TextLine) (text : List ℕ) → content is_first given ≡ Some text
-    → length text ≤ most_text
-content_short is_first (lines.Ended line) text is = short_line (without_mark is_first (lines.without_cr line)) text is
-content_short is_first (lines.Last line) text is = empty_line (without_mark is_first line) text is
-content_short is_first lines.TooLong text is = cc
-
--- ---- the name of the decoder
 
 front_short : (at : ℕ) (text : List ℕ) → length (parted at text).front ≤ length text
 front_short at [] = omega arith

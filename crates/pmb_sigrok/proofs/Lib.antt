@@ -1,4 +1,3 @@
 mod Lengths
 mod LineClasses
-mod Tasks
 mod WireLemmas

@@ -1,6 +1,6 @@
 use Rattle.pmb_io.specs.Lines.{line_text}
 use Rattle.pmb_sigrok.specs.Packets.{take_end, take_line}
-use Rattle.pmb_sigrok.proofs.Tasks.{takes}
+use Rattle.pmb_recording.proofs.Runs.{takes}
 use Rattle.pmb_sigrok.proofs.sigrok.SigrokLineTask.take_line.Goals as goal
 
 pub returns-clause-takes : goal.returns-clause-takes
