@@ -1,0 +1,4 @@
+pub mod FieldLengths
+pub mod LineClasses
+pub mod RowLemmas
+pub mod TimeLemmas
