@@ -1,0 +1,5 @@
+pub mod QuoteLemmas
+pub mod RowLemmas
+pub mod WordCount
+pub mod LineClasses
+pub mod StepLemmas
