@@ -61,7 +61,7 @@ impl Beagle {
     }
 
     /// Takes the next line.
-    fn take<W: Sink>(
+    fn take_next<W: Sink>(
         &mut self,
         line: InputLine<'_>,
         waiting: &mut Waiting,
@@ -389,7 +389,7 @@ impl LineTask for Beagle {
         waiting: &mut Waiting,
         writer: &mut W,
     ) -> Result<(), RunFault> {
-        self.take(line, waiting, writer)
+        self.take_next(line, waiting, writer)
     }
 
     fn end<W: Sink>(&mut self, waiting: &mut Waiting, writer: &mut W) -> Result<(), RunFault> {

@@ -62,16 +62,27 @@ module _ {S : Type 0} (take : S → TextLine → Step S) (end : S → Step S) (r
     tally_is = ap (runs.tally_of take end recording) ends.state;
   }
 
-  -- a line is taken by a step: the answer to `take_line` of a `LineTask`
+  -- A line is taken by a step, unless the writer fails: the answer to `take_line` of a `LineTask`.
+  pub takes_on_ok : {T F : Type 0} (r : Result T F) (start old new : S) (lines : List TextLine) (line : TextLine)
+      (text : List ℕ) (h0 h1 : Option (List ℕ)) (w0 w1 : List ℕ)
+      → runs.Stands take end recording start old lines text → OnOk r (new ≡ (take old line).now)
+      → OnOk r (PutsText h0 w0 h1 w1 (take old line).text)
+      → OnOk r (PutsOut (λ more. runs.Stands take end recording start new (lines ++ line ∷ []) (text ++ more)) h0 w0 h1
+      w1)
+  takes_on_ok (Ok x) start old new lines line text h0 h1 w0 w1 stands now puts = record {
+    text = (take old line).text;
+    writes = puts;
+    holds = stands_more start old new lines line text (take old line).text stands now refl;
+  }
+  takes_on_ok (Err e) start old new lines line text h0 h1 w0 w1 stands now puts = tt
+
+  -- The same where the state is known also if it fails.
   pub takes : {T F : Type 0} (r : Result T F) (start old new : S) (lines : List TextLine) (line : TextLine)
       (text : List ℕ) (h0 h1 : Option (List ℕ)) (w0 w1 : List ℕ)
       → runs.Stands take end recording start old lines text → new ≡ (take old line).now
       → OnOk r (PutsText h0 w0 h1 w1 (take old line).text)
       → OnOk r (PutsOut (λ more. runs.Stands take end recording start new (lines ++ line ∷ []) (text ++ more)) h0 w0 h1
       w1)
-  takes (Ok x) start old new lines line text h0 h1 w0 w1 stands now puts = record {
-    text = (take old line).text;
-    writes = puts;
-    holds = stands_more start old new lines line text (take old line).text stands now refl;
-  }
+  takes {F = F} (Ok x) start old new lines line text h0 h1 w0 w1 stands now puts =
+      takes_on_ok {F = F} (Ok x) start old new lines line text h0 h1 w0 w1 stands now puts
   takes (Err e) start old new lines line text h0 h1 w0 w1 stands now puts = tt

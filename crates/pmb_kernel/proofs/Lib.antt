@@ -1,0 +1,4 @@
+pub mod LineClasses
+pub mod LineWords
+pub mod Messages
+pub mod WireLemmas

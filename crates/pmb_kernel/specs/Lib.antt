@@ -1,0 +1,5 @@
+pub mod Classes
+pub mod Events
+pub mod Rows
+pub mod Transfers
+pub mod Views

@@ -1,0 +1,15 @@
+//! SMBus transfers, from the kernel's events of `smbus`.
+#![tactic(auto)]
+
+mod events;
+pub mod laws;
+mod protocol;
+mod smbus;
+mod transfer;
+mod transfers;
+
+pub use events::Head;
+pub use protocol::Protocol;
+pub use smbus::Smbus;
+pub use transfer::{Data, Transfer};
+pub use transfers::Transfers;
