@@ -2,7 +2,7 @@
 use Rattle.std.proofs.Common.{◌≡◌, ℕ, arith, ◌+◌, ◌==◌, ◌||◌, nat_lt, Bool, true, false, List, [], ◌∷◌, length}
 use Rattle.std.proofs.Common.{Option, Some, None, if◌then◌else◌, refl, ap, inl, inr}
 use Rattle.pmb_beagle.specs.Classes.{BeginsAnew, DoesAs, EachLineHasItsClass, Faulted, GivenText, Nothing, Ends, Packet}
-use Rattle.pmb_beagle.specs.Classes.{TooLong, PacketTooLong, LineClass, GivesEvents, IsFault, SaysNothing, at_next_line}
+use Rattle.pmb_beagle.specs.Classes.{TooLong, PacketTooLong, RowClass, GivesEvents, IsFault, SaysNothing, at_next_line}
 use Rattle.pmb_beagle.specs.Classes.{class_by, class_of, class_of_next, class_of_numbered, class_of_said}
 use Rattle.pmb_beagle.specs.Classes.{class_of_transaction, class_under, may_follow}
 use Rattle.pmb_beagle.specs.Columns.{heading_of, is_remark}
@@ -53,7 +53,7 @@ begins b time t false true = Packet refl
 begins b time t false false = Nothing refl
 
 -- a step of a row: it gives a transaction, begins anew, or is a fault
-abbrev OfRow : LineClass → Recording → Step Beagle → Type 0
+abbrev OfRow : RowClass → Recording → Step Beagle → Type 0
 OfRow (GivesEvents time t) now step = GivenText now time t step.text
 OfRow SaysNothing now step = BeginsAnew now step
 OfRow IsFault now step = Faulted now step
@@ -90,7 +90,7 @@ followed b time t (Some lines) =
 followed b time t None = out b time t b.recording.is_skipping
 
 -- what is a fault where a test holds
-unless : (b : Beagle) (holds : Bool) (reason : Reason) (c : LineClass) (step : Step Beagle) → OfRow c b.recording step
+unless : (b : Beagle) (holds : Bool) (reason : Reason) (c : RowClass) (step : Step Beagle) → OfRow c b.recording step
     → OfRow (if holds then IsFault else c) b.recording (if holds then fault b reason else step)
 unless b true reason c step does = faulted b reason
 unless b false reason c step does = does
@@ -133,7 +133,7 @@ of_row b None r = faulted b MakesNoSense
 
 -- ---- lines
 
-does : (c : LineClass) (b : Beagle) (step : Step Beagle) → OfRow c b.recording step → DoesAs c b step
+does : (c : RowClass) (b : Beagle) (step : Step Beagle) → OfRow c b.recording step → DoesAs c b step
 does (GivesEvents time t) b step of_row = of_row
 does SaysNothing b step of_row = inr of_row
 does IsFault b step of_row = of_row

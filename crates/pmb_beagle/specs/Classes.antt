@@ -16,13 +16,13 @@ use Rattle.pmb_recording.specs.declared.recording.PacketLines.{PacketLines}
 use Rattle.pmb_recording.specs.declared.recording.Recording.{Recording}
 
 -- Each line is one of these. There is one bus, so none is of another.
-pub data LineClass : Type 0 where
+pub data RowClass : Type 0 where
   -- It gives a transaction with its time, also where that is skipped after a fault.
-  GivesEvents : List ℕ → Transaction → LineClass
+  GivesEvents : List ℕ → Transaction → RowClass
   -- It says nothing of the bus.
-  SaysNothing : LineClass
+  SaysNothing : RowClass
   -- It can't be read, is marked, out of range, or contradicts lines before it.
-  IsFault : LineClass
+  IsFault : RowClass
 
 -- ---- the class of a line
 
@@ -31,43 +31,43 @@ abbrev pub may_follow : Option PacketLines → Recording → Transaction → Boo
 may_follow (Some lines) now t = t.marks.has_start
 may_follow None now t = now.is_skipping || t.marks.has_start
 
-abbrev pub class_of_transaction : Recording → Columns → Record → Transaction → LineClass
+abbrev pub class_of_transaction : Recording → Columns → Record → Transaction → RowClass
 class_of_transaction now columns r t =
     if is_marked (field_if columns.error r) then IsFault else
     if is_out_of_range columns r t then IsFault else
     if may_follow now.packet now t then GivesEvents (start_time columns r) t else IsFault
 
 -- a row that has its form, where no rows are missing
-abbrev pub class_of_said : Recording → Columns → Record → Says → LineClass
+abbrev pub class_of_said : Recording → Columns → Record → Says → RowClass
 class_of_said now columns r (OfTransaction t) = class_of_transaction now columns r t
 class_of_said now columns r OfCapture = SaysNothing
 class_of_said now columns r OfOther = IsFault
 
 -- a row with a number, by whether that is one more than the last
-abbrev pub class_of_next : Recording → Columns → Record → Bool → Option Says → LineClass
+abbrev pub class_of_next : Recording → Columns → Record → Bool → Option Says → RowClass
 class_of_next now columns r next (Some says) = if next then class_of_said now columns r says else IsFault
 class_of_next now columns r next None = IsFault
 
-abbrev pub class_of_numbered : Beagle → Columns → Record → Option ℕ → LineClass
+abbrev pub class_of_numbered : Beagle → Columns → Record → Option ℕ → RowClass
 class_of_numbered b columns r (Some index) =
     class_of_next b.recording columns r (is_next b.index index) (says_of columns r)
 class_of_numbered b columns r None = IsFault
 
 -- a row, where its columns are known
-abbrev pub class_under : Beagle → Option Columns → Record → LineClass
+abbrev pub class_under : Beagle → Option Columns → Record → RowClass
 class_under b (Some columns) r = class_of_numbered b columns r (index_of columns r)
 class_under b None r = IsFault
 
-abbrev pub class_of_other : Beagle → List ℕ → LineClass
+abbrev pub class_of_other : Beagle → List ℕ → RowClass
 class_of_other b line = if is_remark line then SaysNothing else class_under b b.columns (record_of line)
 
 -- a line that names the columns, or another
-abbrev pub class_by : Beagle → Option Columns → List ℕ → LineClass
+abbrev pub class_by : Beagle → Option Columns → List ℕ → RowClass
 class_by b (Some columns) line = SaysNothing
 class_by b None line = class_of_other b line
 
 -- The class of a line by what it holds, which is nothing where it is too long or lacks its LF.
-abbrev pub class_of : Beagle → Option (List ℕ) → LineClass
+abbrev pub class_of : Beagle → Option (List ℕ) → RowClass
 class_of b (Some []) = SaysNothing
 class_of b (Some (byte ∷ line)) = class_by b (heading_of (byte ∷ line)) (byte ∷ line)
 class_of b None = IsFault
@@ -99,7 +99,7 @@ pub record Faulted (now : Recording) (step : Step Beagle) : Type 0 where
   pub skips : step.now.recording.is_skipping ≡ true
 
 -- A step does what a class says. A line that says nothing changes nothing, or the recording begins anew.
-abbrev pub DoesAs : LineClass → Beagle → Step Beagle → Type 0
+abbrev pub DoesAs : RowClass → Beagle → Step Beagle → Type 0
 DoesAs (GivesEvents time t) b step = GivenText b.recording time t step.text
 DoesAs SaysNothing b step = (step ≡ quietly b) ⊎ BeginsAnew b.recording step
 DoesAs IsFault b step = Faulted b.recording step
@@ -109,7 +109,7 @@ abbrev pub at_next_line : Beagle → Beagle
 at_next_line b = record b { recording = next_line b.recording }
 
 -- the class of a line of the input
-abbrev pub class_of_line : Beagle → TextLine → LineClass
+abbrev pub class_of_line : Beagle → TextLine → RowClass
 class_of_line b given = class_of (at_next_line b) (content (b.recording.line == 0) given)
 
 -- Each line has one class, and what becomes of it is what its class says.

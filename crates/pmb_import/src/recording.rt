@@ -2,14 +2,15 @@
 //!
 //! Its rows: `tests/rows/recordings.txt`.
 
+ghost use Rattle.std.specs.Prelude.{option_copied};
 ghost use Rattle.pmb_import.specs.Importing.{importing_of};
 ghost use Rattle.pmb_io.specs.Runs.{AsTool, Ran};
-ghost use Rattle.pmb_recorder.specs.Recorded.{recorded_of};
+ghost use Rattle.pmb_recorder.specs.Recorded.{OfBeagle, OfKernel, OfSaleae, OfSigrok, OfSmbus, recorded_of};
 
 use pmb_beagle::Beagle;
 use pmb_io::{Sink, Source, Tally, ToolFault, each_line};
 use pmb_kernel::Kernel;
-use pmb_recorder::Recorder;
+use pmb_recorder::{AddressForm, Rate, Recorder};
 use pmb_recording::MOST_LINE;
 use pmb_saleae::Saleae;
 use pmb_sigrok::Sigrok;
@@ -37,24 +38,81 @@ pub fn import<R: Source, W: Sink>(
     ensures { AsTool (Ran R.told W.told (importing_of (recorded_of recorder.entry)) first.now (reader.old, writer.old) (reader.new, writer.new)) result }
 {
     match recorder {
-        Recorder::Sigrok(bus, rate, form) => {
-            let task = Sigrok::new(bus, rate, form);
-            each_line::<Sigrok, R, W, MOST_LINE>(task, first, reader, writer)
-        }
-        Recorder::Saleae(bus) => {
-            let task = Saleae::new(bus);
-            each_line::<Saleae, R, W, MOST_LINE>(task, first, reader, writer)
-        }
-        Recorder::Beagle => {
-            each_line::<Beagle, R, W, MOST_LINE>(Beagle::new(), first, reader, writer)
-        }
-        Recorder::Kernel(bus) => {
-            let task = Kernel::new(bus);
-            each_line::<Kernel, R, W, MOST_LINE>(task, first, reader, writer)
-        }
-        Recorder::Smbus(bus) => {
-            let task = Smbus::new(bus);
-            each_line::<Smbus, R, W, MOST_LINE>(task, first, reader, writer)
-        }
+        Recorder::Sigrok(bus, rate, form) => import_sigrok(bus, rate, form, first, reader, writer),
+        Recorder::Saleae(bus) => import_saleae(bus, first, reader, writer),
+        Recorder::Beagle => import_beagle(first, reader, writer),
+        Recorder::Kernel(bus) => import_kernel(bus, first, reader, writer),
+        Recorder::Smbus(bus) => import_smbus(bus, first, reader, writer),
     }
+}
+
+/// Writes the capture of a recording of sigrok. Apart from the others, so that the stack holds one
+/// machine.
+#[inline(never)]
+fn import_sigrok<R: Source, W: Sink>(
+    bus: Option<&[u8]>,
+    rate: Option<Rate>,
+    form: AddressForm,
+    first: &[u8],
+    reader: &mut R,
+    writer: &mut W,
+) -> Result<Tally, ToolFault>
+    ensures { AsTool (Ran R.told W.told (importing_of (OfSigrok (option_copied bus.entry) rate form)) first.now (reader.old, writer.old) (reader.new, writer.new)) result }
+{
+    each_line::<Sigrok, R, W, MOST_LINE>(Sigrok::new(bus, rate, form), first, reader, writer)
+}
+
+/// Writes the capture of a recording of Logic 2. Apart from the others, so that the stack holds one
+/// machine.
+#[inline(never)]
+fn import_saleae<R: Source, W: Sink>(
+    bus: Option<&[u8]>,
+    first: &[u8],
+    reader: &mut R,
+    writer: &mut W,
+) -> Result<Tally, ToolFault>
+    ensures { AsTool (Ran R.told W.told (importing_of (OfSaleae (option_copied bus.entry))) first.now (reader.old, writer.old) (reader.new, writer.new)) result }
+{
+    each_line::<Saleae, R, W, MOST_LINE>(Saleae::new(bus), first, reader, writer)
+}
+
+/// Writes the capture of a recording of Data Center. Apart from the others, so that the stack holds one
+/// machine.
+#[inline(never)]
+fn import_beagle<R: Source, W: Sink>(
+    first: &[u8],
+    reader: &mut R,
+    writer: &mut W,
+) -> Result<Tally, ToolFault>
+    ensures { AsTool (Ran R.told W.told (importing_of OfBeagle) first.now (reader.old, writer.old) (reader.new, writer.new)) result }
+{
+    each_line::<Beagle, R, W, MOST_LINE>(Beagle::new(), first, reader, writer)
+}
+
+/// Writes the capture of a recording of the kernel's events of `i2c`. Apart from the others, so that the stack holds one
+/// machine.
+#[inline(never)]
+fn import_kernel<R: Source, W: Sink>(
+    bus: Option<&[u8]>,
+    first: &[u8],
+    reader: &mut R,
+    writer: &mut W,
+) -> Result<Tally, ToolFault>
+    ensures { AsTool (Ran R.told W.told (importing_of (OfKernel (option_copied bus.entry))) first.now (reader.old, writer.old) (reader.new, writer.new)) result }
+{
+    each_line::<Kernel, R, W, MOST_LINE>(Kernel::new(bus), first, reader, writer)
+}
+
+/// Writes the capture of a recording of the kernel's events of `smbus`. Apart from the others, so that the stack holds one
+/// machine.
+#[inline(never)]
+fn import_smbus<R: Source, W: Sink>(
+    bus: Option<&[u8]>,
+    first: &[u8],
+    reader: &mut R,
+    writer: &mut W,
+) -> Result<Tally, ToolFault>
+    ensures { AsTool (Ran R.told W.told (importing_of (OfSmbus (option_copied bus.entry))) first.now (reader.old, writer.old) (reader.new, writer.new)) result }
+{
+    each_line::<Smbus, R, W, MOST_LINE>(Smbus::new(bus), first, reader, writer)
 }

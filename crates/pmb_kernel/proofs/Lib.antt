@@ -1,4 +1,4 @@
 pub mod LineClasses
 pub mod LineWords
-pub mod Messages
+pub mod MessageFields
 pub mod WireLemmas

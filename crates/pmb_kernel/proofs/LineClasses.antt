@@ -12,11 +12,11 @@ use Rattle.pmb_recording.specs.declared.recording.PacketLines.{PacketLines}
 use Rattle.pmb_recording.specs.declared.recording.Recording.{Recording}
 use Rattle.pmb_trace.specs.Fields.{Outcome, event_bus}
 use Rattle.pmb_trace.specs.Line as line
+use Rattle.pmb_recording.specs.Classes.{LineClass, GivesEvents, SaysNothing, PassedOver, IsFault, given_if}
 use Rattle.pmb_kernel.specs.Classes.{DoesAs, EachLineHasItsClass, Faulted, GivenText, Nothing, Cut, Packet, Failed, TooLong}
 use Rattle.pmb_kernel.specs.Classes.{CutTooLong, Quiet, Heading, Loss, OtherBus, OtherKind}
-use Rattle.pmb_kernel.specs.Classes.{LineClass, GivesEvents, SaysNothing, IsOfAnother, IsFault}
 use Rattle.pmb_kernel.specs.Classes.{class_of, class_of_message, class_of_said, class_of_trace}
-use Rattle.pmb_kernel.specs.Classes.{class_if_bus, class_on_bus, given_if, may_stand, message_follows, replies_first}
+use Rattle.pmb_kernel.specs.Classes.{class_if_bus, class_on_bus, may_stand, message_follows, replies_first}
 use Rattle.pmb_kernel.specs.Classes.{unless_own}
 use Rattle.pmb_kernel.specs.Events.{Message, Role, Writes, Reads, Replies, Says, OfMessage, Result, Unreadable}
 use Rattle.pmb_kernel.specs.Events.{own_fault, says}
@@ -42,7 +42,7 @@ abbrev OfEvent : LineClass → Transfers → Step Transfers → Type 0
 OfEvent GivesEvents t step = GivenText t step.text
 OfEvent IsFault t step = Faulted t step
 OfEvent SaysNothing t step = ⊥
-OfEvent IsOfAnother t step = ⊥
+OfEvent PassedOver t step = ⊥
 
 -- a step that is taken where a test holds, and else is a fault
 tested : (t : Transfers) (b : Bool) (step : Step Transfers) (reason : Reason) → GivenText t step.text
@@ -154,7 +154,7 @@ does : (c : LineClass) (t : Transfers) (step : Step Transfers) → OfEvent c t s
 does GivesEvents t step of_event = of_event
 does IsFault t step of_event = of_event
 does SaysNothing t step of_event = absurd of_event
-does IsOfAnother t step of_event = absurd of_event
+does PassedOver t step of_event = absurd of_event
 
 -- the machine that follows the bus of a name
 abbrev settled : Transfers → List ℕ → Transfers
@@ -180,18 +180,18 @@ before IsFault t name step of_event = record {
   skips = of_event.skips;
 }
 before SaysNothing t name step of_event = absurd of_event
-before IsOfAnother t name step of_event = absurd of_event
+before PassedOver t name step of_event = absurd of_event
 
 -- the bus was settled before
 on_known : (t : Transfers) (time : List ℕ) (said : Says) (b : Bool)
-    → DoesAs (if b then class_of_said t said else IsOfAnother) t
+    → DoesAs (if b then class_of_said t said else PassedOver) t
     (if b then follow t time said else quietly (record t { recording = past_other_bus t.recording }))
 on_known t time said true = does (class_of_said t said) t (follow t time said) (of_said t time said)
 on_known t time said false = OtherBus refl
 
 -- the bus is settled by this line
 on_first : (t : Transfers) (bus time : List ℕ) (said : Says) (b : Bool) → b ≡ true
-    → DoesAs (if b then class_of_said (settled t bus) said else IsOfAnother) t
+    → DoesAs (if b then class_of_said (settled t bus) said else PassedOver) t
     (if b then follow (settled t bus) time said else
     quietly (record (settled t bus) { recording = past_other_bus (settled t bus).recording }))
 on_first t bus time said true is =
@@ -235,7 +235,7 @@ of_bus t None time said = faulted t MakesNoSense
 -- ---- lines
 
 of_kind : (t : Transfers) (c : LineClass) (step : Step Transfers) (b : Bool) → DoesAs c t step
-    → DoesAs (if b then c else IsOfAnother) t
+    → DoesAs (if b then c else PassedOver) t
     (if b then step else quietly (record t { recording = past_other_kind t.recording }))
 of_kind t c step true does = does
 of_kind t c step false does = OtherKind refl

@@ -2,6 +2,7 @@
 use Rattle.std.specs.Prelude.{◌≡◌, ℕ, ◌<◌, ◌==◌, true, false, Bool, Option, Some, None, List, [], ◌∷◌, ◌++◌, drop}
 use Rattle.std.specs.Prelude.{if◌then◌else◌}
 use Rattle.pmb_io.specs.Lines.{TextLine}
+use Rattle.pmb_recording.specs.Classes.{LineClass, GivesEvents, SaysNothing, PassedOver, IsFault, given_if}
 use Rattle.pmb_recording.specs.Content.{content}
 use Rattle.pmb_recording.specs.Recording.{Step, at_heading, at_loss, cut_text, first_line, following, is_followed}
 use Rattle.pmb_recording.specs.Recording.{past_other_bus, past_other_kind, quietly}
@@ -16,23 +17,7 @@ use Rattle.pmb_kernel.specs.Transfers.{take_line}
 use Rattle.pmb_kernel.specs.declared.transfers.Read.{Read}
 use Rattle.pmb_kernel.specs.declared.transfers.Transfers.{Transfers}
 
--- Each line is one of these.
-pub data LineClass : Type 0 where
-  -- It gives an event, also where that is skipped after a fault.
-  GivesEvents : LineClass
-  -- It says nothing of the bus.
-  SaysNothing : LineClass
-  -- It is of a bus that is not followed, or has the name of an event of SMBus.
-  IsOfAnother : LineClass
-  -- It can't be read, is out of range, or contradicts lines before it.
-  IsFault : LineClass
-
 -- ---- the class of a line
-
--- an event is given where a test holds, and else its line is a fault
-abbrev pub given_if : Bool → LineClass
-given_if true = GivesEvents
-given_if false = IsFault
 
 -- whether the next message that waits for its reply has it in this message
 abbrev pub replies_first : Message → List Read → Bool
@@ -71,7 +56,7 @@ class_of_said t Unreadable = IsFault
 
 -- of an event with the bus that it names
 abbrev pub class_on_bus : Transfers → List ℕ → Says → LineClass
-class_on_bus t bus said = if is_followed t.recording bus then class_of_said t said else IsOfAnother
+class_on_bus t bus said = if is_followed t.recording bus then class_of_said t said else PassedOver
 
 -- the first bus that can be read is followed
 abbrev pub class_if_bus : Transfers → Option (List ℕ) → Says → LineClass
@@ -82,7 +67,7 @@ abbrev pub class_of_event : Transfers → line.Event → LineClass
 class_of_event t e =
     if is_of_messages (line.kind_of e.name) e.has_other then
     class_if_bus t (event_bus e.fields) (says e.name e.fields)
-    else IsOfAnother
+    else PassedOver
 
 -- by what a line says
 abbrev pub class_of_trace : Transfers → line.TraceLine → LineClass
@@ -115,9 +100,9 @@ pub data Unsaid (t : Transfers) (step : Step Transfers) : Type 0 where
   Loss : (count : Option (List ℕ)) → step ≡ on t (at_loss t.recording count) → Unsaid t step
 
 -- A line of another bus, or of another kind of events, changes only the count of those, and tells nothing.
-pub data PassedOver (t : Transfers) (step : Step Transfers) : Type 0 where
-  OtherBus : step ≡ quietly (record t { recording = past_other_bus t.recording }) → PassedOver t step
-  OtherKind : step ≡ quietly (record t { recording = past_other_kind t.recording }) → PassedOver t step
+pub data Passed (t : Transfers) (step : Step Transfers) : Type 0 where
+  OtherBus : step ≡ quietly (record t { recording = past_other_bus t.recording }) → Passed t step
+  OtherKind : step ≡ quietly (record t { recording = past_other_kind t.recording }) → Passed t step
 
 -- A fault: it is told with its line and a reason, after the packet that it cuts, and counted. No packet is under way
 -- after it, and lines that can't begin one are skipped.
@@ -132,7 +117,7 @@ pub record Faulted (t : Transfers) (step : Step Transfers) : Type 0 where
 abbrev pub DoesAs : LineClass → Transfers → Step Transfers → Type 0
 DoesAs GivesEvents t step = GivenText t step.text
 DoesAs SaysNothing t step = Unsaid t step
-DoesAs IsOfAnother t step = PassedOver t step
+DoesAs PassedOver t step = Passed t step
 DoesAs IsFault t step = Faulted t step
 
 -- the class of a line of the input

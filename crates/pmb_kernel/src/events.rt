@@ -169,7 +169,7 @@ fn without_bytes<'a>(fields: Pieces<'a>, bytes: &mut Bytes) -> Option<Message<'a
 }
 
 /// A message, by its fields but the bytes.
-#[tactic(auto, using(crate::proofs::Messages::no_value))]
+#[tactic(auto, using(crate::proofs::MessageFields::no_value))]
 fn message_of<'a>(
     role: Role,
     number: &'a [u8],

@@ -4,6 +4,8 @@
 mod events;
 mod kernel;
 pub mod laws;
+mod messages;
+mod replies;
 mod transfers;
 mod wire;
 

@@ -1,3 +1,4 @@
+pub mod Classes
 pub mod Content
 pub mod Recording
 pub mod Runs

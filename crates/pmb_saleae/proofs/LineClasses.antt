@@ -11,10 +11,11 @@ use Rattle.pmb_recording.specs.Wire.{most_wire}
 use Rattle.pmb_recording.specs.declared.recording.PacketLines.{PacketLines}
 use Rattle.pmb_recording.specs.declared.recording.Recording.{Recording}
 use Rattle.pmb_recording.specs.declared.wire_byte.WireByte.{WireByte}
+use Rattle.pmb_recording.specs.Classes.{LineClass, GivesEvents, SaysNothing, PassedOver, IsFault, given_if}
 use Rattle.pmb_saleae.specs.Classes.{DoesAs, EachLineHasItsClass, Faulted, GivenText, Nothing, Packet, TooLong, Blank}
-use Rattle.pmb_saleae.specs.Classes.{Heading, LineClass, GivesEvents, SaysNothing, OfAnotherBus, IsFault}
+use Rattle.pmb_saleae.specs.Classes.{Heading}
 use Rattle.pmb_saleae.specs.Classes.{at_next_line, class_of, class_of_named, class_of_record, class_of_row}
-use Rattle.pmb_saleae.specs.Classes.{class_of_said, class_on_bus, class_under, given_if, may_stand}
+use Rattle.pmb_saleae.specs.Classes.{class_of_said, class_on_bus, class_under, may_stand}
 use Rattle.pmb_saleae.specs.Columns.{heading_of}
 use Rattle.pmb_saleae.specs.Packets.{add_byte, begin, fault, follow, on, on_bus, refuse, repeat, skip, take_content}
 use Rattle.pmb_saleae.specs.Packets.{take_event, take_named, take_row, take_under, under, with_byte, with_radix}
@@ -58,7 +59,7 @@ abbrev OfEvent : LineClass → Recording → Step Saleae → Type 0
 OfEvent GivesEvents before step = GivenText before step.text
 OfEvent IsFault before step = Faulted before step
 OfEvent SaysNothing before step = ⊥
-OfEvent OfAnotherBus before step = ⊥
+OfEvent PassedOver before step = ⊥
 
 -- a step that is taken where a test holds, and else is refused
 taken_if : (t : Saleae) (event : Event) (b : Bool) (step : Step Saleae) → GivenText t.recording step.text
@@ -123,7 +124,7 @@ does : (c : LineClass) (t : Saleae) (step : Step Saleae) → OfEvent c t.recordi
 does GivesEvents t step of_event = of_event
 does IsFault t step of_event = of_event
 does SaysNothing t step of_event = absurd of_event
-does OfAnotherBus t step of_event = absurd of_event
+does PassedOver t step of_event = absurd of_event
 
 -- the machine that follows the analyzer of a name
 abbrev settled : Saleae → List ℕ → Saleae
@@ -148,18 +149,18 @@ before IsFault t name step of_event =
       skips = of_event.skips;
     }
 before SaysNothing t name step of_event = absurd of_event
-before OfAnotherBus t name step of_event = absurd of_event
+before PassedOver t name step of_event = absurd of_event
 
 -- the bus was settled before
 on_known : (t : Saleae) (columns : Columns) (r : Record) (b : Bool)
-    → DoesAs (if b then class_of_row t columns r else OfAnotherBus) t
+    → DoesAs (if b then class_of_row t columns r else PassedOver) t
     (if b then take_row t columns r else quietly (record t { recording = past_other_bus t.recording }))
 on_known t columns r true = does (class_of_row t columns r) t (take_row t columns r) (of_row t columns r)
 on_known t columns r false = refl
 
 -- the bus is settled by this line
 on_first : (t : Saleae) (name : List ℕ) (columns : Columns) (r : Record) (b : Bool) → b ≡ true
-    → DoesAs (if b then class_of_row (settled t name) columns r else OfAnotherBus) t
+    → DoesAs (if b then class_of_row (settled t name) columns r else PassedOver) t
     (if b then take_row (settled t name) columns r else
     quietly (record (settled t name) { recording = past_other_bus (settled t name).recording }))
 on_first t name columns r true is =

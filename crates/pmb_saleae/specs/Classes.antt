@@ -3,6 +3,7 @@ use Rattle.std.specs.Prelude.{◌≡◌, ℕ, ◌<◌, ◌==◌, not, true, fals
 use Rattle.std.specs.Prelude.{if◌then◌else◌}
 use Rattle.pmb_csv.specs.Fields.{Record, record_of}
 use Rattle.pmb_io.specs.Lines.{TextLine}
+use Rattle.pmb_recording.specs.Classes.{LineClass, GivesEvents, SaysNothing, PassedOver, IsFault, given_if}
 use Rattle.pmb_recording.specs.Content.{content}
 use Rattle.pmb_recording.specs.Recording.{Step, cut_text, first_line, following, is_followed, next_line}
 use Rattle.pmb_recording.specs.Recording.{past_other_bus, quietly}
@@ -18,17 +19,6 @@ use Rattle.pmb_saleae.specs.declared.event.Event.{Event}
 use Rattle.pmb_saleae.specs.declared.event.Event.TheVariants.{Start, Stop, Address, Data}
 use Rattle.pmb_saleae.specs.declared.saleae.Saleae.{Saleae}
 
--- Each line is one of these.
-pub data LineClass : Type 0 where
-  -- It gives an event, also where that is skipped after a fault.
-  GivesEvents : LineClass
-  -- It says nothing of the bus: it is blank, or a heading.
-  SaysNothing : LineClass
-  -- It is of an analyzer that is not followed.
-  OfAnotherBus : LineClass
-  -- It can't be read, is out of range, or contradicts lines before it.
-  IsFault : LineClass
-
 -- ---- the class of a line
 
 -- Whether an event may stand where it does. In the packet under way an address follows START alone, and all others
@@ -42,11 +32,6 @@ may_stand None t Start = true
 may_stand None t Stop = t.recording.is_skipping
 may_stand None t (Address b) = t.recording.is_skipping
 may_stand None t (Data b) = t.recording.is_skipping
-
--- an event is given where a test holds, and else its line is a fault
-abbrev pub given_if : Bool → LineClass
-given_if true = GivesEvents
-given_if false = IsFault
 
 -- what a row gives, if that makes sense
 abbrev pub class_of_said : Saleae → Option Event → LineClass
@@ -62,7 +47,7 @@ class_of_row t columns r =
 
 -- a row of an analyzer: the first that can be read settles which is followed
 abbrev pub class_on_bus : Saleae → List ℕ → Columns → Record → LineClass
-class_on_bus t name columns r = if is_followed t.recording name then class_of_row t columns r else OfAnotherBus
+class_on_bus t name columns r = if is_followed t.recording name then class_of_row t columns r else PassedOver
 
 abbrev pub class_of_named : Saleae → Option (List ℕ) → Columns → Record → LineClass
 class_of_named t (Some name) columns r =
@@ -121,7 +106,7 @@ pub record Faulted (before : Recording) (step : Step Saleae) : Type 0 where
 abbrev pub DoesAs : LineClass → Saleae → Step Saleae → Type 0
 DoesAs GivesEvents t step = GivenText t.recording step.text
 DoesAs SaysNothing t step = SaidNothing t step
-DoesAs OfAnotherBus t step = step ≡ quietly (record t { recording = past_other_bus t.recording })
+DoesAs PassedOver t step = step ≡ quietly (record t { recording = past_other_bus t.recording })
 DoesAs IsFault t step = Faulted t.recording step
 
 -- the machine at its next line

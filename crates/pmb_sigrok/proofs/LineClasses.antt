@@ -10,10 +10,10 @@ use Rattle.pmb_recording.specs.Recording.{quietly}
 use Rattle.pmb_recording.specs.Told.{Reason, DoesNotFollow, MakesNoSense}
 use Rattle.pmb_recording.specs.declared.recording.PacketLines.{PacketLines}
 use Rattle.pmb_recording.specs.declared.recording.Recording.{Recording}
+use Rattle.pmb_recording.specs.Classes.{LineClass, GivesEvents, SaysNothing, PassedOver, IsFault, given_if}
 use Rattle.pmb_sigrok.specs.Classes.{DoesAs, EachLineHasItsClass, Faulted, GivenText, Nothing, Cut, Packet, TooLong}
-use Rattle.pmb_sigrok.specs.Classes.{LineClass, GivesEvents, SaysNothing, OfAnotherBus, IsFault}
 use Rattle.pmb_sigrok.specs.Classes.{at_next_line, class_of, class_of_decoded, class_on_bus, class_of_event}
-use Rattle.pmb_sigrok.specs.Classes.{class_of_said, given_if, may_stand}
+use Rattle.pmb_sigrok.specs.Classes.{class_of_said, may_stand}
 use Rattle.pmb_sigrok.specs.Packets.{after_skipped, fault, follow, go_on, inside, is_answered, moved}
 use Rattle.pmb_sigrok.specs.Packets.{next_place, on, said}
 use Rattle.pmb_recording.specs.Wire.{most_wire}
@@ -41,7 +41,7 @@ abbrev OfEvent : LineClass → Sigrok → Step Sigrok → Type 0
 OfEvent GivesEvents s step = GivenText s step.text
 OfEvent IsFault s step = Faulted s step
 OfEvent SaysNothing s step = ⊥
-OfEvent OfAnotherBus s step = ⊥
+OfEvent PassedOver s step = ⊥
 
 -- a step that is taken where a test holds, and else is a fault
 tested : (s : Sigrok) (b : Bool) (step : Step Sigrok) (reason : Reason) → GivenText s step.text
@@ -99,7 +99,7 @@ does : (c : LineClass) (s : Sigrok) (step : Step Sigrok) → OfEvent c s step �
 does GivesEvents s step of_event = of_event
 does IsFault s step of_event = of_event
 does SaysNothing s step of_event = absurd of_event
-does OfAnotherBus s step of_event = absurd of_event
+does PassedOver s step of_event = absurd of_event
 
 -- the machine that follows the bus of a name
 abbrev settled : Sigrok → List ℕ → Sigrok
@@ -124,18 +124,18 @@ before IsFault s name step of_event =
       skips = of_event.skips;
     }
 before SaysNothing s name step of_event = absurd of_event
-before OfAnotherBus s name step of_event = absurd of_event
+before PassedOver s name step of_event = absurd of_event
 
 -- the bus was settled before
 on_known : (s : Sigrok) (l : line.Line) (b : Bool)
-    → DoesAs (if b then class_of_said s (said s.form l.event) else OfAnotherBus) s
+    → DoesAs (if b then class_of_said s (said s.form l.event) else PassedOver) s
     (if b then take_said s l.sample (said s.form l.event) else quietly (record s { recording = past_other_bus s.recording }))
 on_known s l true = does (class_of_said s (said s.form l.event)) s (take_said s l.sample (said s.form l.event)) (of_said s l.sample (said s.form l.event))
 on_known s l false = refl
 
 -- the bus is settled by this line
 on_first : (s : Sigrok) (l : line.Line) (b : Bool) → b ≡ true
-    → DoesAs (if b then class_of_said (settled s l.name) (said s.form l.event) else OfAnotherBus) s
+    → DoesAs (if b then class_of_said (settled s l.name) (said s.form l.event) else PassedOver) s
     (if b then take_said (settled s l.name) l.sample (said s.form l.event) else
     quietly (record (settled s l.name) { recording = past_other_bus (settled s l.name).recording }))
 on_first s l true is =

@@ -2,6 +2,7 @@
 use Rattle.std.specs.Prelude.{◌≡◌, ℕ, ◌<◌, ◌==◌, true, false, Bool, Option, Some, None, is_some, List, [], ◌++◌}
 use Rattle.std.specs.Prelude.{if◌then◌else◌}
 use Rattle.pmb_io.specs.Lines.{TextLine}
+use Rattle.pmb_recording.specs.Classes.{LineClass, GivesEvents, SaysNothing, PassedOver, IsFault, given_if}
 use Rattle.pmb_recording.specs.Content.{content}
 use Rattle.pmb_recording.specs.Recording.{Step, cut_text, first_line, following, is_followed, next_line}
 use Rattle.pmb_recording.specs.Recording.{past_other_bus, quietly}
@@ -12,17 +13,6 @@ use Rattle.pmb_sigrok.specs.declared.sigrok.Sigrok.{Sigrok}
 use Rattle.pmb_sigrok_line.specs.Line as line
 use Rattle.pmb_sigrok_line.specs.declared.event.Event.{Event}
 use Rattle.pmb_sigrok_line.specs.declared.event.Event.TheVariants.{Start, Stop}
-
--- Each line is one of these.
-pub data LineClass : Type 0 where
-  -- It gives an event, also where that is skipped after a fault.
-  GivesEvents : LineClass
-  -- It says nothing of the bus.
-  SaysNothing : LineClass
-  -- It is of a bus that is not followed.
-  OfAnotherBus : LineClass
-  -- It can't be read, is out of range, or contradicts lines before it.
-  IsFault : LineClass
 
 -- ---- the class of a line
 
@@ -36,11 +26,6 @@ abbrev pub may_stand : Option PacketLines → Sigrok → Event → Bool
 may_stand (Some lines) s event = may_follow s event
 may_stand None s event = s.recording.is_skipping
 
--- an event is given where a test holds, and else its line is a fault
-abbrev pub given_if : Bool → LineClass
-given_if true = GivesEvents
-given_if false = IsFault
-
 -- An event in range: START begins a packet wherever it stands.
 abbrev pub class_of_event : Sigrok → Event → LineClass
 class_of_event s Start = GivesEvents
@@ -53,7 +38,7 @@ class_of_said s None = IsFault
 
 -- a line with the bus that it names
 abbrev pub class_on_bus : Sigrok → line.Line → LineClass
-class_on_bus s l = if is_followed s.recording l.name then class_of_said s (said s.form l.event) else OfAnotherBus
+class_on_bus s l = if is_followed s.recording l.name then class_of_said s (said s.form l.event) else PassedOver
 
 -- a line that is no remark: the first that can be read settles the bus
 abbrev pub class_of_decoded : Sigrok → Option line.Line → LineClass
@@ -89,7 +74,7 @@ pub record Faulted (s : Sigrok) (step : Step Sigrok) : Type 0 where
 abbrev pub DoesAs : LineClass → Sigrok → Step Sigrok → Type 0
 DoesAs GivesEvents s step = GivenText s step.text
 DoesAs SaysNothing s step = step ≡ quietly s
-DoesAs OfAnotherBus s step = step ≡ quietly (record s { recording = past_other_bus s.recording })
+DoesAs PassedOver s step = step ≡ quietly (record s { recording = past_other_bus s.recording })
 DoesAs IsFault s step = Faulted s step
 
 -- the machine at its next line

@@ -12,10 +12,11 @@ use Rattle.pmb_recording.specs.declared.recording.PacketLines.{PacketLines}
 use Rattle.pmb_recording.specs.declared.recording.Recording.{Recording}
 use Rattle.pmb_trace.specs.Fields.{Outcome, event_bus}
 use Rattle.pmb_trace.specs.Line as line
+use Rattle.pmb_recording.specs.Classes.{LineClass, GivesEvents, SaysNothing, PassedOver, IsFault, given_if}
 use Rattle.pmb_smbus.specs.Classes.{DoesAs, EachLineHasItsClass, Faulted, GivenText, Nothing, Cut, Packet, Failed}
-use Rattle.pmb_smbus.specs.Classes.{BytesHidden, ReplyHidden, PassedOver}
+use Rattle.pmb_smbus.specs.Classes.{BytesHidden, ReplyHidden}
 use Rattle.pmb_smbus.specs.Classes.{Silent, Heading, Lost, OtherBus, OtherKind, at_next_line, class_of, class_of_bus}
-use Rattle.pmb_smbus.specs.Classes.{class_of_event, class_of_own, class_of_said, class_on_bus, given_if, may_result}
+use Rattle.pmb_smbus.specs.Classes.{class_of_event, class_of_own, class_of_said, class_on_bus, may_result}
 use Rattle.pmb_smbus.specs.Classes.{may_stand}
 use Rattle.pmb_smbus.specs.Events.{Replies, Reads, Result, Says, Unreadable, Writes, bytes_shown, hides, own_fault}
 use Rattle.pmb_smbus.specs.Transfers.{ends, event, event_says, fault, follow, follow_says, has_its_reply, if_bus}

@@ -2,6 +2,7 @@
 use Rattle.std.specs.Prelude.{◌≡◌, ℕ, ◌<◌, ◌==◌, ◌&&◌, ◌||◌, true, false, Bool, Option, Some, None, is_none, List, []}
 use Rattle.std.specs.Prelude.{◌++◌, if◌then◌else◌}
 use Rattle.pmb_io.specs.Lines.{TextLine}
+use Rattle.pmb_recording.specs.Classes.{LineClass, GivesEvents, SaysNothing, PassedOver, IsFault, given_if}
 use Rattle.pmb_recording.specs.Content.{content}
 use Rattle.pmb_recording.specs.Recording.{Step, at_heading, at_loss, cut_text, first_line, following, is_followed}
 use Rattle.pmb_recording.specs.Recording.{next_line, past_other_bus, past_other_kind, quietly}
@@ -15,17 +16,6 @@ use Rattle.pmb_smbus.specs.Packets.{legs_wire, packet_wire}
 use Rattle.pmb_smbus.specs.Transfers.{event_says, has_its_reply, may_end, may_reply, on, take_line, with_recording}
 use Rattle.pmb_smbus.specs.declared.events.Head.{Head}
 use Rattle.pmb_smbus.specs.declared.transfers.Transfers.{Transfers}
-
--- Each line is one of these.
-pub data LineClass : Type 0 where
-  -- It gives an event, also where that is skipped.
-  GivesEvents : LineClass
-  -- It says nothing of the bus: neither does a heading, nor a line of lost events.
-  SaysNothing : LineClass
-  -- It is of a bus that is not followed, or has the name of an event of messages.
-  PassedOver : LineClass
-  -- It can't be read, is out of range, or contradicts lines before it.
-  IsFault : LineClass
 
 -- ---- the class of a line
 
@@ -42,11 +32,6 @@ may_stand packet s Unreadable = false
 may_stand (Some lines) s (Replies m) = may_reply s.transfer m.front.head
 may_stand (Some lines) s (Result front writes outcome) = may_result s front.head writes outcome.value
 may_stand None s said = s.recording.is_skipping
-
--- an event is given where a test holds, and else its line is a fault
-abbrev pub given_if : Bool → LineClass
-given_if true = GivesEvents
-given_if false = IsFault
 
 -- a line of the bus that is followed: an event that has no fault by itself, and may stand there
 abbrev pub class_of_own : Transfers → Says → LineClass

@@ -3,7 +3,9 @@
 
 mod events;
 pub mod laws;
+mod messages;
 mod protocol;
+mod results;
 mod smbus;
 mod transfer;
 mod transfers;

@@ -1,6 +1,6 @@
 //! SMBus transfers, put together from the kernel's events of `smbus`.
 
-ghost use Rattle.std.specs.Prelude.{◌≡◌, ◌≤◌, ℕ, List, IfSome, OnOk, Some, length, option_copied};
+ghost use Rattle.std.specs.Prelude.{◌≡◌, ◌≤◌, IfSome, OnOk, Some, length, option_copied};
 ghost use Rattle.pmb_io.specs.Calls.{WriterTells};
 ghost use Rattle.pmb_io.specs.Outgoing.{PutsText};
 ghost use Rattle.pmb_io.specs.Lines.{line_text};
@@ -9,20 +9,18 @@ ghost use Rattle.pmb_recording.specs.Recording.{at_loss, tally_of};
 ghost use Rattle.pmb_recording.specs.Told.{reason_of};
 ghost use Rattle.pmb_trace.specs.Line.{in_seconds, kind_of, trace_line as traced};
 ghost use Rattle.pmb_trace.specs.declared.event_name.EventKind.TheVariants.{Smbus};
-ghost use Rattle.pmb_trace.specs.Views.{count_of, event_of, outcome_of};
+ghost use Rattle.pmb_trace.specs.Views.{count_of, event_of};
 ghost use Rattle.pmb_words.specs.Left.{pieces_left};
 ghost use Rattle.pmb_smbus.specs.Events as events;
 ghost use Rattle.pmb_smbus.specs.Transfers as steps;
-ghost use Rattle.pmb_smbus.specs.Views.{IsShortEvent, front_of, message_with, said as said_with};
+ghost use Rattle.pmb_smbus.specs.Views.{IsShortEvent, said as said_with};
 
-use crate::events::{Front, Head, Message, Says, read_event};
+use crate::events::{Says, read_event};
 use crate::transfer::Transfer;
 use pmb_io::laws::texts_add_up;
 use pmb_io::{InputLine, RunFault, Sink, Tally, Waiting};
 use pmb_recording::{Fault, Kind, Recording, content};
-use pmb_trace::{
-    Bytes, Event, EventKind, Loss, Outcome, TraceLine, bus_field, event_time, trace_line,
-};
+use pmb_trace::{Bytes, Event, EventKind, Loss, TraceLine, bus_field, event_time, trace_line};
 
 /// A recording of the kernel's events of `smbus`, and the transfer under way.
 #[derive(Drop)]
@@ -223,126 +221,12 @@ impl Transfers {
         }
     }
 
-    /// Takes `smbus_write`.
-    fn take_write<W: Sink>(
-        &mut self,
-        time: &[u8],
-        message: Message<'_>,
-        bytes: &[u8],
-        waiting: &mut Waiting,
-        writer: &mut W,
-    ) -> Result<(), RunFault>
-        requires { length time.now ≤ most_content }
-        ensures now { self.new ≡ (steps.follow self.old (in_seconds time.now) (events.Writes (message_with message.entry bytes.now))).now }
-        ensures puts { OnOk result (PutsText (W.told writer.old).held waiting.old.items (W.told writer.new).held waiting.new.items (steps.follow self.old (in_seconds time.now) (events.Writes (message_with message.entry bytes.now))).text) }
-        ensures failed { WriterTells (W.told writer.old) (W.told writer.new) result }
-    {
-        if let Some(fault) = message.write_fault(bytes) {
-            return self.fault(fault, waiting, writer);
-        }
-        self.begin(
-            time,
-            message.front.head,
-            true,
-            message.shown(bytes),
-            message.hides(),
-            waiting,
-            writer,
-        )
-    }
-
-    /// Takes `smbus_read`.
-    fn take_read<W: Sink>(
-        &mut self,
-        time: &[u8],
-        front: Front<'_>,
-        waiting: &mut Waiting,
-        writer: &mut W,
-    ) -> Result<(), RunFault>
-        requires { length time.now ≤ most_content }
-        ensures now { self.new ≡ (steps.follow self.old (in_seconds time.now) (events.Reads (front_of front.entry))).now }
-        ensures puts { OnOk result (PutsText (W.told writer.old).held waiting.old.items (W.told writer.new).held waiting.new.items (steps.follow self.old (in_seconds time.now) (events.Reads (front_of front.entry))).text) }
-        ensures failed { WriterTells (W.told writer.old) (W.told writer.new) result }
-    {
-        if let Some(fault) = front.read_fault() {
-            return self.fault(fault, waiting, writer);
-        }
-        self.begin(time, front.head, false, b"", false, waiting, writer)
-    }
-
-    /// Begins a transfer.
-    fn begin<W: Sink>(
-        &mut self,
-        time: &[u8],
-        head: Head,
-        writes: bool,
-        bytes: &[u8],
-        is_hidden: bool,
-        waiting: &mut Waiting,
-        writer: &mut W,
-    ) -> Result<(), RunFault>
-        requires time { length time.now ≤ most_content }
-        requires bytes { length bytes.now ≤ 256 }
-        ensures now { self.new ≡ (steps.begin self.old (in_seconds time.now) (steps.begun head writes bytes.now is_hidden)).now }
-        ensures puts { OnOk result (PutsText (W.told writer.old).held waiting.old.items (W.told writer.new).held waiting.new.items (steps.begin self.old (in_seconds time.now) (steps.begun head writes bytes.now is_hidden)).text) }
-        ensures failed { WriterTells (W.told writer.old) (W.told writer.new) result }
-    {
-        self.transfer.begin(head, writes, bytes, is_hidden);
-        self.recording.begin(time, b" s", waiting, writer)
-    }
-
-    /// Takes `smbus_reply`.
-    fn take_reply<W: Sink>(
-        &mut self,
-        message: Message<'_>,
-        bytes: &[u8],
-        waiting: &mut Waiting,
-        writer: &mut W,
-    ) -> Result<(), RunFault>
-        ensures now { (time : List ℕ) → self.new ≡ (steps.follow self.old time (events.Replies (message_with message.entry bytes.now))).now }
-        ensures puts { (time : List ℕ) → OnOk result (PutsText (W.told writer.old).held waiting.old.items (W.told writer.new).held waiting.new.items (steps.follow self.old time (events.Replies (message_with message.entry bytes.now))).text) }
-        ensures failed { WriterTells (W.told writer.old) (W.told writer.new) result }
-    {
-        if let Some(fault) = message.reply_fault(bytes) {
-            return self.fault(fault, waiting, writer);
-        }
-        match self.recording.packet {
-            Some(_) => self.reply(
-                message.front.head,
-                message.shown(bytes),
-                message.hides(),
-                waiting,
-                writer,
-            ),
-            None => self.take_stray(waiting, writer),
-        }
-    }
-
-    /// Takes the reply of the transfer under way.
-    fn reply<W: Sink>(
-        &mut self,
-        head: Head,
-        bytes: &[u8],
-        is_hidden: bool,
-        waiting: &mut Waiting,
-        writer: &mut W,
-    ) -> Result<(), RunFault>
-        requires { length bytes.now ≤ 256 }
-        ensures now { self.new ≡ (steps.reply self.old head bytes.now is_hidden).now }
-        ensures puts { OnOk result (PutsText (W.told writer.old).held waiting.old.items (W.told writer.new).held waiting.new.items (steps.reply self.old head bytes.now is_hidden).text) }
-        ensures failed { WriterTells (W.told writer.old) (W.told writer.new) result }
-    {
-        texts_add_up();
-        if !self.transfer.may_reply(head) {
-            return self.fault(Fault::DoesNotFollow, waiting, writer);
-        }
-        self.recording.give();
-        self.transfer.take_reply(bytes, is_hidden);
-        Ok(())
-    }
-
     /// Takes what can't begin a packet, where none is under way.
-    fn take_stray<W: Sink>(&mut self, waiting: &mut Waiting, writer: &mut W) -> Result<(), RunFault>
+    pub(crate) fn take_stray<W: Sink>(
+        &mut self,
+        waiting: &mut Waiting,
+        writer: &mut W,
+    ) -> Result<(), RunFault>
         ensures now { self.new ≡ (steps.stray self.old).now }
         ensures puts { OnOk result (PutsText (W.told writer.old).held waiting.old.items (W.told writer.new).held waiting.new.items (steps.stray self.old).text) }
         ensures failed { WriterTells (W.told writer.old) (W.told writer.new) result }
@@ -354,118 +238,8 @@ impl Transfers {
         self.fault(Fault::DoesNotFollow, waiting, writer)
     }
 
-    /// Takes `smbus_result`.
-    fn take_result<W: Sink>(
-        &mut self,
-        front: Front<'_>,
-        writes: bool,
-        outcome: Outcome<'_>,
-        waiting: &mut Waiting,
-        writer: &mut W,
-    ) -> Result<(), RunFault>
-        ensures now { (time : List ℕ) → self.new ≡ (steps.follow self.old time (events.Result (front_of front.entry) writes (outcome_of outcome.entry))).now }
-        ensures puts { (time : List ℕ) → OnOk result (PutsText (W.told writer.old).held waiting.old.items (W.told writer.new).held waiting.new.items (steps.follow self.old time (events.Result (front_of front.entry) writes (outcome_of outcome.entry))).text) }
-        ensures failed { WriterTells (W.told writer.old) (W.told writer.new) result }
-    {
-        if front.is_far() {
-            return self.fault(Fault::MakesNoSense, waiting, writer);
-        }
-        match self.recording.packet {
-            Some(_) => self.end_transfer(front.head, writes, outcome, waiting, writer),
-            None => self.take_stray_result(waiting, writer),
-        }
-    }
-
-    /// Takes a result where no packet is under way.
-    fn take_stray_result<W: Sink>(
-        &mut self,
-        waiting: &mut Waiting,
-        writer: &mut W,
-    ) -> Result<(), RunFault>
-        ensures now { self.new ≡ (steps.stray_result self.old).now }
-        ensures puts { OnOk result (PutsText (W.told writer.old).held waiting.old.items (W.told writer.new).held waiting.new.items (steps.stray_result self.old).text) }
-        ensures failed { WriterTells (W.told writer.old) (W.told writer.new) result }
-    {
-        texts_add_up();
-        if self.recording.is_skipping {
-            self.recording.end_skipping();
-            return Ok(());
-        }
-        self.fault(Fault::DoesNotFollow, waiting, writer)
-    }
-
-    /// Takes the result of the transfer under way.
-    fn end_transfer<W: Sink>(
-        &mut self,
-        head: Head,
-        writes: bool,
-        outcome: Outcome<'_>,
-        waiting: &mut Waiting,
-        writer: &mut W,
-    ) -> Result<(), RunFault>
-        ensures now { self.new ≡ (steps.take_result self.old head writes (outcome_of outcome.entry)).now }
-        ensures puts { OnOk result (PutsText (W.told writer.old).held waiting.old.items (W.told writer.new).held waiting.new.items (steps.take_result self.old head writes (outcome_of outcome.entry)).text) }
-        ensures failed { WriterTells (W.told writer.old) (W.told writer.new) result }
-    {
-        if !self.transfer.may_end(head, writes) {
-            return self.fault(Fault::DoesNotFollow, waiting, writer);
-        }
-        match outcome.value {
-            Some(_) => self.end_success(writes, waiting, writer),
-            None => self.end_failure(outcome.text, waiting, writer),
-        }
-    }
-
-    /// Ends a transfer that failed.
-    fn end_failure<W: Sink>(
-        &mut self,
-        outcome: &[u8],
-        waiting: &mut Waiting,
-        writer: &mut W,
-    ) -> Result<(), RunFault>
-        ensures now { self.new ≡ (steps.failed self.old outcome.now).now }
-        ensures puts { OnOk result (PutsText (W.told writer.old).held waiting.old.items (W.told writer.new).held waiting.new.items (steps.failed self.old outcome.now).text) }
-        ensures failed { WriterTells (W.told writer.old) (W.told writer.new) result }
-    {
-        self.transfer.put_legs(&mut self.recording.wire);
-        self.recording.end_failure(outcome, waiting, writer)
-    }
-
-    /// Ends a transfer that went through.
-    fn end_success<W: Sink>(
-        &mut self,
-        writes: bool,
-        waiting: &mut Waiting,
-        writer: &mut W,
-    ) -> Result<(), RunFault>
-        ensures now { self.new ≡ (steps.went_through self.old writes).now }
-        ensures puts { OnOk result (PutsText (W.told writer.old).held waiting.old.items (W.told writer.new).held waiting.new.items (steps.went_through self.old writes).text) }
-        ensures failed { WriterTells (W.told writer.old) (W.told writer.new) result }
-    {
-        if !self.transfer.has_its_reply(writes) {
-            return self.fault(Fault::DoesNotFollow, waiting, writer);
-        }
-        if self.transfer.lacks_bytes() {
-            return self.recording.end_hidden_bytes(waiting, writer);
-        }
-        if self.transfer.lacks_reply(writes) {
-            return self.recording.end_hidden_reply(waiting, writer);
-        }
-        self.end_packet(waiting, writer)
-    }
-
-    /// Ends a transfer that is shown whole.
-    fn end_packet<W: Sink>(&mut self, waiting: &mut Waiting, writer: &mut W) -> Result<(), RunFault>
-        ensures now { self.new ≡ (steps.whole self.old).now }
-        ensures puts { OnOk result (PutsText (W.told writer.old).held waiting.old.items (W.told writer.new).held waiting.new.items (steps.whole self.old).text) }
-        ensures failed { WriterTells (W.told writer.old) (W.told writer.new) result }
-    {
-        self.transfer.put_packet(&mut self.recording.wire);
-        self.recording.end_packet(waiting, writer)
-    }
-
     /// Takes a fault.
-    fn fault<W: Sink>(
+    pub(crate) fn fault<W: Sink>(
         &mut self,
         fault: Fault<'_>,
         waiting: &mut Waiting,

@@ -1,6 +1,6 @@
 use Rattle.std.proofs.Common.{◌≡◌, ◌≤◌, take}
 use Rattle.pmb_kernel.specs.Transfers.{reads_below}
-use Rattle.pmb_kernel.proofs.transfers.reads_below.Given as goal
+use Rattle.pmb_kernel.proofs.replies.reads_below.Given as goal
 
 -- those so far
 abbrev pub invariant-loop-read : goal.invariant-loop-read
