@@ -1,7 +1,7 @@
 -- What `clap` found in the words, as what they ask for: the subcommand's name, its matches, and a
--- text or texts with what stands for none. For `task_of`, `work_of`, `direction_of`, `read_json`
--- and `has_flag`. The types that clap lends are read as the texts they point to.
-use Rattle.std.proofs.Common.{◌≡◌, Bool, true, Option, Some, None, List, [], map, refl, sym, ap, ◌∙◌}
+-- text or texts with what stands for none. For `task_of`, `work_of`, `direction_of`, `read_json`,
+-- `read_import` and `has_flag`. The types that clap lends are read as the texts they point to.
+use Rattle.std.proofs.Common.{◌≡◌, Bool, true, false, Option, Some, None, List, [], map, refl, sym, ap, ◌∙◌}
 use Rattle.std.specs.Borrow.{Bor}
 use Rattle.std.specs.Option.{option_map, unwrap_or}
 use Rattle.std.specs.Prelude.{Box}
@@ -17,6 +17,12 @@ use Rattle.clap.specs.declared.parser.matches.SubCommand.{SubCommand}
 -- a name that was found to be this text
 pub is_text : (name text : Text) (same : Bool) → same ≡ bytes_eq name text → same ≡ true → name ≡ text
 is_text name text same told is = (bytes_eq-Decides name text).0 (sym told ∙ is)
+
+-- or not to be
+pub is_no_text : (name text : Text) (same : Bool) → same ≡ bytes_eq name text → same ≡ false → ¬ (name ≡ text)
+is_no_text name text same told is_not named =
+    let clash : false ≡ true = sym is_not ∙ told ∙ (bytes_eq-Decides name text).1 named in
+    cc
 
 -- ---- its matches
 

@@ -1,21 +1,24 @@
 -- The words ask for one thing at most: the law `one_asking`, and for `parse_command`, `task_of`
 -- and `work_of`. One subcommand was met, with one name, whose first letter tells it from all
--- others (106, `j`, is that of `json`); its flags choose one thing. A fault, help or the version
--- ask for nothing else.
+-- others (105, `i`, is that of `import`, and 106, `j`, that of `json`); its matches choose one
+-- thing. A fault, help or the version ask for nothing else.
 use Rattle.std.proofs.Common.{◌≡◌, ◌⊎◌, ◌≤◌, ℕ, ◌==◌, if◌then◌else◌, Option, Some, None, List, [], ◌∷◌, get_or, codes}
 use Rattle.std.proofs.Common.{inl, inr, refl, sym, ap, ◌∙◌, subst, arith}
 use Rattle.clap.specs.Words.{IsAmong, Kinds, Row, Text, subcommand_of}
 use Rattle.clap.specs.declared.error.kind.ErrorKind.{ErrorKind}
 use Rattle.pmb_args.specs.declared.exit_status.ExitStatus.{ExitStatus}
 use Rattle.pmb_args.specs.declared.exit_status.ExitStatus.TheVariants.{Done, BadArguments, IoFailed, NoMemory}
-use Rattle.pmb_args.specs.Asked.{AskFor, Asking, AsksNothing, Convert, FlagsAsk, HasBadFormat, NameAsks, NamesNone}
+use Rattle.pmb_args.specs.Asked.{AskFor, Asking, AsksNothing, Convert, FlagsAsk, HasBadFormat, Import, NameAsks, NamesNone}
 use Rattle.pmb_args.specs.Asked.{SubcommandAsks, UnderProfile, Wanted, Show, Check, Json, Build, Run, Profile}
 use Rattle.pmb_args.specs.Asked.{converter, format_in, name_of, place_in}
 use Rattle.pmb_args.specs.declared.direction.Direction.{Direction}
 use Rattle.pmb_args.specs.declared.direction.Direction.TheVariants.{Encode, Decode}
 use Rattle.pmb_args.specs.declared.profile_place.ProfilePlace.{ProfilePlace}
 use Rattle.clap.specs.declared.error.kind.ErrorKind.TheVariants.{DisplayHelp, DisplayVersion, OutOfMemory}
+use Rattle.pmb_recorder.specs.Recorded.{Recorded}
+use Rattle.pmb_args.specs.Import.{ImportAsks}
 use Rattle.pmb_args.specs.Json.{JsonAsks, JsonWanted, at_first}
+use Rattle.pmb_args.proofs.ImportOnce.{MakeOne, one_recorded}
 use Rattle.pmb_args.proofs.JsonOnce.{one_wanted}
 use Rattle.pmb_args.specs.Words.{AskToTell, IsTelling, help, version, faults_of, pmb_app}
 
@@ -132,38 +135,72 @@ other_name wanted direction same = by wanted direction (sym (begins wanted) ∙ 
     by Run direction is = omega (arith, is, (converts direction).1)
     by Profile direction is = omega (arith, is, (converts direction).1)
 
+-- `import` wants no profile, and converts nothing
+wants_no_import : (wanted : Wanted) → name_of wanted ≡ codes "import" → ⊥
+wants_no_import wanted same = by wanted (sym (begins wanted) ∙ ap (λ (t : Text). get_or t 0 0) same)
+  where
+    by : (wanted : Wanted) → letter_of wanted ≡ 105 → ⊥
+    by Show is = omega (arith, is)
+    by Check is = omega (arith, is)
+    by (Json choice) is = omega (arith, is)
+    by Build is = omega (arith, is)
+    by Run is = omega (arith, is)
+    by Profile is = omega (arith, is)
+
+converts_no_import : (direction : Direction) → converter direction ≡ codes "import" → ⊥
+converts_no_import direction same = by direction (sym (converter_begins direction)
+    ∙ ap (λ (t : Text). get_or t 0 0) same)
+  where
+    by : (direction : Direction) → converter_letter direction ≡ 105 → ⊥
+    by Encode is = omega (arith, is)
+    by Decode is = omega (arith, is)
+
 -- ---- one thing is asked for
 
-pub one_asking : (found : Option (Text × List Row)) (a b : Asking) → SubcommandAsks found a → SubcommandAsks found b
-    → a ≡ b
-one_asking found (UnderProfile place wanted) (UnderProfile other others) is also =
+pub one_asking : MakeOne → (found : Option (Text × List Row)) (a b : Asking) → SubcommandAsks found a
+    → SubcommandAsks found b → a ≡ b
+one_asking one found (Import recorded) (Import other) is also =
+    ap Import (one_recorded one also.0 recorded other (subst (λ (rs : List Row). ImportAsks rs recorded)
+    (one_rows found _ _ is.0 also.0 is.1 also.1) is.2) also.2)
+one_asking one found (Import recorded) (UnderProfile place wanted) is also =
+    absurd (wants_no_import wanted (one_name found _ _ also.0 is.0 also.1 is.1))
+one_asking one found (Import recorded) (Convert direction format) is also =
+    absurd (converts_no_import direction (one_name found _ _ also.0 is.0 also.1 is.1))
+one_asking one found (UnderProfile place wanted) (Import recorded) is also =
+    absurd (wants_no_import wanted (one_name found _ _ is.0 also.0 is.1 also.1))
+one_asking one found (Convert direction format) (Import recorded) is also =
+    absurd (converts_no_import direction (one_name found _ _ is.0 also.0 is.1 also.1))
+one_asking one found (UnderProfile place wanted) (UnderProfile other others) is also =
     let rows = one_rows found _ _ is.0 also.0 is.1 also.1 in
     let flags = subst (λ (rs : List Row). FlagsAsk rs wanted) rows is.3 in
     ap (λ (p : ProfilePlace). UnderProfile p wanted) (is.2 ∙ ap place_in rows ∙ sym also.2)
     ∙ ap (UnderProfile other) (one_of_name also.0 wanted others (one_name found _ _ is.0 also.0 is.1 also.1) flags
     also.3)
-one_asking found (UnderProfile place wanted) (Convert direction format) is also =
+one_asking one found (UnderProfile place wanted) (Convert direction format) is also =
     absurd (other_name wanted direction (one_name found _ _ is.0 also.0 is.1 also.1))
-one_asking found (Convert direction format) (UnderProfile place wanted) is also =
+one_asking one found (Convert direction format) (UnderProfile place wanted) is also =
     absurd (other_name wanted direction (one_name found _ _ also.0 is.0 also.1 is.1))
-one_asking found (Convert direction format) (Convert other others) is also =
+one_asking one found (Convert direction format) (Convert other others) is also =
     ap (λ (d : Direction). Convert d format)
     (one_direction direction other (one_name found _ _ is.0 also.0 is.1 also.1))
     ∙ ap (Convert other) (is.2 ∙ ap format_in (one_rows found _ _ is.0 also.0 is.1 also.1) ∙ sym also.2)
 
 -- ---- a subcommand that asks for nothing
 
--- where its name and its matches want nothing, and it doesn't convert
+-- where its name and its matches want nothing, it doesn't convert, and it isn't `import`, or its matches have a fault
 pub nothing_named : (found : Option (Text × List Row)) (name : Text) (rows : List Row) → found ≡ Some (name, rows)
     → ((wanted : Wanted) → ¬ (NameAsks name rows wanted)) → ((direction : Direction) → ¬ (name ≡ converter direction))
-    → AsksNothing found
-nothing_named found name rows named none_wanted none_converts (UnderProfile place wanted) is =
+    → (name ≡ codes "import" → (recorded : Recorded) → ¬ (ImportAsks rows recorded)) → AsksNothing found
+nothing_named found name rows named none_wanted none_converts none_imports (Import recorded) is =
+    none_imports (one_name found _ _ rows is.0 named is.1) recorded
+    (subst (λ (rs : List Row). ImportAsks rs recorded) (one_rows found _ _ is.0 rows is.1 named) is.2)
+nothing_named found name rows named none_wanted none_converts none_imports (UnderProfile place wanted) is =
     none_wanted wanted (
       one_name found _ _ rows is.0 named is.1,
       subst (λ (rs : List Row). FlagsAsk rs wanted)
           (one_rows found _ _ is.0 rows is.1 named) is.3,
     )
-nothing_named found name rows named none_wanted none_converts (Convert direction format) is =
+nothing_named found name rows named none_wanted none_converts none_imports (Convert direction format) is =
     none_converts direction (one_name found _ _ rows is.0 named is.1)
 
 -- of `json`, where its matches choose nothing
@@ -175,18 +212,26 @@ json_wants_none rows none wanted asks = none (choice_in wanted)
 pub json_nothing : (found : Option (Text × List Row)) (rows : List Row) → found ≡ Some (codes "json", rows)
     → ((choice : JsonWanted) → ¬ (JsonAsks rows choice)) → AsksNothing found
 json_nothing found rows named none = nothing_named found (codes "json") rows named (json_wants_none rows none)
-    (λ direction same. other_name (Json at_first) direction same)
+    (λ direction same. other_name (Json at_first) direction same) (λ same. absurd (wants_no_import (Json at_first) same))
+
+-- of `import`, where its matches ask for nothing
+pub import_nothing : (found : Option (Text × List Row)) (rows : List Row) → found ≡ Some (codes "import", rows)
+    → ((recorded : Recorded) → ¬ (ImportAsks rows recorded)) → AsksNothing found
+import_nothing found rows named none = nothing_named found (codes "import") rows named
+    (λ wanted asks. wants_no_import wanted (sym asks.0)) (λ direction same. converts_no_import direction (sym same))
+    (λ same. none)
 
 -- ---- a format that is none
 
 -- what is asked for has a bad format where the words have one
-pub bad_format : (words : List Text) (asking : Asking) → AskFor words asking → HasBadFormat words → NamesNone asking
-bad_format words asking ask bad = subst NamesNone
-    (one_asking (subcommand_of pmb_app words) (Convert bad.direction bad.format) asking bad.asks.asks ask.asks)
+pub bad_format : MakeOne → (words : List Text) (asking : Asking) → AskFor words asking → HasBadFormat words → NamesNone asking
+bad_format one words asking ask bad = subst NamesNone
+    (one_asking one (subcommand_of pmb_app words) (Convert bad.direction bad.format) asking bad.asks.asks ask.asks)
     (bad.fault, bad.bad)
 
 -- and only there
 pub names_none : (words : List Text) (asking : Asking) → AskFor words asking → NamesNone asking → HasBadFormat words
+names_none words (Import recorded) ask none = absurd none
 names_none words (UnderProfile place wanted) ask none = absurd none
 names_none words (Convert direction format) ask none =
     record { direction = direction; format = format; asks = ask; fault = none.0; bad = none.1 }

@@ -11,7 +11,7 @@ use Rattle.clap.specs.Faults.{word_fault}
 use Rattle.clap.specs.Kinds.{or_else}
 use Rattle.clap.specs.Lexer.{strip_byte}
 use Rattle.clap.specs.Simple.{built_leaf}
-use Rattle.clap.specs.Walk.{Held, Step, Walk, after_step, arg_by_index, finished, idle, nothing_held, settled}
+use Rattle.clap.specs.Walk.{Held, Step, Walk, after_step, arg_by_index, finished, idle, nothing_held, option, plain_word, settled}
 use Rattle.clap.specs.Walk.{to_positional, value, walk, walk_from, walked, word_met}
 use Rattle.clap.specs.Words.{Kinds, Row, Rule, Shape, Text, subcommand_of}
 use Rattle.clap.proofs.OnLiterals.{clap_on_literals}
@@ -58,16 +58,32 @@ is_no_fault s word h plain =
     let no_hyphen = has_no_hyphen word plain in
     rw (no_end, no_hyphen, no_hyphen) refl
 
+-- it is the value of a flag that waits for one
+pub value_met : (rules : List Rule) (position : ℕ) (id word : Text) (h : Held) → IsNoFlag word
+    → word_met rules [] false (option id) position word h ≡ plain_word rules (option id) word h
+value_met rules position id word h plain =
+    let no_end = is_no_end word plain in
+    let no_hyphen = has_no_hyphen word plain in
+    rw (no_end, no_hyphen, no_hyphen) refl
+
+-- which is no fault either
+pub value_is_no_fault : (s : Shape) (id word : Text) (h : Held) → IsNoFlag word → word_fault s [] false (option id) word h
+    ≡ []
+value_is_no_fault s id word h plain =
+    let no_end = is_no_end word plain in
+    let no_hyphen = has_no_hyphen word plain in
+    rw (no_end, no_hyphen, no_hyphen) refl
+
 -- ---- a subcommand with that word alone
 
 -- where the walk over it ends
-walk_one : (rules : List Rule) (word : Text) → IsNoFlag word → walk rules [] nothing_held (word ∷ [])
+pub walk_one : (rules : List Rule) (word : Text) → IsNoFlag word → walk rules [] nothing_held (word ∷ [])
     ≡ to_positional rules (arg_by_index rules 1) word (walk_from nothing_held) nothing_held
 unfolding walked
 walk_one rules word plain = ap (λ (met : Held × Step). after_step rules word (walk_from nothing_held) met.0 met.1)
     (is_value rules 1 word nothing_held plain)
 
-walk_fault_one : (s : Shape) (word : Text) → IsNoFlag word → walk_fault s [] (walk_from nothing_held) (word ∷ [])
+pub walk_fault_one : (s : Shape) (word : Text) → IsNoFlag word → walk_fault s [] (walk_from nothing_held) (word ∷ [])
     ≡ or_else (or_else [] (step_fault s 1 nothing_held value)) []
 unfolding walk_fault walked
 walk_fault_one s word plain =

@@ -1,6 +1,6 @@
 -- A command with one more flag, or with one more subcommand, as clap's rules have it: for
--- `pmb_command`, `traffic_command`, `capture_command`, `json_command` and `with_leaf`, which build
--- the tool's command.
+-- `pmb_command`, `traffic_command`, `capture_command`, `recording_command`, `import_command`,
+-- `json_command` and `with_leaf`, which build the tool's command.
 use Rattle.std.proofs.Common.{◌≡◌, ◌||◌, Bool, false, ap₂, ◌∙◌}
 use Rattle.clap.specs.Words.{AddsArg, App, Rule, Text, app_of, new_app, rule_of, with_rule, with_subcommand}
 use Rattle.clap.specs.declared.builder.arg.Arg.{Arg}

@@ -6,12 +6,12 @@ use Rattle.std.proofs.Common.{◌≡◌, ℕ, ◌<◌, false, Some, None, List, 
 use Rattle.std.proofs.Common.{arith}
 use Rattle.std.specs.Char.{digit_value}
 use Rattle.hex.specs.Hex.{hex_digit_value}
-use Rattle.clap.specs.Faults.{level_fault, step_fault, walk_fault, word_fault}
+use Rattle.clap.specs.Faults.{level_fault, step_fault, walk_fault}
 use Rattle.clap.specs.Kinds.{or_else}
 use Rattle.clap.specs.Simple.{built_leaf}
 use Rattle.clap.specs.Walk.{Held, Step, Walk, after_step, finished, nothing_held, option, plain_word, walk, walk_from}
-use Rattle.clap.specs.Walk.{walked, word_met}
-use Rattle.clap.specs.Words.{Kinds, Row, Rule, Shape, Text, subcommand_of}
+use Rattle.clap.specs.Walk.{walked}
+use Rattle.clap.specs.Words.{Kinds, Row, Shape, Text, subcommand_of}
 use Rattle.clap.proofs.OnLiterals.{clap_on_literals}
 use Rattle.pmb_args.specs.Asked.{AskFor, AskForNothing, Asking, Json, UnderProfile, place_in}
 use Rattle.pmb_args.specs.Json.{JsonAsks, JsonWanted, SpellDevices, SpellsAddress, SpellsDigits, at_first, devices_in}
@@ -22,7 +22,7 @@ use Rattle.pmb_args.specs.declared.profile_place.ProfilePlace.TheVariants.{Sampl
 use Rattle.pmb_args.specs.Words.{IsFlag, faults_of, json_app, pmb_app}
 use Rattle.pmb_args.proofs.AskedOnce.{json_nothing}
 use Rattle.pmb_args.proofs.JsonAddresses.{no_devices}
-use Rattle.pmb_args.proofs.AskedWords.{IsNoFlag, after_walk, has_no_hyphen, is_no_end, no_device, no_flag, six}
+use Rattle.pmb_args.proofs.AskedWords.{IsNoFlag, after_walk, no_device, no_flag, six, value_is_no_fault, value_met}
 
 abbrev json_words : Text → List Text → List Text
 json_words name words = name ∷ codes "json" ∷ words
@@ -78,21 +78,6 @@ alone_is_nothing name = record {
 }
 
 -- ---- a flag that a word follows
-
--- the word is that of the flag
-value_met : (rules : List Rule) (position : ℕ) (id word : Text) (h : Held) → IsNoFlag word
-    → word_met rules [] false (option id) position word h ≡ plain_word rules (option id) word h
-value_met rules position id word h plain =
-    let no_end = is_no_end word plain in
-    let no_hyphen = has_no_hyphen word plain in
-    rw (no_end, no_hyphen, no_hyphen) refl
-
-value_is_no_fault : (s : Shape) (id word : Text) (h : Held) → IsNoFlag word → word_fault s [] false (option id) word h
-    ≡ []
-value_is_no_fault s id word h plain =
-    let no_end = is_no_end word plain in
-    let no_hyphen = has_no_hyphen word plain in
-    rw (no_end, no_hyphen, no_hyphen) refl
 
 data Valued : Type 0 where
   digits_flag : Valued

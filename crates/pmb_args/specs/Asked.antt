@@ -11,7 +11,9 @@ use Rattle.pmb_args.specs.declared.tasks.Task.{Task}
 use Rattle.pmb_args.specs.declared.tasks.Task.TheVariants as tasks
 use Rattle.pmb_args.specs.declared.subcommand.Subcommand.{Subcommand}
 use Rattle.pmb_args.specs.declared.subcommand.Subcommand.TheVariants as works
+use Rattle.pmb_recorder.specs.Recorded.{Recorded, recorded_of}
 use Rattle.pmb_args.specs.Flags.{has_flag}
+use Rattle.pmb_args.specs.Import.{ImportAsks}
 use Rattle.pmb_args.specs.Json.{JsonAsks, JsonWanted, at_first, json_wanted_of}
 use Rattle.pmb_args.specs.Words.{faults_of, pmb_app}
 
@@ -35,14 +37,16 @@ wanted_of works.Build = Build
 wanted_of works.Run = Run
 wanted_of works.Profile = Profile
 
--- Something is wanted under a profile, the sample or the one that comes first in the input; or the numbers of lines are
--- converted, in the format that a text names.
+-- A capture is made of a recording; or something is wanted under a profile, the sample or the one that comes first in
+-- the input; or the numbers of lines are converted, in the format that a text names.
 pub data Asking : Type 0 where
+  Import : (recorded : Recorded) → Asking
   UnderProfile : (place : ProfilePlace) → (wanted : Wanted) → Asking
   Convert : (direction : Direction) → (format : Text) → Asking
 
 -- the same as it is kept
 abbrev pub asking_of : Task → Asking
+asking_of (tasks.Import recorder) = Import (recorded_of recorder)
 asking_of (tasks.UnderProfile place work) = UnderProfile place (wanted_of work)
 asking_of (tasks.Convert direction format) = Convert direction format.now
 
@@ -94,6 +98,8 @@ NameAsks name rows wanted = (name ≡ name_of wanted) × FlagsAsk rows wanted
 
 -- what is asked for by the subcommand that `clap` found, of which it tells the name and the matches
 abbrev pub SubcommandAsks : Option (Text × List Row) → Asking → Type 0
+SubcommandAsks subcommand (Import recorded) = (rows : List Row) × (subcommand ≡ Some (codes "import", rows))
+    × ImportAsks rows recorded
 SubcommandAsks subcommand (UnderProfile place wanted) = (rows : List Row) × (subcommand ≡ Some (name_of wanted, rows))
     × (place ≡ place_in rows) × FlagsAsk rows wanted
 SubcommandAsks subcommand (Convert direction format) = (rows : List Row)
@@ -117,6 +123,7 @@ pub record AskForNothing (words : List Text) : Type 0 where
 
 -- the text of the format that is asked for names none
 abbrev pub NamesNone : Asking → Type 0
+NamesNone (Import recorded) = ⊥
 NamesNone (UnderProfile place wanted) = ⊥
 NamesNone (Convert direction format) = (fault : FormatFault) × Names format (Err fault)
 

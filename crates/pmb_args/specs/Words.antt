@@ -1,5 +1,5 @@
--- The words that `pmb` takes, after its own name: `show`, `check`, `build`, `run` and `profile`, each with or without
--- `--sample`, `json` with its flags, `encode FORMAT` and `decode FORMAT`.
+-- The words that `pmb` takes, after its own name: `import SOURCE` with its flags, `show`, `check`, `build`, `run` and
+-- `profile`, each with or without `--sample`, `json` with its flags, `encode FORMAT` and `decode FORMAT`.
 use Rattle.std.specs.Prelude.{◌≡◌, ◌≢◌, ◌⊎◌, ◌++◌, true, Some, List, [], ◌∷◌, codes}
 use Rattle.clap.specs.Words.{App, IsAmong, Kinds, Rule, Text, fault_of, new_app, new_rule, with_rule, with_subcommand}
 use Rattle.clap.specs.declared.builder.action.ArgAction.{ArgAction}
@@ -30,9 +30,19 @@ json_app =
     (flag (codes "late"))) (flag (codes "fixed-vout-mode"))) (flag (codes "keep-going")))
     (valued (codes "digits") Set)) (valued (codes "device") Append)
 
--- the word FORMAT, which has to be there
+-- a word of this name, which has to be there
+abbrev pub required_word : Text → Rule
+required_word name = record (new_rule name) { action = Some Set; required = true }
+
+-- `import` with its word SOURCE and its flags
+abbrev pub import_app : App
+import_app =
+    with_rule (with_rule (with_rule (with_rule (new_app (codes "import")) (required_word (codes "SOURCE")))
+    (valued (codes "bus") Set)) (valued (codes "rate") Set)) (flag (codes "unshifted"))
+
+-- the word FORMAT
 abbrev pub format_rule : Rule
-format_rule = record (new_rule (codes "FORMAT")) { action = Some Set; required = true }
+format_rule = required_word (codes "FORMAT")
 
 -- `encode` or `decode` with its word
 abbrev pub lines_app : Text → App
@@ -49,10 +59,14 @@ top_app a = record a {
   };
 }
 
--- `pmb` with the subcommands that read a capture
+-- `pmb` with `import`
+abbrev pub recording_app : App
+recording_app = with_subcommand (top_app (new_app (codes "pmb"))) import_app.top
+
+-- and with the subcommands that read a capture
 abbrev pub capture_app : App
 capture_app =
-    with_subcommand (with_subcommand (with_subcommand (top_app (new_app (codes "pmb")))
+    with_subcommand (with_subcommand (with_subcommand recording_app
     (sampled_app (codes "show")).top) (sampled_app (codes "check")).top) json_app.top
 
 -- and with all others

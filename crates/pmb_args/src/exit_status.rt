@@ -15,7 +15,8 @@ use std::fmt::Write;
 pub enum ExitStatus {
     /// Nothing went wrong.
     Done,
-    /// The capture has refusals, or lines have faults, or requests failed.
+    /// The capture has refusals, or lines have faults, or requests failed, or a recording lacks
+    /// something.
     Refusals,
     /// The words are no command or name no format, or the profile has a fault or is too long.
     BadArguments,

@@ -1,8 +1,15 @@
 //! Laws over the definitions alone.
 
-ghost use Rattle.std.specs.Prelude.{◌≡◌, ◌∷◌, [], List, ℕ, codes};
+ghost use Rattle.std.specs.Prelude.{◌≡◌, ◌∷◌, [], List, None, Some, ℕ, codes};
 ghost use Rattle.clap.specs.Words.{Text};
-ghost use Rattle.pmb_args.specs.Asked.{AskFor, AskForNothing, Asking, Convert, HasBadFormat, Json, NamesNone, NeedsNoFlag, UnderProfile, Wanted, converter, name_of};
+ghost use Rattle.pmb_words.specs.Numbers.{decimal_of};
+ghost use Rattle.pmb_sigrok_line.specs.Shown.{hertz_of};
+ghost use Rattle.pmb_sigrok_line.specs.declared.address_form.AddressForm.TheVariants.{Shifted, Unshifted};
+ghost use Rattle.pmb_sigrok_line.specs.declared.rate.Rate.{Rate};
+ghost use Rattle.pmb_recorder.specs.Recorded.{OfKernel, OfSigrok};
+ghost use Rattle.pmb_recorder.specs.declared.source.Source.{Source};
+ghost use Rattle.pmb_args.specs.Import.{recorded_by, source_word};
+ghost use Rattle.pmb_args.specs.Asked.{AskFor, AskForNothing, Asking, Convert, HasBadFormat, Import, Json, NamesNone, NeedsNoFlag, UnderProfile, Wanted, converter, name_of};
 ghost use Rattle.clap.specs.declared.error.kind.ErrorKind.TheVariants.{DisplayHelp, InvalidSubcommand};
 ghost use Rattle.pmb_args.specs.Json.{SpellsAddress, SpellsDigits, at_first};
 ghost use Rattle.pmb_args.specs.Words.{AreRefused, AskToTell, IsFlag, faults_of};
@@ -10,6 +17,8 @@ ghost use Rattle.pmb_args.specs.declared.direction.Direction.{Direction};
 ghost use Rattle.pmb_scan.specs.declared.after_bad_token.AfterBadToken.TheVariants.{Continue};
 ghost use Rattle.pmb_unknown_start.specs.declared.start.Start.TheVariants.{Late, LateFixedMode};
 ghost use Rattle.pmb_args.specs.declared.profile_place.ProfilePlace.TheVariants.{Front, Sample};
+
+use pmb_recorder::laws::one_recorder;
 
 /// The words `pmb show`, `pmb check`, `pmb json`, `pmb build`, `pmb run` and `pmb profile`, each with
 /// `--sample` or without it, `pmb encode FORMAT` and `pmb decode FORMAT` have no fault of `clap`'s and
@@ -41,6 +50,24 @@ pub fn json_words_ask()
     ensures bad_device { (name HH : Text) → (IsFlag HH → ⊥) → ((address : ℕ) → SpellsAddress HH address → ⊥) → AskForNothing (name ∷ codes "json" ∷ codes "--device" ∷ HH ∷ []) }
 {}
 
+/// `pmb import SOURCE` with each of the five sources, `pmb import kernel --bus NAME`,
+/// `pmb import sigrok --rate HZ` and `pmb import sigrok --unshifted` have no fault of `clap`'s and ask
+/// for just that, where NAME does not begin with `-` and HZ is the number of a rate. With another
+/// SOURCE or another HZ that does not begin with `-`, with NAME for a Beagle, and with `--unshifted`
+/// for the kernel, the words ask for nothing.
+pub fn import_words_ask()
+    ensures source { (name : Text) (source : Source) → AskFor (name ∷ codes "import" ∷ source_word source ∷ []) (Import (recorded_by source)) }
+    ensures bus { (name NAME : Text) → (IsFlag NAME → ⊥) → AskFor (name ∷ codes "import" ∷ codes "kernel" ∷ codes "--bus" ∷ NAME ∷ []) (Import (OfKernel (Some NAME))) }
+    ensures unshifted { (name : Text) → AskFor (name ∷ codes "import" ∷ codes "sigrok" ∷ codes "--unshifted" ∷ []) (Import (OfSigrok None None Unshifted)) }
+    ensures rate { (name HZ : Text) (rate : Rate) → decimal_of HZ ≡ Some (hertz_of rate) → AskFor (name ∷ codes "import" ∷ codes "sigrok" ∷ codes "--rate" ∷ HZ ∷ []) (Import (OfSigrok None (Some rate) Shifted)) }
+    ensures bad_source { (name SOURCE : Text) → (IsFlag SOURCE → ⊥) → ((source : Source) → SOURCE ≡ source_word source → ⊥) → AskForNothing (name ∷ codes "import" ∷ SOURCE ∷ []) }
+    ensures bad_rate { (name HZ : Text) → (IsFlag HZ → ⊥) → ((rate : Rate) → decimal_of HZ ≡ Some (hertz_of rate) → ⊥) → AskForNothing (name ∷ codes "import" ∷ codes "sigrok" ∷ codes "--rate" ∷ HZ ∷ []) }
+    ensures beagle_bus { (name NAME : Text) → (IsFlag NAME → ⊥) → AskForNothing (name ∷ codes "import" ∷ codes "beagle" ∷ codes "--bus" ∷ NAME ∷ []) }
+    ensures kernel_unshifted { (name : Text) → AskForNothing (name ∷ codes "import" ∷ codes "kernel" ∷ codes "--unshifted" ∷ []) }
+{
+    one_recorder();
+}
+
 /// Words ask for one thing at most: those that ask for something to be done have no fault, ask for
 /// nothing else and for no text about `pmb`, and have a bad format where what they ask for has.
 pub fn one_asking()
@@ -50,4 +77,6 @@ pub fn one_asking()
     ensures not_told { (words : List Text) (asking : Asking) → AskFor words asking → AskToTell words → ⊥ }
     ensures bad_format { (words : List Text) (asking : Asking) → AskFor words asking → HasBadFormat words → NamesNone asking }
     ensures names_none { (words : List Text) (asking : Asking) → AskFor words asking → NamesNone asking → HasBadFormat words }
-{}
+{
+    one_recorder();
+}

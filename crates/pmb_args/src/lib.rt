@@ -14,6 +14,8 @@
 mod direction;
 mod exit_status;
 mod flags;
+mod import_fault;
+mod import_words;
 mod json_arguments;
 mod json_fault;
 mod json_words;

@@ -12,6 +12,8 @@ ghost use Rattle.pmb_args.specs.Words.{AreRefused, AskToTell, MayBeRefused};
 use crate::direction::Direction;
 use crate::exit_status::{ExitStatus, report_nothing};
 use crate::flags::has_flag;
+use crate::import_fault::{ImportFault, report_import};
+use crate::import_words::read_import;
 use crate::json_fault::{JsonFault, report_json};
 use crate::json_words::read_json;
 use crate::profile_place::ProfilePlace;
@@ -19,12 +21,16 @@ use crate::subcommand::Subcommand;
 use crate::words::{parse, report_words};
 use clap::ArgMatches;
 use pmb_io::Sink;
+use pmb_recorder::Recorder;
+use pmb_recorder::laws::one_recorder;
 use std::alloc::Global;
 use std::convert::AsStr;
 
 /// What is to be done.
 #[derive(Drop)]
 pub enum Task<'a> {
+    /// A capture is made of what this recorded.
+    Import(Recorder<'a>),
     /// Something is done under the profile that is there.
     UnderProfile(ProfilePlace, Subcommand),
     /// Lines are converted in the format that a text names.
@@ -36,6 +42,8 @@ pub enum Task<'a> {
 enum NoTask {
     // The words name no command.
     NoCommand,
+    // The words of `import` have a fault.
+    Import(ImportFault),
     // The words of `json` have a fault.
     Json(JsonFault),
 }
@@ -46,8 +54,8 @@ enum NoTask {
 /// # Errors
 ///
 /// The exit status of what was written: `Done` for help or the version, `BadArguments` for words that are
-/// no command or whose flags of `json` ask for nothing, `IoFailed` where `out` failed, and `NoMemory`
-/// where there was no memory.
+/// no command and for those of `import` or `json` that ask for nothing, `IoFailed` where `out` failed,
+/// and `NoMemory` where there was no memory.
 pub fn parse_command<'a, S: AsStr, W: Sink, E: Sink>(
     alloc: Global,
     words: &'a [S],
@@ -75,6 +83,7 @@ pub fn parse_command<'a, S: AsStr, W: Sink, E: Sink>(
     match task_of(&matches) {
         Ok(task) => Ok(task),
         Err(NoTask::NoCommand) => Err(report_nothing(err)),
+        Err(NoTask::Import(fault)) => Err(report_import(fault, err)),
         Err(NoTask::Json(fault)) => Err(report_json(fault, err)),
     }
 }
@@ -86,6 +95,13 @@ fn task_of<'a>(matches: &ArgMatches<'a>) -> Result<Task<'a>, NoTask>
     let Some((name, arguments)) = matches.subcommand() else {
         return Err(NoTask::NoCommand);
     };
+    if name == "import" {
+        one_recorder();
+        return match read_import(arguments) {
+            Ok(recorder) => Ok(Task::Import(recorder)),
+            Err(fault) => Err(NoTask::Import(fault)),
+        };
+    }
     if let Some(direction) = direction_of(name) {
         let format = arguments.get_str("FORMAT").unwrap_or("");
         return Ok(Task::Convert(direction, format));

@@ -8,7 +8,7 @@ ghost use Rattle.clap.specs.Words.{FailsBy, app_of, kind_of, new_app, rule_of, s
 ghost use Rattle.clap.specs.declared.builder.command.Command.TheViews.{out-Command as fields_of};
 ghost use Rattle.pmb_args.specs.ExitStatus.{IsTold};
 ghost use Rattle.pmb_args.specs.Texts.{WroteText};
-ghost use Rattle.pmb_args.specs.Words.{IsTelling, capture_app, faults_of, flag, format_rule, json_app, pmb_app, sample, sampled_app, top_app, valued};
+ghost use Rattle.pmb_args.specs.Words.{IsTelling, capture_app, faults_of, flag, format_rule, import_app, json_app, pmb_app, recording_app, required_word, sample, sampled_app, top_app, valued};
 
 use crate::exit_status::{ExitStatus, report, report_format};
 use clap::error::ErrorKind;
@@ -63,7 +63,7 @@ fn pmb_command<'a>(alloc: Global) -> Result<Command<'a>, AllocError>
     )
 }
 
-// `pmb` with `show`, `check`, `json`, `build` and `run`.
+// `pmb` with `import`, `show`, `check`, `json`, `build` and `run`.
 fn traffic_command<'a>(alloc: Global) -> Result<Command<'a>, AllocError>
     ensures { IfOk result (λ command. app_of command ≡ with_subcommand (with_subcommand capture_app (sampled_app (codes "build")).top) (sampled_app (codes "run")).top) }
 {
@@ -89,13 +89,13 @@ fn traffic_command<'a>(alloc: Global) -> Result<Command<'a>, AllocError>
     )
 }
 
-// `pmb` with `show`, `check` and `json`.
+// `pmb` with `import`, `show`, `check` and `json`.
 fn capture_command<'a>(alloc: Global) -> Result<Command<'a>, AllocError>
     ensures { IfOk result (λ command. app_of command ≡ capture_app) }
 {
     let showing = with_leaf(
         alloc,
-        top_command(alloc),
+        recording_command(alloc)?,
         "show",
         "Writes the transactions and the refusals of a capture, one a line",
         "Standard input is a profile, a line '%%' and the capture, or with --sample the capture \
@@ -118,6 +118,13 @@ fn capture_command<'a>(alloc: Global) -> Result<Command<'a>, AllocError>
     checking.subcommand(json_command(alloc)?)
 }
 
+// `pmb` with `import`.
+fn recording_command<'a>(alloc: Global) -> Result<Command<'a>, AllocError>
+    ensures { IfOk result (λ command. app_of command ≡ recording_app) }
+{
+    top_command(alloc).subcommand(import_command(alloc)?)
+}
+
 // `pmb` without subcommands.
 fn top_command<'a>(alloc: Global) -> Command<'a>
     ensures { app_of result ≡ top_app (new_app (codes "pmb")) }
@@ -127,8 +134,9 @@ fn top_command<'a>(alloc: Global) -> Command<'a>
         .about("Reads and writes PMBus traffic, and converts between codes and quantities")
         .after_help(
             "All read standard input. The exit status is 0 if all went well; 1 if there was a refusal, a \
-             bad token, a bad line or a request that failed; 2 for a wrong command line, FORMAT or \
-             profile; 3 if reading or writing failed; and 4 if there was no memory.\n\n\
+             bad token, a bad line or a request that failed, or if a recording lacks something; 2 for a \
+             wrong command line, FORMAT or profile; 3 if reading or writing failed; and 4 if there \
+             was no memory.\n\n\
              Example:\n  echo 'S b0 A 21 A 00 A 18 A P' | pmb show --sample",
         )
         .subcommand_required(true)
@@ -149,6 +157,42 @@ fn with_leaf<'a>(
 {
     let leaf = bare_command(alloc, name, about, example).arg(argument)?;
     command.subcommand(leaf)
+}
+
+// `import` with its word and its flags.
+fn import_command<'a>(alloc: Global) -> Result<Command<'a>, AllocError>
+    ensures shape { IfOk result (λ command. app_of command ≡ import_app) }
+    ensures local { IfOk result (λ command. (fields_of command).has_globals ≡ false) }
+{
+    let bare = bare_command(
+        alloc,
+        "import",
+        "Makes a capture of what an analyser or the Linux kernel recorded",
+        "Standard input is the recording. Each packet of the capture is whole, and has its time in \
+         the line before it. What is missing has a line that begins with '#'; if anything is, the \
+         exit status is 1.\n\n\
+         Example:\n  pmb import kernel < examples/analysers/kernel.txt | pmb show --sample",
+    );
+    bare.arg(source_word(alloc))?
+        .arg(valued(
+            alloc,
+            "bus",
+            "NAME",
+            ArgAction::Set,
+            "The bus, as the recording names it; without this, that of the first line that names one",
+        ))?
+        .arg(valued(
+            alloc,
+            "rate",
+            "HZ",
+            ArgAction::Set,
+            "For sigrok: how many samples a second has, for the times of packets",
+        ))?
+        .arg(flag(
+            alloc,
+            "unshifted",
+            "For sigrok: an address is a whole byte, with the bit of its direction",
+        ))
 }
 
 // `json` with its flags.
@@ -247,18 +291,41 @@ fn valued<'a>(
         .help(help)
 }
 
+// The word SOURCE of `import`.
+fn source_word<'a>(alloc: Global) -> Arg<'a>
+    ensures rule { rule_of result ≡ required_word (codes "SOURCE") }
+    ensures local { result.global ≡ false }
+{
+    required_word(
+        alloc,
+        "SOURCE",
+        "sigrok, saleae, beagle, kernel or smbus: the text of sigrok's I2C decoder, the table of \
+         Logic 2, the CSV of Data Center, the events of i2c or of smbus in a trace of Linux",
+    )
+}
+
 // The word FORMAT of `encode` and `decode`.
 fn format_word<'a>(alloc: Global) -> Arg<'a>
     ensures rule { rule_of result ≡ format_rule }
     ensures local { result.global ≡ false }
 {
-    Arg::new(alloc, "FORMAT")
+    required_word(
+        alloc,
+        "FORMAT",
+        "linear11, linear11:E, ulinear16:E, slinear16:E, vout:HH or direct:M,B,R: E is the \
+         exponent, HH VOUT_MODE in two hexadecimal digits, and M, B, R are DIRECT's coefficients",
+    )
+}
+
+// A word that has to be there.
+fn required_word<'a>(alloc: Global, name: &'a str, help: &'a str) -> Arg<'a>
+    ensures rule { rule_of result ≡ required_word name.entry.now }
+    ensures local { result.global ≡ false }
+{
+    Arg::new(alloc, name)
         .action(ArgAction::Set)
         .required(true)
-        .help(
-            "linear11, linear11:E, ulinear16:E, slinear16:E, vout:HH or direct:M,B,R: E is the \
-             exponent, HH VOUT_MODE in two hexadecimal digits, and M, B, R are DIRECT's coefficients",
-        )
+        .help(help)
 }
 
 // Whether the words are those of `encode` or `decode` with a FORMAT that begins with one `-`, which

@@ -2,3 +2,4 @@ pub mod Choice
 pub mod Result
 pub mod Explain
 pub mod Whole
+pub mod Recorder

@@ -4,7 +4,8 @@
 //! texts of quantities, the names of commands and of status bits, and the events of a capture's
 //! text ([`firmware`]), with the library's version ([`version`]). Functions that take memory for a
 //! profile, and write to the caller's buffer: `show`, `check`, `build`, `run` and `json` over whole
-//! inputs ([`whole`]), and hints for mistakes in a profile ([`explain`]).
+//! inputs ([`whole`]), and hints for mistakes in a profile ([`explain`]). And the capture of a whole
+//! recording, for which no memory is taken ([`recording`]).
 //!
 //! A C caller is checked by nobody, so no export has a premise on values: each is itself the test
 //! of what it is given. What a C type can't say is the header's to say: no pointer is null, and
@@ -21,6 +22,8 @@
 mod choice;
 pub mod explain;
 pub mod firmware;
+mod recorder;
+pub mod recording;
 mod result;
 pub mod version;
 pub mod whole;

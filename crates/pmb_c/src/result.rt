@@ -59,7 +59,7 @@ impl PmbResult {
     }
 
     /// A text was written, as far as it fits.
-    fn of_put(put: Put, room: usize) -> PmbResult
+    pub(crate) fn of_put(put: Put, room: usize) -> PmbResult
         ensures { result ≡ result_of_put room put }
     {
         let status = if put.length > room {

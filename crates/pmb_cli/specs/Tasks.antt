@@ -5,13 +5,14 @@ use Rattle.pmb_convert.specs.Spelling.{Names}
 use Rattle.pmb_convert.specs.declared.conversion.Conversion.{Conversion}
 use Rattle.pmb_convert.specs.declared.conversion.Conversion.TheVariants as conversions
 use Rattle.pmb_value.specs.declared.number_format.NumberFormat.{NumberFormat}
+use Rattle.pmb_import.specs.Importing.{importing_of}
 use Rattle.pmb_io.specs.Runs.{Done, PartDone}
 use Rattle.pmb_io.specs.Told.{ReaderTold, WriterTold}
 use Rattle.pmb_io.specs.declared.tally.Tally.{Tally}
 use Rattle.pmb_args.specs.ExitStatus.{EndedWell, Failed, IsTold}
 use Rattle.pmb_args.specs.declared.exit_status.ExitStatus.{ExitStatus}
 use Rattle.pmb_args.specs.declared.exit_status.ExitStatus.TheVariants.{BadArguments, NoMemory}
-use Rattle.pmb_args.specs.Asked.{Asking, Convert, NamesNone, UnderProfile}
+use Rattle.pmb_args.specs.Asked.{Asking, Convert, Import, NamesNone, UnderProfile}
 use Rattle.pmb_args.specs.declared.direction.Direction.{Direction}
 use Rattle.pmb_args.specs.declared.direction.Direction.TheVariants.{Encode, Decode}
 use Rattle.pmb_args.specs.declared.profile_place.ProfilePlace.TheVariants.{Front}
@@ -24,6 +25,7 @@ use Rattle.pmb_cli.specs.Works.{DoneUnder, PartDoneUnder, working}
 abbrev pub IsUnderFront : Asking → Type 0
 IsUnderFront (UnderProfile place wanted) = place ≡ Front
 IsUnderFront (Convert direction format) = ⊥
+IsUnderFront (Import recorded) = ⊥
 
 -- the conversion in a format
 abbrev pub conversion_of : Direction → NumberFormat → Conversion
@@ -38,12 +40,13 @@ pub record InFormat (direction : Direction) (Holds : Conversion → Type 0) (tex
 
 module _ {R W : Type 0} (reader_told : R → ReaderTold) (out_told : W → WriterTold) (sample : List ℕ) where
   -- All was written: for a capture or lines under the sample profile, or under the one that comes
-  -- first, or the answers to all lines in a format.
+  -- first, the answers to all lines in a format, or the capture of a recording.
   abbrev pub WroteTask : Asking → R × W → R × W → Tally → Type 0
   WroteTask (UnderProfile place wanted) old new tally =
       DoneUnder reader_told out_told (working wanted) place sample tally old new
   WroteTask (Convert direction text) old new tally =
       InFormat direction (λ conversion. Done reader_told out_told (converting conversion) tally [] old new) text
+  WroteTask (Import recorded) old new tally = Done reader_told out_told (importing_of recorded) tally [] old new
 
   -- Where a read failed, or there were too many, the part determined by the bytes read.
   abbrev pub WroteTaskPart : Asking → R × W → R × W → Type 0
@@ -51,6 +54,7 @@ module _ {R W : Type 0} (reader_told : R → ReaderTold) (out_told : W → Write
       PartDoneUnder reader_told out_told (working wanted) place sample old new
   WroteTaskPart (Convert direction text) old new =
       InFormat direction (λ conversion. PartDone reader_told out_told (converting conversion) [] old new) text
+  WroteTaskPart (Import recorded) old new = PartDone reader_told out_told (importing_of recorded) [] old new
 
 -- What was done for what was asked for: by the reader, standard output and standard error, before
 -- and after, and the status.

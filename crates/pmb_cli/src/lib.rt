@@ -23,6 +23,7 @@ pub use pmb_build::build;
 pub use pmb_capture::{check_capture, show};
 pub use pmb_convert::{FormatFault, NumberFormat, decode_lines, encode_lines, parse_format};
 pub use pmb_decimal::Digits;
+pub use pmb_import::{AddressForm, Rate, Recorder, import};
 pub use pmb_io::{Failing, Io, IoFault, Sink, Source, Tally, ToolFault};
 pub use pmb_json::{AfterBadToken, json};
 pub use pmb_json_stream::Choice;

@@ -21,8 +21,8 @@ use std::io;
 /// | status | |
 /// | --- | --- |
 /// | 0 | done, or help or the version was asked for |
-/// | 1 | the capture has refusals, lines have faults, or requests failed |
-/// | 2 | the words are no command, name no format or ask `json` for what there is not, or the profile has a fault or is too long |
+/// | 1 | the capture has refusals, lines have faults, requests failed, or a recording lacks something |
+/// | 2 | the words are no command, name no format or ask `json` or `import` for what there is not, or the profile has a fault or is too long |
 /// | 3 | a read or a write failed, or there were too many reads |
 /// | 4 | there was no memory |
 ///

@@ -1,15 +1,17 @@
 //! The task that the words ask for.
 //!
-//! Its rows: `tests/rows/arguments.txt`, `tests/rows/numbers.txt`.
+//! Its rows: `tests/rows/arguments.txt`, `tests/rows/numbers.txt`, `tests/rows/recordings.txt`.
 
 ghost use Rattle.std.specs.Prelude.{◌≡◌};
 ghost use Rattle.pmb_cli.specs.Tasks.{DidTask, conversion_of};
-ghost use Rattle.pmb_args.specs.Asked.{Convert, asking_of};
+ghost use Rattle.pmb_recorder.specs.Recorded.{recorded_of};
+ghost use Rattle.pmb_args.specs.Asked.{Convert, Import, asking_of};
 
 use crate::works::{run_under_front, run_under_sample};
 use pmb_args::{Direction, ExitStatus, ProfilePlace, Task, ended, report_format};
 use pmb_convert::laws::one_format;
 use pmb_convert::{Conversion, NumberFormat, convert_lines, parse_format};
+use pmb_import::{Recorder, import};
 use pmb_io::{Sink, Source};
 use pmb_table::SAMPLE;
 use std::alloc::Global;
@@ -30,7 +32,20 @@ pub(crate) fn run_task<R: Source, W: Sink, E: Sink>(
             ProfilePlace::Front => run_under_front(&work, alloc, reader, out, err),
         },
         Task::Convert(direction, format) => run_lines(direction, format, reader, out, err),
+        Task::Import(recorder) => run_import(recorder, reader, out, err),
     }
+}
+
+/// Writes the capture of the recording that the reader gives, and returns the exit status.
+fn run_import<R: Source, W: Sink, E: Sink>(
+    recorder: Recorder<'_>,
+    reader: &mut R,
+    out: &mut W,
+    err: &mut E,
+) -> ExitStatus
+    ensures { DidTask R.told W.told E.told SAMPLE.now (Import (recorded_of recorder.entry)) (reader.old, out.old, err.old) (reader.new, out.new, err.new) result }
+{
+    ended(import(recorder, &[], reader, out), err)
 }
 
 /// Converts the lines that the reader gives in the format that a text names, and returns the exit

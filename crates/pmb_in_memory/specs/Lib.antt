@@ -5,3 +5,4 @@ pub mod Whole
 pub mod Put
 pub mod Laid
 pub mod Room
+pub mod Import

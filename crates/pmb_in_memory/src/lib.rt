@@ -3,7 +3,8 @@
 //! [`write_whole`] does what `show`, `check`, `build` and `run` do, and [`write_json`] what `json`
 //! does, by the same functions. The profile and the input are at hand as a whole, so that nothing is
 //! read, and no read can fail. [`put_whole`] and [`put_json`] put the text into a buffer of the caller,
-//! and return its length also where it doesn't fit.
+//! and return its length also where it doesn't fit. [`write_import`] and [`put_import`] do what
+//! `import` does with a recording, which needs no profile.
 //!
 //! A [`Room`] is the writer into such a buffer: it keeps what fits, and counts all that was written.
 //! [`Room::into_filled`] gives the buffer back. Code over writers of every type doesn't say that a
@@ -24,6 +25,7 @@ mod fault;
 pub mod laws;
 mod memory_task;
 mod put;
+mod recordings;
 mod room;
 mod rooms;
 mod whole;
@@ -33,6 +35,7 @@ pub use buffer_id::BufferId;
 pub use fault::WholeFault;
 pub use memory_task::MemoryTask;
 pub use put::Put;
+pub use recordings::{put_import, write_import};
 pub use room::{Filled, Room};
 pub use rooms::{put_json, put_whole};
 pub use whole::{read_profile, write_json, write_whole};

@@ -4,7 +4,7 @@ use Rattle.pmb_args.proofs.AskedOnce.{bad_format, names_none, no_telling, one_as
 use Rattle.pmb_args.proofs.laws.one_asking.Goals as goal
 
 pub returns-clause-one : goal.returns-clause-one
-returns-clause-one c words a b ask also = one_asking (subcommand_of pmb_app words) a b ask.asks also.asks
+returns-clause-one c words a b ask also = one_asking c.one_recorder.ensures.one (subcommand_of pmb_app words) a b ask.asks also.asks
 
 pub returns-clause-something : goal.returns-clause-something
 returns-clause-something c words asking ask none = none.nothing asking ask.asks
@@ -16,7 +16,7 @@ pub returns-clause-not_told : goal.returns-clause-not_told
 returns-clause-not_told c words asking ask telling = no_telling words ask.no_fault telling
 
 pub returns-clause-bad_format : goal.returns-clause-bad_format
-returns-clause-bad_format c = bad_format
+returns-clause-bad_format c = bad_format c.one_recorder.ensures.one
 
 pub returns-clause-names_none : goal.returns-clause-names_none
 returns-clause-names_none c = names_none

@@ -1,0 +1,57 @@
+-- What C says of a recording, and what is done with it.
+use Rattle.std.specs.Prelude.{◌≡◌, ℕ, ◌==◌, if◌then◌else◌, Option, Some, None, List, length}
+use Rattle.pmb_c.specs.Result.{result_of_put}
+use Rattle.pmb_c.specs.Whole.{StaysUnchosen}
+use Rattle.pmb_c.specs.declared.recorder.PmbRecorder.{PmbRecorder}
+use Rattle.pmb_c.specs.declared.result.PmbResult.{PmbResult}
+use Rattle.pmb_import.specs.Importing.{importing_of}
+use Rattle.pmb_in_memory.specs.Import.{PutsText}
+use Rattle.pmb_in_memory.specs.declared.put.Put.{Put}
+use Rattle.pmb_recorder.specs.Recorded.{Makes, Recorded}
+use Rattle.pmb_recorder.specs.declared.source.Source.{Source}
+use Rattle.pmb_recorder.specs.declared.source.Source.TheVariants.{Sigrok, Saleae, Beagle, Kernel, Smbus}
+use Rattle.pmb_sigrok_line.specs.declared.address_form.AddressForm.{AddressForm}
+use Rattle.pmb_sigrok_line.specs.declared.address_form.AddressForm.TheVariants.{Shifted, Unshifted}
+
+-- the numbers of what wrote a recording
+abbrev pub source_of : ℕ → Option Source
+source_of number =
+    if number == 0 then Some Sigrok else (
+    if number == 1 then Some Saleae else (
+    if number == 2 then Some Beagle else (
+    if number == 3 then Some Kernel else (
+    if number == 4 then Some Smbus else None))))
+
+abbrev pub form_of : ℕ → Option AddressForm
+form_of number =
+    if number == 0 then Some Shifted else (
+    if number == 1 then Some Unshifted else None)
+
+-- the bus that is read, if it is named, or nothing where the number says neither
+abbrev pub bus_of : ℕ → List ℕ → Option (Option (List ℕ))
+bus_of number name =
+    if number == 0 then Some None else (
+    if number == 1 then Some (Some name) else None)
+
+-- 0 where the rate is not known
+abbrev pub hertz_of : ℕ → Option ℕ
+hertz_of rate = if rate == 0 then None else Some rate
+
+-- Each number says something, and together they make what wrote the recording.
+pub record Names (recorder : PmbRecorder) (name : List ℕ) (recorded : Recorded) : Type 0 where
+  pub source : Source
+  pub form : AddressForm
+  pub bus : Option (List ℕ)
+  pub source_is : source_of recorder.source ≡ Some source
+  pub form_is : form_of recorder.unshifted ≡ Some form
+  pub bus_is : bus_of recorder.names_bus name ≡ Some bus
+  pub makes : Makes source bus (hertz_of recorder.rate) form recorded
+
+-- The capture of the recording stands in the room, and what is told says how long it is; or the numbers say nothing,
+-- and nothing was done.
+pub data ImportsInto (recorder : PmbRecorder) (name recording before after : List ℕ) (told : PmbResult) : Type 0 where
+  Imports : (recorded : Recorded) (put : Put) → Names recorder name recorded
+      → PutsText (importing_of recorded) recording before after put → told ≡ result_of_put (length before) put
+      → ImportsInto recorder name recording before after told
+  Refuses : ((recorded : Recorded) → ¬ (Names recorder name recorded)) → StaysUnchosen before after told
+      → ImportsInto recorder name recording before after told

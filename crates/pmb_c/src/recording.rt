@@ -1,0 +1,33 @@
+//! `import` over a whole recording. What is written is what `pmb import` writes, by the same function.
+//!
+//! Its rows: `tests/rows/recordings.txt`.
+
+ghost use Rattle.std.specs.Prelude.{◌≡◌};
+ghost use Rattle.pmb_c.specs.Recorder.{ImportsInto};
+
+use crate::recorder::PmbRecorder;
+use crate::result::PmbResult;
+use pmb_firmware::CallStatus;
+use pmb_in_memory::put_import;
+
+/// Writes the capture of a recording, as `pmb import` does. It takes no memory.
+#[unsafe(no_mangle)]
+pub extern "C" fn pmb_import(
+    recorder: &PmbRecorder,
+    bus: &[u8],
+    recording: &[u8],
+    room: &mut [u8],
+    told: &mut PmbResult,
+) -> usize
+    ensures wrote { ImportsInto recorder.now bus.now recording.now room.old room.new told.new }
+    ensures length { result ≡ told.new.length }
+{
+    match recorder.recorder(bus) {
+        Some(recorder) => {
+            let size = room.len();
+            *told = PmbResult::of_put(put_import(recorder, recording, room), size);
+        }
+        None => *told = PmbResult::of_status(CallStatus::BadChoice),
+    }
+    told.length
+}
