@@ -603,6 +603,92 @@ def compare_pools():
             check(found == [pmb.json(PLAIN, capture) for capture in captures], f"{kind}: futures")
 
 
+def analysers():
+    """The recordings of the examples: a source, options, and the text."""
+    for name in sorted(os.listdir(os.path.join(ROOT, "examples", "analysers"))):
+        if not name.endswith((".txt", ".csv")):
+            continue
+        source = name.partition(".")[0].partition("_")[0]
+        options = {}
+        if source == "sigrok":
+            options = {"unshifted": True, "bus": "i2c-2"} if "two" in name else {"rate": 10**6}
+        yield source, options, read("examples", "analysers", name)
+        if name == "kernel_smbus.txt":
+            yield "smbus", {"bus": b"i2c-0"}, read("examples", "analysers", name)
+
+
+def compare_import(program, source, options, text):
+    """One recording, from Python and by the program."""
+    flags = []
+    if options.get("bus") is not None:
+        flags += ["--bus", options["bus"]]
+    if options.get("rate") is not None:
+        flags += ["--rate", str(options["rate"])]
+    flags += ["--unshifted"] if options.get("unshifted") else []
+    done = subprocess.run([program, "import", source, *flags], input=text, capture_output=True)
+    what = f"import {source} {options} of {text[:60]!r}"
+    found = pmb.imported(source, text, **options)
+    right = done.stdout.decode()
+    check(found == right, f"{what}: {found[:200]!r}, and not {right[:200]!r}")
+    packets = sum(line.startswith("S ") for line in right.splitlines())
+    check(found.packets == packets, f"{what}: {found.packets} packets")
+    status = 1 if found.refusals else 0
+    check(status == done.returncode, f"{what}: {found.refusals}, and status {done.returncode}")
+
+
+def compare_imports(program, count):
+    """Recordings, some of them damaged; and what is refused, as the program refuses it."""
+    for wrong, source, options in (
+        (ValueError, "awk", {}),
+        (ValueError, "", {}),
+        (ValueError, "sigrok", {"rate": 0}),
+        (ValueError, "sigrok", {"rate": -1}),
+        (ValueError, "sigrok", {"rate": 18446744074}),
+        (ValueError, "sigrok", {"rate": 1 << 70}),
+        (ValueError, "kernel", {"rate": 1}),
+        (ValueError, "saleae", {"unshifted": True}),
+        (ValueError, "beagle", {"bus": "i2c-0"}),
+        (ValueError, "beagle", {"bus": ""}),
+        (TypeError, None, {}),
+        (TypeError, b"kernel", {}),
+        (TypeError, "sigrok", {"rate": 24e6}),
+        (TypeError, "sigrok", {"rate": "24000000"}),
+        (TypeError, "kernel", {"bus": 0}),
+    ):
+        check_raises(wrong, functools.partial(pmb.imported, **options), source, "")
+    check_raises(TypeError, pmb.imported, "kernel", 5)
+    check_raises(TypeError, pmb.imported, "kernel", ["a line"])
+    if pmb._IMPORT is None:
+        check_raises(NotImplementedError, pmb.imported, "kernel", "")
+        print("library: it has no pmb_import, so no recording was imported", file=sys.stderr)
+        return
+    r = random.Random(45)
+    kept = list(analysers())
+    for source, options, text in kept:
+        for each in ({}, options):
+            compare_import(program, source, each, text)
+        compare_import(program, source, options, b"")
+        compare_import(program, "kernel", {"bus": ""}, text)
+    for _ in range(count // 40):
+        source, options, text = r.choice(kept)
+        lines = text.splitlines(True)
+        for _ in range(r.randrange(4)):
+            at = r.randrange(len(lines))
+            lines[at : at + 1] = r.choice([[], [lines[at]] * 2, [disturbed(r, lines[at])]])
+            lines = lines or [b""]
+        compare_import(program, source, options, b"".join(lines))
+    for given in (str(kept[0][2], "utf-8"), bytearray(kept[0][2]), memoryview(kept[0][2])):
+        found = pmb.imported(kept[0][0], given)
+        check(found == pmb.imported(kept[0][0], kept[0][2]), f"a recording in a {type(given)}")
+    times = pmb._IMPORT
+    try:
+        right = pmb.imported("kernel", "i2c_result: \n" * 50000)
+        pmb._IMPORT = (times[0], 0)
+        check(pmb.imported("kernel", "i2c_result: \n" * 50000) == right, "in a small room")
+    finally:
+        pmb._IMPORT = times
+
+
 def compare_rooms():
     """The library is called once, also for the inputs whose text is longest; and where the room was
     too small after all, the text is the same."""
@@ -717,6 +803,7 @@ def main():
     compare_copies()
     compare_pools()
     compare_rooms()
+    compare_imports(program, int(sys.argv[2]) if len(sys.argv) > 2 else 10000)
     compare_messages()
     compare_package()
     compare_threads()

@@ -394,6 +394,87 @@ static int json_as_chosen(void)
     return 0;
 }
 
+/* ---- recordings */
+
+#define WRITTEN "1.5: i2c_write: i2c-0 #0 a=058 f=0000 l=1 [03]\n1.6: i2c_result: i2c-0 n=1 ret=1\n"
+#define ASKED(number) "i2c-" number ": Start\ni2c-" number ": Address write: b0\n"
+#define ENDED(number) "i2c-" number ": ACK\ni2c-" number ": Stop\n"
+
+static const struct recorded {
+    pmb_recorder recorder;
+    const char *bus, *text, *right;
+    uint64_t packets, refusals;
+} recordings[] = {
+    {{0, PMB_KERNEL, 0, 0}, "", "", "# no packets\n", 0, 1},
+    {{0, PMB_KERNEL, 0, 0}, "", WRITTEN, "# 1.5 s\nS b0 A 03 A P\n", 1, 0},
+    {{0, PMB_KERNEL, 1, 0}, "i2c-0", WRITTEN, "# 1.5 s\nS b0 A 03 A P\n", 1, 0},
+    {{0, PMB_KERNEL, 1, 0}, "", WRITTEN,
+     "# 2 lines of other buses were passed over\n# no packets\n", 0, 1},
+    {{0, PMB_SMBUS, 0, 0}, "i2c-9", WRITTEN,
+     "# 2 lines of i2c were passed over\n# no packets\n", 0, 1},
+    {{0, PMB_SIGROK, 0, 1}, "", ASKED("1") ENDED("1"), "S b0 A P\n", 1, 0},
+    {{0, PMB_SIGROK, 0, 0}, "", ASKED("1") ENDED("1"),
+     "# line 1: the packet from line 1 is cut\n# line 2: makes no sense\n# no packets\n", 0, 3},
+    {{1000, PMB_SIGROK, 1, 1}, "i2c-2", ASKED("1") "7-7 " ASKED("2") ENDED("2"),
+     "# 0.007000000 s\nS b0 A P\n# 2 lines of other buses were passed over\n", 1, 0},
+    {{0, PMB_SALEAE, 0, 0}, "", "x\n", "# line 1: makes no sense\n# no packets\n", 0, 2},
+    {{0, PMB_BEAGLE, 0, 0}, "", "Index,S/P,Addr,Record,Data\n1,SP,58,Write Transaction,03\n",
+     "S b0 A 03 A P\n", 1, 0},
+};
+
+static int imports_of(const struct recorded *it)
+{
+    const size_t length = strlen(it->right), most = length + 3;
+    size_t room;
+    for (room = 0; room <= most; room++) {
+        char bytes[MOST];
+        const size_t kept = room < length ? room : length;
+        pmb_result told;
+        memset(bytes, '~', sizeof bytes);
+        memset(&told, 0x5a, sizeof told);
+        EXPECT(pmb_import(&it->recorder, it->bus, strlen(it->bus), it->text, strlen(it->text),
+                          bytes + 1, room, &told) == length);
+        EXPECT(tells(&told, room < length ? PMB_NO_ROOM : PMB_OK, 0, -1, -1, length, it->packets,
+                     it->refusals));
+        EXPECT(bytes[0] == '~' && memcmp(bytes + 1, it->right, kept) == 0);
+        EXPECT(all_are(bytes + 1 + kept, sizeof bytes - 1 - kept, '~'));
+    }
+    return 0;
+}
+
+/* What the program refuses, and fields out of range. */
+static const pmb_recorder bad_recorders[] = {
+    {0, 5, 0, 0},
+    {0, 255, 0, 0},
+    {0, PMB_KERNEL, 2, 0},
+    {0, PMB_SIGROK, 0, 2},
+    {UINT64_C(18446744074), PMB_SIGROK, 0, 0},
+    {UINT64_MAX, PMB_SIGROK, 0, 0},
+    {1, PMB_SALEAE, 0, 0},
+    {1, PMB_BEAGLE, 0, 0},
+    {1, PMB_KERNEL, 0, 0},
+    {1, PMB_SMBUS, 0, 0},
+    {0, PMB_SALEAE, 0, 1},
+    {0, PMB_KERNEL, 0, 1},
+    {0, PMB_BEAGLE, 1, 0},
+};
+
+static int imports(void)
+{
+    size_t i;
+    for (i = 0; i < sizeof recordings / sizeof *recordings; i++)
+        if (imports_of(&recordings[i])) return fail(recordings[i].right, __LINE__);
+    for (i = 0; i < sizeof bad_recorders / sizeof *bad_recorders; i++) {
+        char bytes[8] = "~~~~~~~";
+        pmb_result told;
+        memset(&told, 0x5a, sizeof told);
+        EXPECT(pmb_import(&bad_recorders[i], "", 0, WRITTEN, sizeof WRITTEN - 1, bytes, sizeof bytes,
+                          &told) == 0);
+        EXPECT(tells(&told, PMB_BAD_CHOICE, 0, -1, -1, 0, 0, 0) && strcmp(bytes, "~~~~~~~") == 0);
+    }
+    return 0;
+}
+
 /* ---- an input of 2 MB, and a line that is too long */
 
 static int large(void)
@@ -491,7 +572,7 @@ static int refusals(void)
 static void *all(void *result)
 {
     *(int *)result = rooms() || faults() || explanations() || nested() || choices() ||
-                     addresses() || json_as_chosen() || large();
+                     addresses() || json_as_chosen() || imports() || large();
     return result;
 }
 

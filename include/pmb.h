@@ -76,7 +76,7 @@ enum pmb_status {
     /* malloc or realloc had no memory. */
     PMB_NO_MEMORY = 18,
     /* A field of pmb_choice is out of range, or the address of a wanted device has more than seven
-     * bits. */
+     * bits; or pmb_recorder asks for what `pmb import` refuses. */
     PMB_BAD_CHOICE = 19,
     /* No event has ended in the text so far. */
     PMB_NO_EVENT = 20,
@@ -199,8 +199,8 @@ int32_t pmb_lex_end(pmb_lexer *lexer, pmb_event *event);
 /* ---- whole inputs
  *
  * Each of these writes what the subcommand of `pmb` of that name writes, of an input that is in memory
- * as a whole, under a profile: a TOML document, docs/profiles.md. Captures, lines and requests are
- * those of docs/text.md. For each function:
+ * as a whole; but for pmb_import under a profile: a TOML document, docs/profiles.md. Captures, lines,
+ * requests and recordings are those of docs/text.md. For each function:
  *  - It returns how many bytes the text has, also where they don't fit. What fits stands at the start
  *    of the room, without a NUL, and the rest of the room stays. With a room of 0 bytes only the
  *    length is found.
@@ -243,7 +243,8 @@ typedef struct pmb_result {
     /* How many bytes the text has; what the call returns. */
     size_t length;
     /* How many packets a capture has and how many refusals, a word that is no token among them; how
-     * many lines were built or requests done, and how many had a fault or failed. */
+     * many lines were built or requests done, and how many had a fault or failed; how many packets
+     * came of a recording, and how many lines of the capture tell that something is missing. */
     uint64_t packets;
     uint64_t refusals;
 } pmb_result;
@@ -287,6 +288,37 @@ typedef struct pmb_choice {
 size_t pmb_json(const char *profile, size_t profile_length, const char *capture,
                 size_t capture_length, const pmb_choice *choice, const uint8_t *devices,
                 size_t devices_length, char *out, size_t room, pmb_result *told);
+
+/* What wrote a recording (docs/capturing.md). */
+enum pmb_source {
+    PMB_SIGROK = 0,
+    PMB_SALEAE = 1,
+    PMB_BEAGLE = 2,
+    /* The events of i2c, and those of smbus, in a trace of the Linux kernel. */
+    PMB_KERNEL = 3,
+    PMB_SMBUS = 4
+};
+
+/* What wrote a recording, and how it is read. */
+typedef struct pmb_recorder {
+    /* sigrok: how many samples a second has, 1 to 18,446,744,073; 0 where packets get no times, and
+     * for each other source. */
+    uint64_t rate;
+    uint8_t source; /* one of enum pmb_source */
+    /* 1 where the given bus is read; 0 where it is that of the first line that names one, and for
+     * PMB_BEAGLE. */
+    uint8_t names_bus;
+    uint8_t unshifted; /* sigrok: 1 where an address is a whole byte. 0 for each other source */
+} pmb_recorder;
+
+/* Writes the capture of a recording: whole packets with their times, and lines that tell what is
+ * missing. Of the bus only its bytes count, as the recording writes its name; where names_bus is 0
+ * they are not read, and the length may be 0. Something is missing where told->refusals is not 0: then
+ * `pmb import` has the status 1.
+ * The status is PMB_BAD_CHOICE, before all others, for a field out of range. No memory is taken. */
+size_t pmb_import(const pmb_recorder *recorder, const char *bus, size_t bus_length,
+                  const char *recording, size_t recording_length, char *out, size_t room,
+                  pmb_result *told);
 
 /* The most bytes that pmb_profile_fault writes. */
 #define PMB_MOST_FAULT_TEXT 2048

@@ -3,7 +3,7 @@
 import ctypes
 import re
 
-TASKS = ("show", "check", "build", "run", "json")
+TASKS = ("show", "check", "build", "run", "json", "import")
 ROOMS = 200  # a text that is longer has some of the rooms alone
 
 
@@ -15,6 +15,11 @@ class Result(ctypes.Structure):
 
 class Choice(ctypes.Structure):
     _fields_ = [("digits", ctypes.c_uint8), ("start", ctypes.c_uint8), ("bad_words", ctypes.c_uint8)]
+
+
+class Recorder(ctypes.Structure):
+    _fields_ = [("rate", ctypes.c_uint64), ("source", ctypes.c_uint8),
+                ("names_bus", ctypes.c_uint8), ("unshifted", ctypes.c_uint8)]
 
 
 def numbers_of(header, enum):
@@ -44,9 +49,26 @@ def choice_of(words):
     return choice, devices
 
 
+def recorder_of(words, sources):
+    """What wrote a recording, by the words of `import`, and the name of its bus."""
+    recorder, bus = Recorder(source=sources[words[1].decode().upper()]), b""
+    for word, value in zip(words, words[1:] + [b""]):
+        if word == b"--bus":
+            recorder.names_bus, bus = 1, value
+        if word == b"--rate":
+            recorder.rate = int(value)
+        if word == b"--unshifted":
+            recorder.unshifted = 1
+    return recorder, bus
+
+
 def tally_of(task, out):
     """The numbers of packets and of refusals that a text tells."""
     lines = out.splitlines()
+    if task == "import":
+        told = [line for line in lines if line.startswith((b"# line", b"# no packets"))]
+        failed = sum(b": a transfer failed with " in line for line in told)
+        return sum(line.startswith(b"S ") for line in lines), len(told) - failed
     if task in ("check", "json"):
         last = re.findall(rb"\d+", lines[-1])
         numbers = [int(number) for number in last]
@@ -65,10 +87,13 @@ class Library:
         self.functions = {}
         library = ctypes.CDLL(str(path))
         for task in TASKS:
+            if not hasattr(library, "pmb_" + task):
+                continue
             function = getattr(library, "pmb_" + task)
             function.restype = ctypes.c_size_t
             self.functions[task] = function
         self.statuses = numbers_of(header, "pmb_status")
+        self.sources = numbers_of(header, "pmb_source")
         names = numbers_of(header, "pmb_fault")
         self.faults = {"".join(part.title() for part in name.split("_")).encode(): number
                        for name, number in names.items()}
@@ -81,7 +106,7 @@ class Library:
         task = words[0].decode("utf-8", "replace")
         is_profile = task == "profile" and words[1:] == []
         is_known = row.status in (0, 1) or is_fault(row)
-        return (task in TASKS or is_profile) and is_known
+        return (task in self.functions or is_profile) and is_known
 
     def call(self, words, given, room):
         """The text and the result of a call, with a room of a size; in front of the room's end, what
@@ -93,6 +118,10 @@ class Library:
         out = ctypes.create_string_buffer(b"~" * (room + 1), room + 1)
         told = Result()
         front = [profile, ctypes.c_size_t(len(profile)), matter, ctypes.c_size_t(len(matter))]
+        if task == "import":
+            recorder, bus = recorder_of(words, self.sources)
+            front = [ctypes.byref(recorder), bus, ctypes.c_size_t(len(bus))]
+            front += [given, ctypes.c_size_t(len(given))]
         if task == "json":
             choice, devices = choice_of(words)
             front += [ctypes.byref(choice), devices, ctypes.c_size_t(len(devices))]

@@ -92,7 +92,7 @@ def is_answered(task, line):
 
 def matter_at(words, given):
     """Where the matter begins, after a profile."""
-    if b"--sample" in words or words[0] in (b"encode", b"decode"):
+    if b"--sample" in words or words[0] in (b"encode", b"decode", b"import"):
         return 0
     match = re.search(rb"^%%\r?\n", given, re.M)
     return match.end() if match else len(given)

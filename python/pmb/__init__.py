@@ -1,5 +1,5 @@
 """The proved PMBus codec: numbers, packet error codes and names; captures, packets and simulated
-devices under a profile.
+devices under a profile; recordings of analysers and of the Linux kernel.
 
     >>> import pmb
     >>> pmb.decode("linear11", 0xd300)
@@ -53,6 +53,7 @@ __all__ = [
     "decode",
     "encode",
     "events",
+    "imported",
     "pec",
     "quantity",
     "quantity_text",
@@ -84,6 +85,10 @@ _NO_EVENT, _BAD_TOKEN = 20, 21
 
 # The kinds of events, by the library's numbers.
 _KINDS = ("start", "byte", "ack", "nack", "stop")
+
+# What wrote a recording, by the library's numbers, and the greatest number of samples in a second.
+_SOURCES = ("sigrok", "saleae", "beagle", "kernel", "smbus")
+_MOST_RATE = 18446744073
 
 # The names of the faults of profiles, by the library's numbers.
 _PROFILE_FAULTS = (
@@ -289,6 +294,15 @@ class _Choice(ctypes.Structure):
     ]
 
 
+class _Recorder(ctypes.Structure):
+    _fields_ = [
+        ("rate", ctypes.c_uint64),
+        ("source", ctypes.c_uint8),
+        ("names_bus", ctypes.c_uint8),
+        ("unshifted", ctypes.c_uint8),
+    ]
+
+
 class _Result(ctypes.Structure):
     _fields_ = [
         ("status", ctypes.c_int32),
@@ -320,6 +334,7 @@ def _load() -> ctypes.CDLL:
     room = [ctypes.c_void_p, size, ctypes.POINTER(_Result)]
     whole = [text, size, text, size]
     choice = [ctypes.POINTER(_Choice), text, size]
+    recorder = [ctypes.POINTER(_Recorder), text, size]
     for name, result, arguments in (
         ("pmb_version", ctypes.c_uint32, []),
         ("pmb_pec", byte, [byte, text, size]),
@@ -336,8 +351,12 @@ def _load() -> ctypes.CDLL:
         ("pmb_build", size, whole + room),
         ("pmb_run", size, whole + room),
         ("pmb_json", size, whole + choice + room),
+        ("pmb_import", size, recorder + [text, size] + room),
         ("pmb_profile_fault", size, [text, size] + room),
     ):
+        # (a library that was put in the place of the package's own may be older)
+        if name == "pmb_import" and not hasattr(library, name):
+            continue
         function = getattr(library, name)
         function.restype = result
         function.argtypes = arguments
@@ -547,6 +566,47 @@ def transactions(
     return _objects(room, told.length)
 
 
+def imported(
+    source: str,
+    text: Content,
+    bus: Optional[Content] = None,
+    rate: Optional[int] = None,
+    unshifted: bool = False,
+) -> Text:
+    """The capture of a recording, as `pmb import` writes it: whole packets with their times, and
+    lines that begin with `#` and tell what is missing.
+
+    `source` is what wrote the recording: `sigrok`, `saleae`, `beagle`, or for a trace of Linux
+    `kernel` (the events of `i2c`) or `smbus`. `bus` is the bus to read, as the recording names it;
+    without it, that of the first line that names one. For sigrok, `rate` is the number of samples
+    in a second, 1 to 18446744073, without which packets have no times, and `unshifted` says that
+    an address is a whole byte.
+
+        >>> trace = "1.5: i2c_write: i2c-0 #0 a=058 f=0000 l=1 [03]\\n"
+        >>> print(pmb.imported("kernel", trace + "1.6: i2c_result: i2c-0 n=1 ret=1\\n"), end="")
+        # 1.5 s
+        S b0 A 03 A P
+
+    The text has `packets`, how many there are, and `refusals`, how many lines tell that something
+    is missing, that there are no packets among them: without refusals the recording is all there.
+
+    Raises a `ValueError` for a source or an option that the program refuses: another source, a rate
+    out of range, `rate` or `unshifted` for another source than sigrok, and `bus` for beagle. Where
+    the library is older and has no such call, that is a `NotImplementedError`.
+    """
+    recorder, name = _recorder(source, bus, rate, unshifted)
+    given = _bytes(text)
+    if _IMPORT is None:
+        raise NotImplementedError("the library is older, and has no pmb_import")
+    asked = (ctypes.byref(recorder), name, len(name), given, len(given))
+    room, told = _filled(_IMPORT, len(given), *asked)
+    if told.status != _OK:
+        raise RuntimeError("the library's status is {}".format(told.status))
+    capture = _str(room, told)
+    del room
+    return Text(capture, told.packets, told.refusals)
+
+
 def _objects(room: Union[bytearray, mmap.mmap], length: int) -> Iterator[Dict[str, Any]]:
     read, at, back = _json.JSONDecoder().raw_decode, 0, 0
     while at < length:
@@ -651,6 +711,29 @@ def _choice(
     return ctypes.byref(_Choice(digits, start, 1 if keep_going else 0)), wanted, len(wanted)
 
 
+def _recorder(source: Any, bus: Any, rate: Any, unshifted: Any) -> Tuple[_Recorder, bytes]:
+    """What wrote a recording, and the name of its bus."""
+    if not isinstance(source, str):
+        raise _wrong_type("a source", "a str", source)
+    if source not in _SOURCES:
+        named = ", ".join(_SOURCES)
+        raise ValueError("a source is one of {}, and this is {!r}".format(named, source))
+    name = b"" if bus is None else _bytes(bus, "a bus")
+    if rate is not None and not 1 <= _index("a rate", rate) <= _MOST_RATE:
+        raise ValueError("a rate is from 1 to {}, and this is {}".format(_MOST_RATE, rate))
+    if source != "sigrok" and (rate is not None or unshifted):
+        raise ValueError("rate and unshifted are for sigrok alone, and not for {}".format(source))
+    if source == "beagle" and bus is not None:
+        raise ValueError("a recording of a Beagle has one bus, without a name")
+    recorder = _Recorder(
+        0 if rate is None else operator.index(rate),
+        _SOURCES.index(source),
+        0 if bus is None else 1,
+        1 if unshifted else 0,
+    )
+    return recorder, name
+
+
 # ---- whole inputs
 
 # The functions over whole inputs, with how many bytes a byte of input comes to at most, as far as
@@ -662,6 +745,8 @@ _CHECK = (_LIBRARY.pmb_check, 32)
 _BUILD = (_LIBRARY.pmb_build, 32)
 _RUN = (_LIBRARY.pmb_run, 208)
 _JSON = (_LIBRARY.pmb_json, 80)
+# (lines of one letter, each of which makes no sense; None where the library has no such call)
+_IMPORT = (_LIBRARY.pmb_import, 32) if hasattr(_LIBRARY, "pmb_import") else None
 
 # How many bytes may be had besides, such as the objects of 64 devices at the end of `json`.
 _BESIDES = 16384
@@ -690,27 +775,31 @@ def _first_room(times: int, length: int) -> Union[bytearray, mmap.mmap]:
     return bytearray(_BESIDES)
 
 
-def _whole(
-    function: Tuple[Any, int], profile: Content, text: Content, *more: Any
+def _filled(
+    function: Tuple[Any, int], length: int, *given: Any
 ) -> Tuple[Union[bytearray, mmap.mmap], _Result]:
-    """What a function writes, in its room, and what it tells."""
-    toml, given, told = _bytes(profile, "a profile"), _bytes(text), _Result()
+    """What a function writes of an input of so many bytes, in its room, and what it tells."""
     call, times = function
-    room = _first_room(times, len(given))
+    room, told = _first_room(times, length), _Result()
     while True:
         start = ctypes.c_char.from_buffer(room)
-        call(
-            toml, len(toml), given, len(given), *more,
-            ctypes.addressof(start), len(room), ctypes.byref(told),
-        )
+        call(*given, ctypes.addressof(start), len(room), ctypes.byref(told))
         del start
         if told.status != _NO_ROOM:
-            break
+            return room, told
         # (the text is longer than was thought)
         try:
             room = _room(told.length)
         except OSError:
             raise MemoryError("no memory for {} bytes".format(told.length)) from None
+
+
+def _whole(
+    function: Tuple[Any, int], profile: Content, text: Content, *more: Any
+) -> Tuple[Union[bytearray, mmap.mmap], _Result]:
+    """What a function writes under a profile, in its room, and what it tells."""
+    toml, given = _bytes(profile, "a profile"), _bytes(text)
+    room, told = _filled(function, len(given), toml, len(toml), given, len(given), *more)
     if told.status == _NO_MEMORY:
         raise MemoryError("no memory for the profile")
     if told.status == _BAD_PROFILE:
@@ -722,11 +811,15 @@ def _whole(
 
 def _text(function: Tuple[Any, int], profile: Content, text: Content, *more: Any) -> Text:
     room, told = _whole(function, profile, text, *more)
-    with memoryview(room) as whole, whole[: told.length] as written:
-        text = str(written, "ascii")
+    written = _str(room, told)
     # (a Text is a copy, and two of a long text are enough)
     del room
-    return Text(text, told.packets, told.refusals)
+    return Text(written, told.packets, told.refusals)
+
+
+def _str(room: Union[bytearray, mmap.mmap], told: _Result) -> str:
+    with memoryview(room) as whole, whole[: told.length] as written:
+        return str(written, "ascii")
 
 
 def _profile_error(toml: bytes) -> Exception:
