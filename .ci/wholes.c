@@ -13,6 +13,9 @@
 #ifndef STACK
 #define STACK (1 << 20)
 #endif
+#ifndef IMPORT_STACK
+#define IMPORT_STACK (1 << 21)
+#endif
 
 static int fail(const char *what, int line)
 {
@@ -572,31 +575,47 @@ static int refusals(void)
 static void *all(void *result)
 {
     *(int *)result = rooms() || faults() || explanations() || nested() || choices() ||
-                     addresses() || json_as_chosen() || imports() || large();
+                     addresses() || json_as_chosen() || large();
     return result;
 }
 
-int main(void)
+static void *all_imports(void *result)
+{
+    *(int *)result = imports();
+    return result;
+}
+
+/* Calls a function from so many threads at once, each with so much stack. */
+static int in_threads(void *(*call)(void *), size_t stack)
 {
     pthread_t threads[THREADS];
     pthread_attr_t small;
-    int results[THREADS], alone, i, failed;
-    all(&alone);
-    failed = alone;
-#ifdef REFUSES
-    failed |= refusals();
-#else
-    (void)counting, (void)later, (void)allocations, (void)live, (void)refused;
-#endif
-    if (pthread_attr_init(&small) || pthread_attr_setstacksize(&small, STACK))
+    int results[THREADS], i, failed = 0;
+    if (pthread_attr_init(&small) || pthread_attr_setstacksize(&small, stack))
         return fail("pthread_attr", __LINE__);
     for (i = 0; i < THREADS; i++)
-        if (pthread_create(&threads[i], &small, all, &results[i]))
+        if (pthread_create(&threads[i], &small, call, &results[i]))
             return fail("pthread_create", __LINE__);
     for (i = 0; i < THREADS; i++) {
         pthread_join(threads[i], NULL);
         failed |= results[i];
     }
     pthread_attr_destroy(&small);
+    return failed;
+}
+
+int main(void)
+{
+    int alone, imported, failed;
+    all(&alone);
+    all_imports(&imported);
+    failed = alone | imported;
+#ifdef REFUSES
+    failed |= refusals();
+#else
+    (void)counting, (void)later, (void)allocations, (void)live, (void)refused;
+#endif
+    failed |= in_threads(all, STACK);
+    failed |= in_threads(all_imports, IMPORT_STACK);
     return failed;
 }

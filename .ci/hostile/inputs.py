@@ -103,6 +103,28 @@ REQUESTS = [
 QUANTITIES = [b"12\n", b"1\n", b"1023.5\n", b"33521664\n", b"33521665\n", b"-1/3\n", b"0.5\r\n", b"\n",
               b"1/0\n", b"x\n", b"1" * 300 + b"\n"]
 CODES = [b"d300\n", b"0001\n", b"12g4\n", b"0032\r\n", b"\n", b"7bff\n", b"d" * 300 + b"\n"]
+# Recordings, of which a row is a packet, or a line that makes no sense.
+TRACE = [
+    b"x-1 [000] 1.5: i2c_write: i2c-0 #0 a=058 f=0000 l=1 [03]\n"
+    b"x-1 [000] 1.6: i2c_result: i2c-0 n=1 ret=1\n",
+    b"x-1 [000] 2.5: i2c_write: i2c-0 #0 a=058 f=0000 l=1 [88]\r\n"
+    b"x-1 [000] 2.5: i2c_read: i2c-0 #1 a=058 f=0001 l=2\r\n"
+    b"x-1 [000] 2.6: i2c_reply: i2c-0 #1 a=058 f=0001 l=2 [00-d3]\r\n"
+    b"x-1 [000] 2.6: i2c_result: i2c-0 n=2 ret=2\r\n",
+    b"x-1 [000] 3.5: i2c_write: i2c-0 #0 a=05g f=0000 l=1 [03]\n",
+    b"CPU:0 [LOST 12 EVENTS]\n",
+    b"x-1 [000] 4.5: i2c_write: i2c-0 #0 a=020 f=0000 l=0 []\n"
+    b"x-1 [000] 4.6: i2c_result: i2c-0 n=1 ret=-6\n",
+    b"\n",
+]
+DECODED = [
+    b"7-9 i2c-1: Start\n7-9 i2c-1: Address write: 58\n7-9 i2c-1: ACK\n"
+    b"7-9 i2c-1: Data write: 03\n7-9 i2c-1: ACK\n9-9 i2c-1: Stop\n",
+    b"9-9 i2c-1: Stop\n",
+    b"12-13 i2c-1: Start\r\n12-13 i2c-1: Address read: 20\r\n12-13 i2c-1: NACK\r\n"
+    b"13-13 i2c-1: Stop\r\n",
+    b"i2c-1\n",
+]
 
 # Each subcommand with the rows that it is given.
 UNDER_SAMPLE = [
@@ -122,6 +144,10 @@ CONVERSIONS = [
     (["decode", "linear11"], CODES),
     (["encode", "direct:3,2,1"], QUANTITIES),
     (["decode", "direct:3,2,1"], CODES),
+]
+IMPORTS = [
+    (["import", "kernel"], TRACE),
+    (["import", "sigrok", "--rate", "1000"], DECODED),
 ]
 # Words that read nothing: calls for help and the version, none, and bad ones.
 HELP = [["help"], ["--help"], ["--version"], ["show", "--help"], ["help", "encode"],
@@ -191,5 +217,6 @@ def large_inputs(program):
         (["run", "--sample"], large_requests()),
         (["encode", "linear11"], large_quantities()),
         (["decode", "linear11"], large_codes()),
+        (["import", "kernel"], b"".join(TRACE) * (LARGE // len(b"".join(TRACE)))),
         (["show"], FRONT + capture),
     ]

@@ -2,7 +2,7 @@
 
 import collections
 
-from inputs import (BAD_WORDS, BEHIND_A_PROFILE, CONVERSIONS, DESCRIPTIONS, FAULTY, FRONT, HELP,
+from inputs import (BAD_WORDS, BEHIND_A_PROFILE, CONVERSIONS, DESCRIPTIONS, FAULTY, FRONT, HELP, IMPORTS,
                     UNDER_SAMPLE, WITH_A_PROFILE)
 from program import name_of, tells_fault, told
 
@@ -13,7 +13,7 @@ Case = collections.namedtuple("Case", "words text front may_tell faults")
 
 
 def cases():
-    for words, rows in UNDER_SAMPLE + CONVERSIONS:
+    for words, rows in UNDER_SAMPLE + CONVERSIONS + IMPORTS:
         yield Case(words, b"".join(rows), 0, False, {})
     for words, rows in BEHIND_A_PROFILE:
         # Read byte by byte, so that what was read beyond the profile shows.

@@ -7,7 +7,7 @@ import select
 import termios
 import time
 
-from inputs import (BEHIND_A_PROFILE, CONVERSIONS, DESCRIPTIONS, FRONT, HELP, MEGABYTE, SMALL_BUS,
+from inputs import (BEHIND_A_PROFILE, CONVERSIONS, DESCRIPTIONS, FRONT, HELP, IMPORTS, MEGABYTE, SMALL_BUS,
                     UNDER_SAMPLE)
 from profiles import LIMIT, all_commands
 from program import contents, name_of
@@ -19,7 +19,7 @@ PATIENCE = 20
 
 def runs():
     """Words with an input of some rows, or of a profile."""
-    return [(words, b"".join(rows)) for words, rows in UNDER_SAMPLE + CONVERSIONS] + [
+    return [(words, b"".join(rows)) for words, rows in UNDER_SAMPLE + CONVERSIONS + IMPORTS] + [
         (words, FRONT + b"".join(rows)) for words, rows in BEHIND_A_PROFILE] + [
         (["profile"], SMALL_BUS)]
 
@@ -75,7 +75,7 @@ def closed_pipe(program, report):
     """`| head -n 1`: the pipe is closed once it has given something, and is far too small for the
     rest. No signal ends the program."""
     inputs = [(["profile"], all_commands(LIMIT).encode())]
-    for words, rows in UNDER_SAMPLE + CONVERSIONS:
+    for words, rows in UNDER_SAMPLE + CONVERSIONS + IMPORTS:
         row = rows[3] if words[0] == "check" else rows[0]
         inputs.append((words, row * (2 * MEGABYTE // len(row))))
     for words, text in inputs:
@@ -128,7 +128,7 @@ def silent_terminal():
 
 def terminal(program, report):
     """A terminal as all three streams: each line that is typed is answered, and ^D is the end."""
-    for words, rows in UNDER_SAMPLE + CONVERSIONS:
+    for words, rows in UNDER_SAMPLE + CONVERSIONS + IMPORTS:
         # A terminal makes a LF of a CR.
         rows = [row for row in rows if b"\r" not in row]
         outs = answers_to_rows(program, words, b"", rows)

@@ -3,7 +3,7 @@
 import os
 import random
 
-from inputs import CONVERSIONS, MEGABYTE, SEED, UNDER_SAMPLE
+from inputs import CONVERSIONS, IMPORTS, MEGABYTE, SEED, UNDER_SAMPLE
 from program import Answer, contents, name_of, short
 
 PEAK_KILOBYTES = 4096
@@ -127,7 +127,7 @@ def senseless_inputs(program, report):
         for place, size in enumerate(sizes):
             source = program.scratch("senseless")
             os.write(source, make(size))
-            for words, _ in UNDER_SAMPLE + CONVERSIONS[:2]:
+            for words, _ in UNDER_SAMPLE + CONVERSIONS[:2] + IMPORTS:
                 run = f"{name_of(words)} on {kind}"
                 so_far = seconds.setdefault(run, [])
                 least = float("inf")

@@ -2,9 +2,8 @@
 //!
 //! Its rows: `tests/rows/recordings.txt`.
 
-ghost use Rattle.std.specs.Prelude.{◌≡◌, MatchOption};
-ghost use Rattle.pmb_c.specs.Recorder.{form_of, hertz_of, source_of};
-ghost use Rattle.pmb_recorder.specs.Recorded.{Recorded, recorded_of};
+ghost use Rattle.std.specs.Prelude.{◌≡◌, option_copied, option_map};
+ghost use Rattle.pmb_c.specs.Recorder.{bus_of, form_of, hertz_of, source_of};
 
 use pmb_import::{AddressForm, Recorder, RecordingSource};
 
@@ -34,11 +33,7 @@ impl PmbRecorder {
     {
         let source = source(self.source)?;
         let form = form(self.unshifted)?;
-        let bus = match self.names_bus {
-            0 => None,
-            1 => Some(bus),
-            _ => return None,
-        };
+        let bus = named_bus(self.names_bus, bus)?;
         match Recorder::new(source, bus, hertz(self.rate), form) {
             Ok(recorder) => Some(recorder),
             Err(_) => None,
@@ -67,6 +62,17 @@ fn form(number: u8) -> Option<AddressForm>
     match number {
         0 => Some(AddressForm::Shifted),
         1 => Some(AddressForm::Unshifted),
+        _ => None,
+    }
+}
+
+/// The bus that is read, if it is named; `None` where the number says neither.
+fn named_bus(number: u8, name: &[u8]) -> Option<Option<&[u8]>>
+    ensures { option_map option_copied result ≡ bus_of number name.now }
+{
+    match number {
+        0 => Some(None),
+        1 => Some(Some(name)),
         _ => None,
     }
 }

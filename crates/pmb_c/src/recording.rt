@@ -22,12 +22,19 @@ pub extern "C" fn pmb_import(
     ensures wrote { ImportsInto recorder.now bus.now recording.now room.old room.new told.new }
     ensures length { result ≡ told.new.length }
 {
+    *told = imported(recorder, bus, recording, room);
+    told.length
+}
+
+/// Puts the capture of a recording into the room, and returns what is told of it.
+fn imported(recorder: &PmbRecorder, bus: &[u8], recording: &[u8], room: &mut [u8]) -> PmbResult
+    ensures { ImportsInto recorder.now bus.now recording.now room.old room.new result }
+{
     match recorder.recorder(bus) {
         Some(recorder) => {
             let size = room.len();
-            *told = PmbResult::of_put(put_import(recorder, recording, room), size);
+            PmbResult::of_put(put_import(recorder, recording, room), size)
         }
-        None => *told = PmbResult::of_status(CallStatus::BadChoice),
+        None => PmbResult::of_status(CallStatus::BadChoice),
     }
-    told.length
 }
