@@ -417,6 +417,8 @@ class Saleae(Source):
         # "the analyzer's `name`"; "a line whose bus can be read and is another is passed over,
         # whatever else it has"
         name = self.table.known(b"name")
+        # (an analyzer has a name: an empty one is the end of a row that was cut)
+        need(name != b"")
         if name is not None and self.is_other(name):
             return Other("other buses")
         need(self.table.can_be_read())

@@ -181,7 +181,8 @@ with_bus : (t : Saleae) (name : List ℕ) (columns : Columns) (r : Record) (now 
     → now ≡ following t.recording name
     → DoesAs (class_on_bus (record t { recording = now }) name columns r) t
     (on_bus (record t { recording = now }) name columns r)
-    → DoesAs (class_of_named t (Some name) columns r) t (take_named t (Some name) columns r)
+    → DoesAs (class_on_bus (record t { recording = following t.recording name }) name columns r) t
+    (on_bus (record t { recording = following t.recording name }) name columns r)
 with_bus t name columns r now is does =
     subst (λ (now : Recording).
     DoesAs (class_on_bus (record t { recording = now }) name columns r) t
@@ -189,7 +190,8 @@ with_bus t name columns r now is does =
 
 on_either : (t : Saleae) (name : List ℕ) (columns : Columns) (r : Record)
     → (t.recording.follows_bus ≡ true) ⊎ (t.recording.follows_bus ≡ false)
-    → DoesAs (class_of_named t (Some name) columns r) t (take_named t (Some name) columns r)
+    → DoesAs (class_on_bus (record t { recording = following t.recording name }) name columns r) t
+    (on_bus (record t { recording = following t.recording name }) name columns r)
 on_either t name columns r (inl known) =
     with_bus t name columns r t.recording
     (sym (if_true t.recording.follows_bus t.recording (settled t name).recording known))
@@ -199,9 +201,17 @@ on_either t name columns r (inr first) =
     (sym (if_false t.recording.follows_bus t.recording (settled t name).recording first))
     (on_first t name columns r (bytes_eq name name) ((bytes_eq-Decides name name).1 refl))
 
+of_known : (t : Saleae) (name : List ℕ) (columns : Columns) (r : Record) (is_empty : Bool)
+    → DoesAs (if is_empty then IsFault else
+    class_on_bus (record t { recording = following t.recording name }) name columns r) t
+    (if is_empty then fault t MakesNoSense else
+    on_bus (record t { recording = following t.recording name }) name columns r)
+of_known t name columns r true = faulted t MakesNoSense
+of_known t name columns r false = on_either t name columns r (bool_cases t.recording.follows_bus)
+
 of_named : (t : Saleae) (name : Option (List ℕ)) (columns : Columns) (r : Record)
     → DoesAs (class_of_named t name columns r) t (take_named t name columns r)
-of_named t (Some name) columns r = on_either t name columns r (bool_cases t.recording.follows_bus)
+of_named t (Some name) columns r = of_known t name columns r (bytes_eq name [])
 of_named t None columns r = does (class_of_row t columns r) t (take_row t columns r) (of_row t columns r)
 
 -- ---- lines

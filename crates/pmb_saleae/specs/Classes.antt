@@ -1,6 +1,7 @@
 -- The four classes of the lines of a recording, and what becomes of a line of each.
 use Rattle.std.specs.Prelude.{◌≡◌, ℕ, ◌<◌, ◌==◌, not, true, false, Bool, Option, Some, None, List, [], ◌∷◌, ◌++◌, ◌⊎◌}
 use Rattle.std.specs.Prelude.{if◌then◌else◌}
+use Rattle.std.specs.Str.{bytes_eq}
 use Rattle.pmb_csv.specs.Fields.{Record, record_of}
 use Rattle.pmb_io.specs.Lines.{TextLine}
 use Rattle.pmb_recording.specs.Classes.{LineClass, GivesEvents, SaysNothing, PassedOver, IsFault, given_if}
@@ -49,9 +50,13 @@ class_of_row t columns r =
 abbrev pub class_on_bus : Saleae → List ℕ → Columns → Record → LineClass
 class_on_bus t name columns r = if is_followed t.recording name then class_of_row t columns r else PassedOver
 
-abbrev pub class_of_named : Saleae → Option (List ℕ) → Columns → Record → LineClass
-class_of_named t (Some name) columns r =
+abbrev pub class_of_known : Saleae → List ℕ → Columns → Record → LineClass
+class_of_known t name columns r =
+    if bytes_eq name [] then IsFault else
     class_on_bus (record t { recording = following t.recording name }) name columns r
+
+abbrev pub class_of_named : Saleae → Option (List ℕ) → Columns → Record → LineClass
+class_of_named t (Some name) columns r = class_of_known t name columns r
 class_of_named t None columns r = class_of_row t columns r
 
 -- a row under the columns of a heading

@@ -1,6 +1,7 @@
 -- What becomes of a packet, row by row, and what is told.
 use Rattle.std.specs.Prelude.{ℕ, ◌==◌, true, false, Option, Some, None, nat_le, if◌then◌else◌, List, [], ◌∷◌, ◌++◌}
 use Rattle.std.specs.Prelude.{length}
+use Rattle.std.specs.Str.{bytes_eq}
 use Rattle.pmb_csv.specs.Fields.{Record, record_of}
 use Rattle.pmb_io.specs.Lines.{TextLine}
 use Rattle.pmb_recording.specs.Content.{content}
@@ -119,8 +120,14 @@ on_bus t name columns r =
     quietly (record t { recording = past_other_bus t.recording })
 
 -- The first row whose analyzer can be read settles which is followed.
+-- a row with the name of an analyzer, which is a fault where that is empty
+abbrev pub take_known : Saleae → List ℕ → Columns → Record → Step Saleae
+take_known t name columns r =
+    if bytes_eq name [] then fault t MakesNoSense else
+    on_bus (record t { recording = following t.recording name }) name columns r
+
 abbrev pub take_named : Saleae → Option (List ℕ) → Columns → Record → Step Saleae
-take_named t (Some name) columns r = on_bus (record t { recording = following t.recording name }) name columns r
+take_named t (Some name) columns r = take_known t name columns r
 take_named t None columns r = take_row t columns r
 
 -- a row, which is a fault where no heading came

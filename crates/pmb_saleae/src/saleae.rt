@@ -13,7 +13,7 @@ ghost use Rattle.pmb_recording.specs.Told.{reason_of};
 ghost use Rattle.pmb_recording.proofs.Runs.{imports_all};
 ghost use Rattle.pmb_saleae.specs.Packets.{add_byte, begin as begin_step, fault as fault_step, follow, inside, on_bus, outside};
 ghost use Rattle.pmb_saleae.specs.Packets.{refuse as refuse_step, skip as skip_step, start, take_content as content_step, take_end, take_line};
-ghost use Rattle.pmb_saleae.specs.Packets.{take_named as named_step, take_record as record_step, take_row as row_step};
+ghost use Rattle.pmb_saleae.specs.Packets.{take_known as known_step, take_named as named_step, take_record as record_step, take_row as row_step};
 ghost use Rattle.pmb_saleae.specs.Row.{name_of, value_if};
 ghost use Rattle.pmb_saleae.specs.declared.event.Event.TheVariants as event;
 
@@ -141,9 +141,29 @@ impl Saleae {
         ensures failed { WriterTells (W.told writer.old) (W.told writer.new) result }
     {
         match row.name() {
-            Some(name) => self.take_on_bus(&name, row, waiting, writer),
+            Some(name) => self.take_known(&name, row, waiting, writer),
             None => self.take_row(row, waiting, writer),
         }
+    }
+
+    /// Takes a row with the name of an analyzer, which may be empty.
+    fn take_known<W: Sink>(
+        &mut self,
+        name: &Field<'_>,
+        row: &Row<'_>,
+        waiting: &mut Waiting,
+        writer: &mut W,
+    ) -> Result<(), RunFault>
+        requires name { length (text_of name.now) ≤ most_text }
+        requires short { length row.now.line.now ≤ most_content }
+        ensures now { self.new ≡ (known_step self.old (text_of name.now) row.now.columns (record_of row.now.line.now)).now }
+        ensures puts { OnOk result (PutsText (W.told writer.old).held waiting.old.items (W.told writer.new).held waiting.new.items (known_step self.old (text_of name.now) row.now.columns (record_of row.now.line.now)).text) }
+        ensures failed { WriterTells (W.told writer.old) (W.told writer.new) result }
+    {
+        if name.is(b"") {
+            return self.fault(Fault::MakesNoSense, waiting, writer);
+        }
+        self.take_on_bus(name, row, waiting, writer)
     }
 
     /// Takes a row of an analyzer.
