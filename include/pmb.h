@@ -208,7 +208,7 @@ int32_t pmb_lex_end(pmb_lexer *lexer, pmb_event *event);
  *    PMB_NO_MEMORY, and then the room stays and the length is 0.
  *  - It takes memory for the profile by malloc and realloc, pmb_run for its devices too, and frees
  *    all of it before it returns; what is read and written takes none. It uses less than 448 KB of
- *    stack. It may not be called from a signal handler.
+ *    stack, and pmb_import less than 768 KB. It may not be called from a signal handler.
  *  - Of the C library it calls malloc, realloc, free, memcpy, memmove and memset.
  */
 
