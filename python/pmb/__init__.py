@@ -582,6 +582,7 @@ def imported(
     in a second, 1 to 18446744073, without which packets have no times, and `unshifted` says that
     an address is a whole byte.
 
+        >>> import pmb
         >>> trace = "1.5: i2c_write: i2c-0 #0 a=058 f=0000 l=1 [03]\\n"
         >>> print(pmb.imported("kernel", trace + "1.6: i2c_result: i2c-0 n=1 ret=1\\n"), end="")
         # 1.5 s
