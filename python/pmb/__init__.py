@@ -589,7 +589,7 @@ def imported(
         S b0 A 03 A P
 
     The text has `packets`, how many there are, and `refusals`, how many lines tell that something
-    is missing, that there are no packets among them: without refusals the recording is all there.
+    is missing; `# no packets` is one of them. If `refusals` is 0, nothing is missing.
 
     Raises a `ValueError` for a source or an option that the program refuses: another source, a rate
     out of range, `rate` or `unshifted` for another source than sigrok, and `bus` for beagle. Where
